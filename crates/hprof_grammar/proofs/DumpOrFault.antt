@@ -1,7 +1,7 @@
 -- A text spells a dump or has a first fault: the parser's steps on lists, told for every text of bytes.
 use Rattle.hprof_grammar.proofs.Words.{AddsAll, AddsRecord, AddsRecords, AddsSubs, AreBytes, Before, Bool, Ended, Err}
 use Rattle.hprof_grammar.proofs.Words.{Flaw, FormatFault, FrameFault, HasFirstFault, HasHeader, HasRecordFault}
-use Rattle.hprof_grammar.proofs.Words.{HasSubFault, List, None, Ok, Option, Order, Places, Result, Segments, Some}
+use Rattle.hprof_grammar.proofs.Words.{HasSubFault, List, None, Ok, Option, SnapshotState, Places, Result, Segments, Some}
 use Rattle.hprof_grammar.proofs.Words.{SpellsDump, StepsTo, Whole, [], ap, append-nil, arith, bad_header, behind}
 use Rattle.hprof_grammar.proofs.Words.{big_bytes, big_number, cases_eq, cases_lt, drop, false, flaw_code, frame_at}
 use Rattle.hprof_grammar.proofs.Words.{framed, inl, inr, is_done, is_heap_tag, is_id_size, is_length_of}
@@ -51,7 +51,7 @@ subs_told (suc fuel) (tag ∷ rest) {old} room h adds = elim (read_or_not (sub_r
 
 -- ---- a record in its frame
 
-order_told : (was : Order) (tag : ℕ) → (next : Option Order) × StepsTo was tag next
+order_told : (was : SnapshotState) (tag : ℕ) → (next : Option SnapshotState) × StepsTo was tag next
 order_told was tag = elim (cases_eq tag 0x0C) [
   | inl e ↦ rw e (dump was)
   | inr no_dump ↦ elim (cases_eq tag 0x1C) [
@@ -62,17 +62,17 @@ order_told was tag = elim (cases_eq tag 0x0C) [
     ]
   ]
 ] where
-  dump : (order : Order) → (next : Option Order) × StepsTo order 0x0C next
+  dump : (order : SnapshotState) → (next : Option SnapshotState) × StepsTo order 0x0C next
   dump Before = (Some Whole, λ tags h. whole_comes tags h)
   dump Segments = (None, λ tags h on. no_dump_in_segments tags h on)
   dump order = (None, λ tags h on. no_more order tags 0x0C refl refl h on)
 
-  segment : (order : Order) → (next : Option Order) × StepsTo order 0x1C next
+  segment : (order : SnapshotState) → (next : Option SnapshotState) × StepsTo order 0x1C next
   segment Before = (Some Segments, λ tags h. first_segment tags h)
   segment Segments = (Some Segments, λ tags h. next_segment tags h)
   segment order = (None, λ tags h on. no_more order tags 0x1C refl refl h on)
 
-  end : (order : Order) → (next : Option Order) × StepsTo order 0x2C next
+  end : (order : SnapshotState) → (next : Option SnapshotState) × StepsTo order 0x2C next
   end Before = (None, λ tags h on. no_end_first tags h on)
   end Segments = (Some Ended, λ tags h. segments_end tags h)
   end order = (None, λ tags h on. no_more order tags 0x2C refl refl h on)
@@ -80,12 +80,12 @@ order_told was tag = elim (cases_eq tag 0x0C) [
   other : (tag ≡ 0x0C → ⊥) → (tag ≡ 0x1C → ⊥) → (tag ≡ 0x2C → ⊥) → is_snapshot_tag tag ≡ false
   other a b c = grind (arith, nat_tests)
 
-module _ (at tag time : ℕ) (body : List ℕ) (was : Order) (old : Places) where
+module _ (at tag time : ℕ) (body : List ℕ) (was : SnapshotState) (old : Places) where
   abbrev FrameTold : Type 0
-  FrameTold = ((next : Order) × (new : Places) × AddsRecord at tag time body was next old new)
+  FrameTold = ((next : SnapshotState) × (new : Places) × AddsRecord at tag time body was next old new)
       ⊎ ((fault : FormatFault) × FrameFault old.id_size at tag body was fault)
 
-  heap_or_other : {next : Order} → IsPlacedFrame tag body was next old → (tag ≡ 0x01 → ⊥) → (tag ≡ 0x02 → ⊥)
+  heap_or_other : {next : SnapshotState} → IsPlacedFrame tag body was next old → (tag ≡ 0x01 → ⊥) → (tag ≡ 0x02 → ⊥)
       → (b : Bool) → is_heap_tag tag ≡ b → FrameTold
   heap_or_other {next} frame no_string no_load false e =
       inl (next, old, other_framed frame (no_string, no_load, e))
@@ -101,7 +101,7 @@ module _ (at tag time : ℕ) (body : List ℕ) (was : Order) (old : Places) wher
         | inr bad ↦ inr (bad.0, heap_broken frame e bad.1)
       ]
 
-  body_told : {next : Order} → IsPlacedFrame tag body was next old → FrameTold
+  body_told : {next : SnapshotState} → IsPlacedFrame tag body was next old → FrameTold
   body_told {next} frame = elim (cases_eq tag 0x01) [
     | inl e ↦ inl (next, with_string old at, string_framed frame e refl)
     | inr no_string ↦ elim (cases_eq tag 0x02) [
@@ -113,7 +113,7 @@ module _ (at tag time : ℕ) (body : List ℕ) (was : Order) (old : Places) wher
   frame_told : IsBytes body → FrameTold
   frame_told bytes = by_length (is_length_of old.id_size tag (length body)) refl
     where
-      by_order : is_length_of old.id_size tag (length body) ≡ true → (next : Option Order) → StepsTo was tag next
+      by_order : is_length_of old.id_size tag (length body) ≡ true → (next : Option SnapshotState) → StepsTo was tag next
           → FrameTold
       by_order allowed None breaks = inr (record { code = 8; offset = at }, wrong_order refl refl allowed breaks)
       by_order allowed (Some next) order =
@@ -137,12 +137,12 @@ body_bytes {tag = tag} {time} {body} {left} h frame =
     bytes-behind (big_bytes 4 (length body)) body
     (bytes-behind (tag ∷ big_bytes 4 time) (big_bytes 4 (length body) ++ body) whole)
 
-records_end : {bytes : List ℕ} {was : Order} {old new : Places} → AddsRecords bytes [] was old new → (b : Bool)
+records_end : {bytes : List ℕ} {was : SnapshotState} {old new : Places} → AddsRecords bytes [] was old new → (b : Bool)
     → is_done was ≡ b → RecordsTold bytes old
 records_end {was = was} {new = new} adds true e = inl (new, (was, e, adds))
 records_end {bytes} adds false e = inr (record { code = 8; offset = 31 + length bytes }, fault_at_end adds e refl)
 
-records_told : (fuel : ℕ) {bytes : List ℕ} (rest : List ℕ) {was : Order} {old new : Places} → length rest ≤ fuel
+records_told : (fuel : ℕ) {bytes : List ℕ} (rest : List ℕ) {was : SnapshotState} {old new : Places} → length rest ≤ fuel
     → IsBytes bytes → AddsRecords bytes rest was old new → RecordsTold bytes old
 records_told fuel [] {was} room h adds = records_end adds (is_done was) refl
 records_told zero (tag ∷ rest) room h adds = absurd (omega (arith, room))

@@ -1,6 +1,6 @@
 -- What stands in the frame of a record, by its tag.
 use Rattle.hprof_grammar.proofs.Words.{AddsRecord, AddsSubs, Bool, FormatFault, FrameFault, HasSubFault, IsAt, IsOther}
-use Rattle.hprof_grammar.proofs.Words.{List, Order, Places, [], ap, append-nil, arith, big_bytes, big_number, drop}
+use Rattle.hprof_grammar.proofs.Words.{List, SnapshotState, Places, [], ap, append-nil, arith, big_bytes, big_number, drop}
 use Rattle.hprof_grammar.proofs.Words.{drop_of_length-le, heap, is_heap_tag, is_length_of, length, load_class, other}
 use Rattle.hprof_grammar.proofs.Words.{refl, slice_index, string, subst, sym, true, w8, with_loaded, with_string}
 use Rattle.hprof_grammar.proofs.Words.{wrong_heap, ℕ, ◌*◌, ◌++◌, ◌+◌, ◌∙◌, ◌∷◌, ◌≡◌, ◌≤◌}
@@ -10,12 +10,12 @@ use Rattle.hprof_grammar.proofs.SnapshotOrderLaws.{at_goes_on}
 use Rattle.hprof_grammar.proofs.TableLaws.{load_length, string_length}
 
 -- what is known of a frame whose tag, length and order are right
-pub record IsPlacedFrame (tag : ℕ) (body : List ℕ) (was next : Order) (old : Places) : Type 0 where
+pub record IsPlacedFrame (tag : ℕ) (body : List ℕ) (was next : SnapshotState) (old : Places) : Type 0 where
   pub bytes : IsBytes body
   pub length_allowed : is_length_of old.id_size tag (length body) ≡ true
   pub order : (tags : List ℕ) → IsAt was tags → IsAt next (tags ++ tag ∷ [])
 
-pub placed_frame : {tag : ℕ} {body : List ℕ} {was next : Order} {old : Places} {s : ℕ} {allowed : Bool}
+pub placed_frame : {tag : ℕ} {body : List ℕ} {was next : SnapshotState} {old : Places} {s : ℕ} {allowed : Bool}
     → ((k : ℕ) → Fits w8 (slice_index body k)) → s ≡ old.id_size
     → allowed ≡ is_length_of s tag (length body) → allowed ≡ true
     → ((tags : List ℕ) → IsAt was tags → IsAt next (tags ++ tag ∷ [])) → IsPlacedFrame tag body was next old
@@ -43,7 +43,7 @@ four_numbers s body h e =
 
 -- ---- what its tag says stands in such a frame
 
-module _ {at tag time : ℕ} {body : List ℕ} {was next : Order} {old : Places}
+module _ {at tag time : ℕ} {body : List ℕ} {was next : SnapshotState} {old : Places}
     (frame : IsPlacedFrame tag body was next old) where
   pub string_framed : {new : Places} → tag ≡ 0x01 → new ≡ with_string old at
       → AddsRecord at tag time body was next old new
@@ -106,7 +106,7 @@ module _ {at tag time : ℕ} {body : List ℕ} {was next : Order} {old : Places}
     joined = rw (append-nil old.strings, append-nil old.loaded, append-nil old.roots, append-nil old.objects) refl;
   }
 
-pub heap_broken : {at tag : ℕ} {body : List ℕ} {was next : Order} {old : Places} {fault : FormatFault}
+pub heap_broken : {at tag : ℕ} {body : List ℕ} {was next : SnapshotState} {old : Places} {fault : FormatFault}
     → IsPlacedFrame tag body was next old → is_heap_tag tag ≡ true → HasSubFault old.id_size (at + 9) body fault
     → FrameFault old.id_size at tag body was fault
 heap_broken {tag = tag} {next = next} frame is_heap bad =

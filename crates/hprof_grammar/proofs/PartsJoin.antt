@@ -1,5 +1,5 @@
 -- Parts that are joined one behind another.
-use Rattle.hprof_grammar.proofs.Words.{AddsAll, AddsRecords, AddsRecordsFrom, Before, Bool, IsPart, List, Order, Part}
+use Rattle.hprof_grammar.proofs.Words.{AddsAll, AddsRecords, AddsRecordsFrom, Before, Bool, IsPart, List, SnapshotState, Part}
 use Rattle.hprof_grammar.proofs.Words.{Places, Seam, [], ap, arith, drop, drop-drop, drop_of_length-le, eqb, eqb-true}
 use Rattle.hprof_grammar.proofs.Words.{false, is_done, length, length-drop, not, nothing_of, refl, same_true, sameb}
 use Rattle.hprof_grammar.proofs.Words.{subst, sym, take, take-append-drop, the_type, true, with_places, ℕ, ◌&&◌, ◌++◌}
@@ -16,7 +16,7 @@ pub same_seam : (a b : Seam) → not (eqb a.place b.place && sameb the_type a.or
 same_seam a b e =
     let same = both_hold (eqb a.place b.place) (sameb the_type a.order b.order) e in
     ap (λ (n : ℕ). record { place = n; order = a.order }) (eqb-true a.place b.place same.0)
-    ∙ ap (λ (o : Order). record { place = b.place; order = o }) (same_true the_type tt a.order b.order same.1)
+    ∙ ap (λ (o : SnapshotState). record { place = b.place; order = o }) (same_true the_type tt a.order b.order same.1)
 
 -- the records behind the header and up to a seam have joined
 pub record Reaches (text : List ℕ) (s : ℕ) (seam : Seam) (dump : Places) : Type 0 where

@@ -1,5 +1,5 @@
 -- The loop over the records: before it, and at each turn. Records that were read by themselves join those before them.
-use Rattle.hprof_grammar.proofs.Words.{AddsRecord, AddsRecordsFrom, AllByRecursion, IsAt, IsRecord, List, Order, Places}
+use Rattle.hprof_grammar.proofs.Words.{AddsRecord, AddsRecordsFrom, AllByRecursion, IsAt, IsRecord, List, SnapshotState, Places}
 use Rattle.hprof_grammar.proofs.Words.{Record, [], ap, append-nil, append_assoc, arith, filter-append, flat_map-append}
 use Rattle.hprof_grammar.proofs.Words.{framed, length, length-append, map, map-append, nothing_of, placed, placed_subs}
 use Rattle.hprof_grammar.proofs.Words.{record_spelling, refl, spellings, subs_of, subst, sym, tag_of, with_places}
@@ -31,7 +31,7 @@ one_alone p at r = rw (append-nil (placed_subs p.id_size (at + 9) (subs_of r))) 
 
 -- ---- the loop
 
-pub records_begin : {at : ℕ} {before : Order} (bytes : List ℕ) (p : Places)
+pub records_begin : {at : ℕ} {before : SnapshotState} (bytes : List ℕ) (p : Places)
     → AddsRecordsFrom at before bytes bytes before p p
 records_begin {before = before} bytes p = record {
   records = [];
@@ -41,9 +41,9 @@ records_begin {before = before} bytes p = record {
   joined = rw (append-nil p.strings, append-nil p.loaded, append-nil p.roots, append-nil p.objects) refl;
 }
 
-module _ {at : ℕ} {was next : Order} {rest left : List ℕ} where
+module _ {at : ℕ} {was next : SnapshotState} {rest left : List ℕ} where
   -- records that stand behind those that have come join them
-  pub records_join : {begin : ℕ} {before : Order} {bytes : List ℕ} {old new newer : Places}
+  pub records_join : {begin : ℕ} {before : SnapshotState} {bytes : List ℕ} {old new newer : Places}
       → AddsRecordsFrom begin before bytes rest was old new → AddsRecordsFrom at was rest left next new newer
       → at ≡ begin + (length bytes - length rest) → AddsRecordsFrom begin before bytes left next old newer
   records_join {begin} {old = old} {new = new} adds more e =

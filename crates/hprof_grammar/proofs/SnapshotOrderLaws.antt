@@ -1,5 +1,5 @@
 -- What the order of the snapshot's records says of the tags that have come.
-use Rattle.hprof_grammar.proofs.Words.{Before, Bool, CanGoOn, Ended, IsAt, IsOrderly, IsSnapshot, List, Order, Segments}
+use Rattle.hprof_grammar.proofs.Words.{Before, Bool, CanGoOn, Ended, IsAt, IsOrderly, IsSnapshot, List, SnapshotState, Segments}
 use Rattle.hprof_grammar.proofs.Words.{Whole, [], add-one, ap, append-nil, append_assoc, arith, cond, false}
 use Rattle.hprof_grammar.proofs.Words.{filter-append, inl, inr, is_done, is_snapshot_tag, refl, replicate}
 use Rattle.hprof_grammar.proofs.Words.{replicate_more, snapshot_tags, subst, suc, sym, true, zero, ℕ, ◌++◌, ◌∙◌, ◌∷◌}
@@ -43,7 +43,7 @@ stays_out : (tags : List ℕ) (tag : ℕ) → is_snapshot_tag tag ≡ false
 stays_out tags tag is = filter-append is_snapshot_tag tags (tag ∷ [])
     ∙ ap (λ (b : Bool). snapshot_tags tags ++ cond b (tag ∷ []) []) is ∙ append-nil (snapshot_tags tags)
 
-pub others_keep : (order : Order) (tags : List ℕ) (tag : ℕ) → is_snapshot_tag tag ≡ false → IsAt order tags
+pub others_keep : (order : SnapshotState) (tags : List ℕ) (tag : ℕ) → is_snapshot_tag tag ≡ false → IsAt order tags
     → IsAt order (tags ++ tag ∷ [])
 others_keep Segments tags tag is h = (h.0, stays_out tags tag is ∙ h.1)
 others_keep Ended tags tag is h = (h.0, stays_out tags tag is ∙ h.1)
@@ -111,7 +111,7 @@ pub no_dump_in_segments : (tags : List ℕ) → IsAt Segments tags → CanGoOn (
 no_dump_in_segments tags h on = let found = too_many tags (replicate (suc h.0) 0x1C) 0x0C refl h.1 on in
     dump_in_segments h.0 found.0 found.1
 
-pub no_more : (order : Order) (tags : List ℕ) (tag : ℕ) → is_done order ≡ true → is_snapshot_tag tag ≡ true
+pub no_more : (order : SnapshotState) (tags : List ℕ) (tag : ℕ) → is_done order ≡ true → is_snapshot_tag tag ≡ true
     → IsAt order tags → CanGoOn (tags ++ tag ∷ []) → ⊥
 no_more Whole tags tag done is h on = let found = too_many tags (0x0C ∷ []) tag is h on in
     after_whole tag found.0 found.1
@@ -122,14 +122,14 @@ no_more order tags tag done is h on = cc
 -- ---- where the records end
 
 -- each order can go on to an orderly list
-pub at_goes_on : (order : Order) (tags : List ℕ) → IsAt order tags → CanGoOn tags
+pub at_goes_on : (order : SnapshotState) (tags : List ℕ) → IsAt order tags → CanGoOn tags
 at_goes_on Before tags h = (0x0C ∷ [], inl (whole_comes tags h))
 at_goes_on Whole tags h = ([], inl (ap snapshot_tags (append-nil tags) ∙ h))
 at_goes_on Segments tags h = (0x2C ∷ [], inr (segments_end tags h))
 at_goes_on Ended tags h = ([], inr (h.0, ap snapshot_tags (append-nil tags) ∙ h.1))
 
 -- the list is orderly just where the order is done
-pub done_is_orderly : (order : Order) (tags : List ℕ) → is_done order ≡ true → IsAt order tags → IsOrderly tags
+pub done_is_orderly : (order : SnapshotState) (tags : List ℕ) → is_done order ≡ true → IsAt order tags → IsOrderly tags
 done_is_orderly Whole tags e h = inl h
 done_is_orderly Ended tags e h = inr h
 done_is_orderly order tags e h = absurd (cc)
@@ -142,7 +142,7 @@ segments_are_none : (n : ℕ) → IsSnapshot (replicate (suc n) 0x1C) → ⊥
 segments_are_none n (inl e) = dump_is_no_segment (cc)
 segments_are_none n (inr (m, e)) = row_no_end 0x1C 0x2C (suc n) (suc m) [] end_is_no_segment e
 
-pub not_done_is_not : (order : Order) (tags : List ℕ) → is_done order ≡ false → IsAt order tags → IsOrderly tags → ⊥
+pub not_done_is_not : (order : SnapshotState) (tags : List ℕ) → is_done order ≡ false → IsAt order tags → IsOrderly tags → ⊥
 not_done_is_not Before tags e h is = nothing_is_none (subst IsSnapshot h is)
 not_done_is_not Segments tags e h is = segments_are_none h.0 (subst IsSnapshot h.1 is)
 not_done_is_not order tags e h is = cc

@@ -1,7 +1,7 @@
 -- The records that the bytes behind the header begin with.
 use Rattle.hprof_grammar.proofs.Words.{AddsRecords, AddsRecordsFrom, AllByRecursion, Before, CanGoOn, FormatFault}
 use Rattle.hprof_grammar.proofs.Words.{FrameFault, HasRecordFault, IsAt, IsOrderly, IsRecord, IsSubRecord, List}
-use Rattle.hprof_grammar.proofs.Words.{LongestSubs, Order, Places, Record, RecordFault, RunsPastEnd, SubFault}
+use Rattle.hprof_grammar.proofs.Words.{LongestSubs, SnapshotState, Places, Record, RecordFault, RunsPastEnd, SubFault}
 use Rattle.hprof_grammar.proofs.Words.{SubRecord, [], ap, append-nil, append_assoc, arith, bad_length, body_of, false}
 use Rattle.hprof_grammar.proofs.Words.{flat_map, framed, heap, in_heap, inl, inr, is_done, is_heap_tag, is_length_of}
 use Rattle.hprof_grammar.proofs.Words.{length, length-append, map, map-append, no_snapshot, other, out_of_order}
@@ -96,7 +96,7 @@ heap_body s (heap tag time subs) is h = (subs, is.parts.1, refl)
 heap_body s (other tag time body) is h = absurd (let no_heap = is.parts.2 in cc)
 heap_body s z is h = absurd (cc)
 
-module _ {s at tag time : ℕ} {body after rest : List ℕ} {fault : FormatFault} (records : List Record) (was : Order)
+module _ {s at tag time : ℕ} {body after rest : List ℕ} {fault : FormatFault} (records : List Record) (was : SnapshotState)
     (frame : FrameTaken rest tag time body after) (comes : IsAt was (map tag_of records)) where
   -- a fault in a frame leaves no whole record there with which the list can go on
   stuck_in_frame : FrameFault s at tag body was fault → IsStuck s records rest
@@ -135,7 +135,7 @@ module _ {s at tag time : ℕ} {body after rest : List ℕ} {fault : FormatFault
 -- ---- the loop over the records: its faults
 
 -- records have come up to this place
-module _ {bytes rest : List ℕ} {was : Order} {old new : Places} (adds : AddsRecords bytes rest was old new) where
+module _ {bytes rest : List ℕ} {was : SnapshotState} {old new : Places} (adds : AddsRecords bytes rest was old new) where
   come : IsAt was (map tag_of adds.records)
   come = adds.order [] refl
 
@@ -174,7 +174,7 @@ module _ {bytes rest : List ℕ} {was : Order} {old new : Places} (adds : AddsRe
   fault_where_cut some cut e f =
       rw f (fault_here e (stuck_where_cut old.id_size adds.records rest cut) (truncated rest some cut))
 
-pub fault_at_end : {bytes : List ℕ} {was : Order} {old new : Places} {fault : FormatFault}
+pub fault_at_end : {bytes : List ℕ} {was : SnapshotState} {old new : Places} {fault : FormatFault}
     → AddsRecords bytes [] was old new → is_done was ≡ false → fault ≡ record { code = 8; offset = 31 + length bytes }
     → HasRecordFault old.id_size bytes fault
 fault_at_end {was = was} {old} adds undone f =
@@ -183,11 +183,11 @@ fault_at_end {was = was} {old} adds undone f =
 
 -- ---- what is left to read at a turn of the loop
 
-module _ {at : ℕ} {before was : Order} {bytes rest : List ℕ} {old new : Places}
+module _ {at : ℕ} {before was : SnapshotState} {bytes rest : List ℕ} {old new : Places}
     (adds : AddsRecordsFrom at before bytes rest was old new) where
   -- records that begin behind the header, of which none has come, are those of the whole file
   pub from_header : at ≡ 31 → before ≡ Before → AddsRecords bytes rest was old new
-  from_header place order = subst (λ (o : Order). AddsRecordsFrom 31 o bytes rest was old new) order
+  from_header place order = subst (λ (o : SnapshotState). AddsRecordsFrom 31 o bytes rest was old new) order
       (subst (λ (n : ℕ). AddsRecordsFrom n before bytes rest was old new) place adds)
 
   pub bytes_left : IsBytes bytes → IsBytes rest

@@ -62,7 +62,7 @@ pub use Rattle.hprof_grammar.specs.SubRecord.RootOrigin.{java_frame, jni_global,
 pub use Rattle.hprof_grammar.specs.SubRecord.RootOrigin.{sticky_class, thread_block, thread_object, unknown}
 pub use Rattle.hprof_grammar.specs.SubRecord.SubRecord.{class_dump, instance_dump, object_array_dump}
 pub use Rattle.hprof_grammar.specs.SubRecord.SubRecord.{primitive_array_dump, root}
-pub use Rattle.hprof_grammar.specs.contracts.snapshot_order.Order.{the_type}
+pub use Rattle.hprof_grammar.specs.contracts.snapshot_order.SnapshotState.{the_type}
 pub use Rattle.hprof_grammar.specs.declared.cuts.Seam.{Seam}
 pub use Rattle.hprof_grammar.specs.declared.flaw.Flaw.{Flaw}
 pub use Rattle.hprof_grammar.specs.declared.flaw.Flaw.TheVariants.{Short, UnknownTag, WrongType}
@@ -74,8 +74,8 @@ pub use Rattle.hprof_grammar.specs.declared.kinds.RootKind.{RootKind}
 pub use Rattle.hprof_grammar.specs.declared.kinds.TypePlace.{TypePlace}
 pub use Rattle.hprof_grammar.specs.declared.kinds.TypePlace.TheVariants.{InArray, InConstant, InMember, InStatic}
 pub use Rattle.hprof_grammar.specs.declared.parts.Part.{Part}
-pub use Rattle.hprof_grammar.specs.declared.snapshot_order.Order.{Order}
-pub use Rattle.hprof_grammar.specs.declared.snapshot_order.Order.TheVariants.{Before, Ended, Segments, Whole}
+pub use Rattle.hprof_grammar.specs.declared.snapshot_order.SnapshotState.{SnapshotState}
+pub use Rattle.hprof_grammar.specs.declared.snapshot_order.SnapshotState.TheVariants.{Before, Ended, Segments, Whole}
 pub use Rattle.hprof_grammar.specs.working.ClassParts.{IsPartOf, counted_fields, fields_from_constants}
 pub use Rattle.hprof_grammar.specs.working.ClassParts.{fields_from_members, fields_from_statics, ids_behind_stack}
 pub use Rattle.hprof_grammar.specs.working.Joining.{AddsAll, AddsRecord, AddsRecords, AddsRecordsFrom, AddsSubs}

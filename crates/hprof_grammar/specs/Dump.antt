@@ -1,4 +1,4 @@
--- A text that spells a dump: its header and its records, and the heap list of these.
+-- A text that spells a dump: its header, its records, and the heap list.
 use Rattle.std.specs.Prelude.{Bool, List, [], codes, false, filter, flat_map, length, map, true, ℕ, ◌++◌, ◌+◌, ◌<◌, ◌^◌}
 use Rattle.std.specs.Prelude.{◌∷◌, ◌≡◌, ◌≤◌}
 use Rattle.std.specs.List.{AllByRecursion}
@@ -9,7 +9,7 @@ use Rattle.hprof_grammar.specs.SubRecord.{SubRecord, spelling_of}
 use Rattle.hprof_grammar.specs.SubRecord.SubRecord.{class_dump, instance_dump, object_array_dump, primitive_array_dump}
 use Rattle.hprof_grammar.specs.SubRecord.SubRecord.{root}
 
--- the bytes of the longest text that is read: 1 GiB
+-- the length in bytes of the longest text that is read: 1 GiB
 abbrev pub limit : ℕ
 limit = 1073741824
 
@@ -25,7 +25,7 @@ header s time = magic ++ (big_bytes 4 s ++ big_bytes 8 time)
 abbrev pub spellings : ℕ → List Record → List ℕ
 spellings s records = flat_map (record_spelling s) records
 
--- The text is the header, and then the spellings of these records, with IDs of s bytes.
+-- The text is the header and then the spellings of the records, with IDs of s bytes.
 pub record Spells (text : List ℕ) (s : ℕ) (records : List Record) : Type 0 where
   pub size : length text ≤ limit
   pub id_size : is_id_size s ≡ true
@@ -59,7 +59,7 @@ abbrev pub is_object : SubRecord → Bool
 is_object (root r) = false
 is_object sub = true
 
--- the first ID of a sub-record: the object that a root names, or that a dump describes
+-- the first ID of a sub-record: the object that a root names or that a dump describes
 abbrev pub id_of : SubRecord → ℕ
 id_of (root r) = r.object
 id_of (class_dump c) = c.object

@@ -10,9 +10,9 @@ use Rattle.hprof_grammar.specs.SubRecord.{IsFormed, IsSubRecord, SubRecord, fiel
 use Rattle.hprof_grammar.specs.SubRecord as sub
 use Rattle.hprof_grammar.specs.Spelling.{EndsShort, HasWrongType}
 
--- What is wrong at a place where no whole sub-record stands: 5, its tag is in no table; 6, the first field that does
--- not fit; 7, a type code that is not allowed, as soon as it is read. What would follow 6 and 7 may be anything that
--- has the right size.
+-- The code of the fault at a place without a whole sub-record: 5 if its tag is in no table; 6 at the first field that
+-- does not fit; 7 at a type code that is not allowed, as soon as it is read. What would follow 6 and 7 may be anything
+-- of the right size.
 pub data SubFault (s : ℕ) : List ℕ → ℕ → Type 0 where
   unknown_tag : (tag : ℕ) (rest : List ℕ) → is_sub_tag tag ≡ false → SubFault s (tag ∷ rest) 5
   short : (x : SubRecord) (rest : List ℕ) → IsFormed s x
@@ -20,7 +20,7 @@ pub data SubFault (s : ℕ) : List ℕ → ℕ → Type 0 where
   wrong_type : (x : SubRecord) (rest : List ℕ) → IsFormed s x
       → HasWrongType (fields_of s x) rest → SubFault s (sub.tag_of x ∷ rest) 7
 
--- The longest beginning of a heap record's body that whole sub-records spell, and what is left.
+-- The longest beginning of a heap record's body that whole sub-records spell, and the rest of the body.
 pub record LongestSubs (s : ℕ) (body : List ℕ) (subs : List SubRecord) (rest : List ℕ) : Type 0 where
   pub parts : body ≡ flat_map (spelling_of s) subs ++ rest
   pub each : AllByRecursion (IsSubRecord s) subs
@@ -28,7 +28,7 @@ pub record LongestSubs (s : ℕ) (body : List ℕ) (subs : List SubRecord) (rest
       → body ≡ flat_map (spelling_of s) others ++ left → AllByRecursion (IsSubRecord s) others
       → length others ≤ length subs
 
--- The longest list of whole records that spells a beginning and can go on to an orderly list, and what is left.
+-- The longest list of whole records that spells a beginning and can go on to an orderly list, and the rest.
 pub record LongestRecords (s : ℕ) (body : List ℕ) (records : List Record) (rest : List ℕ) : Type 0 where
   pub parts : body ≡ spellings s records ++ rest
   pub each : AllByRecursion (IsRecord s) records
@@ -47,8 +47,8 @@ pub record RunsPastEnd (rest : List ℕ) : Type 0 where
   pub begins : framed tag time body ≡ rest ++ missing
   pub not_whole : 0 < length missing
 
--- What is wrong with what is left behind these records, which end at place `at`: the code and the place. 8 at the end,
--- where the snapshot is missing or has no end; else 3, 4 and 8 in this order, at the record; else the fault of its
+-- The fault of the rest after the records, which end at place `at`: its code and its place. 8 at the end of the text if
+-- the snapshot is missing or has no end; else 3, 4 and 8 in this order, at the record; else the fault of its
 -- sub-records.
 pub data RecordFault (s : ℕ) (records : List Record) (at : ℕ) : List ℕ → ℕ → ℕ → Type 0 where
   no_snapshot : (IsOrderly (map tag_of records) → ⊥) → RecordFault s records at [] 8 at
@@ -67,9 +67,9 @@ pub data RecordFault (s : ℕ) (records : List Record) (at : ℕ) : List ℕ →
 abbrev pub HasMagic : List ℕ → Type 0
 HasMagic text = (rest : List ℕ) × (text ≡ magic ++ rest)
 
--- The first fault of a text: its code and its place. 14 for too many bytes; 1 where the first 19 bytes are not the
--- header's text; 3 for fewer than 31 bytes; 2 for a size of identifiers that is not read; else the first fault of its
--- records.
+-- The first fault of a text: its code and its place. 14 for too many bytes; 1 if the first 19 bytes are not the
+-- header's text; 3 for fewer than 31 bytes; 2 for a size of identifiers that is not allowed; else the first fault of
+-- its records.
 pub data FirstFault (text : List ℕ) : ℕ → ℕ → Type 0 where
   too_large : limit < length text → FirstFault text 14 limit
   bad_header : length text ≤ limit → (HasMagic text → ⊥) → FirstFault text 1 0

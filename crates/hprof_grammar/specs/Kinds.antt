@@ -13,7 +13,7 @@ use Rattle.hprof_grammar.specs.declared.kinds.RootKind.TheVariants.{JavaFrame, J
 use Rattle.hprof_grammar.specs.declared.kinds.RootKind.TheVariants.{NativeStack, StickyClass, ThreadBlock, ThreadObject}
 use Rattle.hprof_grammar.specs.declared.kinds.RootKind.TheVariants.{Unknown}
 
--- what makes an object a root, as a kind
+-- the kind of a root, by what makes the object a root
 abbrev pub origin_kind : RootOrigin → RootKind
 origin_kind unknown = Unknown
 origin_kind (jni_global reference) = JniGlobal
@@ -25,7 +25,7 @@ origin_kind (thread_block thread) = ThreadBlock
 origin_kind monitor_used = MonitorUsed
 origin_kind (thread_object thread stack) = ThreadObject
 
--- what a sub-record is, as a kind
+-- the kind of a sub-record
 abbrev pub sub_kind : SubRecord → Kind
 sub_kind (root r) = Root (origin_kind r.origin)
 sub_kind (class_dump c) = Object Class
@@ -63,7 +63,7 @@ abbrev pub root_of : Option RootKind → Option Kind
 root_of None = None
 root_of (Some kind) = Some (Root kind)
 
--- what a sub-record's tag says: CLASS DUMP, INSTANCE DUMP, OBJECT ARRAY DUMP, PRIMITIVE ARRAY DUMP, or a root
+-- the kind of a sub-record, by its tag: CLASS DUMP, INSTANCE DUMP, OBJECT ARRAY DUMP, PRIMITIVE ARRAY DUMP, or a root
 unfoldable pub kind_of : ℕ → Option Kind
 kind_of tag =
     if tag == 0x20 then Some (Object Class)

@@ -1,4 +1,4 @@
--- The fields of a class as the code has them, and as the definitions have them.
+-- The fields of a class in the code's types and in the definitions' types.
 use Rattle.hprof_grammar.specs.Series.{LabelledValue}
 use Rattle.hprof_grammar.specs.SubRecord.{Member}
 use Rattle.hprof_grammar.specs.declared.view.members.MemberField.{MemberField}

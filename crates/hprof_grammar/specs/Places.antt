@@ -1,4 +1,4 @@
--- What is kept of a dump: the places of its parts.
+-- The places of a dump's parts.
 use Rattle.std.specs.Prelude.{Bool, List, false, map, true, ℕ, ◌≡◌}
 use Rattle.hprof_grammar.specs.Record.{Record, tag_of}
 use Rattle.hprof_grammar.specs.Snapshot.{IsOrderly}
@@ -13,8 +13,8 @@ abbrev pub is_load : Record → Bool
 is_load (load_class time serial class stack name) = true
 is_load r = false
 
--- What is kept of a dump: the size of identifiers, and where the strings, the loaded classes, the roots and the objects
--- (class, instance and array dumps) stand, in the order of the text.
+-- The size of a dump's identifiers, and the places of its strings, loaded classes, roots and objects (class, instance
+-- and array dumps), each list in the order of the text.
 pub record Places : Type 0 where
   pub id_size : ℕ
   pub strings : List ℕ

@@ -1,4 +1,4 @@
--- The records of a file, behind its header: a tag, a time, a length, and a body of so many bytes.
+-- The records of a file, after its header: a tag, a time, a length, and a body of that length.
 use Rattle.std.specs.Prelude.{Bool, List, [], false, flat_map, if◌then◌else◌, length, nat_le, true, ℕ}
 use Rattle.std.specs.Prelude.{◌*◌, ◌++◌, ◌+◌, ◌<◌, ◌==◌, ◌^◌, ◌||◌, ◌∷◌, ◌≡◌}
 use Rattle.std.specs.List.{AllByRecursion}
@@ -15,7 +15,7 @@ pub data Record : Type 0 where
   -- HEAP DUMP END, 0x2C, and every record that is skipped by its length
   other : (tag time : ℕ) (body : List ℕ) → Record
 
--- u1 tag, u4 microseconds since the header's time, u4 length, and that many bytes
+-- u1 tag, u4 microseconds since the header's time, u4 length, and `length` bytes
 abbrev pub framed : ℕ → ℕ → List ℕ → List ℕ
 framed tag time body = tag ∷ big_bytes 4 time ++ (big_bytes 4 (length body) ++ body)
 
@@ -59,11 +59,11 @@ is_heap_tag tag = (tag == 0x0C) || (tag == 0x1C)
 abbrev pub record_spelling : ℕ → Record → List ℕ
 record_spelling s r = framed (tag_of r) (time_of r) (body_of s r)
 
--- a tag of none of these
+-- a tag that is none of the four above
 abbrev pub IsOther : ℕ → Type 0
 IsOther tag = (tag ≡ 0x01 → ⊥) × (tag ≡ 0x02 → ⊥) × (is_heap_tag tag ≡ false)
 
--- the numbers fit their bytes, and what stands in a heap record are sub-records
+-- the numbers fit their bytes, and the body of a heap record is sub-records
 abbrev pub HasParts : ℕ → Record → Type 0
 HasParts s (string time id text) = id < 256 ^ s
 HasParts s (load_class time serial class stack name) =

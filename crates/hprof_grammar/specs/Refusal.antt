@@ -1,10 +1,10 @@
--- What a refusal says of the bytes, and how it is shown.
+-- The meaning of a refusal, and its text.
 use Rattle.std.specs.Prelude.{Err, List, Ok, Result, codes, decimal, ℕ, ◌++◌}
 use Rattle.hprof_grammar.specs.declared.flaw.FormatFault.{FormatFault}
 use Rattle.hprof_grammar.specs.declared.flaw.ReadRefusal.{ReadRefusal}
 use Rattle.hprof_grammar.specs.declared.flaw.ReadRefusal.TheVariants.{Fault, OutOfMemory}
 
--- where the result is a fault of the bytes, the fact holds of it; want of memory says nothing of them
+-- if the result is a fault of the bytes, the fact holds of it; out of memory says nothing of the bytes
 abbrev pub IfFault : {X : Type 0} → Result X ReadRefusal → (FormatFault → Type 0) → Type 0
 IfFault (Ok x) P = Unit {0}
 IfFault (Err (Fault f)) P = P f

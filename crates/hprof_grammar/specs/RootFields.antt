@@ -1,4 +1,4 @@
--- What a root says behind its object, where its kind has it.
+-- The fields of a root after its object; which of them it has depends on its kind.
 use Rattle.std.specs.Prelude.{None, Option, Some, ℕ, ◌≡◌}
 use Rattle.hprof_grammar.specs.Standing.{Sight, Stands}
 use Rattle.hprof_grammar.specs.SubRecord.{Root, RootOrigin}
@@ -31,7 +31,7 @@ abbrev pub trace_of : RootOrigin → Option ℕ
 trace_of (thread_object thread stack) = Some stack
 trace_of origin = None
 
--- a root stands there, and one of its fields is that number
+-- a root is at the place, and that field of it is the number
 pub record RootSays (v : Sight) (at : ℕ) (field : RootOrigin → Option ℕ) (n : ℕ) : Type 0 where
   pub root_is : Root
   pub stands : Stands v at (root root_is)

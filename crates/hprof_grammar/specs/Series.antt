@@ -1,4 +1,4 @@
--- Like parts that stand one after the other in the bytes: what the cursors over them have left.
+-- Parts of one kind that are next to one another in the bytes: the ones that an iterator has left.
 use Rattle.std.specs.Prelude.{List, [], drop, length, slice_index, suc, take, zero, ℕ, ◌*◌, ◌+◌, ◌∷◌, ◌≤◌}
 use Rattle.byteorder.specs.Endian.{big_number}
 use Rattle.hprof_grammar.specs.SubRecord.{Constant, Member, Static}
@@ -9,7 +9,7 @@ abbrev pub numbers_in : ℕ → ℕ → List ℕ → List ℕ
 numbers_in width zero bytes = []
 numbers_in width (suc n) bytes = big_number width bytes ∷ numbers_in width n (drop width bytes)
 
--- the bytes have room for that many numbers
+-- the bytes have room for n numbers
 pub record HasNumbers (width n : ℕ) (bytes : List ℕ) : Type 0 where
   pub low : 1 ≤ width
   pub high : width ≤ 8
@@ -21,17 +21,17 @@ members_in s zero bytes = []
 members_in s (suc n) bytes =
     record { name = big_number s bytes; type = slice_index bytes s } ∷ members_in s n (drop (s + 1) bytes)
 
--- the bytes have room for that many instance fields
+-- the bytes have room for n instance fields
 pub record HasMembers (s n : ℕ) (bytes : List ℕ) : Type 0 where
   pub low : 1 ≤ s
   pub high : s ≤ 8
   pub room : n * (s + 1) ≤ length bytes
 
--- where `front` bytes stand before a type code, and a value of that type behind it: the bytes of all three
+-- the length of `front` bytes, a type code after them, and a value of that type
 abbrev pub value_end : ℕ → ℕ → List ℕ → ℕ
 value_end s front bytes = front + 1 + size_of s (slice_index bytes front)
 
--- a value, its type code, and the number in front of it: a constant's index, or the ID of a static field's name
+-- a value, its type code, and the number before them: a constant's index, or the ID of a static field's name
 pub record LabelledValue : Type 0 where
   pub label : ℕ
   pub type : ℕ
@@ -50,29 +50,29 @@ of_constant k = record { label = k.index; type = k.type; value = k.value }
 abbrev pub of_static : Static → LabelledValue
 of_static f = record { label = f.name; type = f.type; value = f.value }
 
--- n such
+-- n labelled values
 abbrev pub values_in : ℕ → ℕ → ℕ → List ℕ → List LabelledValue
 values_in s front zero bytes = []
 values_in s front (suc n) bytes = value_in s front bytes ∷ values_in s front n (drop (value_end s front bytes) bytes)
 
--- the bytes behind n such
+-- the bytes after n labelled values
 abbrev pub behind_values : ℕ → ℕ → ℕ → List ℕ → List ℕ
 behind_values s front zero bytes = bytes
 behind_values s front (suc n) bytes = behind_values s front n (drop (value_end s front bytes) bytes)
 
--- the bytes have room for n such
+-- the bytes have room for n labelled values
 abbrev pub HasValues : ℕ → ℕ → ℕ → List ℕ → Type 0
 HasValues s front zero bytes = Unit {0}
 HasValues s front (suc n) bytes =
     (value_end s front bytes ≤ length bytes) × HasValues s front n (drop (value_end s front bytes) bytes)
 
--- the bytes have room for n values with numbers in front, and the numbers in front can be read
+-- the bytes have room for n labelled values, and their labels can be read
 pub record HasLabelledValues (s front n : ℕ) (bytes : List ℕ) : Type 0 where
   pub low : 1 ≤ front
   pub high : front ≤ 8
   pub room : HasValues s front n bytes
 
--- how many values stand behind a count of 2 bytes, which values, and the bytes behind them
+-- a count of 2 bytes; the values after it; the bytes after these
 abbrev pub count_in : List ℕ → ℕ
 count_in bytes = big_number 2 bytes
 

@@ -1,7 +1,7 @@
--- The rule of one snapshot: which records make it, and in what order they may stand.
+-- The rule of one snapshot: the records that make it, and their order.
 use Rattle.std.specs.Prelude.{Bool, List, [], filter, replicate, suc, ℕ, ◌++◌, ◌==◌, ◌||◌, ◌∷◌, ◌≡◌, ◌⊎◌}
 
--- the tags of the records that make a snapshot: those, and HEAP DUMP END
+-- the tags of the records that make a snapshot: the two of heap records, and HEAP DUMP END
 abbrev pub is_snapshot_tag : ℕ → Bool
 is_snapshot_tag tag = (tag == 0x0C) || (tag == 0x1C) || (tag == 0x2C)
 
@@ -9,7 +9,7 @@ is_snapshot_tag tag = (tag == 0x0C) || (tag == 0x1C) || (tag == 0x2C)
 abbrev pub IsSnapshot : List ℕ → Type 0
 IsSnapshot tags = (tags ≡ 0x0C ∷ []) ⊎ ((n : ℕ) × (tags ≡ replicate (suc n) 0x1C ++ 0x2C ∷ []))
 
--- The tags that make the snapshot, in their order; the rule speaks of these alone.
+-- The tags that make the snapshot, in their order; the rule is only about these.
 abbrev pub snapshot_tags : List ℕ → List ℕ
 snapshot_tags tags = filter is_snapshot_tag tags
 
@@ -17,6 +17,6 @@ snapshot_tags tags = filter is_snapshot_tag tags
 abbrev pub IsOrderly : List ℕ → Type 0
 IsOrderly tags = IsSnapshot (snapshot_tags tags)
 
--- more records can make it so
+-- more records can make the list keep it
 abbrev pub CanGoOn : List ℕ → Type 0
 CanGoOn tags = (more : List ℕ) × IsOrderly (tags ++ more)

@@ -6,11 +6,11 @@ use Rattle.hprof_grammar.specs.TagsAndTypes.{is_type_at}
 use Rattle.hprof_grammar.specs.declared.kinds.TypePlace.{TypePlace}
 
 pub data Field : Type 0 where
-  -- a number of that many bytes
+  -- a number of `width` bytes
   number : (width value : ℕ) → Field
-  -- one byte that says a type
+  -- a type code, in one byte
   type_code : (place : TypePlace) (code : ℕ) → Field
-  -- bytes that stand for themselves
+  -- bytes as they are
   raw : (bytes : List ℕ) → Field
 
 -- numbers are big-endian
@@ -19,7 +19,7 @@ field_spelling (number width value) = big_bytes width value
 field_spelling (type_code place code) = code ∷ []
 field_spelling (raw bytes) = bytes
 
--- the fields one after the other
+-- the fields, one after another
 abbrev pub spelled : List Field → List ℕ
 spelled fields = flat_map field_spelling fields
 
@@ -35,7 +35,7 @@ IsAllowed field = Unit {0}
 abbrev pub AreAllowed : List Field → Type 0
 AreAllowed fields = AllByRecursion IsAllowed fields
 
--- the bytes are the first of these fields, all allowed, and less than the whole of the next one
+-- the bytes are the first fields, all allowed, and less than the whole of the next one
 pub record EndsShort (fields : List Field) (bytes : List ℕ) : Type 0 where
   pub front : List Field
   pub cut : Field
@@ -48,7 +48,7 @@ pub record EndsShort (fields : List Field) (bytes : List ℕ) : Type 0 where
   pub cut_is : field_spelling cut ≡ part ++ missing
   pub not_whole : 0 < length missing
 
--- the bytes begin with the first of these fields, all allowed, and a type code that is not
+-- the bytes begin with the first fields, all allowed, and a type code that is not
 pub record HasWrongType (fields : List Field) (bytes : List ℕ) : Type 0 where
   pub front : List Field
   pub place : TypePlace

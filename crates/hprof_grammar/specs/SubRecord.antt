@@ -52,7 +52,7 @@ pub record ObjectArray : Type 0 where
   pub class : ℕ
   pub elements : List ℕ
 
--- PRIMITIVE ARRAY DUMP, 0x23: so many elements of a type, packed
+-- PRIMITIVE ARRAY DUMP, 0x23: `count` elements of one type, packed
 pub record PrimitiveArray : Type 0 where
   pub object : ℕ
   pub stack : ℕ
@@ -60,8 +60,8 @@ pub record PrimitiveArray : Type 0 where
   pub type : ℕ
   pub values : List ℕ
 
--- What makes an object a root, and what the dump says of it: a JNI reference by its ID, threads and stack traces by
--- their serial numbers, a frame by its number in the stack trace.
+-- The reason why an object is a root, with its fields: a JNI reference by its ID, threads and stack traces by their
+-- serial numbers, a frame by its number in the stack trace.
 pub data RootOrigin : Type 0 where
   unknown : RootOrigin
   jni_global : (reference : ℕ) → RootOrigin
@@ -73,7 +73,7 @@ pub data RootOrigin : Type 0 where
   monitor_used : RootOrigin
   thread_object : (thread stack : ℕ) → RootOrigin
 
--- ROOT, by what makes it one 0xFF or 0x01 to 0x08
+-- ROOT, 0xFF or 0x01 to 0x08 by its reason
 pub record Root : Type 0 where
   pub object : ℕ
   pub origin : RootOrigin
@@ -96,7 +96,7 @@ static_fields s f = number s f.name ∷ type_code InStatic f.type ∷ raw f.valu
 abbrev pub member_fields : ℕ → Member → List Field
 member_fields s m = number s m.name ∷ type_code InMember m.type ∷ []
 
--- what stands behind the tag
+-- the fields of a root after its tag
 abbrev pub class_fields : ℕ → Class → List Field
 class_fields s c =
     number s c.object ∷ number 4 c.stack ∷ number s c.super ∷ number s c.loader ∷ number s c.signers
@@ -150,7 +150,7 @@ tag_of (instance_dump i) = 0x21
 tag_of (object_array_dump a) = 0x22
 tag_of (primitive_array_dump a) = 0x23
 
--- the fields of a sub-record behind its tag, in their order
+-- the fields of a sub-record after its tag, in order
 abbrev pub fields_of : ℕ → SubRecord → List Field
 fields_of s (root r) = root_fields s r
 fields_of s (class_dump c) = class_fields s c
@@ -162,7 +162,7 @@ fields_of s (primitive_array_dump a) = primitive_array_fields s a
 abbrev pub spelling_of : ℕ → SubRecord → List ℕ
 spelling_of s sub = tag_of sub ∷ spelled (fields_of s sub)
 
--- Each value has the size that its type says, and those of a primitive array that of so many.
+-- Each value has the size that its type says; the values of a primitive array have `count` times that size.
 abbrev pub HasSizes : ℕ → SubRecord → Type 0
 HasSizes s (class_dump c) =
     AllByRecursion (λ k. length k.value ≡ size_of s k.type) c.constants
@@ -170,14 +170,14 @@ HasSizes s (class_dump c) =
 HasSizes s (primitive_array_dump a) = length a.values ≡ a.count * size_of s a.type
 HasSizes s sub = Unit {0}
 
--- a sub-record, but that its type codes may be any: its tag is in the table, each number fits its bytes, and the values
--- have their sizes
+-- a sub-record whose type codes may be any: its tag is in the table, each number fits its bytes, and the values have
+-- their sizes
 pub record IsFormed (s : ℕ) (sub : SubRecord) : Type 0 where
   pub tag : is_sub_tag (tag_of sub) ≡ true
   pub numbers : AllByRecursion Fits (fields_of s sub)
   pub sizes : HasSizes s sub
 
--- A sub-record: each type code is one that is allowed where it stands.
+-- A sub-record: each type code is allowed at its place.
 pub record IsSubRecord (s : ℕ) (sub : SubRecord) : Type 0 where
   pub formed : IsFormed s sub
   pub allowed : AreAllowed (fields_of s sub)

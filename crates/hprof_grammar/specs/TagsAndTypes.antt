@@ -1,10 +1,10 @@
--- The format's tables: which numbers are allowed where, and what sizes they stand for. No proof opens one of these
--- words but a few lemmas of two lines, so that the accepted part of the format is settled here alone.
+-- The format's tables: the numbers that are allowed at each place, and the sizes that they mean. Only a few lemmas of
+-- two lines unfold these words, so the accepted part of the format is settled in this file.
 use Rattle.std.specs.Prelude.{Bool, if◌then◌else◌, nat_le, ℕ, ◌&&◌, ◌==◌, ◌||◌}
 use Rattle.hprof_grammar.specs.declared.kinds.TypePlace.{TypePlace}
 use Rattle.hprof_grammar.specs.declared.kinds.TypePlace.TheVariants.{InArray}
 
--- the sizes of identifiers that are read ("size of identifiers" in the manual's header, which leaves it open)
+-- the sizes of identifiers that are allowed ("size of identifiers" in the manual's header, which leaves it open)
 unfoldable pub is_id_size : ℕ → Bool
 is_id_size s = (s == 4) || (s == 8)
 
@@ -17,7 +17,7 @@ unfoldable pub is_type_at : TypePlace → ℕ → Bool
 is_type_at InArray t = is_primitive t
 is_type_at place t = (t == 2) || is_primitive t
 
--- the bytes of a value of a basic type, with identifiers of s bytes; 0 for a code that is no type
+-- the size of a value of a basic type, with identifiers of s bytes; 0 for a code that is no type
 unfoldable pub size_of : ℕ → ℕ → ℕ
 size_of s t =
     if t == 2 then s

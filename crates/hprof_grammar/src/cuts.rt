@@ -1,4 +1,4 @@
-//! Where the records of a dump are cut into parts.
+//! The places at which the records of a dump are cut into parts.
 
 ghost use Rattle.std.specs.Prelude.{IfSome, ◌+◌, ◌<◌, ◌^◌, length};
 ghost use Rattle.hprof_grammar.specs.working.Cuts.{AreCuts};
@@ -6,34 +6,35 @@ ghost use Rattle.hprof_grammar.specs.working.Cuts.{AreCuts};
 use crate::frame::next_frame;
 use crate::reader::Reader;
 use crate::record_list::FIRST_RECORD;
-use crate::snapshot_order::Order;
+use crate::snapshot_order::SnapshotState;
 use std::alloc::Allocator;
 
-/// A place between two records, and what the records before it have made of the snapshot.
+/// A place between two records, and the snapshot state there.
 #[derive(Clone, Copy, PartialEq, Eq)]
 pub struct Seam {
-    /// The place of the record behind it.
+    /// The offset of the next record.
     pub place: u32,
-    /// What has come of the snapshot.
-    pub order: Order,
+    /// The snapshot state after the records before the place.
+    pub order: SnapshotState,
 }
 
-/// Where the records of a dump begin.
+/// The seam before the first record of a dump.
 pub const FIRST_SEAM: Seam = Seam {
     place: FIRST_RECORD,
-    order: Order::Before,
+    order: SnapshotState::Before,
 };
 
-/// Records that are to be read by themselves.
+/// Records that one part has.
 #[derive(Clone, Copy)]
 pub struct Cut {
-    /// Where they begin.
+    /// The seam before the first of them.
     pub from: Seam,
-    /// The place behind them.
+    /// The offset of the byte after the last of them.
     pub to: u32,
 }
 
-/// The tag of the record that the bytes begin with, and the bytes behind it: `None` where it is not all there.
+/// Returns the tag of the first record of `bytes` and the bytes after that record. Returns `None` if the record runs
+/// past the end.
 fn behind_record(bytes: &[u8]) -> Option<(u8, &[u8])>
     ensures { IfSome result (λ found. length found.1.now < length bytes.now) }
 {
@@ -44,9 +45,9 @@ fn behind_record(bytes: &[u8]) -> Option<(u8, &[u8])>
     Some((frame.tag, reader.rest))
 }
 
-/// Cuts the records of a dump, of which the bytes behind the header are given, into parts of so many bytes or more, the
-/// last one aside. It looks at their frames alone. `None` where a record is cut or breaks the order of the snapshot, or
-/// a request for memory was refused. No clause says where the cuts are: who reads the parts tests it.
+/// Cuts the records of a dump into parts of `size` bytes or more; only the last part may be shorter. `bytes` are the
+/// bytes after the header. Reads only the tag and the length of each record. Returns `None` if a record runs past the
+/// end or breaks the order of the snapshot, or if an allocation fails.
 pub fn cut_records<A: Allocator>(alloc: A, bytes: &[u8], size: usize) -> Option<Vec<Cut, A>>
     requires { 31 + length bytes.now < 2 ^ 32 }
     ensures { IfSome result (λ cuts. AreCuts size 31 cuts.items (31 + length bytes.now)) }

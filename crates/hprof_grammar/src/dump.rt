@@ -9,8 +9,8 @@ use std::alloc::{AllocError, Allocator};
 use std::marker::Model;
 use std::mem::replace;
 
-/// What is kept of a dump: the size of its identifiers, and the places of its parts, each list in the order of the
-/// file. The place of a record or a sub-record is where its tag stands, counted in bytes from the first of the dump.
+/// The size of a dump's identifiers and the places of its parts, each list in the order of the file. The place of a
+/// record or a sub-record is the offset of its tag, in bytes from the beginning of the dump.
 #[derive(Debug, Drop)]
 pub struct Dump<A: Allocator> {
     id_size: u8,
@@ -35,42 +35,42 @@ impl<A: Allocator> Model for Dump<A> {
 }
 
 impl<A: Allocator> Dump<A> {
-    /// How many bytes an identifier has: 4 or 8.
+    /// Returns the size of an identifier in bytes, 4 or 8.
     pub fn id_size(&self) -> u8
         ensures { result ≡ self.now.id_size }
     {
         self.id_size
     }
 
-    /// The places of the STRING IN UTF8 records.
+    /// Returns the places of the STRING IN UTF8 records.
     pub fn strings(&self) -> &[u32]
         ensures { result.now ≡ self.now.strings }
     {
         &self.strings
     }
 
-    /// The places of the LOAD CLASS records.
+    /// Returns the places of the LOAD CLASS records.
     pub fn loaded(&self) -> &[u32]
         ensures { result.now ≡ self.now.loaded }
     {
         &self.loaded
     }
 
-    /// The places of the root sub-records.
+    /// Returns the places of the root sub-records.
     pub fn roots(&self) -> &[u32]
         ensures { result.now ≡ self.now.roots }
     {
         &self.roots
     }
 
-    /// The places of the class, instance and array dumps.
+    /// Returns the places of the class, instance and array dumps.
     pub fn objects(&self) -> &[u32]
         ensures { result.now ≡ self.now.objects }
     {
         &self.objects
     }
 
-    /// Notes where a sub-record of this kind stands.
+    /// Notes that a sub-record of `kind` is at the offset `at`.
     pub(crate) fn note(&mut self, kind: Kind, at: u32) -> Result<(), ReadRefusal>
         ensures ok { OnOk result (self.new ≡ noted self.old kind at) }
         ensures memory { IfErr result (λ e. e ≡ ReadRefusal.OutOfMemory) }
@@ -81,7 +81,7 @@ impl<A: Allocator> Dump<A> {
         }
     }
 
-    /// Notes where a STRING IN UTF8 record stands.
+    /// Notes that a STRING IN UTF8 record is at the offset `at`.
     pub(crate) fn note_string(&mut self, at: u32) -> Result<(), ReadRefusal>
         ensures ok { OnOk result (self.new ≡ with_string self.old at) }
         ensures memory { IfErr result (λ e. e ≡ ReadRefusal.OutOfMemory) }
@@ -89,7 +89,7 @@ impl<A: Allocator> Dump<A> {
         self.strings.push(at).map_err(|_| ReadRefusal::OutOfMemory)
     }
 
-    /// Notes where a LOAD CLASS record stands.
+    /// Notes that a LOAD CLASS record is at the offset `at`.
     pub(crate) fn note_loaded(&mut self, at: u32) -> Result<(), ReadRefusal>
         ensures ok { OnOk result (self.new ≡ with_loaded self.old at) }
         ensures memory { IfErr result (λ e. e ≡ ReadRefusal.OutOfMemory) }
@@ -98,7 +98,7 @@ impl<A: Allocator> Dump<A> {
     }
 }
 
-/// Puts a list behind another, or in its place where it has nothing, which copies nothing.
+/// Appends `more` to `list`. Copies nothing if `list` is empty.
 fn append<A: Allocator>(list: &mut Vec<u32, A>, more: Vec<u32, A>) -> Result<(), AllocError>
     ensures { OnOk result (list.new.items ≡ list.old.items ++ more.items) }
 {
@@ -111,7 +111,7 @@ fn append<A: Allocator>(list: &mut Vec<u32, A>, more: Vec<u32, A>) -> Result<(),
 }
 
 impl<A: Allocator> Dump<A> {
-    /// Puts the places of records that were read by themselves behind those that are there.
+    /// Appends the places of `more`.
     pub(crate) fn append(&mut self, more: Dump<A>) -> Result<(), AllocError>
         ensures { OnOk result (self.new ≡ with_places self.old more) }
     {
@@ -123,7 +123,7 @@ impl<A: Allocator> Dump<A> {
 }
 
 impl<A: Allocator + Copy> Dump<A> {
-    /// A dump of which nothing was read yet.
+    /// Creates a dump without places.
     pub(crate) fn new(alloc: A, id_size: u8) -> Self
         ensures { result ≡ nothing_of id_size }
     {
@@ -136,8 +136,8 @@ impl<A: Allocator + Copy> Dump<A> {
         }
     }
 
-    /// Hands over the places of the class, instance and array dumps: the dump's own list of them is empty from then on.
-    /// `alloc` is for that list, which takes no memory.
+    /// Removes and returns the places of the class, instance and array dumps. `alloc` is the allocator of the empty
+    /// list that stays in the dump; it allocates nothing.
     pub fn take_objects(&mut self, alloc: A) -> Vec<u32, A>
         ensures places { result.items ≡ self.old.objects }
         ensures rest { self.new ≡ record self.old { objects = [] } }

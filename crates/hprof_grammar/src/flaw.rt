@@ -1,17 +1,17 @@
-//! What can be wrong with the bytes of a dump.
+//! The faults that bytes can have as a dump, and the refusals.
 
 use crate::fault_codes;
 use std::fmt;
 use thiserror::Error;
 
-/// What is wrong where no whole sub-record stands.
+/// The reason why bytes do not begin with a whole record or sub-record.
 #[derive(Clone, Copy, Debug, PartialEq, Eq)]
 pub enum Flaw {
     /// The tag of a sub-record is in no table.
     UnknownTag,
     /// A field runs past the end of the bytes.
     Short,
-    /// A type code is not allowed where it stands.
+    /// A type code is not allowed at its place.
     WrongType,
 }
 
@@ -19,7 +19,7 @@ impl Flaw {
     ghost use Rattle.std.specs.Prelude.{◌≡◌};
     ghost use Rattle.hprof_grammar.specs.working.Reading as reading;
 
-    /// The code of a fault of this kind.
+    /// Returns the code of this flaw in a sub-record.
     pub fn code(self) -> u8
         ensures { result ≡ reading.flaw_code self }
     {
@@ -34,26 +34,12 @@ impl Flaw {
 /// The first fault of bytes that are no dump.
 #[derive(Clone, Copy, Debug, PartialEq, Eq, Error)]
 pub struct FormatFault {
-    /// 1 the text of the header, 2 the size of identifiers, 3 the header or a record is cut, 4 the length of a
-    /// record, 5 the tag of a sub-record, 6 a sub-record is cut, 7 a type code, 8 the order of the snapshot's
-    /// records, 14 too many bytes.
+    /// The code: 1 the text of the header, 2 the size of identifiers, 3 the header or a record runs past the end, 4 the
+    /// length of a record, 5 the tag of a sub-record, 6 a sub-record runs past the end, 7 a type code, 8 the order of
+    /// the snapshot's records, 14 too many bytes.
     pub code: u8,
-    /// The place of the fault: how many bytes stand before it.
+    /// The offset of the fault, in bytes from the beginning of the dump.
     pub offset: u64,
-}
-
-impl FormatFault {
-    ghost use Rattle.std.specs.Prelude.{◌≡◌};
-
-    /// The fault of this code at this place.
-    pub(crate) fn new(code: u8, at: u32) -> Self
-        ensures { result ≡ record { code = code; offset = at } }
-    {
-        FormatFault {
-            code,
-            offset: u64::from(at),
-        }
-    }
 }
 
 impl fmt::Display for FormatFault {
@@ -69,13 +55,27 @@ impl fmt::Display for FormatFault {
     }
 }
 
-/// Why bytes were not read as a dump.
+/// The reason why bytes were not read as a dump.
 #[derive(Clone, Copy, Debug, PartialEq, Eq, Error)]
 pub enum ReadRefusal {
     /// The bytes are no dump.
     Fault(FormatFault),
-    /// A request for memory was refused.
+    /// An allocation failed.
     OutOfMemory,
+}
+
+impl ReadRefusal {
+    ghost use Rattle.std.specs.Prelude.{◌≡◌};
+
+    /// Returns the refusal of bytes whose first fault has `code` and is at the offset `at`.
+    pub(crate) fn fault(code: u8, at: u32) -> Self
+        ensures { result ≡ ReadRefusal.Fault (record { code = code; offset = at }) }
+    {
+        ReadRefusal::Fault(FormatFault {
+            code,
+            offset: u64::from(at),
+        })
+    }
 }
 
 impl fmt::Display for ReadRefusal {

@@ -1,4 +1,4 @@
-//! What every record of a dump has: a tag, a time, a length, and a body of so many bytes.
+//! The parts that every record of a dump has: a tag, a time, a length, and a body of that length.
 
 ghost use Rattle.std.specs.Prelude.{◌≡◌};
 ghost use Rattle.hprof_grammar.specs.working.Reading.{ReadsAs, frame_at};
@@ -6,18 +6,18 @@ ghost use Rattle.hprof_grammar.specs.working.Reading.{ReadsAs, frame_at};
 use crate::flaw::Flaw;
 use crate::reader::Reader;
 
-/// A whole record, of which only the length was looked at.
+/// A whole record, whose body has not been read yet.
 #[derive(Clone, Copy)]
 pub struct Frame<'a> {
-    /// The kind of the record.
+    /// The tag, which says the kind of the record.
     pub tag: u8,
-    /// Microseconds since the time of the header.
+    /// The time, in microseconds since the time of the header.
     pub time: u32,
-    /// The bytes behind the length, as many as that says.
+    /// The bytes after the length field, as many as that says.
     pub body: &'a [u8],
 }
 
-/// Reads the record that the bytes begin with: `Short` where it is not all there.
+/// Reads the next record. `Err(Flaw::Short)` if it runs past the end.
 #[tactic(auto, unfolding(crate::specs::working::Reading::frame_at))]
 pub fn next_frame<'a>(reader: &mut Reader<'a>) -> Result<Frame<'a>, Flaw>
     ensures { ReadsAs (λ frame. (frame.tag, frame.time, frame.body.now))

@@ -1,25 +1,25 @@
-//! What the tags and the type codes of sub-records stand for.
+//! The meaning of the tags and the type codes of sub-records.
 
-/// Why an object is a root.
+/// The reason why an object is a root.
 #[derive(Clone, Copy, Debug, PartialEq, Eq)]
 pub enum RootKind {
-    /// Nothing more is known.
+    /// The reason is unknown.
     Unknown,
-    /// A global JNI reference names it.
+    /// A global JNI reference names the object.
     JniGlobal,
-    /// A local JNI reference names it.
+    /// A local JNI reference names the object.
     JniLocal,
-    /// A local variable of a Java frame holds it.
+    /// A local variable of a Java frame holds the object.
     JavaFrame,
-    /// A native method was passed it.
+    /// A native method was passed the object.
     NativeStack,
-    /// A system class.
+    /// The object is a system class.
     StickyClass,
-    /// A blocked thread refers to it.
+    /// A blocked thread refers to the object.
     ThreadBlock,
-    /// A monitor that is in use.
+    /// The object is a monitor in use.
     MonitorUsed,
-    /// A live thread.
+    /// The object is a live thread.
     ThreadObject,
 }
 
@@ -36,16 +36,16 @@ pub enum ObjectKind {
     PrimitiveArray,
 }
 
-/// What the tag of a sub-record says.
+/// The kind of a sub-record, which its tag says.
 #[derive(Clone, Copy, Debug, PartialEq, Eq)]
 pub enum Kind {
-    /// A root of this kind.
+    /// A root.
     Root(RootKind),
-    /// A description of an object of this kind.
+    /// The dump of an object.
     Object(ObjectKind),
 }
 
-/// Where a type code stands.
+/// The place of a type code.
 #[derive(Clone, Copy, Debug, PartialEq, Eq)]
 pub enum TypePlace {
     /// In an entry of a constant pool.

@@ -1,4 +1,4 @@
-//! What a text and its dump or its first fault have in common, as laws: functions with empty bodies.
+//! Laws of a text and its dump or first fault: functions with empty bodies.
 
 ghost use Rattle.std.specs.Prelude.{List, ℕ, ◌≡◌, ◌⊎◌};
 ghost use Rattle.hprof_grammar.specs.Dump.{Spells};
@@ -19,7 +19,7 @@ pub fn one_dump()
     ensures { (text : List ℕ) (dump other : Places) → IsDumpOf text dump → IsDumpOf text other → dump ≡ other }
 {}
 
-/// A text has at most one first fault: its code, and its place.
+/// A text has at most one first fault, with one code and one offset.
 pub fn one_fault()
     ensures { (text : List ℕ) (code place other_code other_place : ℕ) → FirstFault text code place
         → FirstFault text other_code other_place

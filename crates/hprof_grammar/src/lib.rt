@@ -1,7 +1,7 @@
 //! Records and sub-records of an HPROF heap dump (JAVA PROFILE 1.0.2), as places in its bytes.
 //!
-//! `read` answers the one dump that the bytes spell, or their first fault with its code and place. It keeps places
-//! alone, 4 bytes for each string, loaded class, root and object; a `View` then reads a field of what stands at a
+//! `read` returns the one dump that the bytes spell, or their first fault with its code and offset. It keeps only
+//! places, 4 bytes for each string, loaded class, root and object; a `View` then reads the fields of the part at a
 //! place.
 //!
 //! From `crates/grammar_tests/src/worked_file.rt`, which is proved and run:
@@ -13,8 +13,8 @@
 //!     assert_eq!(rt; dump.objects(), [79, 127, 148].as_slice());
 //!     assert_eq!(rt; dump.roots(), [169].as_slice());
 //!
-//! README.md beside this folder has a proved caller and the order in which to read the definitions; what is accepted
-//! and what is refused stands in `docs/FORMAT.md`.
+//! README.md beside this folder has a proved caller and the order in which to read the definitions; `docs/FORMAT.md`
+//! says what is accepted and what is refused.
 
 #![tactic(auto)]
 

@@ -1,4 +1,4 @@
-//! A whole dump, from its first byte to its last.
+//! Reads a whole dump, from its first byte to its last.
 
 ghost use Rattle.std.specs.Prelude.{◌≡◌, ◌≤◌, IfOk, length};
 ghost use Rattle.hprof_grammar.specs.Places.{IsDumpOf};
@@ -8,7 +8,7 @@ ghost use Rattle.hprof_grammar.specs.Refusal.{IfFault};
 
 use crate::dump::Dump;
 use crate::fault_codes;
-use crate::flaw::{FormatFault, ReadRefusal};
+use crate::flaw::ReadRefusal;
 use crate::parts::read_in_parts;
 use crate::record_list::{FIRST_RECORD, note_all};
 use crate::tags_and_types::is_id_size;
@@ -17,43 +17,45 @@ use byteorder::{BigEndian, ByteOrder};
 use std::alloc::Allocator;
 use std::thread::Threads;
 
-/// The bytes of the longest dump that is read.
+/// The length in bytes of the longest dump that is read.
 pub const LIMIT: u32 = 1_073_741_824;
 
-/// What a dump begins with.
+/// The first bytes of a dump.
 const MAGIC: &[u8] = b"JAVA PROFILE 1.0.2\0";
 
-/// Where the size of identifiers stands.
+/// The offset of the size of identifiers.
 const ID_SIZE_AT: u32 = 19;
 
-/// The size of identifiers, of a header that is right.
+/// Returns the size of identifiers that the header gives. `Err` has the first fault if the bytes are too many or the
+/// header is wrong.
 fn header_id_size(bytes: &[u8]) -> Result<u8, ReadRefusal>
     ensures ok { IfOk result (λ id_size. HasHeader id_size bytes.now) }
     ensures fault { IfFault result (λ fault. FirstFault bytes.now fault.code fault.offset) }
 {
     if bytes.len() > LIMIT as usize {
-        return Err(ReadRefusal::Fault(FormatFault::new(fault_codes::TOO_LARGE, LIMIT)));
+        return Err(ReadRefusal::fault(fault_codes::TOO_LARGE, LIMIT));
     }
     if !bytes.starts_with(MAGIC) {
-        return Err(ReadRefusal::Fault(FormatFault::new(fault_codes::BAD_HEADER, 0)));
+        return Err(ReadRefusal::fault(fault_codes::BAD_HEADER, 0));
     }
     if bytes.len() < FIRST_RECORD as usize {
-        return Err(ReadRefusal::Fault(FormatFault::new(fault_codes::TRUNCATED, 0)));
+        return Err(ReadRefusal::fault(fault_codes::TRUNCATED, 0));
     }
     let size = BigEndian::read_u32(&bytes[ID_SIZE_AT as usize..]);
     if !is_id_size(size) {
-        return Err(ReadRefusal::Fault(FormatFault::new(fault_codes::BAD_ID_SIZE, ID_SIZE_AT)));
+        return Err(ReadRefusal::fault(fault_codes::BAD_ID_SIZE, ID_SIZE_AT));
     }
     Ok(size as u8)
 }
 
-/// Reads a dump in the format of the HPROF manual, JAVA PROFILE 1.0.2, of at most 2^30 bytes: the dump that the bytes
-/// spell, as places in them.
+/// Reads a dump in the format of the HPROF manual, JAVA PROFILE 1.0.2, of at most 2^30 bytes. Returns the dump that
+/// `bytes` spell, as places in them.
 ///
-/// `Fault`: they spell none, and this is their first fault. `OutOfMemory`: a request for memory was refused.
+/// `Err(ReadRefusal::Fault(..))` has the first fault if `bytes` spell no dump, `Err(ReadRefusal::OutOfMemory)` means
+/// that an allocation failed.
 ///
-/// A dump that the team shares is read in parts, each by a thread. Where the parts make none, for a fault of the bytes
-/// or want of memory, it is read once more by the calling thread, whose answer stands.
+/// If `team` shares work of this size, its threads read the dump in parts. If a part has a fault or an allocation
+/// fails, the calling thread reads the dump again, and its result is returned.
 pub fn read<T: Threads + Sync, A: Allocator + Copy + Send + Sync>(
     team: &Team<'_, T>,
     alloc: A,

@@ -1,5 +1,5 @@
-//! A dump that is read in parts by threads. What a part says is tested before it is believed: whatever is odd, be it a
-//! fault of the bytes or want of memory, makes `None`, and the dump is read by one thread.
+//! Reads a dump in parts, each by a thread. The parts are tested before they are joined: on any fault of the bytes and
+//! on any failed allocation the result is `None`, and one thread reads the dump.
 
 ghost use Rattle.std.specs.Prelude.{All, IfSome, drop, ◌+◌, ◌<◌, ◌≡◌, ◌≤◌, ◌^◌, length};
 ghost use Rattle.hprof_grammar.specs.working.Joining.{AddsAll, HasHeader, nothing_of};
@@ -13,10 +13,10 @@ use std::alloc::Allocator;
 use std::thread;
 use std::thread::Threads;
 
-/// How many bytes a team takes for an object of a dump: some more than most have.
+/// The bytes for which a team counts one object: somewhat more than most objects of a dump have.
 const BYTES_OF_AN_OBJECT: usize = 64;
 
-/// What the records from one seam to another add to a dump.
+/// The places that the records from one seam to another add to a dump.
 #[derive(Drop)]
 pub struct Part<A: Allocator> {
     from: Seam,
@@ -24,7 +24,7 @@ pub struct Part<A: Allocator> {
     dump: Dump<A>,
 }
 
-/// Reads records by themselves.
+/// Reads the records of `cut`. Returns `None` if they have a fault or an allocation fails.
 fn read_part<A: Allocator + Copy>(alloc: A, bytes: &[u8], id_size: u8, cut: Cut) -> Option<Part<A>>
     requires low { 1 ≤ id_size }
     requires high { id_size ≤ 8 }
@@ -44,8 +44,8 @@ fn read_part<A: Allocator + Copy>(alloc: A, bytes: &[u8], id_size: u8, cut: Cut)
     })
 }
 
-/// The dump that the parts make where each begins at the seam where the one before ended, the first one behind the
-/// header, and the last one ends with the bytes.
+/// Joins `parts` to a dump. Returns `None` if a part is missing, does not begin at the seam where the one before it
+/// ends, or the last one does not end with `bytes` and the snapshot; and if an allocation fails.
 fn join_parts<A: Allocator + Copy>(
     alloc: A,
     bytes: &[u8],
@@ -74,8 +74,8 @@ fn join_parts<A: Allocator + Copy>(
     Some(dump)
 }
 
-/// Reads a dump whose header is right in as many parts as the team has threads, where the team shares work on so many
-/// objects.
+/// Reads a dump whose header is right in at most as many parts as `team` has threads. Returns `None` if the dump is too
+/// small for `team` to share, if it makes fewer than two parts, if the bytes have a fault, or if an allocation fails.
 pub fn read_in_parts<T: Threads + Sync, A: Allocator + Copy + Send + Sync>(
     team: &Team<'_, T>,
     alloc: A,

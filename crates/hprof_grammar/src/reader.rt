@@ -1,4 +1,4 @@
-//! Bytes that are read from left to right.
+//! Reads bytes from left to right.
 
 ghost use Rattle.std.specs.Prelude.{◌≡◌, ◌==◌, length};
 ghost use Rattle.hprof_grammar.specs.working.Reading.{Reads, ReadsAs, Passes, list_at, number_at, raw_at, type_at};
@@ -8,29 +8,29 @@ use crate::kinds::TypePlace;
 use crate::tags_and_types::is_type_at;
 use byteorder::{BigEndian, ByteOrder};
 
-/// The bytes that are left to read.
+/// A reader of bytes. `Err(Flaw::Short)` means that too few bytes are left.
 #[derive(Clone, Copy)]
 pub struct Reader<'a> {
-    /// The bytes behind those that were read.
+    /// The bytes that are left to read.
     pub rest: &'a [u8],
 }
 
 impl<'a> Reader<'a> {
-    /// A reader of these bytes, of which none is read yet.
+    /// Creates a reader of `bytes`.
     pub fn new(bytes: &'a [u8]) -> Self
         ensures { result.rest.now ≡ bytes.now }
     {
         Reader { rest: bytes }
     }
 
-    /// Whether no byte is left.
+    /// Tests whether no byte is left.
     pub fn is_empty(&self) -> bool
         ensures { result ≡ (length self.now.rest.now == 0) }
     {
         self.rest.is_empty()
     }
 
-    /// The next `count` bytes, as they are: `Short` where fewer are left.
+    /// Reads `count` bytes as they are.
     pub fn raw(&mut self, count: u64) -> Result<&'a [u8], Flaw>
         ensures { ReadsAs (λ x. x.now) result self.new.rest.now (raw_at count self.old.rest.now) }
     {
@@ -44,7 +44,7 @@ impl<'a> Reader<'a> {
         Ok(first)
     }
 
-    /// A number of `width` bytes, passed and not looked at.
+    /// Skips a number of `width` bytes.
     pub fn pass(&mut self, width: u8) -> Result<(), Flaw>
         ensures { Passes result self.new.rest.now (number_at width self.old.rest.now) }
     {
@@ -52,7 +52,7 @@ impl<'a> Reader<'a> {
         Ok(())
     }
 
-    /// `count` numbers of `width` bytes each, passed at once and not looked at.
+    /// Skips `count` numbers of `width` bytes each.
     #[tactic(auto, using(crate::proofs::Counts::numbers_are_bytes))]
     pub fn pass_all(&mut self, count: u32, width: u8) -> Result<(), Flaw>
         ensures { Passes result self.new.rest.now (list_at (number_at width) count self.old.rest.now) }
@@ -61,7 +61,7 @@ impl<'a> Reader<'a> {
         Ok(())
     }
 
-    /// A big-endian number of 2 bytes.
+    /// Reads a big-endian number of 2 bytes.
     pub fn u16(&mut self) -> Result<u16, Flaw>
         ensures { Reads result self.new.rest.now (number_at 2 self.old.rest.now) }
     {
@@ -70,7 +70,7 @@ impl<'a> Reader<'a> {
         Ok(BigEndian::read_u16(bytes))
     }
 
-    /// A big-endian number of 4 bytes.
+    /// Reads a big-endian number of 4 bytes.
     pub fn u32(&mut self) -> Result<u32, Flaw>
         ensures { Reads result self.new.rest.now (number_at 4 self.old.rest.now) }
     {
@@ -79,7 +79,7 @@ impl<'a> Reader<'a> {
         Ok(BigEndian::read_u32(bytes))
     }
 
-    /// A type code that may stand at such a place: `WrongType` where it may not.
+    /// Reads a type code. `Err(Flaw::WrongType)` if that code is not allowed at `place`.
     pub fn type_code(&mut self, place: TypePlace) -> Result<u8, Flaw>
         ensures { Reads result self.new.rest.now (type_at place self.old.rest.now) }
     {

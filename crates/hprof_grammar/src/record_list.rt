@@ -1,4 +1,4 @@
-//! The records of a dump, behind its header.
+//! The records of a dump, after its header.
 
 ghost use Rattle.std.specs.Prelude.{[], ◌≡◌, ◌+◌, ◌<◌, ◌≤◌, ◌^◌, IfOk, OnOk, ℕ, length};
 ghost use Rattle.hprof_grammar.specs.working.Joining.{AddsAll, AddsRecord, AddsRecordsFrom, FrameFault};
@@ -6,29 +6,29 @@ ghost use Rattle.hprof_grammar.specs.working.Joining.{HasRecordFault};
 ghost use Rattle.hprof_grammar.specs.Refusal.{IfFault};
 
 use crate::dump::Dump;
-use crate::flaw::{FormatFault, ReadRefusal};
+use crate::flaw::ReadRefusal;
 use crate::frame::next_frame;
 use crate::reader::Reader;
-use crate::snapshot_order::Order;
+use crate::snapshot_order::SnapshotState;
 use crate::sub_record_list::note_subs;
 use crate::tags_and_types::is_length_of;
 use crate::{fault_codes, tags};
 use std::alloc::Allocator;
 
-/// Where the records of a dump begin: the place behind its header.
+/// The offset of the first record of a dump: the length of its header.
 pub const FIRST_RECORD: u32 = 31;
 
-/// The bytes of a record before its body: a tag, a time and a length.
+/// The length of a record's tag, time and length field, which precede its body.
 const FRAME: u32 = 9;
 
-/// Notes a record that stands at this place, and answers what has come of the snapshot with it.
+/// Notes the record at the offset `at`. `order` is the snapshot state before it. Returns the state after it.
 fn note_record<A: Allocator>(
     dump: &mut Dump<A>,
-    order: Order,
+    order: SnapshotState,
     tag: u8,
     body: &[u8],
     at: u32,
-) -> Result<Order, ReadRefusal>
+) -> Result<SnapshotState, ReadRefusal>
     requires low { 1 ≤ dump.old.id_size }
     requires high { dump.old.id_size ≤ 8 }
     requires room { at + 9 + length body.now < 2 ^ 32 }
@@ -36,10 +36,10 @@ fn note_record<A: Allocator>(
     ensures fault { IfFault result (FrameFault dump.old.id_size at tag body.now order) }
 {
     if !is_length_of(dump.id_size(), tag, body.len()) {
-        return Err(ReadRefusal::Fault(FormatFault::new(fault_codes::BAD_LENGTH, at)));
+        return Err(ReadRefusal::fault(fault_codes::BAD_LENGTH, at));
     }
     let Some(next) = order.after(tag) else {
-        return Err(ReadRefusal::Fault(FormatFault::new(fault_codes::DUMP_ORDER, at)));
+        return Err(ReadRefusal::fault(fault_codes::DUMP_ORDER, at));
     };
     match tag {
         tags::STRING_IN_UTF8 => dump.note_string(at)?,
@@ -50,20 +50,19 @@ fn note_record<A: Allocator>(
     Ok(next)
 }
 
-/// Notes the records that these bytes are, of which the first stands at a place, behind records with which `order` has
-/// come of the snapshot, and answers what has come of it with them too. A fault is said to be the first where they are
-/// those behind the header.
+/// Notes the records in `bytes`. `at` is the offset of the first, `order` the snapshot state before it. Returns the
+/// state after the last. A fault is the first of the dump if `bytes` are all its bytes after the header.
 pub fn note_records<A: Allocator>(
     dump: &mut Dump<A>,
-    order: Order,
+    order: SnapshotState,
     bytes: &[u8],
     at: u32,
-) -> Result<Order, ReadRefusal>
+) -> Result<SnapshotState, ReadRefusal>
     requires low { 1 ≤ dump.old.id_size }
     requires high { dump.old.id_size ≤ 8 }
     requires room { at + length bytes.now < 2 ^ 32 }
     ensures adds { IfOk result (λ reached. AddsRecordsFrom at order bytes.now [] reached dump.old dump.new) }
-    ensures fault { IfFault result (λ fault. at ≡ 31 → order ≡ Order.Before
+    ensures fault { IfFault result (λ fault. at ≡ 31 → order ≡ SnapshotState.Before
         → HasRecordFault dump.old.id_size bytes.now fault) }
 {
     let mut order = order;
@@ -71,14 +70,14 @@ pub fn note_records<A: Allocator>(
     while !reader.is_empty() {
         let place = at + (bytes.len() - reader.rest.len()) as u32;
         let Ok(frame) = next_frame(&mut reader) else {
-            return Err(ReadRefusal::Fault(FormatFault::new(fault_codes::TRUNCATED, place)));
+            return Err(ReadRefusal::fault(fault_codes::TRUNCATED, place));
         };
         order = note_record(dump, order, frame.tag, frame.body, place)?;
     }
     Ok(order)
 }
 
-/// Notes all records of a dump, of which the bytes behind the header are given.
+/// Notes all records of a dump. `bytes` are its bytes after the header.
 pub fn note_all<A: Allocator>(dump: &mut Dump<A>, bytes: &[u8]) -> Result<(), ReadRefusal>
     requires low { 1 ≤ dump.old.id_size }
     requires high { dump.old.id_size ≤ 8 }
@@ -86,10 +85,10 @@ pub fn note_all<A: Allocator>(dump: &mut Dump<A>, bytes: &[u8]) -> Result<(), Re
     ensures adds { OnOk result (AddsAll bytes.now dump.old dump.new) }
     ensures fault { IfFault result (HasRecordFault dump.old.id_size bytes.now) }
 {
-    let order = note_records(dump, Order::Before, bytes, FIRST_RECORD)?;
+    let order = note_records(dump, SnapshotState::Before, bytes, FIRST_RECORD)?;
     if !order.is_done() {
         let end = FIRST_RECORD + bytes.len() as u32;
-        return Err(ReadRefusal::Fault(FormatFault::new(fault_codes::DUMP_ORDER, end)));
+        return Err(ReadRefusal::fault(fault_codes::DUMP_ORDER, end));
     }
     Ok(())
 }

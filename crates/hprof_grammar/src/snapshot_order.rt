@@ -5,51 +5,51 @@ ghost use Rattle.hprof_grammar.specs.working.SnapshotOrder as orders;
 
 use crate::tags;
 
-/// What has come of the snapshot.
+/// The state of the snapshot after some records.
 #[derive(Clone, Copy, Debug, PartialEq, Eq)]
-pub enum Order {
-    /// Nothing.
+pub enum SnapshotState {
+    /// No record of the snapshot has come.
     Before,
-    /// A heap dump.
+    /// The whole snapshot has come, in one HEAP DUMP.
     Whole,
-    /// Segments, and no end yet.
+    /// One HEAP DUMP SEGMENT or more, without the end.
     Segments,
-    /// Segments and their end.
+    /// One HEAP DUMP SEGMENT or more, and the HEAP DUMP END.
     Ended,
 }
 
-impl Order {
-    /// What has come once a record of this tag has, `None` where it breaks the order.
-    pub fn after(self, tag: u8) -> Option<Order>
+impl SnapshotState {
+    /// Returns the state after a record with `tag`. Returns `None` if that record breaks the order.
+    pub fn after(self, tag: u8) -> Option<SnapshotState>
         ensures { orders.StepsTo self tag result }
     {
         match self {
-            Order::Before => match tag {
-                tags::HEAP_DUMP => Some(Order::Whole),
-                tags::HEAP_DUMP_SEGMENT => Some(Order::Segments),
+            SnapshotState::Before => match tag {
+                tags::HEAP_DUMP => Some(SnapshotState::Whole),
+                tags::HEAP_DUMP_SEGMENT => Some(SnapshotState::Segments),
                 tags::HEAP_DUMP_END => None,
-                _ => Some(Order::Before),
+                _ => Some(SnapshotState::Before),
             },
-            Order::Segments => match tag {
+            SnapshotState::Segments => match tag {
                 tags::HEAP_DUMP => None,
-                tags::HEAP_DUMP_SEGMENT => Some(Order::Segments),
-                tags::HEAP_DUMP_END => Some(Order::Ended),
-                _ => Some(Order::Segments),
+                tags::HEAP_DUMP_SEGMENT => Some(SnapshotState::Segments),
+                tags::HEAP_DUMP_END => Some(SnapshotState::Ended),
+                _ => Some(SnapshotState::Segments),
             },
-            Order::Whole | Order::Ended => match tag {
+            SnapshotState::Whole | SnapshotState::Ended => match tag {
                 tags::HEAP_DUMP | tags::HEAP_DUMP_SEGMENT | tags::HEAP_DUMP_END => None,
                 _ => Some(self),
             },
         }
     }
 
-    /// Whether the snapshot is there, and has its end.
+    /// Tests whether the snapshot is complete.
     pub fn is_done(self) -> bool
         ensures { result ≡ orders.is_done self }
     {
         match self {
-            Order::Before | Order::Segments => false,
-            Order::Whole | Order::Ended => true,
+            SnapshotState::Before | SnapshotState::Segments => false,
+            SnapshotState::Whole | SnapshotState::Ended => true,
         }
     }
 }

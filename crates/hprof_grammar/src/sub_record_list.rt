@@ -1,16 +1,16 @@
-//! The sub-records of a heap record, one after another to its end.
+//! Reads the sub-records of a heap record, one after another to its end.
 
 ghost use Rattle.std.specs.Prelude.{◌≡◌, ◌+◌, ◌<◌, ◌≤◌, ◌^◌, OnOk, [], length};
 ghost use Rattle.hprof_grammar.specs.working.Joining.{AddsSubs, HasSubFault};
 ghost use Rattle.hprof_grammar.specs.Refusal.{IfFault};
 
 use crate::dump::Dump;
-use crate::flaw::{FormatFault, ReadRefusal};
+use crate::flaw::ReadRefusal;
 use crate::reader::Reader;
 use crate::sub_records::sub_record;
 use std::alloc::Allocator;
 
-/// Notes the sub-records of a heap record, whose body stands at this place.
+/// Notes the sub-records of a heap record. `body` is its body, `at` the offset of the body in the dump.
 pub fn note_subs<A: Allocator>(dump: &mut Dump<A>, body: &[u8], at: u32) -> Result<(), ReadRefusal>
     requires low { 1 ≤ dump.old.id_size }
     requires high { dump.old.id_size ≤ 8 }
@@ -26,7 +26,7 @@ pub fn note_subs<A: Allocator>(dump: &mut Dump<A>, body: &[u8], at: u32) -> Resu
             Ok(kind) => dump.note(kind, place)?,
             Err(flaw) => {
                 let code = flaw.code();
-                return Err(ReadRefusal::Fault(FormatFault::new(code, place)));
+                return Err(ReadRefusal::fault(code, place));
             }
         }
     }

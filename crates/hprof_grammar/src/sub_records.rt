@@ -1,5 +1,5 @@
-//! Sub-records of a heap record, read field by field. Their values are looked at only where they say
-//! how much follows.
+//! Reads the sub-records of a heap record, field by field. Skips the values of fields, except of those that say how
+//! much follows.
 
 ghost use Rattle.std.specs.Prelude.{◌≡◌, ◌≤◌, IfOk, Some, slice_get, ℕ};
 ghost use Rattle.std.specs.Option.{option_and_then};
@@ -16,7 +16,7 @@ use crate::kinds::{Kind, ObjectKind, RootKind, TypePlace};
 use crate::reader::Reader;
 use crate::tags_and_types::{kind_of, size_of};
 
-/// A type code, and a value of that type.
+/// Reads a type code that is allowed at `place`, and skips a value of that type.
 fn typed_value(reader: &mut Reader<'_>, id_size: u8, place: TypePlace) -> Result<(), Flaw>
     ensures { Passes result reader.new.rest.now
         (then_at (type_at place) (λ t. raw_at (tables.size_of id_size t)) reader.old.rest.now) }
@@ -26,7 +26,7 @@ fn typed_value(reader: &mut Reader<'_>, id_size: u8, place: TypePlace) -> Result
     Ok(())
 }
 
-/// An entry of a constant pool: its index, and a value.
+/// Reads an entry of a constant pool: its index and a value.
 fn constant(reader: &mut Reader<'_>, id_size: u8) -> Result<(), Flaw>
     ensures { Passes result reader.new.rest.now (constant_at id_size reader.old.rest.now) }
 {
@@ -34,7 +34,7 @@ fn constant(reader: &mut Reader<'_>, id_size: u8) -> Result<(), Flaw>
     typed_value(reader, id_size, TypePlace::InConstant)
 }
 
-/// A static field: the identifier of its name, and a value.
+/// Reads a static field: the identifier of its name and a value.
 fn static_field(reader: &mut Reader<'_>, id_size: u8) -> Result<(), Flaw>
     requires low { 1 ≤ id_size }
     requires high { id_size ≤ 8 }
@@ -44,7 +44,7 @@ fn static_field(reader: &mut Reader<'_>, id_size: u8) -> Result<(), Flaw>
     typed_value(reader, id_size, TypePlace::InStatic)
 }
 
-/// An instance field that a class declares: the identifier of its name, and its type.
+/// Reads an instance field that a class declares: the identifier of its name and its type code.
 fn member(reader: &mut Reader<'_>, id_size: u8) -> Result<(), Flaw>
     requires low { 1 ≤ id_size }
     requires high { id_size ≤ 8 }
@@ -55,7 +55,7 @@ fn member(reader: &mut Reader<'_>, id_size: u8) -> Result<(), Flaw>
     Ok(())
 }
 
-/// A count of two bytes, and so many entries of a constant pool.
+/// Reads a count of two bytes and that many entries of a constant pool.
 #[tactic(auto, using(crate::proofs::Counts::turns))]
 fn constants(reader: &mut Reader<'_>, id_size: u8) -> Result<(), Flaw>
     ensures { Passes result reader.new.rest.now
@@ -68,7 +68,7 @@ fn constants(reader: &mut Reader<'_>, id_size: u8) -> Result<(), Flaw>
     Ok(())
 }
 
-/// A count of two bytes, and so many static fields.
+/// Reads a count of two bytes and that many static fields.
 #[tactic(auto, using(crate::proofs::Counts::turns))]
 fn statics(reader: &mut Reader<'_>, id_size: u8) -> Result<(), Flaw>
     requires low { 1 ≤ id_size }
@@ -83,7 +83,7 @@ fn statics(reader: &mut Reader<'_>, id_size: u8) -> Result<(), Flaw>
     Ok(())
 }
 
-/// A count of two bytes, and so many instance fields.
+/// Reads a count of two bytes and that many instance fields.
 #[tactic(auto, using(crate::proofs::Counts::turns))]
 fn members(reader: &mut Reader<'_>, id_size: u8) -> Result<(), Flaw>
     requires low { 1 ≤ id_size }
@@ -98,7 +98,7 @@ fn members(reader: &mut Reader<'_>, id_size: u8) -> Result<(), Flaw>
     Ok(())
 }
 
-/// The fields of a CLASS DUMP behind its tag.
+/// Reads the fields of a CLASS DUMP after its tag.
 #[tactic(auto, unfolding(crate::specs::working::Reading::class_dump_at))]
 fn class(reader: &mut Reader<'_>, id_size: u8) -> Result<(), Flaw>
     requires low { 1 ≤ id_size }
@@ -119,7 +119,7 @@ fn class(reader: &mut Reader<'_>, id_size: u8) -> Result<(), Flaw>
     members(reader, id_size)
 }
 
-/// The fields of an INSTANCE DUMP behind its tag.
+/// Reads the fields of an INSTANCE DUMP after its tag.
 #[tactic(auto, unfolding(crate::specs::working::Reading::instance_at))]
 fn instance(reader: &mut Reader<'_>, id_size: u8) -> Result<(), Flaw>
     requires low { 1 ≤ id_size }
@@ -134,7 +134,7 @@ fn instance(reader: &mut Reader<'_>, id_size: u8) -> Result<(), Flaw>
     Ok(())
 }
 
-/// The fields of an OBJECT ARRAY DUMP behind its tag.
+/// Reads the fields of an OBJECT ARRAY DUMP after its tag.
 #[tactic(auto, unfolding(crate::specs::working::Reading::object_array_at))]
 fn object_array(reader: &mut Reader<'_>, id_size: u8) -> Result<(), Flaw>
     requires low { 1 ≤ id_size }
@@ -148,7 +148,7 @@ fn object_array(reader: &mut Reader<'_>, id_size: u8) -> Result<(), Flaw>
     reader.pass_all(count, id_size)
 }
 
-/// The fields of a PRIMITIVE ARRAY DUMP behind its tag.
+/// Reads the fields of a PRIMITIVE ARRAY DUMP after its tag.
 #[tactic(auto, unfolding(crate::specs::working::Reading::primitive_array_at))]
 fn primitive_array(reader: &mut Reader<'_>, id_size: u8) -> Result<(), Flaw>
     requires low { 1 ≤ id_size }
@@ -163,7 +163,7 @@ fn primitive_array(reader: &mut Reader<'_>, id_size: u8) -> Result<(), Flaw>
     Ok(())
 }
 
-/// The fields of a root behind its tag: its object, and what its kind says of it.
+/// Reads the fields of a root after its tag: its object, and the fields that a root of `kind` has.
 fn root(reader: &mut Reader<'_>, id_size: u8, kind: RootKind) -> Result<(), Flaw>
     requires low { 1 ≤ id_size }
     requires high { id_size ≤ 8 }
@@ -186,7 +186,7 @@ fn root(reader: &mut Reader<'_>, id_size: u8, kind: RootKind) -> Result<(), Flaw
     Ok(())
 }
 
-/// A whole sub-record, of which the tag says the kind.
+/// Reads a whole sub-record and returns its kind.
 // Inlined into the loops over all of them: as a call it took a third of the parse again.
 #[inline(always)]
 #[tactic(auto, unfolding(crate::specs::working::Reading::sub_record_at))]

@@ -12,7 +12,7 @@ pub const HEAP_DUMP: u8 = 0x0C;
 /// The record HEAP DUMP SEGMENT: some sub-records of a snapshot.
 pub const HEAP_DUMP_SEGMENT: u8 = 0x1C;
 
-/// The record HEAP DUMP END, behind the last segment.
+/// The record HEAP DUMP END, after the last segment.
 pub const HEAP_DUMP_END: u8 = 0x2C;
 
 /// The sub-record ROOT UNKNOWN.

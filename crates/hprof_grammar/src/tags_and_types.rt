@@ -1,4 +1,4 @@
-//! The tables of the format: what its tags and type codes stand for, the sizes of values, the lengths of records.
+//! The tables of the format: the meaning of its tags and type codes, the sizes of values, the lengths of records.
 
 ghost use Rattle.std.specs.Prelude.{◌≡◌};
 ghost use Rattle.hprof_grammar.specs.Kinds as kind_tables;
@@ -8,7 +8,7 @@ ghost use Rattle.hprof_grammar.specs.TagsAndTypes as tables;
 use crate::kinds::{Kind, ObjectKind, RootKind, TypePlace};
 use crate::tags;
 
-/// Whether identifiers may have so many bytes: 4 or 8.
+/// Tests whether identifiers may have `size` bytes: 4 or 8.
 #[tactic(auto, unfolding(crate::specs::TagsAndTypes::is_id_size))]
 pub fn is_id_size(size: u32) -> bool
     ensures { result ≡ tables.is_id_size size }
@@ -16,7 +16,7 @@ pub fn is_id_size(size: u32) -> bool
     size == 4 || size == 8
 }
 
-/// Whether this type code may stand at such a place.
+/// Tests whether the type code `code` is allowed at `place`.
 #[tactic(auto, unfolding(crate::specs::TagsAndTypes::is_type_at))]
 pub fn is_type_at(place: TypePlace, code: u8) -> bool
     ensures { result ≡ tables.is_type_at place code }
@@ -29,7 +29,7 @@ pub fn is_type_at(place: TypePlace, code: u8) -> bool
     }
 }
 
-/// How many bytes a value of this type code has, 0 for a code that is no type.
+/// Returns the size in bytes of a value with the type code `code`, 0 if that is no type.
 #[tactic(auto, unfolding(crate::specs::TagsAndTypes::size_of))]
 pub fn size_of(id_size: u8, code: u8) -> u8
     ensures { result ≡ tables.size_of id_size code }
@@ -44,7 +44,7 @@ pub fn size_of(id_size: u8, code: u8) -> u8
     }
 }
 
-/// The kind of a root with this tag, `None` where it is the tag of no root.
+/// Returns the kind of a root with `tag`. Returns `None` if no root has that tag.
 #[tactic(auto, unfolding(crate::specs::Kinds::root_kind))]
 fn root_kind(tag: u8) -> Option<RootKind>
     ensures { result ≡ kind_tables.root_kind tag }
@@ -63,7 +63,7 @@ fn root_kind(tag: u8) -> Option<RootKind>
     }
 }
 
-/// What this tag of a sub-record says, `None` where it is in no table.
+/// Returns the kind of a sub-record with `tag`. Returns `None` if no sub-record has that tag.
 #[tactic(auto, unfolding(crate::specs::Kinds::kind_of))]
 pub fn kind_of(tag: u8) -> Option<Kind>
     ensures { result ≡ kind_tables.kind_of tag }
@@ -77,7 +77,7 @@ pub fn kind_of(tag: u8) -> Option<Kind>
     }
 }
 
-/// Whether the body of a record with this tag may have so many bytes.
+/// Tests whether the body of a record with `tag` may have `length` bytes.
 #[tactic(auto, unfolding(crate::specs::Record::is_length_of))]
 pub fn is_length_of(id_size: u8, tag: u8, length: usize) -> bool
     ensures { result ≡ records.is_length_of id_size tag length }

@@ -6,8 +6,8 @@ use std::thread::{Threads, available_parallelism};
 /// The fewest objects that a team of `Team::new` or `Team::at_most` shares: fewer are not worth the start of a thread.
 const FEWEST_IN_PARTS: u32 = 65_536;
 
-/// A runtime that can start threads, for work that is done in parts: at most `threads` at once, the calling thread among
-/// them. No result depends on their number.
+/// A runtime that can start threads, for work that is done in parts: at most `threads` at once, the calling thread
+/// among them. No result depends on their number.
 #[derive(Drop)]
 pub struct Team<'r, T> {
     /// Never read: a value of such a type is the permission to start threads.

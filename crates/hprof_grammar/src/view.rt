@@ -1,8 +1,8 @@
-//! The fields of a dump's parts, read at the places of the parts.
+//! Reads the fields of a dump's parts, each at the place of its part.
 //!
-//! Each reader takes a place of a `Dump` and needs that such a part stands there, as `dump_is_placed` says of all
-//! places of a dump. Only `View::identifier_at` and `number_at` read in bytes that they are given, and need room. No
-//! reader takes memory.
+//! Each reader takes a place of a `Dump` and requires that a part of its kind is there, as `dump_is_placed` says of all
+//! places of a dump. Only `View::identifier_at` and `number_at` read from bytes that the caller passes, and require
+//! room. No reader allocates.
 
 mod arrays;
 mod classes;
@@ -26,15 +26,15 @@ use crate::tags_and_types;
 use byteorder::{BigEndian, ByteOrder};
 use std::marker::Model;
 
-/// Where the fields of a sub-record stand behind the place of its tag, each but for the identifiers before it.
+/// The offsets of a sub-record's fields from its tag, each without the identifiers before it.
 const OBJECT: usize = 1;
 
-/// Where the dump of an object has the serial number of its stack trace.
+/// The offset of the serial number of the stack trace in the dump of an object.
 const STACK_TRACE: usize = OBJECT;
 
 const BEHIND_STACK_TRACE: usize = STACK_TRACE + 4;
 
-/// The bytes of a dump and the size of its identifiers, by which the fields of its parts are read at their places.
+/// The bytes of a dump and the size of its identifiers. Reads the fields of the dump's parts at their places.
 #[derive(Drop)]
 pub struct View<'a> {
     bytes: &'a [u8],
@@ -55,7 +55,7 @@ impl<'a> Model for View<'a> {
 impl<'a> View<'a> {
     ghost use Rattle.hprof_grammar.specs.ObjectKinds.{object_kind};
 
-    /// A view of the bytes of a dump whose identifiers have `id_size` bytes, from 1 to 8.
+    /// Creates a view of the bytes of a dump whose identifiers have `id_size` bytes, from 1 to 8.
     pub fn new(bytes: &'a [u8], id_size: u8) -> Self
         requires low { 1 ≤ id_size }
         requires high { id_size ≤ 8 }
@@ -65,7 +65,7 @@ impl<'a> View<'a> {
         View { bytes, id_size }
     }
 
-    /// How many bytes an identifier has, from 1 to 8.
+    /// Returns the size of an identifier in bytes, from 1 to 8.
     pub fn id_size(&self) -> u8
         ensures size { result ≡ self.now.id_size }
         ensures low { 1 ≤ self.now.id_size }
@@ -74,14 +74,14 @@ impl<'a> View<'a> {
         self.id_size
     }
 
-    /// How many bytes a value of this type code has, 0 for a code that is no type.
+    /// Returns the size in bytes of a value with `type_code`, 0 if that is no type.
     pub fn size_of(&self, type_code: u8) -> u8
         ensures { result ≡ tables.size_of self.now.id_size type_code }
     {
         tags_and_types::size_of(self.id_size, type_code)
     }
 
-    /// The kind of the object that the sub-record at a place describes.
+    /// Returns the kind of the object that the sub-record at `at` describes.
     pub fn kind(&self, at: u32) -> ObjectKind
         requires { (sub : SubRecord) × Stands self.now at sub × (is_object sub ≡ true) }
         ensures { (sub : SubRecord) → Stands self.now at sub → is_object sub ≡ true → object_kind sub ≡ Some result }
@@ -92,7 +92,7 @@ impl<'a> View<'a> {
         }
     }
 
-    /// The serial number of the stack trace in the dump of an object.
+    /// Returns the serial number of the stack trace of the object whose dump is at `at`.
     pub fn stack_trace(&self, at: u32) -> u32
         requires { (sub : SubRecord) × Stands self.now at sub × (is_object sub ≡ true) }
         ensures { (sub : SubRecord) → Stands self.now at sub → is_object sub ≡ true → stack_of sub ≡ Some result }
@@ -102,7 +102,7 @@ impl<'a> View<'a> {
     }
 }
 
-/// The big-endian number of 4 bytes at a place.
+/// Returns the big-endian number of 4 bytes at the offset `at`.
 fn u32_at(bytes: &[u8], at: usize) -> u32
     requires { at + 4 ≤ length bytes.now }
     ensures { result ≡ big_number 4 (drop at bytes.now) }
@@ -110,7 +110,7 @@ fn u32_at(bytes: &[u8], at: usize) -> u32
     BigEndian::read_u32(&bytes[at..])
 }
 
-/// The `count` bytes at a place.
+/// Returns the `count` bytes from the offset `at` on.
 fn bytes_at(bytes: &[u8], at: usize, count: usize) -> &[u8]
     requires { at + count ≤ length bytes.now }
     ensures { result.now ≡ take count (drop at bytes.now) }
@@ -120,7 +120,7 @@ fn bytes_at(bytes: &[u8], at: usize, count: usize) -> &[u8]
     part
 }
 
-/// The bytes from a place on.
+/// Returns all bytes from the offset `at` on.
 fn bytes_from(bytes: &[u8], at: usize) -> &[u8]
     requires { at ≤ length bytes.now }
     ensures { result.now ≡ drop at bytes.now }

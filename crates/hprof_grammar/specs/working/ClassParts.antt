@@ -1,15 +1,15 @@
--- The parts of a class dump: its identifiers behind the stack trace, and those parts that have counts.
+-- The parts of a class dump: its identifiers after the stack trace, and the parts that have counts.
 use Rattle.std.specs.Prelude.{List, [], flat_map, length, ℕ, ◌++◌, ◌∷◌, ◌≡◌}
 use Rattle.hprof_grammar.specs.Spelling.{Field, spelled}
 use Rattle.hprof_grammar.specs.Spelling.Field.{number}
 use Rattle.hprof_grammar.specs.FormedParts.{IsClass}
 use Rattle.hprof_grammar.specs.SubRecord.{Class, constant_fields, member_fields, static_fields}
 
--- the IDs behind the stack trace
+-- the IDs after the stack trace
 abbrev pub ids_behind_stack : Class → List ℕ
 ids_behind_stack c = c.super ∷ c.loader ∷ c.signers ∷ c.domain ∷ c.reserved ∷ c.reserved_too ∷ []
 
--- a count of 2 bytes, and the fields of that many things
+-- a count of 2 bytes, and the fields of as many things
 abbrev pub counted_fields : {X : Type 0} → (X → List Field) → List X → List Field
 counted_fields fields things = number 2 (length things) ∷ flat_map fields things
 
@@ -22,7 +22,7 @@ fields_from_statics s c = counted_fields (static_fields s) c.statics ++ fields_f
 abbrev pub fields_from_constants : ℕ → Class → List Field
 fields_from_constants s c = counted_fields constant_fields c.constants ++ fields_from_statics s c
 
--- the bytes are these last fields of the class dump, and then a rest
+-- the bytes are the given last fields of the class dump and a rest
 pub record IsPartOf (s : ℕ) (c : Class) (fields : List Field) (bytes : List ℕ) : Type 0 where
   pub rest : List ℕ
   pub bytes_are : bytes ≡ spelled fields ++ rest

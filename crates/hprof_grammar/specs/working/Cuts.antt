@@ -1,4 +1,4 @@
--- Where the records of a dump are cut.
+-- The cuts of a dump's records.
 use Rattle.std.specs.Prelude.{List, [], ℕ, ◌+◌, ◌∷◌, ◌≡◌, ◌≤◌}
 use Rattle.hprof_grammar.specs.declared.cuts.Cut.{Cut}
 

@@ -1,4 +1,5 @@
--- What the parts of the parser add to a dump, and the faults that they find. The private contracts cite these words.
+-- The places that the functions of the parser add to a dump, and the faults that they find. Private contracts cite
+-- these words.
 use Rattle.std.specs.Prelude.{List, [], drop, false, flat_map, length, map, true, ℕ, ◌++◌, ◌+◌, ◌<◌, ◌^◌, ◌∷◌, ◌≡◌, ◌≤◌}
 use Rattle.std.specs.List.{AllByRecursion}
 use Rattle.hprof_grammar.specs.Record.{HasParts, IsRecord, Record, body_of, is_heap_tag, is_length_of, subs_of}
@@ -13,14 +14,14 @@ use Rattle.hprof_grammar.specs.SubRecord.{IsSubRecord, SubRecord, spelling_of}
 use Rattle.hprof_grammar.specs.working.SnapshotOrder.{IsAt, is_done}
 use Rattle.hprof_grammar.specs.declared.kinds.Kind.{Kind}
 use Rattle.hprof_grammar.specs.declared.kinds.Kind.TheVariants as kinds
-use Rattle.hprof_grammar.specs.declared.snapshot_order.Order.{Order}
-use Rattle.hprof_grammar.specs.declared.snapshot_order.Order.TheVariants.{Before}
+use Rattle.hprof_grammar.specs.declared.snapshot_order.SnapshotState.{SnapshotState}
+use Rattle.hprof_grammar.specs.declared.snapshot_order.SnapshotState.TheVariants.{Before}
 use Rattle.hprof_grammar.specs.declared.flaw.FormatFault.{FormatFault}
 
 abbrev pub nothing_of : ℕ → Places
 nothing_of s = record { id_size = s; strings = []; loaded = []; roots = []; objects = [] }
 
--- with the place of one more sub-record
+-- `p` with the place of one more sub-record
 abbrev pub noted : Places → Kind → ℕ → Places
 noted p (kinds.Root kind) at = record p { roots = p.roots ++ at ∷ [] }
 noted p (kinds.Object kind) at = record p { objects = p.objects ++ at ∷ [] }
@@ -31,7 +32,7 @@ with_string p at = record p { strings = p.strings ++ at ∷ [] }
 abbrev pub with_loaded : Places → ℕ → Places
 with_loaded p at = record p { loaded = p.loaded ++ at ∷ [] }
 
--- the places of these sub-records join those that were there
+-- `p` with the places of the sub-records `subs`
 abbrev pub with_subs : Places → ℕ → List SubRecord → Places
 with_subs p at subs = record {
   id_size = p.id_size;
@@ -41,14 +42,14 @@ with_subs p at subs = record {
   objects = p.objects ++ places_where is_object (placed_subs p.id_size at subs);
 }
 
--- the bytes are these sub-records, then the rest, and their places have joined
+-- the bytes are sub-records and the rest, and the places of these are added
 pub record AddsSubs (at : ℕ) (body rest : List ℕ) (old new : Places) : Type 0 where
   pub subs : List SubRecord
   pub parts : body ≡ flat_map (spelling_of old.id_size) subs ++ rest
   pub each : AllByRecursion (IsSubRecord old.id_size) subs
   pub joined : new ≡ with_subs old at subs
 
--- the body of a heap record that stands at a place has this fault
+-- the body of a heap record, at the place `at`, has the fault
 pub record HasSubFault (s at : ℕ) (body : List ℕ) (fault : FormatFault) : Type 0 where
   pub subs : List SubRecord
   pub rest : List ℕ
@@ -56,7 +57,7 @@ pub record HasSubFault (s at : ℕ) (body : List ℕ) (fault : FormatFault) : Ty
   pub wrong : SubFault s rest fault.code
   pub place : fault.offset ≡ at + length (flat_map (spelling_of s) subs)
 
--- the place of this record, and those of its sub-records, join those that were there
+-- `p` with the places of the record `r` and its sub-records
 abbrev pub with_record : Places → ℕ → Record → Places
 with_record p at r = record {
   id_size = p.id_size;
@@ -66,8 +67,8 @@ with_record p at r = record {
   objects = p.objects ++ places_where is_object (placed_subs p.id_size (at + 9) (subs_of r));
 }
 
--- what stands in a frame is a record, and it has joined
-pub record AddsRecord (at tag time : ℕ) (body : List ℕ) (before after : Order) (old new : Places) : Type 0 where
+-- the frame is a record, and its places are added
+pub record AddsRecord (at tag time : ℕ) (body : List ℕ) (before after : SnapshotState) (old new : Places) : Type 0 where
   pub is : Record
   pub tag_is : tag_of is ≡ tag
   pub time_is : time_of is ≡ time
@@ -77,8 +78,8 @@ pub record AddsRecord (at tag time : ℕ) (body : List ℕ) (before after : Orde
   pub order : (tags : List ℕ) → IsAt before tags → IsAt after (tags ++ tag ∷ [])
   pub joined : new ≡ with_record old at is
 
--- what stands in a frame is no record here
-pub data FrameFault (s at tag : ℕ) (body : List ℕ) (before : Order) (fault : FormatFault) : Type 0 where
+-- the frame is no record that may come here
+pub data FrameFault (s at tag : ℕ) (body : List ℕ) (before : SnapshotState) (fault : FormatFault) : Type 0 where
   wrong_length : fault.code ≡ 4 → fault.offset ≡ at → is_length_of s tag (length body) ≡ false
       → FrameFault s at tag body before fault
   wrong_order : fault.code ≡ 8 → fault.offset ≡ at → is_length_of s tag (length body) ≡ true
@@ -88,11 +89,11 @@ pub data FrameFault (s at tag : ℕ) (body : List ℕ) (before : Order) (fault :
       → ((tags : List ℕ) → IsAt before tags → CanGoOn (tags ++ tag ∷ []))
       → HasSubFault s (at + 9) body fault → FrameFault s at tag body before fault
 
--- all sub-records of records of which the first stands at a place: from place 31 on, the heap list
+-- all sub-records of records of which the first is at the place `at`: from place 31 on, the heap list
 abbrev pub heap_from : ℕ → ℕ → List Record → List (ℕ × SubRecord)
 heap_from s at records = flat_map (λ p. placed_subs s (p.0 + 9) (subs_of p.1)) (placed s at records)
 
--- the places of these records, from a place on, join those that were there
+-- `p` with the places of records of which the first is at the place `at`
 abbrev pub with_records : Places → ℕ → List Record → Places
 with_records p at records = record {
   id_size = p.id_size;
@@ -102,7 +103,7 @@ with_records p at records = record {
   objects = p.objects ++ places_where is_object (heap_from p.id_size at records);
 }
 
--- the places that were read by themselves join those that were there
+-- `p` with the places of a part
 abbrev pub with_places : Places → Places → Places
 with_places p more = record {
   id_size = p.id_size;
@@ -112,9 +113,9 @@ with_places p more = record {
   objects = p.objects ++ more.objects;
 }
 
--- the bytes that stand at a place, behind records of which some have made this of the snapshot, are these records, then
--- the rest
-pub record AddsRecordsFrom (at : ℕ) (before : Order) (bytes rest : List ℕ) (reached : Order) (old new : Places)
+-- the bytes at the place `at` are records and the rest, the places of these are added, and the snapshot state goes from
+-- `before` to `reached`
+pub record AddsRecordsFrom (at : ℕ) (before : SnapshotState) (bytes rest : List ℕ) (reached : SnapshotState) (old new : Places)
     : Type 0 where
   pub records : List Record
   pub parts : bytes ≡ spellings old.id_size records ++ rest
@@ -122,20 +123,20 @@ pub record AddsRecordsFrom (at : ℕ) (before : Order) (bytes rest : List ℕ) (
   pub order : (tags : List ℕ) → IsAt before tags → IsAt reached (tags ++ map tag_of records)
   pub joined : new ≡ with_records old at records
 
--- the same of the bytes behind the header
-abbrev pub AddsRecords : List ℕ → List ℕ → Order → Places → Places → Type 0
+-- the same of the bytes after the header
+abbrev pub AddsRecords : List ℕ → List ℕ → SnapshotState → Places → Places → Type 0
 AddsRecords = AddsRecordsFrom 31 Before
 
--- behind the header the bytes have this fault
+-- the bytes after the header have the fault
 pub record HasRecordFault (s : ℕ) (bytes : List ℕ) (fault : FormatFault) : Type 0 where
   pub records : List Record
   pub rest : List ℕ
   pub longest : LongestRecords s bytes records rest
   pub wrong : RecordFault s records (31 + length (spellings s records)) rest fault.code fault.offset
 
--- the bytes are records that make a snapshot, and they have joined
+-- the bytes are records that make a snapshot, and their places are added
 abbrev pub AddsAll : List ℕ → Places → Places → Type 0
-AddsAll bytes old new = (order : Order) × (is_done order ≡ true) × AddsRecords bytes [] order old new
+AddsAll bytes old new = (order : SnapshotState) × (is_done order ≡ true) × AddsRecords bytes [] order old new
 
 -- the text begins with a header, with identifiers of s bytes
 pub record HasHeader (s : ℕ) (text : List ℕ) : Type 0 where

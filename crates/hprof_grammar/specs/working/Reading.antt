@@ -1,4 +1,4 @@
--- Reading from left to right, with the first flaw that is met. The parts of the parser say by these what they do.
+-- Reading from left to right, up to the first flaw. The contracts of the parser's functions use these words.
 use Rattle.std.specs.Prelude.{Err, List, None, Ok, Option, Result, Some, [], drop, if◌then◌else◌, length, nat_lt, suc}
 use Rattle.std.specs.Prelude.{take, zero, ℕ, ◌*◌, ◌∷◌, ◌≡◌}
 use Rattle.byteorder.specs.Endian.{big_number}
@@ -25,7 +25,7 @@ abbrev pub ◌>>=◌ : {A B : Type 0} → Result A Flaw → (A → Result B Flaw
 (Ok x) >>= f = f x
 (Err e) >>= f = Err e
 
--- a number of that many bytes, and the bytes behind it
+-- a number of `width` bytes, and the bytes after it
 abbrev pub number_at : ℕ → List ℕ → Result (ℕ × List ℕ) Flaw
 number_at width bytes = if nat_lt (length bytes) width then Err Short else Ok (big_number width bytes, drop width bytes)
 
@@ -36,25 +36,25 @@ abbrev pub type_at : TypePlace → List ℕ → Result (ℕ × List ℕ) Flaw
 type_at place [] = Err Short
 type_at place (t ∷ rest) = if is_type_at place t then Ok (t, rest) else Err WrongType
 
--- one after the other, where the second may depend on what the first gave
+-- one after another; the second may depend on the result of the first
 abbrev pub then_at : {A B : Type 0} → (List ℕ → Result (A × List ℕ) Flaw)
     → (A → List ℕ → Result (B × List ℕ) Flaw) → List ℕ → Result ((A × B) × List ℕ) Flaw
 then_at first second bytes = first bytes >>= λ x. second x.0 x.1 >>= λ y. Ok ((x.0, y.0), y.1)
 
--- n times
+-- n times the same
 abbrev pub list_at : {A : Type 0} → (List ℕ → Result (A × List ℕ) Flaw) → ℕ → List ℕ → Result (List A × List ℕ) Flaw
 list_at one zero bytes = Ok ([], bytes)
 list_at one (suc n) bytes = one bytes >>= λ x. list_at one n x.1 >>= λ xs. Ok (x.0 ∷ xs.0, xs.1)
 
--- what is read, as something else
+-- the result, mapped by a function
 abbrev pub as_at : {A B : Type 0} → (A → B) → (List ℕ → Result (A × List ℕ) Flaw) → List ℕ → Result (B × List ℕ) Flaw
 as_at to read bytes = read bytes >>= λ x. Ok (to x.0, x.1)
 
--- a count, and that many
+-- a count, and as many things
 abbrev pub counted_at : {A : Type 0} → ℕ → (List ℕ → Result (A × List ℕ) Flaw) → List ℕ → Result (List A × List ℕ) Flaw
 counted_at width one bytes = as_at (λ p. p.1) (then_at (number_at width) (λ n. list_at one n)) bytes
 
--- only the bytes behind it
+-- only the bytes after the result
 abbrev pub behind : {A : Type 0} → Result (A × List ℕ) Flaw → Result (List ℕ) Flaw
 behind (Ok x) = Ok x.1
 behind (Err e) = Err e
@@ -134,7 +134,7 @@ root_at s roots.ThreadBlock = as_at (root_with thread_block) (numbers_at s 4)
 root_at s roots.MonitorUsed = as_at (lone_root monitor_used) (number_at s)
 root_at s roots.ThreadObject = as_at (root_with_two thread_object) (then_at (number_at s) (λ _. numbers_at 4 4))
 
--- what stands behind a tag
+-- the fields after a tag
 abbrev pub body_at : ℕ → Option Kind → List ℕ → Result (SubRecord × List ℕ) Flaw
 body_at s None bytes = Err UnknownTag
 body_at s (Some (kinds.Root kind)) bytes = root_at s kind bytes
@@ -143,12 +143,12 @@ body_at s (Some (kinds.Object objects.Instance)) bytes = as_at instance_dump (in
 body_at s (Some (kinds.Object objects.ObjectArray)) bytes = as_at object_array_dump (object_array_at s) bytes
 body_at s (Some (kinds.Object objects.PrimitiveArray)) bytes = as_at primitive_array_dump (primitive_array_at s) bytes
 
--- a sub-record, and the bytes behind it
+-- a sub-record, and the bytes after it
 unfoldable pub sub_record_at : ℕ → List ℕ → Result (SubRecord × List ℕ) Flaw
 sub_record_at s [] = Err Short
 sub_record_at s (tag ∷ rest) = body_at s (kind_of tag) rest
 
--- ---- what a part of the parser does: it goes to the end of what is read, or finds the flaw
+-- ---- the effect of a function of the parser: it goes to the end of what is read, or finds the flaw
 
 abbrev pub Reads : {X : Type 0} → Result X Flaw → List ℕ → Result (X × List ℕ) Flaw → Type 0
 Reads (Ok x) rest read = read ≡ Ok (x, rest)
@@ -162,7 +162,7 @@ abbrev pub ReadsAs : {X Y : Type 0} → (X → Y) → Result X Flaw → List ℕ
 ReadsAs view (Ok x) rest read = read ≡ Ok (view x, rest)
 ReadsAs view (Err e) rest read = read ≡ Err e
 
--- ---- the frame of a record: a tag, a time, a length and that many bytes
+-- ---- the frame of a record: a tag, a time, a length and `length` bytes
 
 abbrev pub block_at : List ℕ → Result (List ℕ × List ℕ) Flaw
 block_at = as_at (λ p. p.1) (then_at (number_at 4) (λ n. raw_at n))
@@ -171,7 +171,7 @@ unfoldable pub frame_at : List ℕ → Result ((ℕ × ℕ × List ℕ) × List 
 frame_at [] = Err Short
 frame_at (tag ∷ bytes) = as_at (λ p. (tag, p.0, p.1)) (then_at (number_at 4) (λ _. block_at)) bytes
 
--- the code by which a flaw is told
+-- the code of a flaw
 abbrev pub flaw_code : Flaw → ℕ
 flaw_code UnknownTag = 5
 flaw_code Short = 6

@@ -1,22 +1,22 @@
--- What the order of the snapshot's records stands for.
+-- The meaning of a snapshot state.
 use Rattle.std.specs.Prelude.{Bool, List, None, Option, Some, [], false, replicate, suc, true, ℕ, ◌++◌, ◌∷◌, ◌≡◌}
 use Rattle.hprof_grammar.specs.Snapshot.{CanGoOn, snapshot_tags}
-use Rattle.hprof_grammar.specs.declared.snapshot_order.Order.{Order}
-use Rattle.hprof_grammar.specs.declared.snapshot_order.Order.TheVariants.{Before, Ended, Segments, Whole}
+use Rattle.hprof_grammar.specs.declared.snapshot_order.SnapshotState.{SnapshotState}
+use Rattle.hprof_grammar.specs.declared.snapshot_order.SnapshotState.TheVariants.{Before, Ended, Segments, Whole}
 
--- these tags have come
-abbrev pub IsAt : Order → List ℕ → Type 0
+-- the tags lead to the state
+abbrev pub IsAt : SnapshotState → List ℕ → Type 0
 IsAt Before tags = snapshot_tags tags ≡ []
 IsAt Whole tags = snapshot_tags tags ≡ 0x0C ∷ []
 IsAt Segments tags = (n : ℕ) × (snapshot_tags tags ≡ replicate (suc n) 0x1C)
 IsAt Ended tags = (n : ℕ) × (snapshot_tags tags ≡ replicate (suc n) 0x1C ++ 0x2C ∷ [])
 
-abbrev pub is_done : Order → Bool
+abbrev pub is_done : SnapshotState → Bool
 is_done Before = false
 is_done Whole = true
 is_done Segments = false
 is_done Ended = true
 
-abbrev pub StepsTo : Order → ℕ → Option Order → Type 0
+abbrev pub StepsTo : SnapshotState → ℕ → Option SnapshotState → Type 0
 StepsTo order tag (Some next) = (tags : List ℕ) → IsAt order tags → IsAt next (tags ++ tag ∷ [])
 StepsTo order tag None = (tags : List ℕ) → IsAt order tags → CanGoOn (tags ++ tag ∷ []) → ⊥

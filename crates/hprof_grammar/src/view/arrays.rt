@@ -1,4 +1,4 @@
-//! The fields of array dumps.
+//! Reads the fields of array dumps.
 
 ghost use Rattle.std.specs.Prelude.{◌+◌, ◌≡◌};
 ghost use Rattle.hprof_grammar.specs.SubRecord.{ObjectArray, PrimitiveArray};
@@ -9,21 +9,21 @@ use crate::view::identifiers::number_at;
 use crate::view::ids::Ids;
 use crate::view::{BEHIND_STACK_TRACE, View, bytes_at, u32_at};
 
-/// Where the fields of array dumps stand, each but for the identifiers before it.
+/// The offsets of the fields of array dumps, each without the identifiers before it.
 const COUNT: usize = BEHIND_STACK_TRACE;
 
-/// Where an object array has the identifier of its class.
+/// The offset of the identifier of an object array's class.
 const CLASS: usize = COUNT + 4;
 
 const ELEMENTS: usize = CLASS;
 
-/// Where a primitive array has the type code of its elements.
+/// The offset of the type code of a primitive array's elements.
 const TYPE: usize = COUNT + 4;
 
 const PACKED_ELEMENTS: usize = TYPE + 1;
 
 impl<'a> View<'a> {
-    /// The identifier of an object array's class.
+    /// Returns the identifier of an object array's class.
     pub fn array_class(&self, at: u32) -> u64
         requires { (a : ObjectArray) × Stands self.now at (object_array_dump a) }
         ensures { (a : ObjectArray) → Stands self.now at (object_array_dump a) → result ≡ a.class }
@@ -32,7 +32,7 @@ impl<'a> View<'a> {
         number_at(self.bytes, at as usize + CLASS + size, size)
     }
 
-    /// The identifiers that an object array holds, in order.
+    /// Returns the identifiers that an object array holds, in order.
     pub fn array_elements(&self, at: u32) -> Ids<'a>
         requires { (a : ObjectArray) × Stands self.now at (object_array_dump a) }
         ensures { (a : ObjectArray) → Stands self.now at (object_array_dump a) → result ≡ a.elements }
@@ -43,7 +43,7 @@ impl<'a> View<'a> {
         Ids::new(self.bytes, elements, self.id_size, count)
     }
 
-    /// The type code of a primitive array's elements, 4 to 11.
+    /// Returns the type code of a primitive array's elements, 4 to 11.
     pub fn element_type(&self, at: u32) -> u8
         requires { (a : PrimitiveArray) × Stands self.now at (primitive_array_dump a) }
         ensures { (a : PrimitiveArray) → Stands self.now at (primitive_array_dump a) → result ≡ a.type }
@@ -52,7 +52,7 @@ impl<'a> View<'a> {
         self.bytes[at as usize + TYPE + size]
     }
 
-    /// The number of a primitive array's elements.
+    /// Returns the number of a primitive array's elements.
     pub fn element_count(&self, at: u32) -> u32
         requires { (a : PrimitiveArray) × Stands self.now at (primitive_array_dump a) }
         ensures { (a : PrimitiveArray) → Stands self.now at (primitive_array_dump a) → result ≡ a.count }
@@ -61,7 +61,7 @@ impl<'a> View<'a> {
         u32_at(self.bytes, at as usize + COUNT + size)
     }
 
-    /// The bytes of a primitive array's elements, one element after the other, each of the size that its type has.
+    /// Returns the bytes of a primitive array's elements, one element after another, each of the size of its type.
     pub fn packed_elements(&self, at: u32) -> &'a [u8]
         requires { (a : PrimitiveArray) × Stands self.now at (primitive_array_dump a) }
         ensures { (a : PrimitiveArray) → Stands self.now at (primitive_array_dump a) → result.now ≡ a.values }

@@ -1,4 +1,4 @@
-//! The fields of class dumps.
+//! Reads the fields of class dumps.
 
 ghost use Rattle.std.specs.Prelude.{[], map, slice_index, ◌*◌, ◌+◌, ◌<◌, ◌∷◌, ◌≡◌};
 ghost use Rattle.hprof_grammar.specs.SubRecord.{Class};
@@ -14,20 +14,20 @@ use crate::view::members::Members;
 use crate::view::values::{Values, skip_values};
 use crate::view::{BEHIND_STACK_TRACE, View, bytes_from, u32_at};
 
-/// Where the fields of a class dump stand, each but for the identifiers before it.
+/// The offsets of the fields of a class dump, each without the identifiers before it.
 const FIRST_ID: usize = BEHIND_STACK_TRACE;
 
 const INSTANCE_SIZE: usize = FIRST_ID;
 
 const CONSTANTS: usize = INSTANCE_SIZE + 4;
 
-/// How many identifiers of a class dump stand before its instance size: the object, and those behind the stack trace.
+/// The number of identifiers before the instance size in a class dump: the object, and those after the stack trace.
 const IDS: usize = 7;
 
-/// How many bytes a constant's index has.
+/// The size in bytes of a constant's index.
 const INDEX_SIZE: u8 = 2;
 
-/// The identifiers of a class dump behind its stack trace, by their places among them.
+/// The positions of the identifiers after the stack trace of a class dump, among themselves.
 const SUPERCLASS: usize = 0;
 
 const LOADER: usize = 1;
@@ -40,12 +40,12 @@ const RESERVED: usize = 4;
 
 const RESERVED_TOO: usize = 5;
 
-/// How many of the identifiers behind the stack trace are followed: the first ones. Those that the manual reserves
-/// stand behind them.
+/// The number of identifiers after the stack trace that are followed: the first ones. Those that the manual reserves
+/// come after them.
 const LEADING_IDS: u32 = 4;
 
 impl<'a> View<'a> {
-    /// The identifier of a class's superclass, 0 for none.
+    /// Returns the identifier of a class's superclass, 0 for none.
     pub fn superclass(&self, at: u32) -> u64
         requires { (c : Class) × Stands self.now at (class_dump c) }
         ensures { (c : Class) → Stands self.now at (class_dump c) → result ≡ c.super }
@@ -53,7 +53,7 @@ impl<'a> View<'a> {
         self.class_id(at, SUPERCLASS)
     }
 
-    /// The identifier of a class's loader.
+    /// Returns the identifier of a class's loader.
     pub fn loader(&self, at: u32) -> u64
         requires { (c : Class) × Stands self.now at (class_dump c) }
         ensures { (c : Class) → Stands self.now at (class_dump c) → result ≡ c.loader }
@@ -61,7 +61,7 @@ impl<'a> View<'a> {
         self.class_id(at, LOADER)
     }
 
-    /// The identifier of a class's signers.
+    /// Returns the identifier of a class's signers.
     pub fn signers(&self, at: u32) -> u64
         requires { (c : Class) × Stands self.now at (class_dump c) }
         ensures { (c : Class) → Stands self.now at (class_dump c) → result ≡ c.signers }
@@ -69,7 +69,7 @@ impl<'a> View<'a> {
         self.class_id(at, SIGNERS)
     }
 
-    /// The identifier of a class's protection domain.
+    /// Returns the identifier of a class's protection domain.
     pub fn protection_domain(&self, at: u32) -> u64
         requires { (c : Class) × Stands self.now at (class_dump c) }
         ensures { (c : Class) → Stands self.now at (class_dump c) → result ≡ c.domain }
@@ -77,7 +77,7 @@ impl<'a> View<'a> {
         self.class_id(at, PROTECTION_DOMAIN)
     }
 
-    /// The first of the two identifiers that the manual reserves. Nothing rests on it.
+    /// Returns the first of the two identifiers that the manual reserves. No result depends on it.
     pub fn reserved(&self, at: u32) -> u64
         requires { (c : Class) × Stands self.now at (class_dump c) }
         ensures { (c : Class) → Stands self.now at (class_dump c) → result ≡ c.reserved }
@@ -85,7 +85,7 @@ impl<'a> View<'a> {
         self.class_id(at, RESERVED)
     }
 
-    /// The second of the two identifiers that the manual reserves. Nothing rests on it.
+    /// Returns the second of the two identifiers that the manual reserves. No result depends on it.
     pub fn reserved_too(&self, at: u32) -> u64
         requires { (c : Class) × Stands self.now at (class_dump c) }
         ensures { (c : Class) → Stands self.now at (class_dump c) → result ≡ c.reserved_too }
@@ -93,8 +93,8 @@ impl<'a> View<'a> {
         self.class_id(at, RESERVED_TOO)
     }
 
-    /// The four identifiers of a class dump that are followed and stand one after the other: superclass, loader,
-    /// signers, protection domain.
+    /// Returns the four identifiers of a class dump that are followed, which are next to one another: superclass,
+    /// loader, signers, protection domain.
     pub fn leading_ids(&self, at: u32) -> Ids<'a>
         requires { (c : Class) × Stands self.now at (class_dump c) }
         ensures { (c : Class) → Stands self.now at (class_dump c)
@@ -105,7 +105,7 @@ impl<'a> View<'a> {
         Ids::new(self.bytes, first, self.id_size, LEADING_IDS)
     }
 
-    /// How many bytes an instance of a class has, as the dump says. Nothing rests on it.
+    /// Returns the size in bytes of an instance of a class, as the dump says. No result depends on it.
     pub fn instance_size(&self, at: u32) -> u32
         requires { (c : Class) × Stands self.now at (class_dump c) }
         ensures { (c : Class) → Stands self.now at (class_dump c) → result ≡ c.instance_size }
@@ -114,7 +114,7 @@ impl<'a> View<'a> {
         u32_at(self.bytes, at as usize + INSTANCE_SIZE + IDS * size)
     }
 
-    /// A class's constants: their indexes, types and values.
+    /// Returns a class's constants: their indexes, types and values.
     pub fn constants(&self, at: u32) -> Values<'a>
         requires { (c : Class) × Stands self.now at (class_dump c) }
         ensures { (c : Class) → Stands self.now at (class_dump c) → result ≡ map of_constant c.constants }
@@ -122,7 +122,7 @@ impl<'a> View<'a> {
         Values::new(self.constants_from(at), self.id_size, INDEX_SIZE)
     }
 
-    /// A class's static fields: their names, types and values. Each call walks the constants, which stand before them.
+    /// Returns a class's static fields: their names, types and values. Each call walks the constants before them.
     pub fn statics(&self, at: u32) -> Values<'a>
         requires { (c : Class) × Stands self.now at (class_dump c) }
         ensures { (c : Class) → Stands self.now at (class_dump c) → result ≡ map of_static c.statics }
@@ -130,8 +130,8 @@ impl<'a> View<'a> {
         Values::new(self.statics_from(at), self.id_size, self.id_size)
     }
 
-    /// The instance fields that a class declares, without those of its superclasses. Each call walks the constants and
-    /// the static fields, which stand before them.
+    /// Returns the instance fields that a class declares, without those of its superclasses. Each call walks the
+    /// constants and the static fields before them.
     pub fn members(&self, at: u32) -> Members<'a>
         requires { (c : Class) × Stands self.now at (class_dump c) }
         ensures { (c : Class) → Stands self.now at (class_dump c) → result ≡ c.members }
@@ -140,7 +140,7 @@ impl<'a> View<'a> {
         Members::new(members, self.id_size)
     }
 
-    /// The identifier at this place among those behind a class's stack trace.
+    /// Returns the identifier at the position `nth` among those after a class's stack trace.
     fn class_id(&self, at: u32, nth: usize) -> u64
         requires stands { (c : Class) × Stands self.now at (class_dump c) }
         requires nth { nth < 6 }
@@ -150,7 +150,7 @@ impl<'a> View<'a> {
         number_at(self.bytes, at as usize + FIRST_ID + size + nth * size, size)
     }
 
-    /// The bytes from the count of a class's constants on.
+    /// Returns the bytes from the count of a class's constants on.
     fn constants_from(&self, at: u32) -> &'a [u8]
         requires { (c : Class) × Stands self.now at (class_dump c) }
         ensures { (c : Class) → Stands self.now at (class_dump c)
@@ -160,7 +160,7 @@ impl<'a> View<'a> {
         bytes_from(self.bytes, at as usize + CONSTANTS + IDS * size)
     }
 
-    /// The bytes from the count of a class's static fields on.
+    /// Returns the bytes from the count of a class's static fields on.
     fn statics_from(&self, at: u32) -> &'a [u8]
         requires { (c : Class) × Stands self.now at (class_dump c) }
         ensures { (c : Class) → Stands self.now at (class_dump c)

@@ -1,4 +1,4 @@
-//! Identifiers, at a place.
+//! Reads identifiers.
 
 ghost use Rattle.std.specs.Prelude.{◌+◌, ◌≡◌, ◌≤◌, drop, length};
 ghost use Rattle.byteorder.specs.Endian.{big_number};
@@ -9,8 +9,9 @@ ghost use Rattle.hprof_grammar.specs.Standing.{Stands};
 use crate::view::{OBJECT, View};
 use byteorder::{BigEndian, ByteOrder};
 
-/// The big-endian number of `width` bytes at a place: the identifier there, where `width` is the size of identifiers.
-/// Each width that a field has is read at a width that is known here.
+/// Returns the big-endian number of `width` bytes at the offset `at`: the identifier there, if `width` is the size of
+/// identifiers.
+// Each width that a field has is an arm of its own, so that it is known to the compiler.
 // Inlined: each reference that is followed is read so.
 #[inline(always)]
 pub fn number_at(bytes: &[u8], at: usize, width: usize) -> u64
@@ -29,7 +30,7 @@ pub fn number_at(bytes: &[u8], at: usize, width: usize) -> u64
 }
 
 impl<'a> View<'a> {
-    /// The first identifier of the sub-record at a place: the object that a root names, or that a dump describes.
+    /// Returns the first identifier of the sub-record at `at`: the object that a root names or that a dump describes.
     pub fn object_id(&self, at: u32) -> u64
         requires { (sub : SubRecord) × Stands self.now at sub }
         ensures { (sub : SubRecord) → Stands self.now at sub → result ≡ id_of sub }
@@ -37,7 +38,7 @@ impl<'a> View<'a> {
         number_at(self.bytes, at as usize + OBJECT, self.id_size as usize)
     }
 
-    /// The identifier at a place of these bytes, such as the values of an instance.
+    /// Returns the identifier at the offset `at` of `bytes`, such as the values of an instance.
     pub fn identifier_at(&self, bytes: &[u8], at: usize) -> u64
         requires room { at + self.now.id_size ≤ length bytes.now }
         ensures { result ≡ big_number self.now.id_size (drop at bytes.now) }

@@ -1,4 +1,4 @@
-//! Identifiers that stand one after the other.
+//! Identifiers that are next to one another.
 
 ghost use Rattle.std.specs.Prelude.{◌*◌, ◌+◌, ◌≡◌, ◌≤◌, ◌↔◌, [], IsTrue, drop, length};
 ghost use Rattle.hprof_grammar.specs.Series.{numbers_in};
@@ -6,7 +6,7 @@ ghost use Rattle.hprof_grammar.specs.Series.{numbers_in};
 use crate::view::identifiers::number_at;
 use std::marker::Model;
 
-/// Identifiers that stand one after the other in a dump: those that are left to read.
+/// An iterator over identifiers that are next to one another in a dump.
 #[derive(Drop)]
 pub struct Ids<'a> {
     bytes: &'a [u8],
@@ -26,7 +26,7 @@ impl<'a> Model for Ids<'a> {
 }
 
 impl<'a> Ids<'a> {
-    /// The `count` identifiers of `width` bytes at a place.
+    /// Creates an iterator over the `count` identifiers of `width` bytes from the offset `at` on.
     pub(crate) fn new(bytes: &'a [u8], at: usize, width: u8, count: u32) -> Self
         requires low { 1 ≤ width }
         requires high { width ≤ 8 }
@@ -41,14 +41,14 @@ impl<'a> Ids<'a> {
         }
     }
 
-    /// How many identifiers are left.
+    /// Returns the number of remaining identifiers.
     pub fn len(&self) -> usize
         ensures { result ≡ length self.now }
     {
         self.left as usize
     }
 
-    /// Whether no identifier is left.
+    /// Tests whether no identifier remains.
     pub fn is_empty(&self) -> bool
         ensures { IsTrue result ↔ (self.now ≡ []) }
     {

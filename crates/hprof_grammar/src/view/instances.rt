@@ -1,4 +1,4 @@
-//! The fields of instance dumps.
+//! Reads the fields of instance dumps.
 
 ghost use Rattle.std.specs.Prelude.{◌≡◌};
 ghost use Rattle.hprof_grammar.specs.SubRecord.{Instance};
@@ -8,7 +8,7 @@ ghost use Rattle.hprof_grammar.specs.Standing.{Stands};
 use crate::view::identifiers::number_at;
 use crate::view::{BEHIND_STACK_TRACE, View, bytes_at, u32_at};
 
-/// Where the fields of an instance dump stand, each but for the identifiers before it.
+/// The offsets of the fields of an instance dump, each without the identifiers before it.
 const CLASS: usize = BEHIND_STACK_TRACE;
 
 const COUNT: usize = CLASS;
@@ -16,7 +16,7 @@ const COUNT: usize = CLASS;
 const VALUES: usize = COUNT + 4;
 
 impl<'a> View<'a> {
-    /// The identifier of an instance's class.
+    /// Returns the identifier of an instance's class.
     pub fn instance_class(&self, at: u32) -> u64
         requires { (i : Instance) × Stands self.now at (instance_dump i) }
         ensures { (i : Instance) → Stands self.now at (instance_dump i) → result ≡ i.class }
@@ -25,7 +25,8 @@ impl<'a> View<'a> {
         number_at(self.bytes, at as usize + CLASS + size, size)
     }
 
-    /// The bytes of the values of an instance's fields: those of its class, then those of its superclass, and so on.
+    /// Returns the bytes of the values of an instance's fields: those of its class, then those of its superclass, and
+    /// so on.
     pub fn instance_values(&self, at: u32) -> &'a [u8]
         requires { (i : Instance) × Stands self.now at (instance_dump i) }
         ensures { (i : Instance) → Stands self.now at (instance_dump i) → result.now ≡ i.values }

@@ -16,7 +16,7 @@ pub struct MemberField {
     pub type_code: u8,
 }
 
-/// The instance fields that are left of those that a class declares.
+/// An iterator over the instance fields that a class declares.
 #[derive(Clone, Drop)]
 pub struct Members<'a> {
     bytes: &'a [u8],
@@ -37,7 +37,7 @@ impl<'a> Model for Members<'a> {
 }
 
 impl<'a> Members<'a> {
-    /// The instance fields in these bytes, behind their count.
+    /// Creates an iterator over the instance fields in `bytes`, which begin with their count.
     pub(crate) fn new(bytes: &'a [u8], id_size: u8) -> Self
         requires low { 1 ≤ id_size }
         requires high { id_size ≤ 8 }
@@ -52,14 +52,14 @@ impl<'a> Members<'a> {
         }
     }
 
-    /// How many fields are left.
+    /// Returns the number of remaining fields.
     pub fn len(&self) -> usize
         ensures { result ≡ length self.now }
     {
         self.left as usize
     }
 
-    /// Whether no field is left.
+    /// Tests whether no field remains.
     pub fn is_empty(&self) -> bool
         ensures { IsTrue result ↔ (self.now ≡ []) }
     {

@@ -1,4 +1,4 @@
-//! The header's time, and the fields of records.
+//! Reads the header's time and the fields of records.
 
 ghost use Rattle.std.specs.Prelude.{List, length, ℕ, ◌≡◌};
 ghost use Rattle.hprof_grammar.specs.Record.{Record, body_of, time_of};
@@ -7,17 +7,17 @@ ghost use Rattle.hprof_grammar.specs.Standing.{HeaderStands, LoadStands, RecordS
 use crate::view::identifiers::number_at;
 use crate::view::{View, bytes_at, u32_at};
 
-/// Where the two words of the header's time stand in the bytes of a dump.
+/// The offset of the two words of the header's time.
 const HEADER_TIME: usize = 23;
 
-/// Where the fields of a record stand behind its tag: its time, its length, its body.
+/// The offsets of a record's time, length and body from its tag.
 const TIME: usize = 1;
 
 const LENGTH: usize = 5;
 
 const BODY: usize = 9;
 
-/// Where the fields of a LOAD CLASS stand, each but for an identifier that stands before it.
+/// The offsets of the fields of a LOAD CLASS, each without the identifier before it.
 const SERIAL: usize = BODY;
 
 const CLASS: usize = SERIAL + 4;
@@ -27,7 +27,7 @@ const STACK_TRACE: usize = CLASS;
 const NAME: usize = STACK_TRACE + 4;
 
 impl<'a> View<'a> {
-    /// The time of the dump, in milliseconds since 1970: its high word and its low word together.
+    /// Returns the time of the dump in milliseconds since 1970, which the header has as two words.
     pub fn header_time(&self) -> u64
         requires { (time : ℕ) × HeaderStands self.now time }
         ensures { (time : ℕ) → HeaderStands self.now time → result ≡ time }
@@ -35,7 +35,7 @@ impl<'a> View<'a> {
         number_at(self.bytes, HEADER_TIME, 8)
     }
 
-    /// The time of a record, in microseconds since the time of the header.
+    /// Returns the time of a record, in microseconds since the time of the header.
     pub fn record_time(&self, at: u32) -> u32
         requires { (r : Record) × RecordStands self.now at r }
         ensures { (r : Record) → RecordStands self.now at r → result ≡ time_of r }
@@ -43,7 +43,7 @@ impl<'a> View<'a> {
         u32_at(self.bytes, at as usize + TIME)
     }
 
-    /// How many bytes the body of a record has.
+    /// Returns the length in bytes of a record's body.
     pub fn record_length(&self, at: u32) -> u32
         requires { (r : Record) × RecordStands self.now at r }
         ensures { (r : Record) → RecordStands self.now at r → result ≡ length (body_of self.now.id_size r) }
@@ -51,7 +51,7 @@ impl<'a> View<'a> {
         u32_at(self.bytes, at as usize + LENGTH)
     }
 
-    /// The identifier of a string.
+    /// Returns the identifier of a string.
     pub fn string_id(&self, at: u32) -> u64
         requires { (time id : ℕ) × (text : List ℕ) × StringStands self.now at time id text }
         ensures { (time id : ℕ) (text : List ℕ) → StringStands self.now at time id text → result ≡ id }
@@ -59,7 +59,7 @@ impl<'a> View<'a> {
         number_at(self.bytes, at as usize + BODY, self.id_size as usize)
     }
 
-    /// The bytes of a string's text.
+    /// Returns the bytes of a string's text.
     pub fn string_text(&self, at: u32) -> &'a [u8]
         requires { (time id : ℕ) × (text : List ℕ) × StringStands self.now at time id text }
         ensures { (time id : ℕ) (text : List ℕ) → StringStands self.now at time id text → result.now ≡ text }
@@ -69,7 +69,7 @@ impl<'a> View<'a> {
         bytes_at(self.bytes, at as usize + BODY + size, length - size)
     }
 
-    /// The serial number of a loaded class.
+    /// Returns the serial number of a loaded class.
     pub fn loaded_class_serial(&self, at: u32) -> u32
         requires { (time serial class stack name : ℕ) × LoadStands self.now at time serial class stack name }
         ensures { (time serial class stack name : ℕ) → LoadStands self.now at time serial class stack name
@@ -78,7 +78,7 @@ impl<'a> View<'a> {
         u32_at(self.bytes, at as usize + SERIAL)
     }
 
-    /// The identifier of a loaded class.
+    /// Returns the identifier of a loaded class.
     pub fn loaded_class_id(&self, at: u32) -> u64
         requires { (time serial class stack name : ℕ) × LoadStands self.now at time serial class stack name }
         ensures { (time serial class stack name : ℕ) → LoadStands self.now at time serial class stack name
@@ -87,7 +87,7 @@ impl<'a> View<'a> {
         number_at(self.bytes, at as usize + CLASS, self.id_size as usize)
     }
 
-    /// The serial number of the stack trace of a loaded class.
+    /// Returns the serial number of the stack trace of a loaded class.
     pub fn loaded_class_stack_trace(&self, at: u32) -> u32
         requires { (time serial class stack name : ℕ) × LoadStands self.now at time serial class stack name }
         ensures { (time serial class stack name : ℕ) → LoadStands self.now at time serial class stack name
@@ -99,7 +99,7 @@ impl<'a> View<'a> {
         )
     }
 
-    /// The identifier of the string that names a loaded class.
+    /// Returns the identifier of the string that names a loaded class.
     pub fn loaded_class_name(&self, at: u32) -> u64
         requires { (time serial class stack name : ℕ) × LoadStands self.now at time serial class stack name }
         ensures { (time serial class stack name : ℕ) → LoadStands self.now at time serial class stack name

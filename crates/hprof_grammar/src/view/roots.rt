@@ -1,4 +1,4 @@
-//! The fields of roots.
+//! Reads the fields of roots.
 
 ghost use Rattle.std.specs.Prelude.{ℕ, ◌+◌, ◌≡◌};
 ghost use Rattle.hprof_grammar.specs.Kinds.{origin_kind};
@@ -12,8 +12,8 @@ use crate::tags_and_types::kind_of;
 use crate::view::identifiers::number_at;
 use crate::view::{OBJECT, View, u32_at};
 
-/// Where the fields of a root behind its object stand, each but for the identifier of the object. A kind of root
-/// has the reference, or the thread and behind it the frame or the stack trace, or none of them.
+/// The offsets of a root's fields after its object, each without the identifier of the object. By its kind a root has
+/// the reference, or the thread, or the thread and after it the frame or the stack trace, or none of them.
 const REFERENCE: usize = OBJECT;
 
 const THREAD: usize = OBJECT;
@@ -23,7 +23,7 @@ const FRAME: usize = THREAD + 4;
 const STACK_TRACE: usize = THREAD + 4;
 
 impl<'a> View<'a> {
-    /// The kind of a root.
+    /// Returns the kind of a root.
     pub fn root_kind(&self, at: u32) -> RootKind
         requires { (r : Root) × Stands self.now at (root r) }
         ensures { (r : Root) → Stands self.now at (root r) → result ≡ origin_kind r.origin }
@@ -34,7 +34,7 @@ impl<'a> View<'a> {
         }
     }
 
-    /// The identifier of the reference of a JNI global root.
+    /// Returns the identifier of the reference of a JNI global root.
     pub fn root_reference(&self, at: u32) -> u64
         requires { (n : ℕ) × RootSays self.now at reference_of n }
         ensures { (n : ℕ) → RootSays self.now at reference_of n → result ≡ n }
@@ -43,7 +43,8 @@ impl<'a> View<'a> {
         number_at(self.bytes, at as usize + REFERENCE + size, size)
     }
 
-    /// The serial number of the thread of a root: JNI local, Java frame, native stack, thread block, thread object.
+    /// Returns the serial number of the thread of a root: JNI local, Java frame, native stack, thread block or thread
+    /// object.
     pub fn root_thread(&self, at: u32) -> u32
         requires { (n : ℕ) × RootSays self.now at thread_of n }
         ensures { (n : ℕ) → RootSays self.now at thread_of n → result ≡ n }
@@ -52,7 +53,7 @@ impl<'a> View<'a> {
         u32_at(self.bytes, at as usize + THREAD + size)
     }
 
-    /// The number of the frame of a JNI local or a Java frame root, in the stack trace of its thread.
+    /// Returns the number of the frame of a JNI local or Java frame root, in the stack trace of its thread.
     pub fn root_frame(&self, at: u32) -> u32
         requires { (n : ℕ) × RootSays self.now at frame_of n }
         ensures { (n : ℕ) → RootSays self.now at frame_of n → result ≡ n }
@@ -61,7 +62,7 @@ impl<'a> View<'a> {
         u32_at(self.bytes, at as usize + FRAME + size)
     }
 
-    /// The serial number of the stack trace of a thread object root.
+    /// Returns the serial number of the stack trace of a thread object root.
     pub fn root_stack_trace(&self, at: u32) -> u32
         requires { (n : ℕ) × RootSays self.now at trace_of n }
         ensures { (n : ℕ) → RootSays self.now at trace_of n → result ≡ n }

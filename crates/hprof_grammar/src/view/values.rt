@@ -1,4 +1,4 @@
-//! The values of constants and of static fields.
+//! Reads the values of constants and of static fields.
 
 ghost use Rattle.std.specs.Prelude.{◌≡◌, ◌≤◌, ◌↔◌, [], IsTrue, drop, length, slice_index};
 ghost use Rattle.hprof_grammar.specs.Series.{HasCountedValues, behind_counted_values, count_in, counted_values_in};
@@ -17,11 +17,11 @@ pub struct TypedValue<'a> {
     pub label: u64,
     /// The type code of the value: 2, or 4 to 11.
     pub type_code: u8,
-    /// The bytes of the value, as many as its type has.
+    /// The bytes of the value, as many as a value of its type has.
     pub value: &'a [u8],
 }
 
-/// The constants or the static fields of a class: those that are left to read.
+/// An iterator over the constants or the static fields of a class.
 #[derive(Drop)]
 pub struct Values<'a> {
     bytes: &'a [u8],
@@ -42,7 +42,8 @@ impl<'a> Model for Values<'a> {
 }
 
 impl<'a> Values<'a> {
-    /// The values in these bytes, behind their count. A number of `front` bytes stands before each type code.
+    /// Creates an iterator over the values in `bytes`, which begin with their count. A number of `front` bytes precedes
+    /// each type code.
     pub(crate) fn new(bytes: &'a [u8], id_size: u8, front: u8) -> Self
         requires low { 1 ≤ front }
         requires high { front ≤ 8 }
@@ -58,7 +59,7 @@ impl<'a> Values<'a> {
         }
     }
 
-    /// Another iterator over the values that are left. This one stays where it is.
+    /// Returns another iterator over the remaining values. This one does not move.
     pub fn again(&self) -> Values<'a>
         ensures { result ≡ self.now }
     {
@@ -70,14 +71,14 @@ impl<'a> Values<'a> {
         }
     }
 
-    /// How many values are left.
+    /// Returns the number of remaining values.
     pub fn len(&self) -> usize
         ensures { result ≡ length self.now }
     {
         self.left as usize
     }
 
-    /// Whether no value is left.
+    /// Tests whether no value remains.
     pub fn is_empty(&self) -> bool
         ensures { IsTrue result ↔ (self.now ≡ []) }
     {
@@ -112,7 +113,7 @@ impl<'a> Iterator for Values<'a> {
     }
 }
 
-/// The count of 2 bytes that stands first, and the bytes behind it.
+/// Returns the count of 2 bytes that `bytes` begin with, and the bytes after it.
 pub(crate) fn split_count(bytes: &[u8]) -> (u16, &[u8])
     requires { 2 ≤ length bytes.now }
     ensures count { result.0 ≡ count_in bytes.now }
@@ -122,7 +123,7 @@ pub(crate) fn split_count(bytes: &[u8]) -> (u16, &[u8])
     (BigEndian::read_u16(bytes), behind)
 }
 
-/// The type code that stands behind `front` bytes, its value, and the bytes behind it.
+/// Returns the type code after `front` bytes, the bytes of its value, and the bytes after that.
 fn split_value(bytes: &[u8], id_size: u8, front: u8) -> (u8, &[u8], &[u8])
     requires { value_end id_size front bytes.now ≤ length bytes.now }
     ensures type_code { result.0 ≡ slice_index bytes.now front }
@@ -137,7 +138,7 @@ fn split_value(bytes: &[u8], id_size: u8, front: u8) -> (u8, &[u8], &[u8])
     (type_code, value, behind)
 }
 
-/// The bytes behind values that stand in these bytes after their count.
+/// Skips a count and that many values, and returns the bytes after them.
 pub(crate) fn skip_values(bytes: &[u8], id_size: u8, front: u8) -> &[u8]
     requires { HasCountedValues id_size front bytes.now }
     ensures { result.now ≡ behind_counted_values id_size front bytes.now }

@@ -1,5 +1,5 @@
 -- Each turn takes a frame off the rest and joins its record. What stops it lies behind the longest list of records.
-use Rattle.hprof_grammar.proofs.Words.{Before, FrameFault, HasRecordFault, Order, ap, arith, length, nat_tests, refl, ℕ}
+use Rattle.hprof_grammar.proofs.Words.{Before, FrameFault, HasRecordFault, SnapshotState, ap, arith, length, nat_tests, refl, ℕ}
 use Rattle.hprof_grammar.proofs.Words.{◌+◌, ◌-◌, ◌<◌, ◌≡◌}
 use Rattle.std.proofs.lemmas.Result.{err_from_is_err_and}
 use Rattle.hprof_grammar.proofs.Refusals.{fault_passes}
@@ -16,8 +16,9 @@ returns-in_default-clause-fault g c =
     let left = bytes_left adds (in_bytes c.args.bytes.now c.type_inv.bytes) in
     let some : 0 < length c.loop-reader.reader.rest.now = grind (arith, nat_tests) in
     let size = length c.args.bytes.now - length c.loop-reader.reader.rest.now in
-    λ place order. fault_where_cut (from_header adds place order) some (cut_record some left c.in_default.ensures)
-    (ap (λ (n : ℕ). n + size) place) c.new.ensures
+    rw c.fault.ensures
+    (λ place order. fault_where_cut (from_header adds place order) some (cut_record some left c.in_default.ensures)
+    (ap (λ (n : ℕ). n + size) place) refl)
 
 pub note_record-requires-clause-room : goal.note_record-requires-clause-room
 note_record-requires-clause-room g c =
@@ -32,7 +33,7 @@ returns-in_err-order-clause-fault g c =
     let size = length c.args.bytes.now - length c.loop-reader.reader.rest.now in
     let frame = frame_takes left c.in-Ok.ensures in
     let exit = err_from_is_err_and c.from_residual.result c.from_residual.ensures.1 in
-    fault_passes Order
+    fault_passes SnapshotState
     (FrameFault c.loop-reader.dump.id_size (c.args.at + size) c.in-Ok.frame.tag c.in-Ok.frame.body.now
     c.loop-reader.order)
     (λ fault. c.args.at ≡ 31 → c.args.order ≡ Before

@@ -1,5 +1,5 @@
 -- Each turn takes a sub-record off the rest and notes its place. A flaw lies behind the longest list of whole ones.
-use Rattle.hprof_grammar.proofs.Words.{ap, arith, length, nat_tests, ◌<◌, ◌∙◌}
+use Rattle.hprof_grammar.proofs.Words.{arith, length, nat_tests, refl, ◌<◌}
 use Rattle.hprof_grammar.proofs.Bytes.{in_bytes}
 use Rattle.hprof_grammar.proofs.Heaps.{sub_shorter, subs_fault, subs_step}
 use Rattle.hprof_grammar.proofs.sub_record_list.note_subs.Goals as goal
@@ -20,5 +20,4 @@ returns-in-Err-clause-fault g c =
     let body = in_bytes c.args.body.now c.type_inv.body in
     let some : 0 < length c.loop-reader.reader.rest.now = grind (arith, nat_tests) in
     let read = rw c.id_size-id_size.ensures at c.in-Err.ensures.passes in
-    subs_fault c.loop-reader.invariant body some read (ap (λ f. f.code) c.new.ensures ∙ c.code-code.ensures)
-    (ap (λ f. f.offset) c.new.ensures)
+    rw c.fault.ensures (subs_fault c.loop-reader.invariant body some read c.code-code.ensures refl)

@@ -1,14 +1,14 @@
 -- Behind segments a dump breaks the order and a segment goes on; behind a whole snapshot no tag of a snapshot may come.
-use Rattle.hprof_grammar.proofs.Words.{CanGoOn, Ended, IsAt, Order, Segments, Whole, [], inl, inr, is_done}
+use Rattle.hprof_grammar.proofs.Words.{CanGoOn, Ended, IsAt, SnapshotState, Segments, Whole, [], inl, inr, is_done}
 use Rattle.hprof_grammar.proofs.Words.{is_snapshot_tag, refl, subst, sym, true, ℕ, ◌++◌, ◌∷◌, ◌≡◌, ◌⊎◌}
 use Rattle.hprof_grammar.proofs.SnapshotOrderLaws.{next_segment, no_dump_in_segments, no_more}
-use Rattle.hprof_grammar.proofs.snapshot_order.Order.after.Goals as goal
+use Rattle.hprof_grammar.proofs.snapshot_order.SnapshotState.after.Goals as goal
 
 -- a dump among segments
 pub returns-in-12-tag : goal.returns-in-12-tag
 returns-in-12-tag c =
     let order : c.args.self ≡ Segments = c.in-Segments.is in
-    λ tags h. let k = subst (λ (o : Order). IsAt o tags) order h in
+    λ tags h. let k = subst (λ (o : SnapshotState). IsAt o tags) order h in
     let e : ◌≡◌ {A = ℕ} c.args.tag 0x0C = c.in-12-tag.is in
     λ on. no_dump_in_segments tags k (subst (λ (t : ℕ). CanGoOn (tags ++ t ∷ [])) e on)
 
@@ -16,10 +16,10 @@ pub returns-in-28-tag : goal.returns-in-28-tag
 returns-in-28-tag c =
     let order : c.args.self ≡ Segments = c.in-Segments.is in
     let e : ◌≡◌ {A = ℕ} 0x1C c.args.tag = sym c.in-28-tag.is in
-    λ tags h. let k = subst (λ (o : Order). IsAt o tags) order h in
+    λ tags h. let k = subst (λ (o : SnapshotState). IsAt o tags) order h in
     subst (λ (t : ℕ). IsAt Segments (tags ++ t ∷ [])) e (next_segment tags k)
 
-done_at : (order : Order) → (order ≡ Whole) ⊎ (order ≡ Ended) → is_done order ≡ true
+done_at : (order : SnapshotState) → (order ≡ Whole) ⊎ (order ≡ Ended) → is_done order ≡ true
 done_at order h = elim h [ inl e ↦ rw e refl | inr e ↦ rw e refl ]
 
 of_the_snapshot : (tag : ℕ) → (tag ≡ 0x0C) ⊎ ((tag ≡ 0x1C) ⊎ (tag ≡ 0x2C)) → is_snapshot_tag tag ≡ true
