@@ -17,6 +17,8 @@ mod parts;
 #[cfg(test)]
 mod refusals;
 #[cfg(test)]
+mod requests;
+#[cfg(test)]
 mod tags_and_types;
 #[cfg(test)]
 mod worked_file;

@@ -1,13 +1,13 @@
 //! A dump that is read in parts: what they make is what one thread makes of it, and so is the first fault.
 
 use hprof_grammar::{Dump, FormatFault, ReadRefusal, Team, read};
-use std::alloc::Global;
+use std::alloc::{Allocator, Global};
 use std::test::Fail;
 use std::thread::Threads;
 
 /// Strings and loaded classes between three segments, their end, and one more string: 215 bytes.
 #[rattlefmt::skip]
-const FILE: [u8; 215] = [
+pub const FILE: [u8; 215] = [
     0x4a, 0x41, 0x56, 0x41, 0x20, 0x50, 0x52, 0x4f, 0x46, 0x49, 0x4c, 0x45, 0x20, 0x31, 0x2e, 0x30, 0x2e, 0x32, 0,
     0, 0, 0, 0x04, 0, 0, 0, 0, 0, 0, 0, 0,
     0x01, 0, 0, 0, 0, 0, 0, 0, 0x05, 0, 0, 0, 0x01, 0x41,
@@ -40,7 +40,7 @@ const CHANGES: [([(usize, u8); 2], u8, u64); 6] = [
 ];
 
 /// Whether these are the places of the parts of the file.
-fn is_of_the_file(dump: &Dump<Global>) -> bool {
+pub fn is_of_the_file<A: Allocator>(dump: &Dump<A>) -> bool {
     dump.strings() == [31, 76, 201].as_slice()
         && dump.loaded() == [90, 158].as_slice()
         && dump.objects() == [54, 129].as_slice()

@@ -1,0 +1,74 @@
+//! The requests for memory of a reading tell how it was made: in parts, in how many, and not once more by one thread.
+
+use crate::parts::{FILE, is_of_the_file};
+use hprof_grammar::{Team, read};
+use limited_heap::LimitedHeap;
+use std::alloc::Global;
+use std::thread::Threads;
+
+/// Teams that read the file in parts: their threads, and the fewest objects that they share. By its bytes the file has
+/// three objects, and two threads read it in two parts.
+const IN_PARTS: [(u32, u32); 5] = [(2, 0), (2, 3), (3, 0), (4, 0), (64, 0)];
+
+/// Teams of which the calling thread reads the file.
+const IN_ONE: [(u32, u32); 4] = [(0, 0), (1, 0), (2, 4), (64, u32::MAX)];
+
+/// Tests whether `team` reads the file on `heap`.
+fn reads<T: Threads + Sync>(team: &Team<'_, T>, heap: &LimitedHeap<Global>) -> bool {
+    match read(team, heap, &FILE) {
+        Ok(dump) => is_of_the_file(&dump),
+        Err(_) => false,
+    }
+}
+
+/// Returns the number of requests for memory by which `team` reads the file.
+fn requests_of<T: Threads + Sync>(team: &Team<'_, T>, alloc: Global) -> u64 {
+    let heap = LimitedHeap::new(alloc, u64::MAX);
+    let _read = reads(team, &heap);
+    u64::MAX.saturating_sub(heap.requests_left())
+}
+
+/// Tests whether `team` reads the file whichever one of its requests is refused if `wanted`, and never if not.
+fn reads_without_one<T: Threads + Sync>(team: &Team<'_, T>, alloc: Global, wanted: bool) -> bool {
+    for request in 0..requests_of(team, alloc) {
+        if reads(team, &LimitedHeap::refusing(alloc, request)) != wanted {
+            return false;
+        }
+    }
+    true
+}
+
+/// A refused request ends the parts, and the calling thread reads the file then: so each request is one of the parts,
+/// the last one too.
+#[test]
+fn read_in_parts_alone(rt: HostRuntime) {
+    for (threads, fewest) in IN_PARTS {
+        let team = Team::sharing_from(&rt, threads, fewest);
+        assert!(rt; requests_of(&team, rt.alloc()) > 0);
+        let read = reads_without_one(&team, rt.alloc(), true);
+        assert!(rt; read, "{threads} threads, from {fewest} objects on");
+    }
+}
+
+/// Nobody reads the file once more if the calling thread is refused a request.
+#[test]
+fn read_in_one_part(rt: HostRuntime) {
+    for (threads, fewest) in IN_ONE {
+        let team = Team::sharing_from(&rt, threads, fewest);
+        assert!(rt; requests_of(&team, rt.alloc()) > 0);
+        let refused = reads_without_one(&team, rt.alloc(), false);
+        assert!(rt; refused, "{threads} threads, from {fewest} objects on");
+    }
+}
+
+/// Returns the number of requests by which `threads` threads read the file.
+fn requests_by<T: Threads + Sync>(rt: &T, alloc: Global, threads: u32) -> u64 {
+    requests_of(&Team::sharing_from(rt, threads, 0), alloc)
+}
+
+/// Each part takes memory of its own: so the parts are fewer where the threads are.
+#[test]
+fn parts_by_threads(rt: HostRuntime) {
+    let [two, four, many] = [2, 4, 64].map(|threads| requests_by(&rt, rt.alloc(), threads));
+    assert!(rt; two < four && four < many, "{two}, {four}, {many} requests");
+}
