@@ -19,7 +19,7 @@ const INVERSE: u64 = 0xf1de_83e1_9937_733d;
 
 type Build = fn(File, u64) -> File;
 
-const KINDS: [(&str, Build); 23] = [
+const KINDS: [(&str, Build); 30] = [
     ("chain", chain),
     ("chain_upwards", chain_upwards),
     ("cycle", cycle),
@@ -35,6 +35,13 @@ const KINDS: [(&str, Build); 23] = [
     ("one_page", one_page),
     ("alternating_pages", alternating_pages),
     ("crowded_pages", crowded_pages),
+    ("falling_pages", falling_pages),
+    ("full_page", full_page),
+    ("one_repeat", one_repeat),
+    ("sparse_pages", sparse_pages),
+    ("too_sparse_pages", too_sparse_pages),
+    ("below_32_bits", below_32_bits),
+    ("above_32_bits", above_32_bits),
     ("unaligned_last", unaligned_last),
     ("names", names),
     ("one_name", one_name),
@@ -223,6 +230,63 @@ fn alternating_pages(file: File, count: u64) -> File {
 /// The same, all in one bucket of an index by their leading bits, since one ID is far away.
 fn crowded_pages(_: File, count: u64) -> File {
     File::header(8).heap(|heap| in_turn(heap.primitives(u64::MAX - 7, 8, 0, &[]), count))
+}
+
+/// A class and arrays with wide IDs, of which the class has the first. Each array names the next one.
+fn arrays(mut ids: impl Iterator<Item = u64>) -> File {
+    let class = ids.next().unwrap_or(CLASS);
+    let mut ids = ids.peekable();
+    File::header(8).heap(|heap| {
+        let mut heap = heap.class(class, 0, &[]).root(ids.peek().copied().unwrap_or(class));
+        while let Some(id) = ids.next() {
+            heap = heap.objects(id, class, &[ids.peek().copied().unwrap_or(class)]);
+        }
+        heap
+    })
+}
+
+/// `count` IDs on `pages` pages, each on the page below the one before, and after the lowest on the highest. They fill
+/// the places of each page from the first on.
+fn falling(pages: u64, count: u64) -> impl Iterator<Item = u64> {
+    (0..count).map(move |number| on_page(pages - 1 - number % pages, number / pages))
+}
+
+/// `count` objects that fill all places of their pages, no two neighbours on one page.
+fn falling_pages(_: File, count: u64) -> File {
+    arrays(falling(count.div_ceil(64), count))
+}
+
+/// The same, and of one more object an ID that another one has.
+fn one_repeat(_: File, count: u64) -> File {
+    arrays(falling(count.div_ceil(64), count).chain([on_page(0, 7)]))
+}
+
+/// `count` objects on the fewest pages that are too many for pairs, less one: two objects on each.
+fn sparse_pages(_: File, count: u64) -> File {
+    arrays(falling(count / 2, count))
+}
+
+/// `count` objects on more pages than pairs may have.
+fn too_sparse_pages(_: File, count: u64) -> File {
+    arrays(falling(count / 2 + 2, count))
+}
+
+/// A page with all bits set, and above it as many as pairs may have, each with its first place and its last.
+fn full_page(_: File, count: u64) -> File {
+    let pages = count / 2;
+    let alone = (1..pages).rev().map(|page| on_page(page, 0));
+    let again = (1..pages).rev().map(|page| on_page(page, 63));
+    arrays(alone.chain(again).chain((0..64).rev().map(|place| on_page(0, place))))
+}
+
+/// `count` objects on full pages, and one so far above the lowest that its place is the last one of 32 bits.
+fn below_32_bits(_: File, count: u64) -> File {
+    arrays(falling(count.div_ceil(64), count).chain([on_page(1 << 26, 0) - 8]))
+}
+
+/// The same, but its place is the first one of 33 bits.
+fn above_32_bits(_: File, count: u64) -> File {
+    arrays(falling(count.div_ceil(64), count).chain([on_page(1 << 26, 0)]))
 }
 
 /// So many arrays on places that eight divides, each with a reference to the next, and behind them one object on an odd

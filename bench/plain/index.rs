@@ -1,12 +1,15 @@
-//! Look-ups of objects by ID: runs of neighbours in order, and a table of where they begin.
+//! Look-ups of objects by ID: runs of neighbours in order, and a table of where they begin; or, for objects in no order,
+//! pairs of ID and number.
 
 mod beginnings;
+mod pairs;
 mod runs;
 #[cfg(test)]
 mod tests;
 
 use beginnings::Beginnings;
-use runs::{PLACES, Run, gather, settle, sort};
+use pairs::Pairs;
+use runs::{PLACES, Run, descend_often, gather, settle, sort};
 
 /// The lowest bits that all IDs have in common, and how many those are: pages are told without them.
 #[derive(Clone, Copy)]
@@ -32,6 +35,8 @@ impl LowBits {
 /// Objects by their IDs. Where an ID comes again, the first object has it.
 pub struct Index {
     low: LowBits,
+    /// In place of the runs, where they would descend often.
+    pairs: Option<Pairs>,
     /// In order, at most 64 of each page.
     runs: Vec<Run>,
     beginnings: Beginnings,
@@ -42,14 +47,22 @@ impl Index {
     /// The index of objects with these IDs, if all of them have these lowest bits.
     pub fn new(ids: impl Iterator<Item = u64>, low: LowBits) -> Option<Index> {
         let mut runs = gather(ids.map(|id| low.page_and_place(id)))?;
-        sort(&mut runs);
+        let often = descend_often(&runs);
+        let pairs = if often { Pairs::of(&runs) } else { None };
+        if pairs.is_some() {
+            runs = vec![];
+        }
+        sort(&mut runs, often);
         let repeat = settle(&mut runs);
         let beginnings = Beginnings::of(&runs);
-        Some(Index { low, runs, beginnings, repeat })
+        Some(Index { low, pairs, runs, beginnings, repeat })
     }
 
     pub fn find(&self, id: u64) -> Option<u32> {
         let (page, place) = self.low.page_and_place(id)?;
+        if let Some(pairs) = &self.pairs {
+            return pairs.find(page, place);
+        }
         let first = self.beginnings.first_from(&self.runs, page)?;
         let mut of_page = self.runs[first..].iter().take_while(|run| run.page == page);
         of_page.find(|run| run.has(place)).map(|run| run.number_at(place))

@@ -37,7 +37,7 @@ fn gives(file: File, wanted: &str) {
 fn gives_without(file: &File, skip: &Skip, wanted: &str) {
     for table in [true, false] {
         for threads in [None, Some(1), Some(2), Some(64)] {
-            assert_eq!(short(file, skip, Options { threads, table, all: false }), wanted);
+            assert_eq!(short(file, skip, Options { threads, atomic: false, table, all: false }), wanted);
         }
     }
 }
@@ -163,7 +163,7 @@ fn ids_that_name_nothing() {
     });
     gives(file.clone(), "1 4 A, 1 0 <class>, R 2 4, U 3 24, X 6");
     for table in [true, false] {
-        let all = short(&file, &Skip::default(), Options { threads: None, table, all: true });
+        let all = short(&file, &Skip::default(), Options { threads: None, atomic: false, table, all: true });
         assert_eq!(all, "3 24 A, 2 4 <class>, R 5 28, U 0 0, X 6");
     }
 }

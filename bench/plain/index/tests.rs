@@ -1,5 +1,6 @@
 //! Indexes beside a search one by one.
 
+use super::pairs::Pairs;
 use super::runs::{Run, descend_often, sort};
 use super::{Index, LowBits};
 
@@ -32,39 +33,48 @@ fn falling(first: u64, count: u64) -> Vec<u64> {
     neighbours(first, count).into_iter().rev().collect()
 }
 
-/// Of each list, how many runs are kept and how many low bits are left out.
+/// `count` IDs, each on the page below the one before, and after the lowest of `pages` pages on the highest.
+fn in_falling_pages(pages: u64, count: u64) -> Vec<u64> {
+    (0..count).map(|number| 0x1000 + (pages - 1 - number % pages) * 512 + number / pages * 8).collect()
+}
+
+/// For each list the number of runs, the number of pairs in their place, and the number of low bits that are left out.
 #[test]
 fn lists() {
-    let rows: [(&str, Vec<u64>, usize, u32); 25] = [
-        ("no object", vec![], 0, 3),
-        ("one", vec![7], 1, 3),
-        ("0", vec![0], 1, 3),
-        ("the last ID", vec![u64::MAX], 1, 3),
-        ("both ends", vec![u64::MAX, 0], 2, 0),
-        ("both ends of places that eight divides", vec![u64::MAX - 7, 0], 2, 3),
-        ("63 neighbours", neighbours(0x1000, 63), 1, 3),
-        ("64 neighbours", neighbours(0x1000, 64), 1, 3),
-        ("65 neighbours", neighbours(0x1000, 65), 2, 3),
-        ("64 neighbours on two pages", neighbours(0x1008, 64), 2, 3),
-        ("ascending", neighbours(0, 1000), 16, 3),
-        ("ascending with gaps", (0..100).map(|number| 72 * number).collect(), 14, 3),
-        ("descending", falling(0x1000, 200), 200, 3),
-        ("all places of a page, descending", falling(0x1000, 64), 64, 3),
-        ("not on places that eight divides, but alike", (0..64).map(|number| 0x1005 + 8 * number).collect(), 1, 3),
-        ("not on such places", (0..128).map(|number| 0x1000 + number).collect(), 2, 0),
-        ("the last one alone is not", [neighbours(0x1000, 64), vec![0x1201]].concat(), 9, 0),
-        ("two runs of one page that overlap", [0, 16, 32, 8, 24, 40].to_vec(), 2, 3),
-        ("two objects of one ID", vec![0x1000, 0x1000], 1, 3),
-        ("one ID again and again", vec![0x1000; 100], 1, 3),
-        ("a repeat that begins a run", [neighbours(0x1000, 4), vec![0x1008, 0x1020]].concat(), 2, 3),
-        ("a repeat amid a run", [neighbours(0x1000, 4), vec![0x0ff8, 0x1010]].concat(), 2, 3),
-        ("a run of which all is repeated", [neighbours(0x1000, 9), vec![0], neighbours(0x1008, 5)].concat(), 2, 3),
-        ("a page again and again", falling(0x1000, 64).repeat(3), 64, 3),
-        ("two pages in turn", (0..128).map(|number| 0x1000 + number % 2 * 512 + number / 2 * 8).collect(), 128, 3),
+    let rows: [(&str, Vec<u64>, usize, usize, u32); 28] = [
+        ("no object", vec![], 0, 0, 3),
+        ("one", vec![7], 1, 0, 3),
+        ("0", vec![0], 1, 0, 3),
+        ("the last ID", vec![u64::MAX], 1, 0, 3),
+        ("both ends", vec![u64::MAX, 0], 2, 0, 0),
+        ("both ends of places that eight divides", vec![u64::MAX - 7, 0], 2, 0, 3),
+        ("63 neighbours", neighbours(0x1000, 63), 1, 0, 3),
+        ("64 neighbours", neighbours(0x1000, 64), 1, 0, 3),
+        ("65 neighbours", neighbours(0x1000, 65), 2, 0, 3),
+        ("64 neighbours on two pages", neighbours(0x1008, 64), 2, 0, 3),
+        ("ascending", neighbours(0, 1000), 16, 0, 3),
+        ("ascending with gaps", (0..100).map(|number| 72 * number).collect(), 14, 0, 3),
+        ("descending", falling(0x1000, 200), 200, 0, 3),
+        ("all places of a page, descending", falling(0x1000, 64), 64, 0, 3),
+        ("not on places that eight divides, but alike", (0..64).map(|number| 0x1005 + 8 * number).collect(), 1, 0, 3),
+        ("not on such places", (0..128).map(|number| 0x1000 + number).collect(), 2, 0, 0),
+        ("the last one alone is not", [neighbours(0x1000, 64), vec![0x1201]].concat(), 9, 0, 0),
+        ("two runs of one page that overlap", [0, 16, 32, 8, 24, 40].to_vec(), 2, 0, 3),
+        ("two objects of one ID", vec![0x1000, 0x1000], 1, 0, 3),
+        ("one ID again and again", vec![0x1000; 100], 1, 0, 3),
+        ("a repeat that begins a run", [neighbours(0x1000, 4), vec![0x1008, 0x1020]].concat(), 2, 0, 3),
+        ("a repeat amid a run", [neighbours(0x1000, 4), vec![0x0ff8, 0x1010]].concat(), 2, 0, 3),
+        ("a run of which all is repeated", [neighbours(0x1000, 9), vec![0], neighbours(0x1008, 5)].concat(), 2, 0, 3),
+        ("a page again and again", falling(0x1000, 64).repeat(3), 64, 0, 3),
+        ("two pages in turn", (0..128).map(|number| 0x1000 + number % 2 * 512 + number / 2 * 8).collect(), 0, 128, 3),
+        ("falling pages, each full", in_falling_pages(16, 1024), 0, 1024, 3),
+        ("the same, and one ID again", [in_falling_pages(16, 1024), vec![0x1008]].concat(), 1024, 0, 3),
+        ("falling pages, and one that is far", [in_falling_pages(16, 1024), vec![0x100_0000]].concat(), 1025, 0, 3),
     ];
-    for (name, ids, runs, low) in rows {
+    for (name, ids, runs, pairs, low) in rows {
         let index = sees(&ids, &[]);
-        assert_eq!((index.runs.len(), index.low.count), (runs, low), "{name}");
+        let found = (index.runs.len(), index.pairs.as_ref().map_or(0, Pairs::len), index.low.count);
+        assert_eq!(found, (runs, pairs, low), "{name}");
     }
 }
 
@@ -137,7 +147,7 @@ fn order_of_runs() {
     for (descents, count, often) in rows {
         let mut runs = zigzag(descents, count);
         assert_eq!(descend_often(&runs), often, "{descents} of {count}");
-        sort(&mut runs);
+        sort(&mut runs, often);
         assert!(runs.windows(2).all(|pair| (pair[0].page, pair[0].first) < (pair[1].page, pair[1].first)));
     }
     assert!(size_of::<Run>() <= 24);
