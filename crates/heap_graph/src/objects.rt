@@ -10,6 +10,7 @@ pub(crate) mod class_table;
 mod gathering;
 mod held_ids;
 pub(crate) mod indexing;
+mod pairing;
 mod scan;
 
 ghost use Rattle.hprof_grammar.specs.SubRecord.{SubRecord};

@@ -14,3 +14,4 @@ pub mod Repeating
 pub mod Aligning
 pub mod Joining
 pub mod Pairing
+pub mod Placing

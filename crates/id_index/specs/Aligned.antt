@@ -1,5 +1,5 @@
 -- Identifiers that agree in their lowest bits.
-use Rattle.std.specs.Prelude.{List, None, Option, Some, map, ◌*◌, ◌+◌, ◌^◌, ℕ}
+use Rattle.std.specs.Prelude.{List, map, ◌*◌, ◌+◌, ◌^◌, ℕ}
 
 -- an identifier from what stands above its lowest bits, and those
 abbrev pub whole_id : ℕ → ℕ → ℕ → ℕ
@@ -13,8 +13,3 @@ pub record AlignedIds : Type 0 where
   pub ids : List ℕ
   pub shift : ℕ
   pub low : ℕ
-
--- those of the pairs, if there are pairs, and else those of the runs
-abbrev pub ids_held : Option (List ℕ) → List ℕ → List ℕ
-ids_held None ids = ids
-ids_held (Some ids) _ = ids

@@ -5,3 +5,4 @@ pub mod Building
 pub mod Settling
 pub mod Aligned
 pub mod Pairs
+pub mod Forms

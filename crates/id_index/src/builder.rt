@@ -1,16 +1,15 @@
 //! Runs are made one object after the other, and an index of them.
 
-ghost use Rattle.std.specs.Prelude.{IfOk, IfSome, OnErr, [], length, map, ◌++◌, ◌+◌, ◌<◌, ◌∷◌, ◌^◌, ◌≡◌, ℕ};
+ghost use Rattle.std.specs.Prelude.{IfOk, OnErr, [], length, map, ◌++◌, ◌+◌, ◌<◌, ◌∷◌, ◌^◌, ◌≡◌, ℕ};
 ghost use Rattle.id_index.specs.Building.{raised_by, with_last};
 ghost use Rattle.id_index.specs.Runs.{run_in};
 
 use crate::beginnings::Beginnings;
-use crate::pairs::PairIndex;
 use crate::repeats::least_repeat;
 use crate::run_index::RunIndex;
 use crate::runs::{PLACES, Run};
 use crate::settling::settle;
-use crate::sorting::{descends_often, sort_runs};
+use crate::sorting::sort_runs;
 use std::alloc::{AllocError, Allocator};
 use std::marker::Model;
 
@@ -120,26 +119,6 @@ impl<A: Allocator> RunIndexBuilder<A> {
         push_raised(&mut self.runs, &more, self.count)?;
         self.count += count;
         Ok(())
-    }
-
-    /// Returns the index of these objects by pairs, if their runs often descend and their pages are close together. `None`
-    /// too if an allocation for pairs fails. `AllocError` if an allocation for the last run fails.
-    pub(crate) fn pairs(&mut self, alloc: A) -> Result<Option<PairIndex<A>>, AllocError>
-    where
-        A: Copy,
-        ensures same { IfOk result (λ _. self.new ≡ self.old) }
-        ensures pairs { IfOk result (λ o. IfSome o (λ i. i ≡ self.old)) }
-    {
-        close(&mut self.runs, self.last)?;
-        self.last = None;
-        if !descends_often(&self.runs) {
-            return Ok(None);
-        }
-        match PairIndex::of(alloc, &self.runs, self.count) {
-            Ok(pairs) => return Ok(pairs),
-            // Runs, which are there already, need less memory.
-            Err(_) => return Ok(None),
-        }
     }
 
     /// The index of these objects.

@@ -1,8 +1,10 @@
-//! The public calls: objects by their identifiers, which agree in their lowest bits. Runs are made of what stands above
-//! those bits, so that the pages of objects at multiples of eight are dense.
+//! The index of objects by their identifiers, which agree in their lowest bits, and its builder for objects that are
+//! mostly in order. Runs and pairs are made of what is above those bits, so that the pages of objects at multiples of
+//! eight are dense.
 
 ghost use Rattle.std.specs.Prelude.{Contains, IfOk, IsTrue, [], length, position, take};
 ghost use Rattle.std.specs.Prelude.{◌==◌, ◌≡◌, ◌↔◌, ◌%◌, ◌+◌, ◌++◌, ◌∷◌, ◌<◌, ◌^◌};
+ghost use Rattle.id_index.specs.Aligned.{whole_ids};
 ghost use Rattle.id_index.specs.Repeats.{IsFirstRepeat};
 
 use crate::builder::RunIndexBuilder;
@@ -14,20 +16,26 @@ use std::marker::Model;
 /// The lowest bits that identifiers have in common.
 #[derive(Clone, Copy)]
 pub struct LowBits {
-    /// How many bits those are, 0 to 63.
+    /// The number of these bits, 0 to 63.
     pub shift: u32,
-    /// What they are, a number below 2^shift.
+    /// Their value, below 2^shift.
     pub low: u64,
+}
+
+/// What an index searches.
+#[derive(Drop)]
+pub(crate) enum Form<A: Allocator> {
+    /// Runs of neighbours.
+    Runs(RunIndex<A>),
+    /// Pairs of identifier and number.
+    Pairs(PairIndex<A>),
 }
 
 /// The objects by their identifiers. Objects are numbered from 0 in the order of the file, and an identifier names the
 /// first object that bears it. No look-up takes memory.
 #[derive(Drop)]
 pub struct IdIndex<A: Allocator> {
-    /// By runs, if there are no pairs.
-    runs: RunIndex<A>,
-    /// By pairs of identifier and number.
-    pairs: Option<PairIndex<A>>,
+    form: Form<A>,
     bits: LowBits,
     /// The lowest `bits.shift` bits, set: made once, not for each look-up.
     mask: u64,
@@ -35,11 +43,12 @@ pub struct IdIndex<A: Allocator> {
 
 impl<A: Allocator> Model for IdIndex<A> {
     ghost use Rattle.std.specs.Prelude.{List, ℕ, ◌-◌, ◌<◌, ◌^◌, ◌≡◌};
-    ghost use Rattle.id_index.specs.Aligned.{ids_held, whole_ids};
+    ghost use Rattle.id_index.specs.Aligned.{whole_ids};
+    ghost use Rattle.id_index.specs.Forms.{ids_held};
 
     ghost Value = { List ℕ };
 
-    ghost view = { λ i. whole_ids i.bits.shift i.bits.low (ids_held i.pairs i.runs) };
+    ghost view = { λ i. whole_ids i.bits.shift i.bits.low (ids_held i.form) };
 
     ghost invariant = { λ i. record {
       shifted : i.bits.shift < 64;
@@ -49,8 +58,23 @@ impl<A: Allocator> Model for IdIndex<A> {
 }
 
 impl<A: Allocator> IdIndex<A> {
-    /// The number of the object that an identifier names, if an object bears it.
-    // Inlined into a worker's loop, which asks for each reference that is not 0.
+    ghost use Rattle.id_index.specs.Forms.{ids_held};
+
+    /// Creates the index of objects whose identifiers have the lowest bits `bits`, by what is above those.
+    pub(crate) fn of(form: Form<A>, bits: LowBits) -> Self
+        requires shifted { bits.shift < 64 }
+        requires low { bits.low < 2 ^ bits.shift }
+        ensures { result ≡ whole_ids bits.shift bits.low (ids_held form) }
+    {
+        IdIndex {
+            form,
+            bits,
+            mask: (1 << bits.shift) - 1,
+        }
+    }
+
+    /// Returns the number of the object that `id` names, if an object bears it.
+    // Inlined into a worker's loop, which looks up each reference that is not 0.
     #[inline(always)]
     pub fn find(&self, id: u64) -> Option<u32>
         ensures { result ≡ position (λ x. x == id) self.now }
@@ -58,13 +82,13 @@ impl<A: Allocator> IdIndex<A> {
         if id & self.mask != self.bits.low {
             return None;
         }
-        match &self.pairs {
-            Some(pairs) => return pairs.find(id >> self.bits.shift),
-            None => return self.runs.find(id >> self.bits.shift),
+        match &self.form {
+            Form::Runs(runs) => return runs.find(id >> self.bits.shift),
+            Form::Pairs(pairs) => return pairs.find(id >> self.bits.shift),
         }
     }
 
-    /// Whether an object before that number bears the identifier.
+    /// Tests whether an object before number `number` bears `id`.
     pub fn is_repeated(&self, id: u64, number: usize) -> bool
         ensures { IsTrue result ↔ Contains (take number self.now) id }
     {
@@ -74,19 +98,19 @@ impl<A: Allocator> IdIndex<A> {
         }
     }
 
-    /// The number of the first object whose identifier an earlier one bears, and how many objects there are where no
-    /// object bears such a one.
+    /// Returns the number of the first object whose identifier an earlier one bears, or the number of objects if there
+    /// is no such object.
     pub fn first_repeat(&self) -> usize
         ensures { IsFirstRepeat self.now result }
     {
-        match &self.pairs {
-            Some(pairs) => return pairs.first_repeat(),
-            None => return self.runs.first_repeat(),
+        match &self.form {
+            Form::Runs(runs) => return runs.first_repeat(),
+            Form::Pairs(pairs) => return pairs.first_repeat(),
         }
     }
 }
 
-/// The identifiers of objects in the order of the file, which agree in their lowest bits. An index is made of them.
+/// The identifiers of objects in the order of the file, which agree in their lowest bits: an index is made of them.
 /// There are at most 2^32 - 1 objects.
 #[derive(Drop)]
 pub struct IdIndexBuilder<A: Allocator> {
@@ -113,7 +137,7 @@ impl<A: Allocator> Model for IdIndexBuilder<A> {
 }
 
 impl<A: Allocator> IdIndexBuilder<A> {
-    /// No object, for identifiers with those lowest bits. It takes no memory yet.
+    /// Creates a builder without an object, for identifiers with the lowest bits `bits`. It takes no memory yet.
     pub fn new(alloc: A, bits: LowBits) -> Self
         requires shifted { bits.shift < 64 }
         requires low { bits.low < 2 ^ bits.shift }
@@ -127,15 +151,15 @@ impl<A: Allocator> IdIndexBuilder<A> {
         }
     }
 
-    /// Whether an identifier has the lowest bits that all have.
+    /// Tests whether `id` has the lowest bits that all identifiers have.
     pub fn fits(&self, id: u64) -> bool
         ensures { IsTrue result ↔ (id % 2 ^ self.now.shift ≡ self.now.low) }
     {
         id % (1 << self.bits.shift) == self.bits.low
     }
 
-    /// Adds the next object. `AllocError` where memory is refused, which only an object that begins a run asks for.
-    /// What the builder has then is not said.
+    /// Adds the next object. `AllocError` if an allocation fails, which only an object that begins a run makes; what
+    /// the builder has then is not said.
     pub fn push(&mut self, id: u64) -> Result<(), AllocError>
         requires fits { id % 2 ^ self.old.shift ≡ self.old.low }
         requires few { length self.old.ids + 1 < 2 ^ 32 }
@@ -146,8 +170,8 @@ impl<A: Allocator> IdIndexBuilder<A> {
         self.runs.push(id >> self.bits.shift)
     }
 
-    /// Adds the objects of another list behind these, which has to leave out the same lowest bits. `AllocError` where
-    /// memory is refused. What the builder has then is not said.
+    /// Adds the objects of `other`, which has the same lowest bits, after these. `AllocError` if an allocation fails;
+    /// what the builder has then is not said.
     pub fn append(&mut self, other: Self) -> Result<(), AllocError>
         requires shift { other.shift ≡ self.old.shift }
         requires low { other.low ≡ self.old.low }
@@ -159,30 +183,13 @@ impl<A: Allocator> IdIndexBuilder<A> {
         self.runs.append(other.runs)
     }
 
-    /// The index of these objects. `AllocError` where memory is refused: for the last run, for sorting the runs, or for
-    /// the table in front of them, which is taken from `alloc`.
+    /// Returns the index of these objects. `AllocError` if an allocation fails: for the last run, for sorting the runs,
+    /// or for the table of where pages begin, which is taken from `alloc`.
     pub fn finish(self, alloc: A) -> Result<IdIndex<A>, AllocError>
-    where
-        A: Copy,
         ensures { IfOk result (λ index. index ≡ self.ids) }
     {
-        let (bits, mut built) = (self.bits, self.runs);
-        let mask = (1 << bits.shift) - 1;
-        if let Some(pairs) = built.pairs(alloc)? {
-            let runs = RunIndexBuilder::new(alloc).finish(alloc)?;
-            return Ok(IdIndex {
-                runs,
-                pairs: Some(pairs),
-                bits,
-                mask,
-            });
-        }
-        let runs = built.finish(alloc)?;
-        Ok(IdIndex {
-            runs,
-            pairs: None,
-            bits,
-            mask,
-        })
+        let bits = self.bits;
+        let runs = self.runs.finish(alloc)?;
+        Ok(IdIndex::of(Form::Runs(runs), bits))
     }
 }

@@ -5,22 +5,27 @@
 //! object, and a word with a bit for each place where it has an object. So an object's number is that of the run's
 //! first one and how many bits are set below its place.
 //!
-//! If runs come in no order and stand close together, no run is sorted: there are pairs of identifier and number in
-//! ascending order, which are looked at once more after they are placed (`pairs`).
+//! Objects that are in no order are given apart: their index is a vector of pairs of identifier and number, ordered by
+//! identifier and searched by halving. Words with a bit for each place of a page guess where a pair is.
 //!
-//! `index` has the public calls: it leaves out the lowest bits where all identifiers agree in them, and asks
-//! `run_index`. `builder` makes the runs one object after the other. Then they are sorted (`sorting`), the first
-//! identifier that repeats is looked for (`repeats`), and the runs that say something new are told from the others
-//! (`settling`). A look-up goes through a table of where pages begin (`beginnings`) to the first run of a page
-//! (`pages`), and over the runs of that page (`look_up`). How many runs it looks at until then has a bound (`looks`).
+//! `index` has the index and the builder for objects that are mostly in order, `id_pairs` the builder for the others.
+//! Both leave out the lowest bits, in which all identifiers agree. `builder` makes the runs one object after the other.
+//! Then they are sorted (`sorting`), the first identifier that repeats is looked for (`repeats`), and the runs that say
+//! something new are told from the others (`settling`): a `run_index`. A look-up goes through a table of where pages
+//! begin (`beginnings`) to the first run of a page (`pages`), and over the runs of that page (`look_up`). The search of
+//! the first run looks at a bounded number of runs (`looks`). `pair_builder` places pairs where the page words
+//! (`page_words`) guess them, and makes a `pairs` index of them if all were right.
 #![tactic(auto)]
 
 mod beginnings;
 mod builder;
+mod id_pairs;
 mod index;
 mod look_up;
 mod looks;
+mod page_words;
 mod pages;
+mod pair_builder;
 mod pairs;
 mod repeats;
 mod run_index;
@@ -28,4 +33,5 @@ mod runs;
 mod settling;
 mod sorting;
 
+pub use id_pairs::IdPairsBuilder;
 pub use index::{IdIndex, IdIndexBuilder, LowBits};

@@ -17,7 +17,7 @@ const MANY_RUNS: usize = 64;
 /// The number of the object at a place of a run, if the run has one there.
 // Inlined, as the look-up is.
 #[inline(always)]
-pub(crate) fn number_at_place(run: Run, place: u32) -> Option<u32>
+fn number_at_place(run: Run, place: u32) -> Option<u32>
     requires place { place < 64 }
     requires few { end_of run < 2 ^ 32 }
     ensures { MatchOption result (bit_at run.places place ≢ 1) (λ number. IsNumberAt run place number) }

@@ -10,7 +10,7 @@ use std::alloc::{AllocError, Allocator};
 const LONG_STRETCH: usize = 16;
 
 /// Whether runs descend so often that the stretches which ascend are short.
-pub(crate) fn descends_often(runs: &[Run]) -> bool {
+fn descends_often(runs: &[Run]) -> bool {
     let mut descents = 0usize;
     for at in 1..runs.len() {
         if runs[at].page < runs[at - 1].page {

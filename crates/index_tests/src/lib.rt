@@ -16,6 +16,8 @@ mod lists;
 #[cfg(test)]
 mod making;
 #[cfg(test)]
+mod pairing;
+#[cfg(test)]
 mod random_lists;
 #[cfg(test)]
 mod refused;

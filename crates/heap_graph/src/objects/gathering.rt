@@ -51,7 +51,7 @@ impl<A: Allocator + Copy> Gathered<A> {
 }
 
 /// Notes the number of an object if that is a class dump.
-fn note_class<B: Allocator>(
+pub(super) fn note_class<B: Allocator>(
     class_dumps: &mut Vec<u32, B>,
     view: &View<'_>,
     places: &[u32],

@@ -12,6 +12,7 @@ ghost use Rattle.heap_graph.specs.working.ClassNumbers.{AreIndexed};
 ghost use Rattle.heap_graph.specs.working.GatheredParts.{MayIndex};
 
 use crate::objects::gathering::{Gathered, gather};
+use crate::objects::pairing::paired;
 use hprof_grammar::{Team, View};
 use id_index::{IdIndex, LowBits};
 use std::alloc::{AllocError, Allocator};
@@ -43,7 +44,7 @@ fn first_bits(view: &View<'_>, places: &[u32]) -> LowBits
 /// All bits of identifiers.
 const ALL_BITS: LowBits = LowBits { shift: 0, low: 0 };
 
-impl<A: Allocator + Copy> Indexed<A> {
+impl<A: Allocator> Indexed<A> {
     /// The objects that were gathered.
     fn of(alloc: A, gathered: Gathered<A>) -> Result<Self, AllocError>
         ensures { IfOk result (λ indexed. (indexed.index ≡ gathered.ids.ids)
@@ -67,7 +68,11 @@ pub(crate) fn index_of<T: Threads + Sync, B: Allocator + Copy + Send + Sync>(
     ensures { IfOk result (λ indexed. (heap : List SubRecord)
         → StandInTurn (Stands view.now) places.now (objects heap) → AreIndexed view.now places.now heap indexed) }
 {
-    if let Some(gathered) = gather(team, alloc, view, places, first_bits(view, places))? {
+    let bits = first_bits(view, places);
+    if let Some(indexed) = paired(team, alloc, view, places, bits)? {
+        return Ok(indexed);
+    }
+    if let Some(gathered) = gather(team, alloc, view, places, bits)? {
         return Indexed::of(alloc, gathered);
     }
     match gather(team, alloc, view, places, ALL_BITS)? {

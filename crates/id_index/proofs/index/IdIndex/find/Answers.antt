@@ -1,6 +1,8 @@
--- What stands above the lowest bits is looked up, where those are the common ones.
-use Rattle.id_index.proofs.Words.{List, Option, and_mask, ap, arith, bit_and, position, sym, whole_ids, ℕ, ◌%◌, ◌==◌, ◌^◌, ◌∙◌, ◌≡◌}
-use Rattle.id_index.specs.Aligned.{ids_held}
+-- What is above the lowest bits is looked up, if these are the common ones.
+use Rattle.id_index.proofs.Words.{List, and_mask, ap, arith, bit_and, position, sym, whole_ids, ℕ, ◌%◌, ◌==◌, ◌^◌, ◌∙◌}
+use Rattle.id_index.proofs.Words.{◌≡◌}
+use Rattle.id_index.specs.Forms.{ids_held}
+use Rattle.id_index.specs.declared.index.Form.{Form}
 use Rattle.id_index.proofs.Aligning.{found, other_bits}
 use Rattle.id_index.proofs.index.IdIndex.find.Goals as goal
 
@@ -9,28 +11,28 @@ returns-then-id-self g c =
     let i = c.self.inside in
     let masked : bit_and c.args.id i.mask ≡ c.args.id % 2 ^ i.bits.shift =
     rw c.self.invariant.mask (and_mask c.args.id i.bits.shift) in
-    other_bits i.bits.shift i.bits.low c.self.invariant.low (ids_held i.pairs i.runs) c.args.id
+    other_bits i.bits.shift i.bits.low c.self.invariant.low (ids_held i.form) c.args.id
     (λ e. omega (arith, c.if-id-self.true, masked, e))
     ∙ ap (λ (ids : List ℕ). position (λ x. x == c.args.id) ids) c.self.view_is
 
-pub returns-in-Some : goal.returns-in-Some
-returns-in-Some g c =
+pub returns-in-Pairs : goal.returns-in-Pairs
+returns-in-Pairs g c =
     let i = c.self.inside in
     let masked : bit_and c.args.id i.mask ≡ c.args.id % 2 ^ i.bits.shift =
     rw c.self.invariant.mask (and_mask c.args.id i.bits.shift) in
-    found i.bits.shift i.bits.low c.self.invariant.low c.in-Some.pairs c.args.id c.find.result
-    (omega (arith, masked, c.if-id-self.false)) c.find.ensures
-    ∙ ap (λ (o : Option (List ℕ)). position (λ x. x == c.args.id) (whole_ids i.bits.shift i.bits.low (ids_held o i.runs)))
-    (sym c.in-Some.is)
+    found i.bits.shift i.bits.low c.self.invariant.low c.in-Pairs.pairs c.args.id c.find-in-Pairs.result
+    (omega (arith, masked, c.if-id-self.false)) c.find-in-Pairs.ensures
+    ∙ ap (λ (form : Form g.row.A.Denot). position (λ x. x == c.args.id)
+    (whole_ids i.bits.shift i.bits.low (ids_held form))) (sym c.in-Pairs.is)
     ∙ ap (λ (ids : List ℕ). position (λ x. x == c.args.id) ids) c.self.view_is
 
-pub returns-in-None : goal.returns-in-None
-returns-in-None g c =
+pub returns-in-Runs : goal.returns-in-Runs
+returns-in-Runs g c =
     let i = c.self.inside in
     let masked : bit_and c.args.id i.mask ≡ c.args.id % 2 ^ i.bits.shift =
     rw c.self.invariant.mask (and_mask c.args.id i.bits.shift) in
-    found i.bits.shift i.bits.low c.self.invariant.low i.runs c.args.id c.find-in-None.result
-    (omega (arith, masked, c.if-id-self.false)) c.find-in-None.ensures
-    ∙ ap (λ (o : Option (List ℕ)). position (λ x. x == c.args.id) (whole_ids i.bits.shift i.bits.low (ids_held o i.runs)))
-    (sym c.in-None.is)
+    found i.bits.shift i.bits.low c.self.invariant.low c.in-Runs.runs c.args.id c.find.result
+    (omega (arith, masked, c.if-id-self.false)) c.find.ensures
+    ∙ ap (λ (form : Form g.row.A.Denot). position (λ x. x == c.args.id)
+    (whole_ids i.bits.shift i.bits.low (ids_held form))) (sym c.in-Runs.is)
     ∙ ap (λ (ids : List ℕ). position (λ x. x == c.args.id) ids) c.self.view_is

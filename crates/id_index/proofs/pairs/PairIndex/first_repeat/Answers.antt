@@ -7,7 +7,7 @@ use Rattle.id_index.proofs.pairs.PairIndex.first_repeat.Goals as goal
 pub returns : goal.returns
 returns g c =
     let i = c.self.inside in
-    let ids : List ℕ = ids_of_pairs i.pairs.items i.lowest in
+    let ids : List ℕ = ids_of_pairs i.pairs.items i.lowest (length i.pairs.items) in
     let count : c.len.result ≡ length i.pairs.items = omega (arith, c.len.ensures) in
     subst (λ (n : ℕ). IsFirstRepeat c.args.self.now n) (sym count)
     (subst (λ (xs : List ℕ). IsFirstRepeat xs (length i.pairs.items)) c.self.view_is

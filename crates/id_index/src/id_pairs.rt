@@ -1,0 +1,104 @@
+//! The builder of an index for objects in no order.
+
+ghost use Rattle.std.specs.Prelude.{IfOk, IfSome, IsTrue, [], ◌≡◌, ◌↔◌, ◌%◌, ◌++◌, ◌∷◌, ◌<◌, ◌^◌};
+
+use crate::index::{Form, IdIndex, LowBits};
+use crate::pair_builder::PairIndexBuilder;
+use std::alloc::{AllocError, Allocator};
+use std::marker::Model;
+
+/// The identifiers of objects in the order of the file, which agree in their lowest bits: an index by pairs is made of
+/// them. Each identifier is given twice: all are noted, then `set_begins` is called, and then all are pushed.
+// The identifiers are in the file already: read twice they need no list beside the pairs.
+#[derive(Drop)]
+pub struct IdPairsBuilder<A: Allocator> {
+    pairs: PairIndexBuilder<A>,
+    bits: LowBits,
+}
+
+impl<A: Allocator> Model for IdPairsBuilder<A> {
+    ghost use Rattle.std.specs.Prelude.{◌<◌, ◌^◌};
+    ghost use Rattle.id_index.specs.Aligned.{AlignedIds, whole_ids};
+
+    ghost Value = { AlignedIds };
+
+    ghost view = { λ b. record {
+      ids = whole_ids b.bits.shift b.bits.low b.pairs;
+      shift = b.bits.shift;
+      low = b.bits.low;
+    } };
+
+    ghost invariant = { λ b. record {
+      shifted : b.bits.shift < 64;
+      low : b.bits.low < 2 ^ b.bits.shift;
+    } };
+}
+
+impl<A: Allocator + Copy> IdPairsBuilder<A> {
+    /// Creates a builder for `count` objects with identifiers from `least` to `greatest` that have the lowest bits
+    /// `bits`, without an object. Returns `None` if these are too far apart for so few objects. `AllocError` if an
+    /// allocation fails.
+    pub fn new(
+        alloc: A,
+        bits: LowBits,
+        least: u64,
+        greatest: u64,
+        count: u32,
+    ) -> Result<Option<Self>, AllocError>
+        requires shifted { bits.shift < 64 }
+        requires low { bits.low < 2 ^ bits.shift }
+        ensures { IfOk result (λ found. IfSome found (λ b.
+            (b.ids ≡ []) × (b.shift ≡ bits.shift) × (b.low ≡ bits.low))) }
+    {
+        let (first, last) = (least >> bits.shift, greatest >> bits.shift);
+        match PairIndexBuilder::new(alloc, first, last, count)? {
+            Some(pairs) => return Ok(Some(IdPairsBuilder { pairs, bits })),
+            None => return Ok(None),
+        }
+    }
+}
+
+impl<A: Allocator> IdPairsBuilder<A> {
+    /// Notes that an object bears `id`.
+    pub fn note(&mut self, id: u64)
+        ensures { self.new ≡ self.old }
+    {
+        self.pairs.note(id >> self.bits.shift);
+    }
+
+    /// Counts what was noted, so that identifiers can be pushed.
+    pub fn set_begins(&mut self)
+        ensures { self.new ≡ self.old }
+    {
+        self.pairs.set_begins();
+    }
+
+    /// Tests whether `id` has the lowest bits that all identifiers have.
+    pub fn fits(&self, id: u64) -> bool
+        ensures { IsTrue result ↔ (id % 2 ^ self.now.shift ≡ self.now.low) }
+    {
+        id % (1 << self.bits.shift) == self.bits.low
+    }
+
+    /// Adds the next object. Returns `false` if `id` was not noted or an earlier object bears it; what the builder has
+    /// then is not said.
+    pub fn push(&mut self, id: u64) -> bool
+        requires { id % 2 ^ self.old.shift ≡ self.old.low }
+        ensures ids { IsTrue result → self.new.ids ≡ self.old.ids ++ id ∷ [] }
+        ensures shift { self.new.shift ≡ self.old.shift }
+        ensures low { self.new.low ≡ self.old.low }
+    {
+        self.pairs.push(id >> self.bits.shift)
+    }
+
+    /// Returns the index of these objects, if there are `count`, as `new` was given, and each was noted.
+    pub fn finish(self) -> Option<IdIndex<A>>
+        ensures { IfSome result (λ index. index ≡ self.ids) }
+    {
+        let bits = self.bits;
+        match self.pairs.finish() {
+            Some(pairs) => return Some(IdIndex::of(Form::Pairs(pairs), bits)),
+            None => return None,
+        }
+    }
+}

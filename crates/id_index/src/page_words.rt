@@ -1,0 +1,60 @@
+//! The page words: a bit for each place that has an object, page by page. They guess where the pair of a place is.
+
+use crate::runs::{PLACES, rank_in};
+use std::alloc::{AllocError, Allocator};
+
+/// The places of a page that have objects.
+#[derive(Clone, Copy)]
+struct Page {
+    /// A bit for each place that has an object.
+    places: u64,
+    /// The number of objects on the pages before this one.
+    begin: u32,
+}
+
+/// The pages from the least one to the greatest. No clause says what they have: nothing but time rests on a guess.
+// Bits and number of a page are beside each other, so that a look-up waits for memory once.
+#[derive(Drop)]
+pub(crate) struct PageWords<A: Allocator> {
+    pages: Vec<Page, A>,
+}
+
+impl<A: Allocator> PageWords<A> {
+    /// Creates `count` pages without objects. `AllocError` if the allocation fails.
+    pub(crate) fn new(alloc: A, count: usize) -> Result<Self, AllocError> {
+        let empty = Page {
+            places: 0,
+            begin: 0,
+        };
+        let pages = vec![in alloc; empty; count]?;
+        Ok(PageWords { pages })
+    }
+
+    /// Notes an object at place `at`, counted from the least page on. A place after the last page is ignored.
+    pub(crate) fn note(&mut self, at: u64) {
+        if at / PLACES < self.pages.len() as u64 {
+            self.pages[(at / PLACES) as usize].places |= 1 << (at % PLACES) as u32;
+        }
+    }
+
+    /// Counts the noted objects before each page.
+    pub(crate) fn set_begins(&mut self) {
+        let mut begin = 0u32;
+        for page in self.pages.iter_mut() {
+            page.begin = begin;
+            begin = begin.wrapping_add(page.places.count_ones());
+        }
+    }
+
+    /// Returns how many objects were noted before place `at`: the index of its pair, if each object was noted.
+    // Inlined, as the look-up is.
+    #[inline(always)]
+    pub(crate) fn guess(&self, at: u64) -> usize {
+        if at / PLACES >= self.pages.len() as u64 {
+            return usize::MAX;
+        }
+        let page = self.pages[(at / PLACES) as usize];
+        let rank = rank_in(page.places, (at % PLACES) as u32);
+        page.begin.wrapping_add(rank) as usize
+    }
+}

@@ -1,0 +1,134 @@
+//! An index by pairs of lists of identifiers, made as callers make it.
+
+ghost use Rattle.std.specs.Prelude.{IfOk, IfSome, length, ◌<◌, ◌^◌, ◌≡◌};
+
+use crate::beside::answers_all;
+use crate::refused::{Call, requests_of};
+use id_index::{IdIndex, IdPairsBuilder, LowBits};
+use limited_heap::LimitedHeap;
+use std::alloc::{AllocError, Allocator, Global};
+
+/// Returns the least and the greatest of `ids`.
+fn ends_of(ids: &[u64]) -> (u64, u64) {
+    let (mut least, mut greatest) = (u64::MAX, 0);
+    for id in ids {
+        least = least.min(*id);
+        greatest = greatest.max(*id);
+    }
+    (least, greatest)
+}
+
+/// Notes all of `ids`.
+fn note_all<A: Allocator>(builder: &mut IdPairsBuilder<A>, ids: &[u64])
+    ensures { builder.new ≡ builder.old }
+{
+    for id in ids {
+        builder.note(*id);
+    }
+}
+
+/// Returns the index by pairs of objects with the identifiers `ids`, if their three lowest bits are `low` and pairs
+/// serve.
+pub fn paired_index<A: Allocator + Copy>(
+    alloc: A,
+    ids: &[u64],
+    low: u64,
+) -> Result<Option<IdIndex<A>>, AllocError>
+    requires low { low < 8 }
+    requires few { length ids.now < 2 ^ 32 }
+    ensures { IfOk result (λ found. IfSome found (λ index. index ≡ ids.now)) }
+{
+    let bits = LowBits { shift: 3, low };
+    let (least, greatest) = ends_of(ids);
+    let made = IdPairsBuilder::new(alloc, bits, least, greatest, ids.len() as u32)?;
+    let Some(mut builder) = made else {
+        return Ok(None);
+    };
+    note_all(&mut builder, ids);
+    builder.set_begins();
+    for id in ids {
+        if !builder.fits(*id) || !builder.push(*id) {
+            return Ok(None);
+        }
+    }
+    Ok(builder.finish())
+}
+
+/// Lists of identifiers, and whether pairs serve: the three lowest bits are 0, none is repeated, and there are two for
+/// each page of 512 from the first to the last.
+const PAIRED: [(&[u64], bool); 14] = [
+    (&[], false),
+    (&[8], false),
+    (&[16, 8], true),
+    (&[8, 16], true),
+    (&[8, 16, 8], false),
+    (&[16, 16, 8, 8], false),
+    (&[16, 8, 12], false),
+    (&[512, 0, 520, 8], true),
+    (&[1024, 0, 520, 8], false),
+    (&[1024, 0, 520, 8, 1032, 16], true),
+    (&[0xffff_ffff_ffff_fff8, 0xffff_ffff_ffff_fff0], true),
+    (&[0xffff_ffff_ffff_fff8, 0], false),
+    (&[0x7f00_0008, 0x7f00_01f8, 0x7f00_0000, 0x7f00_0200], true),
+    (
+        &[
+            504, 0, 496, 8, 488, 16, 480, 24, 472, 32, 464, 40, 456, 48, 448, 56, 440, 64, 432, 72,
+        ],
+        true,
+    ),
+];
+
+/// Makes an index by pairs.
+#[derive(Drop)]
+struct Pairing<'a> {
+    ids: &'a [u64],
+    serves: bool,
+}
+
+impl Call for Pairing<'_> {
+    fn is_right(&self, heap: &LimitedHeap<Global>) -> bool {
+        if self.ids.len() > 1000 {
+            return false;
+        }
+        match paired_index(heap, self.ids, 0) {
+            Ok(Some(index)) => self.serves && answers_all(&index, self.ids),
+            Ok(None) => !self.serves,
+            Err(AllocError) => heap.refusals() > 0,
+        }
+    }
+}
+
+/// Each request is refused in turn, and then the index is as a search one by one, or there is none if pairs do not
+/// serve.
+#[test]
+fn paired_as_one_by_one_or_out_of_memory(rt: HostRuntime) {
+    for (ids, serves) in PAIRED {
+        let requests = requests_of(rt.alloc(), &Pairing { ids, serves });
+        assert!(rt; requests.is_some(), "{ids:?}");
+    }
+}
+
+/// Tests whether a builder for as many objects as can be asks for memory, if their identifiers are from `least` to
+/// `greatest`. There is none.
+fn asks_for_memory(alloc: Global, least: u64, greatest: u64) -> bool {
+    let heap = LimitedHeap::new(alloc, 0);
+    let bits = LowBits { shift: 3, low: 0 };
+    IdPairsBuilder::new(&heap, bits, least, greatest, u32::MAX).is_err()
+}
+
+/// Ends of identifiers at multiples of eight, and whether the pages between have at most 2^32 places.
+const ENDS: [(u64, u64, bool); 5] = [
+    (0, (1 << 35) - 8, true),
+    (0, 1 << 35, false),
+    (504, (1 << 35) - 8, true),
+    (512, 1 << 35, true),
+    (1 << 35, 0, false),
+];
+
+#[test]
+fn pairs_span_as_many_places_as_they_count(rt: HostRuntime) {
+    for (least, greatest, asks) in ENDS {
+        let asked = asks_for_memory(rt.alloc(), least, greatest);
+        assert_eq!(rt; asked, asks, "from {least} to {greatest}");
+    }
+}
