@@ -1,4 +1,4 @@
-//! What a pool's table is told once, when it is made.
+//! The constants of a pool's table, fixed when it is made.
 ghost use Rattle.std.specs.Borrow.{ftrue};
 ghost use Rattle.std.specs.Prelude.{◌≡◌, ℕ, List};
 ghost use Rattle.std.specs.Coded.{coded_list, coded_ℕ, coded×};
@@ -6,7 +6,7 @@ ghost use Rattle.std.specs.Coded.{coded_list, coded_ℕ, coded×};
 use mark_core::Edges;
 use std::marker::{Model, PhantomData};
 
-/// The roots and pairs of some edges, as clauses see them. It has no bytes.
+/// The roots and pairs of a heap's edges, as clauses see them. It has no bytes.
 pub struct Named {
     marker: PhantomData<()>,
     /// The objects at which reachability begins.
@@ -23,7 +23,7 @@ impl Named {
     pub(crate) fn of<E: Edges>(edges: &E) -> Named
         ensures { (result.roots ≡ E.roots edges.now) × (result.pairs ≡ E.pairs edges.now) }
     {
-        // Only its clauses are wanted: the value has no bytes.
+        // Read for its clauses only: the value has no bytes.
         let _ = edges;
         Named {
             marker: PhantomData,

@@ -1,4 +1,4 @@
--- `of` makes a value of no bytes, whose ghost fields are the roots and pairs of the edges behind the reference.
+-- `of` makes a value of no bytes. Its ghost fields are the roots and pairs of the edges that the reference refers to.
 use mathlib.Core.Path.{refl, sym, subst}
 use Prim.Native.Nat.{ℕ}
 use mathlib.Core.List.{List, [], ◌∷◌, ◌++◌}
