@@ -24,7 +24,7 @@ mod try_pop;
 mod try_push;
 
 use crate::buffer::Buffer;
-use crate::key::{Key, Named};
+use crate::key::{Key, NamedEdges};
 use crate::rules::MarkingRule;
 use crate::seat_view::SeatView;
 use crate::worker::Worker;
@@ -90,7 +90,7 @@ impl<A: Allocator + Copy> Pool<A> {
         let words = first_words(alloc, objects, buffers, first_tag)?;
         let slots = first_slots(alloc, buffers, size)?;
         let key = Key {
-            named: Named::of(edges),
+            named: NamedEdges::of(edges),
             objects,
             buffers,
             size,
