@@ -1,4 +1,4 @@
--- Pairs of bits of a word, and what setting one pair leaves.
+-- Pairs of bits of a word, and the effect of setting one pair.
 use Rattle.std.proofs.Common.{◌≡◌, ◌≢◌, ◌⊎◌, ◌↔◌, ℕ, suc, ◌+◌, ◌-◌, ◌*◌, ◌/◌, ◌%◌, ◌^◌, ◌<◌, ◌≤◌, ◌==◌, max, IsTrue}
 use Rattle.std.proofs.Common.{if◌then◌else◌, bit_and, bit_or, ap, sym, ◌∙◌, inl, inr, ⊎_elim, eq-eqb, eqb-true, lt-ltb}
 use Rattle.std.proofs.Common.{le-ltb, pow_pos, pow_mono, pow-add, shr-shr, mod-eq_of_lt, mul-le-mul_right, suc-mul, w64}

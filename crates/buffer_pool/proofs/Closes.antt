@@ -1,4 +1,4 @@
--- What holds of the last state of a pool that is closed.
+-- What holds of the last state of a closed pool.
 use Rattle.std.proofs.Common.{◌≡◌, ℕ, ◌+◌, ◌/◌, ◌%◌, ◌<◌, ◌≤◌, false, List, [], length, map, Contains, Option}
 use Rattle.std.proofs.Common.{slice_index, ap, sym, subst, ◌∙◌, ⊎_elim, arith}
 use Rattle.buffer_pool.proofs.Words.{cases_lt, get_or_past, get_or-map-range_with_len, length-map-range_with_len, some}

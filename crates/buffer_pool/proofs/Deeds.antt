@@ -1,4 +1,4 @@
--- What the workers did, in stretches of a story; and each view is told of one event more.
+-- The steps of the workers in parts of a story, and each view after one more event.
 use Rattle.std.proofs.Common.{◌≡◌, ◌≢◌, ℕ, ◌<◌, ◌==◌, Bool, if◌then◌else◌, true, false, List, [], ◌∷◌, ◌++◌, length}
 use Rattle.std.proofs.Common.{Option, Some, None, set, ap, sym, refl, subst, ◌∙◌, ⊎_elim, eq-eqb, ne_eqb, length-append}
 use Rattle.std.proofs.Common.{arith}

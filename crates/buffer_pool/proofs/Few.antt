@@ -1,5 +1,5 @@
--- A worker's story leads to a lawful marking. Of its finished objects each can be reached, so it is an object, and none
--- was finished twice: so they are no more than there are, and their number is small.
+-- A worker's story leads to a lawful marking. Each of its finished objects is reachable, so it is an object, and none
+-- was finished twice. So they are at most as many as there are objects, and their number is small.
 use Rattle.std.proofs.Common.{◌≡◌, ℕ, ◌<◌, ◌≤◌, [], ◌∷◌, length, arith}
 use Rattle.buffer_pool.proofs.Words.{All-contains, TableId, IsReachableIn, Law, Setup, times, has_each_once}
 use Rattle.buffer_pool.proofs.Words.{lawful_where, finished_few, Book, LeadsToBook, Log, IsLaid}

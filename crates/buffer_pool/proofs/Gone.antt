@@ -1,4 +1,4 @@
--- An account that was taken in does nothing any more.
+-- An account that was joined to another takes no further step.
 use Rattle.std.proofs.Common.{◌≡◌, ◌≢◌, ℕ, List, [], ◌∷◌, ◌++◌, set, ap, sym, refl, subst, ◌∙◌, ne_eqb, cond, arith}
 use Rattle.buffer_pool.proofs.Words.{append_assoc, ℕ_discrete, at_longer, set_here, set_else, StandsAt, Account, part}
 use Rattle.buffer_pool.proofs.Words.{no_share, after_join, Setup, Marking, account_at, IsThere, Event, Kind, Join}

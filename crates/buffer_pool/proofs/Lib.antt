@@ -11,7 +11,7 @@ pub mod Claims
 pub mod Idles
 pub mod Pops
 pub mod Pushes
-pub mod Parts
+pub mod SplitsAndJoins
 pub mod Sound
 pub mod Starts
 pub mod Closes

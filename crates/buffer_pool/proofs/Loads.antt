@@ -1,4 +1,4 @@
--- Loads keep the rule, and tell what was loaded. So do the steps that change nothing.
+-- Loads keep the rule, and say what was loaded. So do the steps that change nothing.
 use Rattle.std.proofs.Common.{◌≡◌, ℕ, ◌+◌, ◌<◌, ◌≤◌, ◌==◌, List, [], ◌∷◌, length, map, Option, Some, set, slice_index}
 use Rattle.std.proofs.Common.{slice_set, ap, sym, refl, subst, ◌∙◌, arith}
 use Rattle.buffer_pool.proofs.Words.{none, either, TableId, State, Me, Allows, step, keeps, exchanged, Head, head_of}

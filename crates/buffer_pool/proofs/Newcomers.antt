@@ -1,4 +1,4 @@
--- A number that no account has yet did nothing, so the new worker of a split did nothing.
+-- No step is by a number that no account has yet, so the new worker of a split did nothing.
 use Rattle.std.proofs.Common.{◌≡◌, ◌≢◌, ◌⊎◌, ℕ, zero, suc, ◌<◌, ◌≤◌, true, List, [], ◌∷◌, ◌++◌, length, Some, set, ap}
 use Rattle.std.proofs.Common.{sym, refl, subst, ◌∙◌, inl, inr, ⊎_elim, length-set, length-append, ne_eqb, cond, arith}
 use Rattle.buffer_pool.proofs.Words.{false≢true, append_assoc, some, some-injective, some-ne-none, get_elem?, Account}

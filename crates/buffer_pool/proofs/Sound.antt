@@ -1,4 +1,4 @@
--- What a seat keeps between two calls is kept by each step.
+-- Each step keeps the invariant of a seat between two calls.
 use Rattle.std.proofs.Common.{◌≡◌, ◌==◌, Bool, true, false, if◌then◌else◌, ℕ, suc, ◌<◌, List, [], ◌∷◌, ◌++◌, Option}
 use Rattle.std.proofs.Common.{None, Contains, sym, ap, refl, subst, ⊎_elim, arith}
 use Rattle.buffer_pool.proofs.Words.{Me, TableId, Head, Which, Full, Empty, times, remove_one, without, IsPart, Setup}

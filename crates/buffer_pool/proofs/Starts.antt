@@ -1,4 +1,4 @@
--- The words and slots that a pool is made of meet the rule.
+-- The words and slots of a new pool meet the rule.
 use Rattle.std.proofs.Common.{◌≡◌, ◌≢◌, ℕ, zero, suc, ◌+◌, ◌%◌, ◌<◌, ◌≤◌, if◌then◌else◌, List, [], ◌∷◌, ◌++◌, length}
 use Rattle.std.proofs.Common.{map, replicate, Option, Some, None, All, set, slice_index, ap, sym, refl, subst, ◌∙◌}
 use Rattle.std.proofs.Common.{⊎_elim, length-set, lt-ltb, le-ltb, arith}

@@ -1,4 +1,4 @@
--- Markings that agree, the list of events that goes on by one, and the rule of a table after one seat's view changed.
+-- Markings that agree, a list of events with one more, and the rule of a table after one seat's view changed.
 use Rattle.std.proofs.Common.{◌≡◌, ◌≢◌, ℕ, zero, suc, ◌+◌, ◌<◌, ◌≤◌, nat_lt, if◌then◌else◌, List, [], ◌∷◌, length, map}
 use Rattle.std.proofs.Common.{Option, Some, None, true, set, slice_index, slice_set, ap, subst₂, sym, refl, subst, ◌∙◌}
 use Rattle.std.proofs.Common.{⊎_elim, length-set, lt-ltb, le-ltb, arith}

@@ -1,4 +1,4 @@
--- A book: the account of one worker, what its pool was made for, and counts of what it did. What each step does to a
+-- A book: the account of one worker, the setup of its pool, and counts of its steps. Then the effect of each step on a
 -- book.
 use Rattle.std.specs.Prelude.{ℕ, ◌+◌, List, [], Option}
 use Rattle.mark_core.specs.declared.which.Which.{Which}
@@ -25,7 +25,7 @@ abbrev pub empties_of : Book → Which → ℕ
 empties_of b Full = b.full_empties
 empties_of b Empty = b.empty_empties
 
--- a book with these units and nothing else
+-- a book with some units and nothing else
 abbrev pub new_book : Setup → ℕ → Book
 new_book e units =
     record { setup = e; account = part units; loads = 0; full_empties = 0; empty_empties = 0; failures = 0 }
@@ -74,15 +74,15 @@ idle_loaded n b = record b { account = after_load_idle n b.account; loads = b.lo
 abbrev pub failed : Book → Book
 failed b = record b { failures = b.failures + 1 }
 
--- the buffer i was popped, with these items
+-- the buffer i was popped, with its items
 abbrev pub popped : ℕ → List ℕ → Book → Book
 popped i items b = record b { account = after_pop i items b.account }
 
--- the buffer i was pushed, with these items
+-- the buffer i was pushed, with its items
 abbrev pub pushed : Which → ℕ → List ℕ → Book → Book
 pushed q i items b = record b { account = after_push q i items b.account }
 
--- the object o, whose mark was found so, was claimed
+-- the object o, whose mark was found, was claimed
 abbrev pub claimed : ℕ → ℕ → Book → Book
 claimed o found b = record b { account = after_claim o found b.account }
 
@@ -90,11 +90,11 @@ claimed o found b = record b { account = after_claim o found b.account }
 abbrev pub finished : ℕ → Book → Book
 finished o b = record b { account = after_finish o b.account }
 
--- these units went to another book
+-- units went to another book
 abbrev pub parted : ℕ → Book → Book
 parted units b = record b { account = after_split units b.account }
 
--- two books put together: lists, shares and counts are added
+-- two books joined: lists, shares and counts are added
 abbrev pub joined : Book → Book → Book
 joined a b =
     record {
@@ -106,11 +106,11 @@ joined a b =
       failures = a.failures + b.failures;
     }
 
--- the setup of nothing
+-- a setup with nothing
 abbrev pub no_setup : Setup
 no_setup = record { objects = 0; buffers = 0; size = 0; first_tag = 0; roots = []; pairs = [] }
 
--- what is left of a book that was put into another
+-- what is left of a book that was joined to another
 abbrev pub no_share_book : Book
 no_share_book =
     record { setup = no_setup; account = no_share; loads = 0; full_empties = 0; empty_empties = 0; failures = 0 }

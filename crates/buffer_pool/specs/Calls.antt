@@ -1,4 +1,4 @@
--- What the calls of a pool do to the book of the worker that makes them.
+-- The effect of each call of a pool on the book of the worker that makes it.
 use Rattle.std.specs.Prelude.{◌≡◌, ◌↔◌, ℕ, ◌<◌, List, [], ◌∷◌, Option, Some, None, Result, Ok, Err, Contains, IsTrue}
 use Rattle.std.specs.Prelude.{Bool}
 use Rattle.atomic_table.specs.Seated.{TableId}
@@ -30,15 +30,15 @@ pub record HeldBuffer : Type 0 where
   pub items : List ℕ
   pub size : ℕ
 
--- these steps lead from one book to the other, the first step first
+-- the steps lead from one book to the other, the first step first
 abbrev pub After : Book → List (Book → Book) → Book → Type 0
 After old [] new = new ≡ old
 After old (step ∷ steps) new = After (step old) steps new
 
--- one try of a pop. Its loads found some head and some link: here they are any values, which the account keeps as its
--- look; that the stack had them then, the worker's story says (LeadsToBook). Took: the head has this buffer, its link
--- was loaded, and the exchange won; a buffer of the empty stack has no items. Empty: the head has no buffer. Lost: the
--- exchange failed. Spent: the head has a buffer and the last tag.
+-- one try of a pop. Its loads found some head and some link. Here these are any values, which the account keeps as its
+-- look; the worker's story says that the stack had them then (LeadsToBook). Took: the head has the buffer, its link was
+-- loaded, and the exchange succeeded; a buffer of the empty stack has no items. Empty: the head has no buffer. Lost:
+-- the exchange failed. Spent: the head has a buffer and the last tag.
 abbrev pub TriesPop : Which → Book → Book → TryPopped HeldBuffer → Type 0
 TriesPop q old new (try_pop.Took h) =
     (head : Head) × (link : Option ℕ) × (head.index ≡ Some h.index) × (head.tag < last_tag) × (h.size ≡ old.setup.size)
@@ -50,8 +50,8 @@ TriesPop q old new try_pop.Lost =
 TriesPop q old new try_pop.Spent =
     (head : Head) × (i : ℕ) × (head.index ≡ Some i) × (head.tag ≡ last_tag) × After old (loaded q head ∷ []) new
 
--- the worker holds the buffer, it is one of the pool's, its items are part of the charge, and there are none for the
--- empty stack; and for the full one the worker is not idle
+-- the worker holds the buffer, which is one of the pool's, and its items are part of the charge. For the empty stack it
+-- has no items, and for the full one the worker is not idle
 pub record MayPush (q : Which) (h : HeldBuffer) (b : Book) : Type 0 where
   pub held : Contains b.account.held h.index
   pub size : h.size ≡ b.setup.size
@@ -59,8 +59,9 @@ pub record MayPush (q : Which) (h : HeldBuffer) (b : Book) : Type 0 where
   pub bare : q ≡ Empty → h.items ≡ []
   pub busy : q ≡ Full → IsBusy b.account
 
--- one try of a push. Its load found some head, here too any value; the link that it stores at the buffer is in no book.
--- Done: the exchange won. Lost: it failed. Spent: the head has the last tag. If it was not done the buffer comes back.
+-- one try of a push. Its load found some head, here too any value. The link that it stores at the buffer is in no book.
+-- Done: the exchange succeeded. Lost: it failed. Spent: the head has the last tag. If it was not done the buffer is
+-- returned.
 abbrev pub TriesPush : Which → HeldBuffer → Book → Book → TryPushed HeldBuffer → Type 0
 TriesPush q h old new try_push.Done =
     (head : Head) × (head.tag < last_tag) × After old (loaded q head ∷ pushed q h.index h.items ∷ []) new
@@ -74,7 +75,7 @@ pub data LostPops (q : Which) : Book → Book → Type 0 where
   none : (b : Book) → LostPops q b b
   more : (old mid new : Book) → LostPops q old mid → TriesPop q mid new try_pop.Lost → LostPops q old new
 
--- the try with which a pop ended
+-- the last try of a pop
 abbrev pub last_try : {H : Type 0} → Popped H → TryPopped H
 last_try (pop.Took h) = try_pop.Took h
 last_try pop.Empty = try_pop.Empty
@@ -90,21 +91,21 @@ pub data LostPushes (q : Which) (h : HeldBuffer) : Book → Book → Type 0 wher
   more : (old mid new : Book) → LostPushes q h old mid → TriesPush q h mid new (try_push.Lost h)
       → LostPushes q h old new
 
--- how the last try of a push ended: it was done, or the buffer came back
+-- the end of the last try of a push: it was done, or the buffer was returned
 abbrev pub ended : {U : Type 0} → Result U HeldBuffer → TryPushed HeldBuffer
 ended (Ok done) = try_push.Done
 ended (Err back) = try_push.Spent back
 
--- a push: tries until one is not lost, and that one ended so
+-- a push: tries until one is not lost, and the end of that one
 abbrev pub Pushes : Which → HeldBuffer → Book → Book → TryPushed HeldBuffer → Type 0
 Pushes q h old new last = (mid : Book) × LostPushes q h old mid × TriesPush q h mid new last
 
--- one load of the head told this
+-- one load of the head gave the answer
 pub record Sees (q : Which) (old new : Book) (answer : Bool) : Type 0 where
   pub head : Head
   pub book : new ≡ loaded q head old
   pub none : IsTrue answer ↔ (head.index ≡ None)
 
--- these events lead from the opening to a marking with this idle word: where that one is quiet, it is done
+-- the events lead from the opening to a marking with the idle word n; if that marking is quiet, it is done
 abbrev pub Shows : Setup → List Event → ℕ → Type 0
 Shows e events word = (m : Marking) × (counts : List Counts) × LeadTo e events m counts × (m.idle ≡ word)

@@ -1,4 +1,4 @@
--- What the marks tell once one worker has the whole share, holds no buffer and answers for no object.
+-- What the marks say once one worker has the whole share, no buffer and no charge.
 use Rattle.std.specs.Prelude.{◌≡◌, ◌↔◌, ℕ, ◌+◌, ◌<◌, ◌≤◌, nat_lt, Bool, false, List, length, Contains, slice_index}
 use Rattle.std.specs.Prelude.{slice_index_or}
 use Rattle.mark_core.specs.declared.which.Which.TheVariants.{Full, Empty}
@@ -12,12 +12,12 @@ use Rattle.mark_core.specs.Runs.{IsListOf, LiesIn}
 use Rattle.buffer_pool.specs.Book.{Book, counts_of}
 use Rattle.buffer_pool.specs.WorkerLog.{Log, EndsStory}
 
--- of so many places none has a value
+-- none of the first `count` places has a value
 abbrev pub IsEmptied : ℕ → List Bool → Type 0
 IsEmptied count filled = (k : ℕ) → k < count → slice_index_or filled k false ≡ false
 
--- what is said: a list of events, which begins with the worker's story, led from the opening to a marking and counts as
--- the last step left them. What stands there at the worker's number is its book, and these are the marks.
+-- a list of events that begins with the worker's story led from the opening to the marking and counts after the last
+-- step. The worker's number has its book there, and the marks are the marking's
 pub record IsAtTheEnd (log : Log) (b : Book) (marks : List ℕ) : Type 0 where
   pub events : List Event
   pub last : Marking
@@ -27,7 +27,7 @@ pub record IsAtTheEnd (log : Log) (b : Book) (marks : List ℕ) : Type 0 where
   pub own : StandsAt last.accounts log.number b.account × StandsAt counts log.number (counts_of b)
   pub same_marks : (o : ℕ) → slice_index marks o ≡ last.mark o
 
--- what follows where that worker has the whole share, no buffer and no charge
+-- what follows if that worker has the whole share, no buffer and no charge
 pub record MarksTell (b : Book) (last : Marking) (marks : List ℕ) : Type 0 where
   -- the law holds of the marking
   pub law : Law b.setup last
@@ -38,13 +38,13 @@ pub record MarksTell (b : Book) (last : Marking) (marks : List ℕ) : Type 0 whe
   pub once : (o : ℕ) → times o b.account.finished ≤ 1
   -- the other marked ones are the items on the full stack
   pub claimed : (full : List ℕ) → IsListOf last Full full → (o : ℕ) → (slice_index marks o ≡ 1) ↔ LiesIn last full o
-  -- and there are none where no push on full is open
+  -- every marked object is finished if no push on full is open
   pub emptied : b.account.open_push ≡ false → (o : ℕ) → 1 ≤ slice_index marks o → slice_index marks o ≡ 2
   -- each buffer is on one of the stacks
   pub buffers :
       (full empty : List ℕ) → IsListOf last Full full → IsListOf last Empty empty
       → (i : ℕ) → times i full + times i empty ≡ one_where (nat_lt i b.setup.buffers)
-  -- what was seen marked is marked, successors of finished objects are marked, and what is marked can be reached
+  -- what was seen marked is marked, successors of finished objects are marked, and marked objects are reachable
   pub seen : (o : ℕ) → Contains b.account.seen o → 1 ≤ slice_index marks o
   pub successors : (o s : ℕ) → slice_index marks o ≡ 2 → Contains b.setup.pairs (o, s) → 1 ≤ slice_index marks s
   pub reachable : (o : ℕ) → 1 ≤ slice_index marks o → IsReachableIn b.setup o

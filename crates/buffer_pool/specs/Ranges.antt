@@ -3,7 +3,7 @@ use Rattle.std.specs.Prelude.{ℕ, ◌<◌, ◌≤◌, Contains}
 use Rattle.mark_core.specs.Account.{Account}
 use Rattle.mark_core.specs.World.{Setup}
 
--- the sizes that a pool may have
+-- the numbers that a pool may have
 pub record IsInside (object_count buffer_count item_count first_tag : ℕ) : Type 0 where
   pub objects : object_count ≤ 16777216
   pub few : 4 ≤ buffer_count

@@ -1,4 +1,4 @@
--- Which events each call of a pool is, in order.
+-- The events of each call of a pool, in order.
 use Rattle.std.specs.Prelude.{ℕ, zero, suc, List, [], ◌∷◌, ◌++◌, Option, Result}
 use Rattle.mark_core.specs.declared.which.Which.{Which}
 use Rattle.mark_core.specs.Events.{Kind, Load, LoadLink, StoreLink, Pop, Push, Fail}
@@ -17,13 +17,13 @@ try_pop_steps q try_pop.Empty = Load q ∷ []
 try_pop_steps q try_pop.Lost = Load q ∷ LoadLink q ∷ Fail q ∷ []
 try_pop_steps q try_pop.Spent = Load q ∷ []
 
--- one try of a push of this buffer, with the link that is stored at it
+-- one try of a push of a buffer, with the link that is stored at it
 abbrev pub try_push_steps : Which → Held → Option ℕ → TryPushed Held → List Kind
 try_push_steps q h link try_push.Done = Load q ∷ StoreLink h.index link ∷ Push q h.index h.items ∷ []
 try_push_steps q h link (try_push.Lost back) = Load q ∷ StoreLink h.index link ∷ Fail q ∷ []
 try_push_steps q h link (try_push.Spent back) = Load q ∷ []
 
--- so many tries of a pop, each of them lost
+-- n tries of a pop, each of them lost
 abbrev pub lost_pops : Which → ℕ → List Kind
 lost_pops q zero = []
 lost_pops q (suc lost) = lost_pops q lost ++ Load q ∷ LoadLink q ∷ Fail q ∷ []
@@ -32,12 +32,12 @@ lost_pops q (suc lost) = lost_pops q lost ++ Load q ∷ LoadLink q ∷ Fail q �
 abbrev pub PopDid : {H : Type 0} → Which → Popped H → Log → Log → Type 0
 PopDid q result old new = (lost : ℕ) × Did old (lost_pops q lost ++ try_pop_steps q (last_try result)) new
 
--- a try of a push of this buffer for each of these links, the last link first, each of them lost
+-- a try of a push of a buffer for each of the links, the last link first, each of them lost
 abbrev pub lost_pushes : Which → Held → List (Option ℕ) → List Kind
 lost_pushes q h [] = []
 lost_pushes q h (link ∷ links) = lost_pushes q h links ++ try_push_steps q h link (try_push.Lost h)
 
--- a push of this buffer: tries that were lost, and the last one
+-- a push of a buffer: tries that were lost, and the last one
 abbrev pub PushDid : {U : Type 0} → Which → Held → Result U Held → Log → Log → Type 0
 PushDid q h result old new =
     (links : List (Option ℕ)) × (link : Option ℕ)

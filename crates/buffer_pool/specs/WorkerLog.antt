@@ -1,4 +1,4 @@
--- A worker's log: what all workers of a pool did up to its last step, and what of that it did itself.
+-- A worker's log: the steps of all workers of a pool up to its last one, and which of them are its own.
 use Rattle.std.specs.Prelude.{◌≡◌, ℕ, ◌==◌, if◌then◌else◌, List, [], ◌∷◌, ◌++◌}
 use Rattle.mark_core.specs.Lists.{StandsAt}
 use Rattle.mark_core.specs.World.{Marking}
@@ -12,12 +12,12 @@ pub record Log : Type 0 where
   -- all that the workers of its pool did, from the opening to this worker's last step
   pub story : List Event
 
--- what the worker of this number did, in order
+-- the steps of worker n, in order
 abbrev pub deeds : ℕ → List Event → List Kind
 deeds w [] = []
 deeds w (event ∷ events) = if event.worker == w then event.kind ∷ deeds w events else deeds w events
 
--- the story went on, and of what came the worker did just this
+-- the story was continued, and of the new events exactly the given ones are the worker's own
 abbrev pub Did : Log → List Kind → Log → Type 0
 Did old kinds new =
     (since : List Event) × (new ≡ record old { story = old.story ++ since }) × (deeds old.number since ≡ kinds)
@@ -26,15 +26,15 @@ Did old kinds new =
 abbrev pub first_log : Log
 first_log = record { number = 0; story = [] }
 
--- the log of a worker that nobody was before: it knows what the log says that it came from, and did nothing
+-- the log of a new worker: it knows the story of the log that it was split from, and did nothing
 abbrev pub IsNewcomer : Log → Log → Type 0
 IsNewcomer from new = ((more : List Event) × (new.story ≡ from.story ++ more)) × (deeds new.number new.story ≡ [])
 
--- these events begin with the worker's story, and it did nothing since
+-- the events begin with the worker's story, and it did nothing after it
 abbrev pub EndsStory : Log → List Event → Type 0
 EndsStory log events = (since : List Event) × (events ≡ log.story ++ since) × (deeds log.number since ≡ [])
 
--- the story leads from the opening to a marking and counts in which the worker of this number has this book
+-- the story leads from the opening to a marking and counts in which the worker's number has the book
 abbrev pub LeadsToBook : Log → Book → Type 0
 LeadsToBook log b =
     (m : Marking) × (counts : List Counts) × LeadTo b.setup log.story m counts

@@ -1,6 +1,6 @@
-//! What tries of pops and pushes answer.
+//! The results of pops and pushes, and of single tries.
 
-/// What one try of a pop answers.
+/// The result of one try of a pop.
 #[derive(Drop)]
 pub enum TryPopped<H> {
     /// The buffer that was on top.
@@ -9,28 +9,28 @@ pub enum TryPopped<H> {
     Empty,
     /// Another worker's step came first: nothing was taken.
     Lost,
-    /// The head bears the last tag: it is exchanged no more.
+    /// The head has the last tag: it is never exchanged again.
     Spent,
 }
 
-/// What one try of a push answers.
+/// The result of one try of a push.
 #[derive(Drop)]
 pub enum TryPushed<H> {
     /// The buffer is on the stack.
     Done,
-    /// Another worker's step came first: the buffer comes back with its items.
+    /// Another worker's step came first: returns the buffer with its items.
     Lost(H),
-    /// The head bears the last tag: the buffer comes back with its items.
+    /// The head has the last tag: returns the buffer with its items.
     Spent(H),
 }
 
-/// What a pop answers: the first of its tries that was not lost.
+/// The result of a pop: that of its first try that was not lost.
 #[derive(Drop)]
 pub enum Popped<H> {
     /// The buffer that was on top.
     Took(H),
     /// The stack has no buffer.
     Empty,
-    /// The head bears the last tag: it is exchanged no more.
+    /// The head has the last tag: it is never exchanged again.
     Spent,
 }

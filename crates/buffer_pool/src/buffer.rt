@@ -1,10 +1,10 @@
-//! A buffer of object numbers, with room for all that it takes.
+//! A buffer of object numbers, allocated for as many as it takes.
 ghost use Rattle.std.specs.Prelude.{◌≡◌, ◌↔◌, ◌+◌, ◌-◌, ◌/◌, ◌<◌, ◌≤◌, [], ◌∷◌, ◌++◌, vec_len, vec_capacity, take};
 ghost use Rattle.std.specs.Prelude.{drop, IsTrue, IfOk, MatchOption};
 
 use std::alloc::{AllocError, Allocator};
 
-/// A buffer that takes at most `size` objects. Its memory is taken when it is made.
+/// A buffer that takes at most `size` objects. It is allocated as a whole when it is made.
 #[derive(Drop)]
 pub struct Buffer<A: Allocator> {
     pub(crate) items: Vec<u32, A>,
@@ -23,11 +23,11 @@ impl<A: Allocator> Buffer<A> {
         Ok(Buffer { items, size })
     }
 
-    /// How many objects the buffer has.
+    /// Returns how many objects the buffer has.
     pub(crate) fn len(&self) -> u32
         ensures { result ≡ vec_len self.now.items }
     {
-        // Read for its range alone: there are at most so many items, so their number fits.
+        // Read for its range only: there are at most `size` items, so their number fits.
         let _most = self.size;
         self.items.len() as u32
     }
@@ -39,7 +39,7 @@ impl<A: Allocator> Buffer<A> {
         self.items.len() == self.size as usize
     }
 
-    /// Puts an object into a buffer that is not full.
+    /// Appends `object` to a buffer that is not full.
     pub(crate) fn push(&mut self, object: u32)
         requires { vec_len self.old.items < self.old.size }
         ensures items { self.new.items.items ≡ self.old.items.items ++ object ∷ [] }
@@ -48,7 +48,7 @@ impl<A: Allocator> Buffer<A> {
         self.items.push_reserved(object);
     }
 
-    /// Takes the object that was put last.
+    /// Takes the object that was put last. Returns `None` if there is none.
     pub(crate) fn pop(&mut self) -> Option<u32>
         ensures items { MatchOption result ((self.old.items.items ≡ []) × (self.new.items.items ≡ []))
             (λ o. self.old.items.items ≡ self.new.items.items ++ o ∷ []) }
@@ -57,7 +57,7 @@ impl<A: Allocator> Buffer<A> {
         self.items.pop()
     }
 
-    /// Moves the upper half of the objects, rounded down, into an empty buffer of the same size.
+    /// Moves the upper half of the objects, rounded down, into `other`, an empty buffer of at least this size.
     pub(crate) fn split_upper_into(&mut self, other: &mut Buffer<A>)
         requires empty { other.old.items.items ≡ [] }
         requires room { self.old.size ≤ other.old.size }

@@ -6,7 +6,7 @@ use crate::buffer::Buffer;
 use std::alloc::Allocator;
 use std::marker::Model;
 
-/// A buffer that a worker took from a stack. Its items change in place; nothing is allocated.
+/// A buffer that a worker took from a stack. Its items change in place, without allocation.
 #[derive(Drop)]
 pub struct Held<A: Allocator> {
     pub(crate) index: u32,
@@ -22,22 +22,22 @@ impl<A: Allocator> Model for Held<A> {
 }
 
 impl<A: Allocator> Held<A> {
-    /// The buffer's number in its pool, below the number of buffers: all that tells two empty ones apart.
+    /// Returns the buffer's number in its pool, below the number of buffers. Only it distinguishes two empty buffers.
     pub fn index(&self) -> u32
         ensures { result ≡ self.now.index }
     {
         self.index
     }
 
-    /// How many objects the buffer has.
+    /// Returns how many objects the buffer has.
     pub fn len(&self) -> u32
         ensures { result ≡ length self.now.items }
     {
         self.buffer.len()
     }
 
-    /// Puts an object into the buffer: `Err` with the object where it is full. Then it has objects (`some`), so a fresh
-    /// buffer refuses none.
+    /// Puts `object` into the buffer. Returns `Err(object)` if it is full. A full buffer has objects (`some`), so an
+    /// empty one refuses none.
     pub fn put(&mut self, object: u32) -> Result<(), u32>
         ensures ok { OnOk result ((length self.old.items < self.old.size)
             × (self.new ≡ record self.old { items = self.old.items ++ object ∷ [] })) }
@@ -52,7 +52,7 @@ impl<A: Allocator> Held<A> {
         Ok(())
     }
 
-    /// Takes the object that was put last, `None` where there is none.
+    /// Takes the object that was put last. Returns `None` if there is none.
     pub fn take(&mut self) -> Option<u32>
         ensures { MatchOption result ((self.old.items ≡ []) × (self.new ≡ self.old))
             (λ o. (self.old.items ≡ self.new.items ++ o ∷ [])
@@ -61,7 +61,7 @@ impl<A: Allocator> Held<A> {
         self.buffer.pop()
     }
 
-    /// Moves the upper half of the objects, rounded down, into an empty buffer, in their order.
+    /// Moves the upper half of the objects, rounded down, into `other`, an empty buffer, in their order.
     pub fn split_upper_into(&mut self, other: &mut Held<A>)
         requires empty { other.old.items ≡ [] }
         requires room { self.old.size ≤ other.old.size }

@@ -1,4 +1,4 @@
-//! What a pool's table is told once, when it is made.
+//! The constants of a pool's table, fixed when it is made.
 ghost use Rattle.std.specs.Borrow.{ftrue};
 ghost use Rattle.std.specs.Prelude.{◌≡◌, ℕ, List};
 ghost use Rattle.std.specs.Coded.{coded_list, coded_ℕ, coded×};
@@ -6,8 +6,8 @@ ghost use Rattle.std.specs.Coded.{coded_list, coded_ℕ, coded×};
 use mark_core::Edges;
 use std::marker::{Model, PhantomData};
 
-/// The roots and pairs of some edges, as clauses see them. It has no bytes.
-pub struct Named {
+/// The roots and pairs of a heap's edges, as clauses see them. It has no bytes.
+pub struct NamedEdges {
     marker: PhantomData<()>,
     /// The objects at which reachability begins.
     pub ghost roots: { List ℕ } by { coded_list coded_ℕ },
@@ -15,23 +15,23 @@ pub struct Named {
     pub ghost pairs: { List (ℕ × ℕ) } by { coded_list (coded× coded_ℕ coded_ℕ) },
 }
 
-impl Model for Named {
+impl Model for NamedEdges {
     ghost also_owns = { λ _. ftrue };
 }
 
-impl Named {
-    pub(crate) fn of<E: Edges>(edges: &E) -> Named
+impl NamedEdges {
+    pub(crate) fn of<E: Edges>(edges: &E) -> NamedEdges
         ensures { (result.roots ≡ E.roots edges.now) × (result.pairs ≡ E.pairs edges.now) }
     {
-        // Only its clauses are wanted: the value has no bytes.
+        // Read for its clauses only: the value has no bytes.
         let _ = edges;
-        Named {
+        NamedEdges {
             marker: PhantomData,
         }
     }
 }
 
-impl Drop for Named {
+impl Drop for NamedEdges {
     fn drop(self) {
         let Self { marker: _ } = self;
     }
@@ -40,7 +40,7 @@ impl Drop for Named {
 /// The setup of a pool, as its table keeps it.
 #[derive(Drop)]
 pub struct Key {
-    pub(crate) named: Named,
+    pub(crate) named: NamedEdges,
     pub(crate) objects: u32,
     pub(crate) buffers: u32,
     pub(crate) size: u32,

@@ -1,4 +1,4 @@
-//! Which word of the table is what: two heads, the idle word, a link for each buffer, and words of marks, in which each
+//! The layout of the table's words: two heads, the idle word, a link for each buffer, and words of marks, in which each
 //! object has two bits (`mark_bits.rt`).
 
 ghost use Rattle.std.specs.Prelude.{◌≡◌, ◌+◌, ◌/◌};
@@ -6,7 +6,7 @@ ghost use Rattle.buffer_pool.specs.working.Layout.{head_word, link_word};
 
 use mark_core::Which;
 
-/// The word of the full stack's head. The heads lie 128 bytes apart, so that they share no cache line with each other
+/// The word of the full stack's head. The heads are 128 bytes apart, so that they share no cache line with each other
 /// or with the links.
 const FULL_HEAD: usize = 0;
 
@@ -16,10 +16,10 @@ const EMPTY_HEAD: usize = 16;
 /// The idle word, 64 bytes from each head.
 pub(crate) const IDLE: usize = 8;
 
-/// The word of the first buffer's link; those of the others follow.
+/// The word of the first buffer's link. Those of the others follow.
 pub const FIRST_LINK: usize = 32;
 
-/// The word of a stack's head.
+/// Returns the word of a stack's head.
 pub fn head_word(which: Which) -> usize
     ensures { result ≡ head_word which }
 {
@@ -29,7 +29,7 @@ pub fn head_word(which: Which) -> usize
     }
 }
 
-/// The word of an object's mark, behind the links of so many buffers.
+/// Returns the word that has the mark of `object`, after the links of `buffers` buffers.
 pub fn mark_word(buffers: u32, object: u32) -> usize
     ensures { result ≡ 32 + buffers + object / 32 }
 {

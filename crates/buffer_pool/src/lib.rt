@@ -1,9 +1,10 @@
 //! A pool of buffers on two lock-free stacks, and the marks of objects, for workers that mark a heap together.
 //!
-//! A worker pops a buffer of objects from the stack of full ones, claims what these refer to, pushes what it claimed,
-//! and finishes each object that it scanned. A claim, a finish, a pop and a push are one atomic step each, or several
-//! tries of one. Each call's contract says which events of `mark_core` it made, so the law of the marking holds of the
-//! pool's words between any two steps, and `close` tells what it says once all workers are joined.
+//! A worker pops a buffer of objects from the stack of full ones, claims what they refer to, pushes what it claimed,
+//! and finishes each object that it scanned. A claim and a finish are one atomic step each. A pop and a push are a few,
+//! and are tried again until no other worker came first. Each call's contract says which events of `mark_core` it made,
+//! so the law of the marking holds of the pool's words between any two steps. `close` says what follows from it once
+//! all workers are joined.
 //!
 //! From `crates/pool_tests/src/worked.rt`, which is proved and run with the tests:
 //!
@@ -15,7 +16,7 @@
 //!     let worker = pool.join(worker, other);
 //!     let marks = pool.close(worker);
 //!
-//! README.md beside this folder has a table of the calls; what the words mean stands in `docs/MARKING.md`.
+//! The crate's README.md has a table of the calls. `docs/MARKING.md` says what the words mean.
 #![tactic(auto)]
 
 mod answers;

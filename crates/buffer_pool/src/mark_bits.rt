@@ -9,14 +9,14 @@ pub(crate) const CLAIMED: u64 = 1;
 /// The bits of a finished object: both.
 pub(crate) const FINISHED: u64 = 3;
 
-/// How many words the marks of so many objects take: 32 objects to a word.
+/// Returns how many words the marks of `objects` objects take: 32 objects to a word.
 pub(crate) fn mark_words(objects: u32) -> usize
     ensures { result ≡ mark_words objects }
 {
     (objects as usize + 31) / 32
 }
 
-/// Where the two bits of an object begin in its word.
+/// Returns the position of the low bit of `object` in its word.
 pub(crate) fn mark_place(object: u32) -> u32
     ensures value { result ≡ 2 * (object % 32) }
     ensures small { result < 63 }
@@ -24,7 +24,7 @@ pub(crate) fn mark_place(object: u32) -> u32
     2 * (object % 32)
 }
 
-/// These two bits, shifted to the place of an object in its word.
+/// Returns `bits`, two bits, shifted to the position of `object` in its word.
 #[tactic(auto, using(crate::proofs::Bits::bits_fit))]
 pub(crate) fn pair_bits(bits: u64, object: u32) -> u64
     requires { bits < 4 }

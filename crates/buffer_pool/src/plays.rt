@@ -1,4 +1,4 @@
-//! What each step on the table tells, as types that the steps name.
+//! The plays: what the contract of each step on the table says, as types that the steps name.
 ghost use Rattle.buffer_pool.specs.working.Buffers.{buffer_reading};
 ghost use Rattle.buffer_pool.specs.working.Plays.{claim_made, came_back, finish_made, head_seen, idle_seen};
 ghost use Rattle.buffer_pool.specs.working.Plays.{link_seen, link_stored, top_taken, top_put, set_aside, settled};
@@ -17,14 +17,14 @@ impl<A: Allocator> Play<Option<Buffer<A>>, SeatView> for SeeHead {
     ghost then = { head_seen };
 }
 
-/// A load of the link of the buffer that the full head loaded last names.
+/// A load of the link of the buffer that the last loaded full head names.
 pub struct SeeFullLink;
 
 impl<A: Allocator> Play<Option<Buffer<A>>, SeatView> for SeeFullLink {
     ghost then = { link_seen Full };
 }
 
-/// A load of the link of the buffer that the empty head loaded last names.
+/// A load of the link of the buffer that the last loaded empty head names.
 pub struct SeeEmptyLink;
 
 impl<A: Allocator> Play<Option<Buffer<A>>, SeatView> for SeeEmptyLink {
@@ -73,14 +73,14 @@ impl<A: Allocator> Play<Option<Buffer<A>>, SeatView> for Finish {
     ghost then = { finish_made };
 }
 
-/// The worker goes idle.
+/// A step by which a worker goes idle.
 pub struct GoIdle;
 
 impl<A: Allocator> Play<Option<Buffer<A>>, SeatView> for GoIdle {
     ghost then = { went_idle };
 }
 
-/// The worker comes back.
+/// A step by which a worker comes back.
 pub struct ComeBack;
 
 impl<A: Allocator> Play<Option<Buffer<A>>, SeatView> for ComeBack {
@@ -94,7 +94,7 @@ impl<A: Allocator> Play<Option<Buffer<A>>, SeatView> for SeeIdle {
     ghost then = { idle_seen };
 }
 
-/// A step that changes nothing and notes how many units are given away.
+/// A step that changes nothing and notes how many units will be given away.
 pub struct SetAside;
 
 impl<A: Allocator> Play<Option<Buffer<A>>, SeatView> for SetAside {

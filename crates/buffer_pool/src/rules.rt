@@ -1,4 +1,4 @@
-//! The rule of the pool's table, how a worker's view is cut in two, and how two are put together.
+//! The rule of the pool's table, how a worker's view is split in two, and how two views are joined.
 ghost use Rattle.buffer_pool.specs.working.Buffers.{buffer_reading};
 ghost use Rattle.buffer_pool.specs.working.Setups.{first_view, setup_of, given_part, joined_view, kept_part};
 ghost use Rattle.buffer_pool.specs.working.Setups.{no_share_view};
@@ -10,7 +10,7 @@ use crate::seat_view::SeatView;
 use atomic_table::{Join, Seat, Shared, Split, TableRule};
 use std::alloc::Allocator;
 
-/// The law of a marking, between any two steps.
+/// The rule of the table: the law of a marking holds between any two steps.
 pub struct MarkingRule;
 
 impl<A: Allocator> TableRule<Option<Buffer<A>>, SeatView, Key> for MarkingRule {
@@ -19,7 +19,7 @@ impl<A: Allocator> TableRule<Option<Buffer<A>>, SeatView, Key> for MarkingRule {
     ghost first = { λ key. first_view (setup_of key) };
 }
 
-/// The units that were set aside go to a new worker.
+/// The split of a view: the units that were set aside go to a new worker.
 pub struct GivePart;
 
 impl Split<SeatView> for GivePart {
@@ -28,7 +28,7 @@ impl Split<SeatView> for GivePart {
     ghost right = { given_part };
 }
 
-/// One worker takes in another.
+/// The join of two views: one worker takes over what the other has.
 pub struct TakeIn;
 
 impl Join<SeatView> for TakeIn {
@@ -37,8 +37,8 @@ impl Join<SeatView> for TakeIn {
     ghost spent = { no_share_view };
 }
 
-/// The table as workers share it.
+/// The table, as workers share it.
 pub(crate) type Words<A> = Shared<Option<Buffer<A>>, SeatView, Key, MarkingRule>;
 
-/// What a worker steps with.
+/// The token with which a worker takes its steps.
 pub(crate) type Token<A> = Seat<Option<Buffer<A>>, SeatView>;

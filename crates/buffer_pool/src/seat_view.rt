@@ -1,4 +1,4 @@
-//! What a worker knows of its pool between two steps.
+//! The view of a seat: what a worker knows of its pool between two steps.
 ghost use Rattle.std.specs.Borrow.{ftrue};
 ghost use Rattle.std.specs.Prelude.{ℕ, Bool, List, Option};
 ghost use Rattle.std.specs.Coded.{coded_bool, coded_list, coded_option, coded_ℕ};
@@ -14,19 +14,19 @@ pub struct SeatView {
     marker: PhantomData<()>,
     /// The worker's account, with its counts.
     pub ghost book: { Book } by { book_code },
-    /// What all workers did up to its last step.
+    /// The steps of all workers up to its last one.
     pub ghost log: { Log } by { log_code },
-    /// What it did since: a split or a join.
+    /// What it did since then: a split or a join.
     pub ghost unsaid: { List Kind } by { coded_list kind_code },
-    /// The story of a worker that it came from, or that it took in.
+    /// The story of the worker that it was split from, or that was joined to it.
     pub ghost taken: { List Event } by { coded_list event_code },
     /// The number of that worker.
     pub ghost from: { Option ℕ } by { coded_option coded_ℕ },
-    /// Whether the log has its number, as from its first step on.
+    /// Whether the log has its number, as it does from its first step on.
     pub ghost named: { Bool } by { coded_bool },
     /// The units that it is about to give away.
     pub ghost aside: { ℕ } by { coded_ℕ },
-    /// One more than the held buffer whose slot is out with the seat, 0 where none is.
+    /// One more than the number of the held buffer whose slot is out with the seat, and 0 if none is.
     pub ghost out: { ℕ } by { coded_ℕ },
     /// The link word of that buffer.
     pub ghost out_link: { ℕ } by { coded_ℕ },

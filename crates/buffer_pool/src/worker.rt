@@ -1,15 +1,15 @@
-//! What a worker of a pool steps with.
+//! A worker of a pool.
 
 use crate::rules::Token;
 use std::alloc::Allocator;
 use std::marker::Model;
 
-/// A worker of one pool: a share of it, the buffers that it holds, the objects that it answers for, and those that it
-/// finished. It has no bytes but the count of the last.
+/// A worker of one pool: a share of it, the buffers that it holds, the objects in its charge, and those that it
+/// finished. Its only bytes are the count of the last.
 #[derive(Drop)]
 pub struct Worker<A: Allocator> {
     pub(crate) seat: Token<A>,
-    /// How many objects it finished, with those that the workers it took in had finished.
+    /// The number of objects that it finished, with those of the workers that were joined to it.
     pub(crate) finished: u64,
 }
 
@@ -32,33 +32,33 @@ impl<A: Allocator> Worker<A> {
     ghost use Rattle.buffer_pool.specs.Ranges.{IsWithin};
     ghost use Rattle.buffer_pool.specs.WorkerLog.{LeadsToBook};
 
-    /// What each worker keeps, said of this one: the buffers that it holds are the pool's, and what it answers for are
-    /// objects. So what is popped from full may be scanned. The call does nothing.
+    /// Does nothing. Its contract recalls an invariant of each worker: the buffers that it holds are the pool's, and
+    /// its charge has objects only. So what is popped from full may be scanned.
     pub fn recall_within(&self)
         ensures { IsWithin self.now.book.setup self.now.book.account }
     {
-        // Read so that what the seat keeps is known here.
+        // Read so that the seat's invariant is known here.
         let _seat = &self.seat;
     }
 
-    /// What each worker keeps, said of this one: it finished no object twice, so no more objects than there are.
-    /// The call does nothing.
+    /// Does nothing. Its contract recalls an invariant of each worker: it finished no object twice, so no more objects
+    /// than there are.
     pub fn recall_few_finished(&self)
         ensures once { (o : ℕ) → times o self.now.book.account.finished ≤ 1 }
         ensures few { length self.now.book.account.finished ≤ self.now.book.setup.objects }
     {
-        // Read so that what the seat keeps is known here.
+        // Read so that the seat's invariant is known here.
         let _seat = &self.seat;
     }
 
-    /// What each worker keeps, said of this one: its story is a run from the opening of the pool, and at the end of it
-    /// the worker has its book. So what it was told happened: a `Lost` has a failed exchange in the story that was
-    /// possible there, and another worker exchanged that head since its load (`mark_core::all_runs_keep_law`, clause
-    /// `losses`). The call does nothing.
+    /// Does nothing. Its contract recalls an invariant of each worker: its story is a run from the opening of the pool,
+    /// and at its end the worker has its book. So what its calls returned did happen: for a `Lost` the story has a
+    /// failed exchange that was possible there, and another worker exchanged that head since its load
+    /// (`mark_core::all_runs_keep_law`, clause `losses`).
     pub fn recall_story(&self)
         ensures { LeadsToBook self.now.log self.now.book }
     {
-        // Read so that what the seat keeps is known here.
+        // Read so that the seat's invariant is known here.
         let _seat = &self.seat;
     }
 }

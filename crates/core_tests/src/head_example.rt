@@ -1,8 +1,8 @@
-//! A head that changes, and changes back.
+//! The example of `tagged_index`: a head that changes, and changes back.
 
 use tagged_index::HeadWord;
 
-/// An empty stack gets a buffer on top, and loses it again.
+/// Pushes a buffer on an empty stack and pops it again.
 #[test]
 fn changed_and_changed_back(rt: HostRuntime) {
     let empty = HeadWord::none(7);

@@ -1,8 +1,8 @@
-//! Tests of `tagged_index` and of `mark_core`, in a crate of their own: so each of the two is proved once, and not once
-//! more with its tests. They ask what callers may ask. The crate has nothing to hand out.
+//! Tests of `tagged_index` and of `mark_core`. They stand in a crate of their own, so that each of the two is proved
+//! once, not twice, and use public calls only.
 //!
-//! `head_word` has the words of the format, `world` lists of events with what is possible behind them and how they end,
-//! `head_example` and `world_example` what the first pages of the two crates quote.
+//! `head_word` tests the words of heads. `world` has lists of events, with what is possible after them and how they
+//! end. `head_example` and `world_example` have the examples that the two crates quote.
 
 #![tactic(auto)]
 

@@ -1,4 +1,4 @@
-//! Lists of events, replayed.
+//! Replays lists of events.
 
 mod lists;
 mod memory;
@@ -14,7 +14,7 @@ use mark_core::{Event, OutOfMemory, Which, World, step};
 use std::alloc::Allocator;
 use tagged_index::HeadWord;
 
-/// The world behind a turn, or none where an event of it is not possible.
+/// Returns the world after `turn`, or `None` if an event of it is not possible.
 fn turned<A: Allocator + Copy>(
     alloc: A,
     world: World<A>,
@@ -32,7 +32,7 @@ fn turned<A: Allocator + Copy>(
     Ok(Some(world))
 }
 
-/// The world behind a list of events, or none where one of them is not possible.
+/// Returns the world after `list`, or `None` if one of its events is not possible.
 fn replayed<A: Allocator + Copy>(alloc: A, list: &List) -> Result<Option<World<A>>, OutOfMemory> {
     let (opening, turns) = *list;
     let mut world = opening.world(alloc)?;
@@ -45,7 +45,7 @@ fn replayed<A: Allocator + Copy>(alloc: A, list: &List) -> Result<Option<World<A
     Ok(Some(world))
 }
 
-/// What is asked, a list that is possible, a turn behind it, and whether all of that is possible too.
+/// What a row tests, a possible list, a turn after it, and whether the whole turn is possible too.
 static NEXT: [(&str, List, Turn, bool); 15] = [
     (
         "an object that nothing leads to yet",
@@ -114,7 +114,7 @@ static NEXT: [(&str, List, Turn, bool); 15] = [
     ("it looked again", ONE_LOOKED_AGAIN, (1, &[IdleUp]), true),
 ];
 
-/// Whether the turn is possible behind the list, if the list is.
+/// Tests whether `turn` is possible after `list`. Returns `None` if the list itself is not possible.
 fn may<A: Allocator + Copy>(
     alloc: A,
     list: &List,
@@ -134,7 +134,7 @@ fn what_an_account_may_do(rt: HostRuntime) -> Result<(), OutOfMemory> {
     Ok(())
 }
 
-/// What a world has to be behind a list.
+/// The world that a list ends in.
 #[derive(Clone, Copy, Drop)]
 enum End {
     Claimed,
@@ -144,7 +144,7 @@ enum End {
     Overtaken,
 }
 
-/// Account 0 answers for the root, account 1 for nothing, and there is no other.
+/// Tests whether account 0 has the root in its charge, account 1 has nothing, and there is no other account.
 fn is_claimed<A: Allocator>(world: &World<A>) -> bool {
     world.marks() == &[0, 1, 0][..]
         && world.charge(0) == Some(&[1][..])
@@ -152,7 +152,7 @@ fn is_claimed<A: Allocator>(world: &World<A>) -> bool {
         && world.charge(2).is_none()
 }
 
-/// Nobody answers for an object any more.
+/// Tests whether all objects are finished, account 0 has none in its charge, and there is no account 2.
 fn is_finished<A: Allocator>(world: &World<A>) -> bool {
     world.marks() == &[2, 2, 2][..] && world.charge(0) == Some(&[][..]) && world.charge(2).is_none()
 }
@@ -193,7 +193,7 @@ static ENDS: [(List, End); 5] = [
     (FAILED, End::Overtaken),
 ];
 
-/// Whether a list is possible, and ends so.
+/// Tests whether `list` is possible, and ends as `end`.
 fn ends<A: Allocator + Copy>(alloc: A, list: &List, end: End) -> Result<bool, OutOfMemory> {
     match replayed(alloc, list)? {
         Some(world) => Ok(end.is_of(&world)),

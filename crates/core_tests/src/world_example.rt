@@ -1,8 +1,8 @@
-//! A run of one account.
+//! The example of `mark_core`: a run of one account.
 
 use mark_core::{Event, Kind, OutOfMemory, World, step};
 
-/// Object 0 is a root and leads to object 1: both are claimed, and then finished.
+/// Claims and then finishes two objects: 0, which is a root, and its successor 1.
 #[test]
 fn two_objects_are_finished(rt: HostRuntime) -> Result<(), OutOfMemory> {
     let alloc = rt.alloc();

@@ -1,7 +1,9 @@
-//! Tests of `limited_heap`, in a crate of their own: so that crate is proved once, not twice. They
-//! ask what callers may ask. The crate has nothing to hand out.
+//! Tests of `limited_heap`. They stand in a crate of their own, so that `limited_heap` is proved once, not twice, and
+//! use its public calls only.
 
 #![tactic(auto)]
 
+#[cfg(test)]
+mod limits;
 #[cfg(test)]
 mod requests;

@@ -1,4 +1,4 @@
-//! What no clause says: which requests are granted.
+//! Tests what no clause says: which requests are granted.
 
 use limited_heap::LimitedHeap;
 use std::alloc::{AllocError, Allocator};
@@ -30,7 +30,7 @@ fn a_growth_is_a_request(rt: HostRuntime) -> Result<(), Fail> {
     Ok(())
 }
 
-/// How many of `tries` boxes were made.
+/// Makes `tries` boxes on `heap` and returns how many of them were granted.
 fn boxes_made<A: Allocator + Copy>(heap: A, tries: u32) -> u32 {
     let mut made = 0u32;
     for number in 0..tries {
@@ -89,7 +89,7 @@ type Lists<'a, A> = (
     Result<Vec<u8, &'a A>, AllocError>,
 );
 
-/// Two copies, each made by a thread of its own.
+/// Copies `text` twice, in a thread each.
 fn copied_twice<'a, R: Threads, A: Allocator + Sync>(
     rt: &R,
     heap: &'a A,

@@ -1,4 +1,4 @@
--- `Quota::take` at a call: what it is handed, and what a caller has of it. Assumes `Logic`.
+-- A call of `Quota::take`: what it takes and what its caller gets. Assumes `Logic`.
 use Rattle.std.proofs.Common.{◌≡◌, ℕ, Bool, List, [], ◌∷◌, refl, ap}
 use seplogic.Ra.Ura.{Ura}
 use mir.Val.{Val, vbool, vptr}

@@ -6,8 +6,8 @@ ghost use Rattle.limited_heap.specs.Limit.{request_limit, refused_request};
 use crate::quota::Quota;
 use std::alloc::{AllocError, Allocator, Global};
 
-/// A heap that passes requests for memory to the allocator behind it, and refuses all of them from one on, or one
-/// alone. A collection takes a `&` to it.
+/// A heap that passes requests for memory to an inner allocator, and refuses only one of them, or that one and all
+/// later ones. A collection takes a `&` to it.
 #[derive(Drop)]
 pub struct LimitedHeap<A: Allocator = Global> {
     inner: A,
@@ -15,8 +15,9 @@ pub struct LimitedHeap<A: Allocator = Global> {
 }
 
 impl<A: Allocator> LimitedHeap<A> {
-    /// A heap over `inner` that grants `requests` requests and refuses all others. Each new block is a request, and
-    /// each growth or shrinking of a block, which moves it to a new one. Giving a block back is none.
+    /// Creates a heap on `inner` that grants the first `requests` requests and refuses all later ones. Each new block
+    /// is a request, and so is each growth or shrinking of a block, which moves it to a new one. Freeing a block is
+    /// not.
     pub fn new(inner: A, requests: u64) -> LimitedHeap<A>
         ensures limit { request_limit result ≡ requests }
         ensures rest { refused_request result ≡ None }
@@ -27,8 +28,8 @@ impl<A: Allocator> LimitedHeap<A> {
         }
     }
 
-    /// A heap over `inner` that refuses the request of this number, counted from 0, and no other. Each new block is a
-    /// request, and each growth or shrinking of a block, which moves it to a new one.
+    /// Creates a heap on `inner` that refuses only request number `request`, counted from 0. Each new block is a
+    /// request, and so is each growth or shrinking of a block, which moves it to a new one.
     pub fn refusing(inner: A, request: u64) -> LimitedHeap<A>
         ensures refuses { refused_request result ≡ Some request }
     {
@@ -38,14 +39,14 @@ impl<A: Allocator> LimitedHeap<A> {
         }
     }
 
-    /// How many more requests will be granted before one is refused.
+    /// Returns the number of requests that will still be granted before one is refused.
     pub fn requests_left(&self) -> u64
         ensures within { result ≤ request_limit self.now }
     {
         self.quota.left()
     }
 
-    /// How many requests were refused for their number. What the allocator behind it refuses is not counted.
+    /// Returns the number of requests that were refused for their number. Those that `inner` refuses are not counted.
     pub fn refusals(&self) -> u64
         ensures beyond { result + request_limit self.now < 2 ^ 64 }
         ensures one { (n : ℕ) → refused_request self.now ≡ Some n → result ≤ 1 }

@@ -1,5 +1,5 @@
-//! A heap for tests of want of memory: it passes requests to the allocator behind it, and refuses all of them from a
-//! given one on, or that one alone. Threads may share it.
+//! A heap for tests that run out of memory. It passes requests to an inner allocator, and refuses only the request of a
+//! given number, or that one and all later ones. Threads may share it.
 //!
 //! From `crates/heap_tests/src/requests.rt`, which is proved and run with the tests:
 //!
@@ -8,7 +8,7 @@
 //!     let mut list = Vec::with_capacity(&heap, 2)?;
 //!     assert_eq!(rt; (heap.requests_left(), heap.refusals()), (0, 0));
 //!
-//! README.md beside this folder says how a test refuses each request in turn; `specs/Limit.antt` which requests are
+//! The crate's README.md shows how a test refuses each request in turn. `specs/Limit.antt` defines which requests are
 //! granted.
 
 #![tactic(auto)]

@@ -1,11 +1,11 @@
-//! Which requests are granted, of those that were made.
+//! Which requests are granted.
 
-ghost use Rattle.std.specs.Prelude.{◌≡◌, ◌+◌, ◌<◌, ◌≤◌, ◌^◌, true};
+ghost use Rattle.std.specs.Prelude.{◌≡◌, ◌+◌, ◌<◌, ◌≤◌, ◌^◌, false, true};
 
 use std::sync::atomic::{AtomicU64, Ordering};
 
-/// So many requests are granted, and the next is refused: that one alone, or all from there on. And a count of those
-/// that were made.
+/// A count of the requests made, and the number of those granted before one is refused. That one is refused `alone`, or
+/// with all later ones.
 #[derive(Drop)]
 pub(crate) struct Quota {
     granted: u64,
@@ -14,7 +14,8 @@ pub(crate) struct Quota {
 }
 
 impl Quota {
-    /// A quota of which no request was made: `granted` are granted, and then one alone is refused, or all are.
+    /// Creates a quota that grants the first `granted` requests and refuses the next one. It grants all later ones if
+    /// `alone`, and refuses them otherwise.
     pub(crate) fn new(granted: u64, alone: bool) -> Quota
         ensures granted { result.granted ≡ granted }
         ensures alone { result.alone ≡ alone }
@@ -26,16 +27,23 @@ impl Quota {
         }
     }
 
-    /// Counts a request, and tells whether it is granted. Each call gets a number of its own from
-    /// the count, so exactly the first `granted` are, and those behind the next one where that is
-    /// refused alone, whatever threads they come from. The count would begin anew after 2^64
-    /// requests, which no run makes.
+    /// Counts a request and tests whether it is granted. Each call takes a number of its own from the count, so the
+    /// requests granted are exactly those whose numbers `grants` accepts, whichever threads make them. The count would
+    /// wrap after 2^64 requests, which no run makes.
     pub(crate) fn take(&self) -> bool {
-        let number = self.made.fetch_add(1, Ordering::SeqCst);
+        self.grants(self.made.fetch_add(1, Ordering::SeqCst))
+    }
+
+    /// Tests whether request number `number` is granted.
+    fn grants(&self, number: u64) -> bool
+        ensures before { number < self.now.granted → result ≡ true }
+        ensures refused { number ≡ self.now.granted → result ≡ false }
+        ensures after { self.now.granted < number → result ≡ self.now.alone }
+    {
         number < self.granted || self.alone && number > self.granted
     }
 
-    /// How many more requests will be granted before one is refused.
+    /// Returns the number of requests that will still be granted before one is refused.
     pub(crate) fn left(&self) -> u64
         ensures { result ≤ self.now.granted }
     {
@@ -43,7 +51,7 @@ impl Quota {
         self.granted.saturating_sub(made)
     }
 
-    /// How many requests were refused.
+    /// Returns the number of requests that were refused.
     pub(crate) fn refused(&self) -> u64
         ensures beyond { result + self.now.granted < 2 ^ 64 }
         ensures one { self.now.alone ≡ true → result ≤ 1 }

@@ -1,4 +1,4 @@
--- The list that the links give from an index on.
+-- The list of the links from an index on.
 use Rattle.std.proofs.Common.{◌≡◌, ℕ, ◌<◌, List, [], ◌∷◌, Option, Some, None, ap, sym, refl, subst, ◌∙◌, inl, inr}
 use Rattle.std.proofs.Common.{⊎_elim, arith}
 use Rattle.tagged_index.specs.Head.{Head, after}

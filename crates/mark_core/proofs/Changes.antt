@@ -1,4 +1,4 @@
--- What an event leaves of the two lists, of the tags and of the marks.
+-- The effect of an event on the two lists, on the tags and on the marks.
 use Rattle.std.proofs.Common.{◌≡◌, ◌≢◌, ◌⊎◌, ℕ, ◌+◌, List, ◌∷◌, Option, Some, ap, sym, refl, subst, ◌∙◌, inl, inr}
 use Rattle.std.proofs.Common.{◌<◌, ◌≤◌, max, arith}
 use Rattle.tagged_index.specs.Head.{Head, after}

@@ -1,4 +1,4 @@
--- A list without repeats has the sums of the numbers below a bound that pass the test for standing in it.
+-- A list without repeats has the same sums as the numbers below a bound that are in it.
 use Rattle.std.proofs.Common.{◌≡◌, ◌⊎◌, ◌↔◌, ℕ, zero, suc, ◌+◌, ◌<◌, ◌≤◌, Bool, true, false, cond, nat_lt, arith}
 use Rattle.std.proofs.Common.{List, [], ◌∷◌, Contains, filter, length, sum_by, ap, sym, refl, ◌∙◌, ⊎_elim}
 use Rattle.std.proofs.Common.{lt-ltb, le-ltb}

@@ -1,4 +1,4 @@
--- What accounts have apart, and what one account with the whole share may conclude.
+-- Accounts have nothing in common, and what follows for one account with the whole share.
 use Rattle.std.proofs.Common.{◌≡◌, ◌≢◌, ℕ, ◌+◌, ◌*◌, ◌<◌, ◌≤◌, true, false, true≢false, nat_lt, List, [], Option}
 use Rattle.std.proofs.Common.{Some, None, Contains, ap, sym, subst, ◌∙◌, ⊎_elim, arith}
 use native.Mathlib.Decide.{dec_le, ℕ_discrete}

@@ -1,4 +1,4 @@
--- What each event leaves of the colours.
+-- The effect of each event on the colours.
 use Rattle.std.proofs.Common.{◌≡◌, ◌≢◌, ◌⊎◌, ℕ, zero, suc, ◌+◌, ◌*◌, ◌<◌, ◌≤◌, List, [], ◌∷◌, ◌++◌, Option, Some, None}
 use Rattle.std.proofs.Common.{Contains, set, ap, refl, subst, ◌∙◌, inl, inr, ⊎_elim, arith}
 use Rattle.mark_core.proofs.Words.{Which, StandsAt, times, only, IsPart, Account, part, no_share, after_join, after_pop}

@@ -1,5 +1,5 @@
--- Between a load and a failed exchange of one worker another one exchanged that head: else the head is the one loaded,
--- or the worker was taken in.
+-- Another worker exchanged the head between a load and a failed exchange of one worker: otherwise the head is the one
+-- loaded, or the worker was joined to another.
 use Rattle.std.proofs.Common.{◌≡◌, ◌≢◌, ◌⊎◌, ℕ, suc, List, [], ◌∷◌, ◌++◌, Option, Some, set, ap}
 use Rattle.std.proofs.Common.{sym, refl, subst, ◌∙◌, inl, inr, ⊎_elim, arith}
 use native.Mathlib.Decide.{ℕ_discrete}

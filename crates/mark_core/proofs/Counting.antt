@@ -1,4 +1,4 @@
--- A list of events that leads to a marking goes on by each event that is possible there.
+-- A list of events that leads to a marking can be continued by each event that is possible there.
 use Rattle.std.proofs.Common.{◌≡◌, ◌<◌, List, [], ◌∷◌, ◌++◌, ap, sym, refl, subst, ◌∙◌}
 use Rattle.mark_core.proofs.Words.{Setup, Marking, Event, IsPossible, happens, Law, opening, Run, Counts, LeadTo}
 use Rattle.mark_core.proofs.Words.{no_counts, counted, all_counted}

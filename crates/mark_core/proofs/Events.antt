@@ -1,4 +1,4 @@
--- Each event keeps the law: what an account may do, one lemma each, and all of it.
+-- Each event keeps the law: one lemma for each step of an account, and one for all.
 use Rattle.std.proofs.Common.{◌≡◌, ◌≢◌, ◌⊎◌, ℕ, ◌+◌, ◌<◌, ◌≤◌, max, Bool, true, ◌&&◌, List, [], ◌∷◌, ◌++◌, Option, Some}
 use Rattle.std.proofs.Common.{None, is_some, cond, Contains, set, ap, sym, refl, subst}
 use Rattle.std.proofs.Common.{◌∙◌, slice_index_or, inl, inr, ⊎_elim, eq-eqb, ne_eqb, arith}

@@ -1,5 +1,5 @@
--- How many objects an account finished: no more than there are, and at the close as many as have the mark of a finished
--- one. A finished list has no object twice.
+-- The number of objects that an account finished: at most that of all objects, and at the close that of the objects
+-- with the mark 2. A finished list has no object twice.
 use Rattle.std.proofs.Common.{◌≡◌, ◌↔◌, ℕ, ◌<◌, ◌≤◌, ◌==◌, Bool, cond, List, [], ◌∷◌, Contains, arith}
 use Rattle.std.proofs.Common.{count_by, eq-eqb, eqb-true, length, map, slice_index, ap, refl, ◌∙◌, ⊎_elim}
 use Rattle.std.specs.List.{range_with_len}

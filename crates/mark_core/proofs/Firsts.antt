@@ -1,5 +1,5 @@
--- Heads in a run: which heads accounts have loaded, and that a failed exchange and an open push are found only where a
--- head has changed.
+-- Heads in a run: which heads accounts have loaded, and that there is a failed exchange or an open push only if a head
+-- has changed.
 use Rattle.std.proofs.Common.{◌≡◌, ◌⊎◌, ℕ, zero, suc, ◌<◌, ◌≤◌, Bool, true, false, ◌&&◌, is_some, List, [], ◌∷◌}
 use Rattle.std.proofs.Common.{Option, Some, None, slice_index_or, ap, sym, refl, subst, ◌∙◌, inl, inr}
 use Rattle.std.proofs.Common.{⊎_elim, arith}

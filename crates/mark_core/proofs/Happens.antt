@@ -1,4 +1,4 @@
--- What an event does, said of the account that takes part in it, and what holds along a run.
+-- The effect of an event, in terms of the account that takes part in it, and what holds along a run.
 use Rattle.std.proofs.Common.{◌≡◌, ℕ, List, [], ◌∷◌, Option, Some, ap, sym, subst, ◌∙◌}
 use Rattle.mark_core.proofs.Words.{Which, Account, look_of, no_share, Setup, Marking, Pop, Event, CanPop, IsPossible}
 use Rattle.mark_core.proofs.Words.{effect, happens, stack_popped, Run}

@@ -1,4 +1,4 @@
--- What a look-up among the accounts found.
+-- The result of a look-up among the accounts.
 use Rattle.std.proofs.Common.{◌≡◌, ◌<◌, true, false, nat_lt, lt-ltb, sym, List, length, ℕ, get_or, subst, ◌∙◌, arith}
 use Rattle.std.proofs.lemmas.Grind.{common_steps}
 use Rattle.std.proofs.lemmas.List.{get_or_default}

@@ -1,4 +1,4 @@
--- What each event leaves of the ownership of the buffers.
+-- The effect of each event on the ownership of the buffers.
 use Rattle.std.proofs.Common.{◌≡◌, ◌≢◌, ◌⊎◌, ℕ, ◌+◌, ◌<◌, ◌≤◌, Bool, true, false, nat_lt, List, [], ◌∷◌, ◌++◌}
 use Rattle.std.proofs.Common.{Option, Some, set, ap, sym, refl, subst, ◌∙◌, inl, inr, ⊎_elim, le-ltb}
 use Rattle.std.proofs.Common.{arith}

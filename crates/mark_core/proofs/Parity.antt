@@ -1,4 +1,4 @@
--- Tag and length of a stack in a run.
+-- The tag and the length of a stack in a run.
 use Rattle.std.proofs.Common.{◌≡◌, ◌≢◌, ℕ, ◌+◌, ◌*◌, List, [], ◌∷◌, length, Option, Some, ap, sym, refl, subst}
 use Rattle.std.proofs.Common.{arith}
 use Rattle.tagged_index.specs.Head.{Head, after}

@@ -1,4 +1,4 @@
--- Lists by place, and functions with one value put in.
+-- Lists by position, and functions with one value replaced.
 use Rattle.std.proofs.Common.{◌≡◌, ◌≢◌, ◌⊎◌, ℕ, zero, suc, ◌<◌, List, [], ◌∷◌, ◌++◌, length, get_or, set, cond, ap, sym}
 use Rattle.std.proofs.Common.{refl, subst, ◌∙◌, inl, inr, ⊎_elim, eq-eqb, ne_eqb, arith}
 use mathlib.Core.Option.{some-injective, some-ne-none}

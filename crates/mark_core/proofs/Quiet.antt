@@ -1,4 +1,4 @@
--- Idle accounts: what is known of them after each event of a run, and that nothing is left where it is quiet.
+-- Idle accounts: what is known of them after each event of a run, and that nothing is left when the marking is quiet.
 use Rattle.std.proofs.Common.{◌≡◌, ◌≢◌, ◌⊎◌, ℕ, zero, suc, ◌+◌, ◌-◌, ◌%◌, ◌^◌, ◌<◌, ◌≤◌, Bool, true, false, ◌||◌}
 use Rattle.std.proofs.Common.{is_none, List, [], ◌∷◌, ◌++◌, length, length-set, Option, Some, None, Contains, set}
 use Rattle.std.proofs.Common.{slice_index_or, ap, sym, refl, subst, ◌∙◌, inl, inr, ⊎_elim, arith}

@@ -1,4 +1,4 @@
--- Lists in which each number stands equally often have equal sums.
+-- Lists that have each number equally often have equal sums.
 use Rattle.std.proofs.Common.{◌≡◌, ℕ, ◌+◌, ◌<◌, List, [], ◌∷◌, sum_by, ap, sym, refl, arith}
 use Rattle.std.proofs.lemmas.List.Sums.{sum_by-cons}
 use native.Mathlib.Decide.{ℕ_discrete}

@@ -1,4 +1,4 @@
--- What each event leaves of the shares.
+-- The effect of each event on the shares.
 use Rattle.std.proofs.Common.{◌≡◌, ◌≢◌, ℕ, ◌<◌, List, [], ◌∷◌, ◌++◌, set, refl, ◌∙◌}
 use Rattle.std.proofs.Common.{arith}
 use Rattle.mark_core.proofs.Words.{StandsAt, Account, part, no_share, after_split, after_join, IsShared, HasNothing}

@@ -1,4 +1,4 @@
--- What a pop and a push leave of the slots.
+-- The effect of a pop and a push on the slots.
 use Rattle.std.proofs.Common.{◌≡◌, ◌≢◌, ℕ, ◌<◌, List, [], Option, Some, None, set, sym, subst, ◌∙◌, length-set, arith}
 use native.Mathlib.Decide.{ℕ_discrete}
 use Rattle.mark_core.proofs.Words.{Which, Full, Empty, StandsAt, times, IsShelved}

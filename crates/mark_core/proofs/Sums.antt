@@ -1,4 +1,4 @@
--- Sums over lists, and how often a number stands in a list.
+-- Sums over lists, and how often a number is in a list.
 use Rattle.std.proofs.Common.{◌≡◌, ◌≢◌, ◌⊎◌, ℕ, zero, suc, ◌+◌, ◌<◌, ◌≤◌, List, [], ◌∷◌, ◌++◌, length, get_or, set}
 use Rattle.std.proofs.Common.{cond, Contains, ap, sym, refl, inl, inr, ⊎_elim, eq-eqb, ne_eqb, arith}
 use mathlib.Core.Option.{some-injective, some-ne-none}

@@ -1,4 +1,4 @@
--- Taking numbers out of a list, one after another.
+-- Removing numbers from a list, one after another.
 use Rattle.std.proofs.Common.{◌≡◌, ◌≢◌, ℕ, zero, suc, ◌+◌, ◌<◌, ◌==◌, false, List, [], ◌∷◌, length, get_or, drop}
 use Rattle.std.proofs.Common.{Contains, Some, None, IsSome, IsTrue, ap, sym, subst, refl, ◌∙◌, add-one, drop-cons}
 use Rattle.std.proofs.Common.{eqb-true, eq-eqb, arith}

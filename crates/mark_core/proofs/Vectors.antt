@@ -1,4 +1,4 @@
--- What the vectors of a world are after each event.
+-- The vectors of a world after each event.
 use Rattle.std.proofs.Common.{◌≡◌, ◌≢◌, ◌↔◌, Bool, true, false, IsTrue, ℕ, ◌<◌, ◌≤◌, max, List, [], length, get_or, set}
 use Rattle.std.proofs.Common.{Option, Some, None, Contains, ap, sym, subst, refl, ◌∙◌, get_or-set_same}
 use Rattle.std.proofs.Common.{get_or-set_other, length-set}

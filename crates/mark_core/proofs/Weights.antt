@@ -1,4 +1,4 @@
--- The accounts that were made bound the idle numbers: each event keeps it so.
+-- The number of accounts that were made bounds the idle numbers: each event keeps that.
 use Rattle.std.proofs.Common.{◌≡◌, ◌≢◌, ℕ, ◌+◌, ◌<◌, ◌≤◌, List, [], ◌∷◌, ◌++◌, length, length-set}
 use Rattle.std.proofs.Common.{set, sym, refl, subst, ◌∙◌, arith}
 use Rattle.std.proofs.lemmas.List.{length-append}

@@ -1,4 +1,4 @@
--- What the law says of the numbers that an event names: they are places of the tables.
+-- By the law the numbers that an event names are positions in the tables.
 use Rattle.std.proofs.Common.{◌≡◌, ◌≢◌, ℕ, zero, suc, ◌+◌, ◌<◌, ◌≤◌, ◌^◌, List, [], ◌∷◌, length, get_or, set}
 use Rattle.std.proofs.Common.{get_or-set_other, Option, Some, Contains, ap, sym, subst, refl, ◌∙◌, inl, inr}
 use Rattle.std.proofs.Common.{⊎_elim, arith}

@@ -1,4 +1,4 @@
--- An account: what one worker has, and what it knows. Then what each event does to the account that takes part in it.
+-- An account: what one worker has and knows. Then the effect of each event on the account that takes part in it.
 use Rattle.std.specs.Prelude.{ℕ, ◌+◌, ◌-◌, ◌==◌, if◌then◌else◌, Bool, true, false, ◌&&◌, ◌||◌, List, [], ◌∷◌, ◌++◌}
 use Rattle.std.specs.Prelude.{Option, Some, None, is_some, is_none}
 use Rattle.tagged_index.specs.Head.{Head}
@@ -6,39 +6,39 @@ use Rattle.mark_core.specs.declared.which.Which.{Which}
 use Rattle.mark_core.specs.declared.which.Which.TheVariants.{Full, Empty}
 use Rattle.mark_core.specs.Lists.{remove_one, without}
 
--- what an account last loaded of a stack: its head, and after that the link of the buffer on top, which is None where
--- that buffer is the last
+-- what an account last loaded of a stack: its head, and after that the link of the buffer on top, which is None if that
+-- buffer is the last
 pub record Look : Type 0 where
   pub head : Option Head
   pub link : Option (Option ℕ)
 
 pub record Account : Type 0 where
-  -- its units: an account is there while it has one
+  -- its units: an account exists while it has one
   pub share : ℕ
   -- the buffers that it holds
   pub held : List ℕ
-  -- the objects that it answers for
+  -- the objects in its charge
   pub charge : List ℕ
   -- the objects that it saw marked
   pub seen : List ℕ
   -- the objects that it finished
   pub finished : List ℕ
-  -- what it last loaded of the full stack, and of the empty one
+  -- what it last loaded of the full stack and of the empty one
   pub full : Look
   pub empty : Look
   -- it pushed on full, and has not loaded a full head without a buffer since
   pub open_push : Bool
-  -- its idle number: 1 while it is idle and 0 while it is not, and after a join the sum of both
+  -- its idle number: 1 while it is idle and 0 while it is not; after a join, the sum of both
   pub idle : ℕ
   -- the idle word that it last loaded
   pub last_idle : Option ℕ
-  -- it loaded a full head without a buffer, since it was split off and since its own last push on full
+  -- it loaded a full head without a buffer since it was split off and since its own last push on full
   pub found : Bool
   -- it gave units to another
   pub parted : Bool
   -- it pushed on full since it first gave units away
   pub pushed : Bool
-  -- it was put together with another: it took one in, or it was taken in
+  -- it was joined: another to it, or it to another
   pub joined : Bool
 
 abbrev pub look_of : Account → Which → Look
@@ -49,7 +49,7 @@ look_of a Empty = a.empty
 abbrev pub blank : Look
 blank = record { head = None; link = None }
 
--- an account with these units and nothing else
+-- an account with some units and nothing else
 abbrev pub part : ℕ → Account
 part units =
     record {
@@ -69,11 +69,11 @@ part units =
       joined = false;
     }
 
--- what is left of an account that was put into another
+-- what is left of an account that was joined to another
 abbrev pub no_share : Account
 no_share = record (part 0) { joined = true }
 
--- a claim of the object o, whose mark was found so: o is seen, and where it was not marked the account answers for it
+-- a claim of the object o whose mark was found: o is seen, and if it was not marked it joins the charge
 abbrev pub after_claim : ℕ → ℕ → Account → Account
 after_claim o found a =
     record a { charge = if found == 0 then a.charge ++ o ∷ [] else a.charge; seen = a.seen ++ o ∷ [] }
@@ -86,8 +86,8 @@ after_finish o a = record a { charge = remove_one o a.charge; finished = a.finis
 abbrev pub after_split : ℕ → Account → Account
 after_split units a = record a { share = a.share - units; parted = true }
 
--- two accounts put together: lists, shares and idle numbers are added, what the first last loaded stays and what is
--- noted of it, and so does an open push of either
+-- two accounts joined: lists, shares and idle numbers are added. What the first one loaded and its notes stay, and an
+-- open push of either stays open
 abbrev pub after_join : Account → Account → Account
 after_join a b =
     record {
@@ -107,8 +107,8 @@ after_join a b =
       joined = true;
     }
 
--- the head of a stack was loaded: the link loaded before is forgotten, and a full head without a buffer is found, and
--- ends an open push
+-- the head of a stack was loaded: the link loaded before is forgotten. A full head without a buffer is noted as found,
+-- and ends an open push
 abbrev pub after_load : Which → Head → Account → Account
 after_load Full h a =
     record a {
@@ -127,13 +127,13 @@ after_load_link Empty l a = record a { empty = record { head = a.empty.head; lin
 abbrev pub after_pop : ℕ → List ℕ → Account → Account
 after_pop i items a = record a { held = a.held ++ i ∷ []; charge = a.charge ++ items }
 
--- what a push on this stack leaves of a note: a push on full sets it so, and one on empty leaves it as it was
+-- a note after a push on a stack: a push on full sets it, and one on empty leaves it as it was
 abbrev pub on_full : Which → Bool → Bool → Bool
 on_full Full set was = set
 on_full Empty set was = was
 
--- the buffer i was pushed with these items: it is no longer held, and they leave the charge. On full the push is open,
--- an empty stack that was found before counts no more, and where units were given away before, that push is noted
+-- the buffer i was pushed with items: it is no longer held, and they leave the charge. A push on full is open, an empty
+-- stack found before no longer counts, and the push is noted if units were given away before
 abbrev pub after_push : Which → ℕ → List ℕ → Account → Account
 after_push q i items a =
     record a {

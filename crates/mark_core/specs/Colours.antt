@@ -1,11 +1,11 @@
--- Colours: the mark of an object tells where it stands, what is marked is reachable, and a finished object has no white
+-- Colours: the mark of an object says where it is, marked objects are reachable, and a finished object has no white
 -- successor.
 use Rattle.std.specs.Prelude.{◌≡◌, ◌⊎◌, ℕ, ◌+◌, ◌≤◌, List, [], ◌∷◌, Option, Contains}
 use Rattle.mark_core.specs.Lists.{StandsAt, sum_of, times}
 use Rattle.mark_core.specs.Account.{Account}
 use Rattle.mark_core.specs.World.{Setup, items_of}
 
--- how often the object stands in stacked buffers, in charges, and in finished lists
+-- how often the object is in stacked buffers, in charges, and in finished lists
 abbrev pub stacked_times : ℕ → List (Option (List ℕ)) → ℕ
 stacked_times o slots = sum_of (λ slot. times o (items_of slot)) slots
 
@@ -15,8 +15,8 @@ charged_times o accounts = sum_of (λ a. times o a.charge) accounts
 abbrev pub finished_times : ℕ → List Account → ℕ
 finished_times o accounts = sum_of (λ a. times o a.finished) accounts
 
--- a path leads to the object: a root first, and each object behind one of its predecessors. The list has those before
--- the object, the nearest first
+-- a path leads to the object: it begins at a root, and each later object is a successor of the one before it. The list
+-- has the objects before the last, the nearest first
 abbrev pub IsPathTo : Setup → List ℕ → ℕ → Type 0
 IsPathTo e [] o = Contains e.roots o
 IsPathTo e (p ∷ back) o = Contains e.pairs (p, o) × IsPathTo e back p
@@ -24,19 +24,19 @@ IsPathTo e (p ∷ back) o = Contains e.pairs (p, o) × IsPathTo e back p
 abbrev pub IsReachableIn : Setup → ℕ → Type 0
 IsReachableIn e o = (back : List ℕ) × IsPathTo e back o
 
--- white: the object stands nowhere
+-- white: the object is nowhere
 abbrev pub IsWhite : ℕ → ℕ → ℕ → Type 0
 IsWhite mark working done = (mark ≡ 0) × (working ≡ 0) × (done ≡ 0)
 
--- claimed: it stands once in stacked buffers and charges taken together, and is in no finished list
+-- claimed: it is once in stacked buffers and charges together, and in no finished list
 abbrev pub IsClaimed : ℕ → ℕ → ℕ → Type 0
 IsClaimed mark working done = (mark ≡ 1) × (working ≡ 1) × (done ≡ 0)
 
--- finished: it stands in one finished list, once, and nowhere else
+-- finished: it is once in finished lists, and nowhere else
 abbrev pub IsFinished : ℕ → ℕ → ℕ → Type 0
 IsFinished mark working done = (mark ≡ 2) × (working ≡ 0) × (done ≡ 1)
 
--- the mark of an object, how often it stands in stacked buffers and charges, and how often in finished lists
+-- the mark of an object, how often it is in stacked buffers and charges, and how often in finished lists
 abbrev pub HasColour : ℕ → ℕ → ℕ → Type 0
 HasColour mark working done = IsWhite mark working done ⊎ (IsClaimed mark working done ⊎ IsFinished mark working done)
 

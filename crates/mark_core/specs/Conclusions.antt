@@ -1,5 +1,5 @@
--- What a run lets one conclude: of heads that were loaded, of first tags, of tags and lengths, of exchanges that
--- failed, and of pushes that are open.
+-- What follows from a run: of heads that were loaded, of first tags, of tags and lengths, of exchanges that failed, and
+-- of open pushes.
 use Rattle.std.specs.Prelude.{◌≡◌, ◌≢◌, ◌⊎◌, ℕ, ◌+◌, ◌*◌, ◌<◌, true, List, [], ◌∷◌, ◌++◌, length, Some}
 use Rattle.tagged_index.specs.Head.{Head}
 use Rattle.mark_core.specs.declared.which.Which.{Which}
@@ -12,25 +12,25 @@ use Rattle.mark_core.specs.Law.{Law}
 use Rattle.mark_core.specs.Runs.{IsListOf, Run, first_heads, opening}
 use Rattle.mark_core.specs.Counts.{Counts, LeadTo}
 
--- what events lead to from the opening is lawful
+-- the law holds of each marking that events lead to from the opening
 abbrev pub ListsKeepLaw : Type 0
 ListsKeepLaw =
     (e : Setup) (events : List Event) (m : Marking) (counts : List Counts)
     → 0 < e.buffers → LeadTo e events m counts → Law e m
 
--- while these events happened, the first of them to this marking, the stack had this head
+-- the stack had the head h while events happened, the first of them to the marking m
 abbrev pub HadHead : Marking → List Event → Which → Head → Type 0
 HadHead m [] q h = m.head q ≡ h
 HadHead m (event ∷ events) q h = (m.head q ≡ h) ⊎ HadHead (happens m event) events q h
 
--- a head that an account loaded last is one that the stack had
+-- the head that an account loaded last is one that the stack had
 abbrev pub LoadedHeadsWere : Type 0
 LoadedHeadsWere =
     (e : Setup) (events : List Event) (m : Marking) → Run e (opening e e.first_tag) events m
     → (w : ℕ) (a : Account) (q : Which) (h : Head) → StandsAt m.accounts w a → (look_of a q).head ≡ Some h
     → HadHead (opening e e.first_tag) events q h
 
--- of all heads that a stack has in a run, the first one alone bears the first tag
+-- only the first of the heads that a stack has in a run has the first tag
 abbrev pub FirstTagsAreFirst : Type 0
 FirstTagsAreFirst =
     (e : Setup) (events : List Event) (m : Marking) → Run e (opening e e.first_tag) events m
@@ -42,13 +42,13 @@ abbrev pub first_length : Setup → Which → ℕ
 first_length e Full = 0
 first_length e Empty = e.buffers
 
--- 1 for two stacks that are one, else 0
+-- 1 if both are the same stack, and 0 otherwise
 abbrev pub one_stack : Which → Which → ℕ
 one_stack Full Full = 1
 one_stack Empty Empty = 1
 one_stack p q = 0
 
--- how many of these events push on the stack
+-- how many of the events push on the stack
 abbrev pub push_count : Kind → Which → ℕ
 push_count (Push p i items) q = one_stack p q
 push_count kind q = 0
@@ -56,8 +56,8 @@ push_count kind q = 0
 abbrev pub pushes_among : List Event → Which → ℕ
 pushes_among events q = sum_of (λ event. push_count event.kind q) events
 
--- Tag and length of a stack have one parity: a pop raises the tag by one and takes one buffer, a push raises it by one
--- and puts one. So the two together rise by two at each push, and at nothing else
+-- the tag and the length of a stack keep their parity: a pop raises the tag by one and takes one buffer, a push raises
+-- the tag by one and adds one. So their sum rises by two at each push, and by nothing else
 abbrev pub TagsKeepParity : Type 0
 TagsKeepParity =
     (e : Setup) (events : List Event) (m : Marking) → 0 < e.buffers → Run e (opening e e.first_tag) events m
@@ -70,8 +70,8 @@ Exchanges q (Pop p) = p ≡ q
 Exchanges q (Push p i items) = p ≡ q
 Exchanges q kind = ⊥
 
--- between the load of a head by a worker and its failed exchange of it, with no other load or exchange of it by that
--- worker between them, another worker exchanged that head
+-- another worker exchanged the head between its load by a worker and that worker's failed exchange, if that worker
+-- neither loads nor exchanges it in between
 abbrev pub LossesAreContested : Type 0
 LossesAreContested =
     (e : Setup) (first last : Marking) (w : ℕ) (q : Which) (between : List Event)
@@ -84,7 +84,7 @@ LossesAreContested =
 abbrev pub HasChanged : Setup → Marking → Which → Type 0
 HasChanged e m q = e.first_tag < (m.head q).tag
 
--- an account has an open push only where the full head has changed
+-- an account has an open push only if the full head has changed
 abbrev pub PushesFollowChanges : Type 0
 PushesFollowChanges =
     (e : Setup) (events : List Event) (m : Marking) (counts : List Counts) → LeadTo e events m counts

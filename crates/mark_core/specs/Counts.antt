@@ -1,4 +1,4 @@
--- What each account counts in a run, and what a list of events leads to.
+-- The counts of each account in a run, and the marking and counts that a list of events leads to.
 use Rattle.std.specs.Prelude.{◌≡◌, ℕ, ◌+◌, if◌then◌else◌, List, [], ◌∷◌, ◌++◌, is_none, slice_set, slice_index_or}
 use Rattle.tagged_index.specs.Head.{Head}
 use Rattle.mark_core.specs.declared.which.Which.{Which}
@@ -19,7 +19,7 @@ pub record Counts : Type 0 where
 abbrev pub no_counts : Counts
 no_counts = record { loads = 0; full_empties = 0; empty_empties = 0; failures = 0 }
 
--- one for a head without a buffer
+-- 1 for a head without a buffer, and 0 otherwise
 abbrev pub none_found : Head → ℕ
 none_found h = if is_none h.index then 1 else 0
 
@@ -36,7 +36,7 @@ count_load_idle c = record c { loads = c.loads + 1 }
 abbrev pub count_failure : Counts → Counts
 count_failure c = record c { failures = c.failures + 1 }
 
--- two counts put together
+-- the sum of two counts
 abbrev pub add_counts : Counts → Counts → Counts
 add_counts a b =
     record {
@@ -46,11 +46,11 @@ add_counts a b =
       failures = a.failures + b.failures;
     }
 
--- what the account of this number counts, nothing where there is none
+-- the counts of the account w; zeros if there is none
 abbrev pub counts_at : List Counts → ℕ → Counts
 counts_at counts w = slice_index_or counts w no_counts
 
--- the counts of all accounts after the account w did this
+-- the counts of all accounts after a step of the account w
 abbrev pub counted : Marking → List Counts → ℕ → Kind → List Counts
 counted m counts w (Load q) = slice_set counts w (count_load q (m.head q) (counts_at counts w))
 counted m counts w (Fail q) = slice_set counts w (count_failure (counts_at counts w))
@@ -60,12 +60,12 @@ counted m counts w (Join v) =
 counted m counts w LoadIdle = slice_set counts w (count_load_idle (counts_at counts w))
 counted m counts w kind = counts
 
--- the counts of all accounts after these events, the first of which happens to this marking
+-- the counts of all accounts after the events, the first of which happens to the marking m
 abbrev pub all_counted : Marking → List Counts → List Event → List Counts
 all_counted m counts [] = counts
 all_counted m counts (event ∷ events) = all_counted (happens m event) (counted m counts event.worker event.kind) events
 
--- these events lead from the opening to this marking, and to these counts of all accounts
+-- the events lead from the opening to the marking m, and to the counts of all accounts
 pub record LeadTo (e : Setup) (events : List Event) (m : Marking) (each : List Counts) : Type 0 where
   pub run : Run e (opening e e.first_tag) events m
   pub counts : each ≡ all_counted (opening e e.first_tag) (no_counts ∷ []) events

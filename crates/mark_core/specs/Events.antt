@@ -1,4 +1,4 @@
--- The events: when each is possible, and what it does. Each is one step on a shared word, but for split and join, which
+-- The events: when each is possible, and its effect. Each is one step on a shared word, except split and join, which
 -- touch none.
 use Rattle.std.specs.Prelude.{◌≡◌, ◌≢◌, ◌⊎◌, ℕ, ◌+◌, ◌-◌, ◌%◌, ◌^◌, ◌<◌, ◌≤◌, max, true, List, [], ◌∷◌, ◌++◌, length}
 use Rattle.std.specs.Prelude.{Option, Some, None, Contains, slice_set, slice_index_or}
@@ -16,25 +16,25 @@ pub data Kind : Type 0 where
   Claim : ℕ → Kind
   -- finish an object
   Finish : ℕ → Kind
-  -- give these units to a new account
+  -- give some units to a new account
   Split : ℕ → Kind
-  -- take in the account of this number
+  -- join the account of this number to its own
   Join : ℕ → Kind
   -- load the head of a stack
   Load : Which → Kind
-  -- load the link of the buffer that the head loaded last names
+  -- load the link of the buffer that the last loaded head names
   LoadLink : Which → Kind
-  -- store this link at a buffer
+  -- store the link of a buffer
   StoreLink : ℕ → Option ℕ → Kind
   -- exchange the head of a stack for the link of its first buffer
   Pop : Which → Kind
-  -- exchange the head of a stack for this buffer, with these items
+  -- exchange the head of a stack for a buffer with items
   Push : Which → ℕ → List ℕ → Kind
-  -- an exchange of the head that found another one
+  -- fail to exchange the head of a stack, which is another one now
   Fail : Which → Kind
   -- go idle: add one to the idle word
   IdleUp : Kind
-  -- come back: take one from the idle word
+  -- come back: subtract one from the idle word
   IdleDown : Kind
   -- load the idle word
   LoadIdle : Kind
@@ -44,15 +44,15 @@ pub record Event : Type 0 where
   pub worker : ℕ
   pub kind : Kind
 
--- an account with one unit and an idle number other than 0 is idle, and each other one is busy
+-- an account is idle if it has one unit and an idle number other than 0, and busy otherwise
 abbrev pub IsBusy : Account → Type 0
 IsBusy a = (a.share ≢ 1) ⊎ (a.idle ≡ 0)
 
--- an account may claim a root, and a successor of an object that it answers for
+-- an account may claim a root, and a successor of an object in its charge
 abbrev pub CanClaim : Setup → ℕ → Account → Type 0
 CanClaim e o a = Contains e.roots o ⊎ ((p : ℕ) × Contains a.charge p × Contains e.pairs (p, o))
 
--- an account may finish an object that it answers for, once it saw each successor marked
+-- an account may finish an object in its charge once it saw each successor marked
 abbrev pub CanFinish : Setup → ℕ → Account → Type 0
 CanFinish e o a = Contains a.charge o × ((s : ℕ) → Contains e.pairs (o, s) → Contains a.seen s)
 
@@ -60,7 +60,7 @@ CanFinish e o a = Contains a.charge o × ((s : ℕ) → Contains e.pairs (o, s) 
 abbrev pub CanSplit : ℕ → Account → Type 0
 CanSplit units a = (0 < units) × (units < a.share)
 
--- the head that was loaded last is the stack's, and its tag is not the last
+-- the last loaded head is the stack's, and its tag is not the last tag
 abbrev pub CanExchange : Head → Look → Type 0
 CanExchange now look = (look.head ≡ Some now) × (now.tag < last_tag)
 
@@ -73,7 +73,7 @@ CanPop now look = CanExchange now look × ((i : ℕ) × (now.index ≡ Some i)) 
 abbrev pub CanGive : Setup → Which → ℕ → List ℕ → Account → Type 0
 CanGive e q i items a = Contains a.held i × IsPart items a.charge × (length items ≤ e.size) × (q ≡ Empty → items ≡ [])
 
--- an account of one unit that is not idle and answers for nothing may go idle, once it found the full stack empty,
+-- an account of one unit that is not idle and has nothing in its charge may go idle once it found the full stack empty,
 -- since it was split off and since its own last push there
 abbrev pub CanIdle : Account → Type 0
 CanIdle a = (a.share ≡ 1) × (a.idle ≡ 0) × (a.charge ≡ []) × (a.found ≡ true)
@@ -82,7 +82,8 @@ CanIdle a = (a.share ≡ 1) × (a.idle ≡ 0) × (a.charge ≡ []) × (a.found �
 abbrev pub CanWake : Account → Type 0
 CanWake a = (a.share ≡ 1) × (a.idle ≡ 1)
 
--- the account w, which is a, may do this. An idle account claims nothing, pops nothing, and pushes nothing on full
+-- the account w, which is a, may take this step. An idle account claims nothing, pops nothing, and pushes nothing on
+-- full
 abbrev pub Allows : Setup → Marking → ℕ → Account → Kind → Type 0
 Allows e m w a (Claim o) = CanClaim e o a × IsBusy a
 Allows e m w a (Finish o) = CanFinish e o a
@@ -99,7 +100,7 @@ Allows e m w a IdleUp = CanIdle a
 Allows e m w a IdleDown = CanWake a
 Allows e m w a LoadIdle = Unit {0}
 
--- a word with one added, and with one taken away
+-- a word plus one and minus one, which wrap
 abbrev pub word_up : ℕ → ℕ
 word_up n = (n + 1) % 2 ^ 64
 
@@ -111,7 +112,7 @@ abbrev pub link_from : (ℕ → Option ℕ) → Option ℕ → Option ℕ
 link_from link None = None
 link_from link (Some i) = link i
 
--- the link of the buffer that the head loaded last names
+-- the link of the buffer that the last loaded head names
 abbrev pub last_link : (ℕ → Option ℕ) → Option Head → Option ℕ
 last_link link None = None
 last_link link (Some h) = link_from link h.index
@@ -127,7 +128,7 @@ stack_popped m w a q (Some i) (Some l) =
 stack_popped m w a q None l = m
 stack_popped m w a q (Some i) None = m
 
--- the marking after the account w, which is a, did this
+-- the marking after a step of the account w, which is a
 abbrev pub effect : Marking → ℕ → Account → Kind → Marking
 effect m w a (Claim o) =
     record m { mark = put o (max (m.mark o) 1) m.mark; accounts = slice_set m.accounts w (after_claim o (m.mark o) a) }
@@ -151,7 +152,7 @@ effect m w a IdleUp = record m { idle = word_up m.idle; accounts = slice_set m.a
 effect m w a IdleDown = record m { idle = word_down m.idle; accounts = slice_set m.accounts w (after_idle_down a) }
 effect m w a LoadIdle = record m { accounts = slice_set m.accounts w (after_load_idle m.idle a) }
 
--- an event is possible where its account is there and may do it
+-- an event is possible if its account exists and may take this step
 abbrev pub IsPossible : Setup → Marking → Event → Type 0
 IsPossible e m event = (a : Account) × IsThere m.accounts event.worker a × Allows e m event.worker a event.kind
 

@@ -1,18 +1,18 @@
--- Lists by place, and lists of numbers taken without order, each number as often as it stands there.
+-- Lists by position, and lists of numbers regardless of order, where only the count of each number matters.
 use Rattle.std.specs.Prelude.{◌≡◌, ℕ, ◌+◌, ◌≤◌, ◌==◌, if◌then◌else◌, Bool, true, false, List, [], ◌∷◌}
 use mathlib.Core.Option.{some}
 use lib.ListN.{get_elem?}
 
--- x stands in the list at this place
+-- x is in the list at this position
 abbrev pub StandsAt : {X : Type 0} → List X → ℕ → X → Type 0
 StandsAt xs i x = get_elem? xs i ≡ some x
 
--- the sum over the list of what each element counts for
+-- the sum of the weights of the elements
 abbrev pub sum_of : {X : Type 0} → (X → ℕ) → List X → ℕ
 sum_of f [] = 0
 sum_of f (x ∷ xs) = f x + sum_of f xs
 
--- 1 where the test is true, else 0
+-- 1 if the test is true, and 0 otherwise
 abbrev pub one_where : Bool → ℕ
 one_where true = 1
 one_where false = 0
@@ -21,16 +21,16 @@ one_where false = 0
 abbrev pub only : ℕ → ℕ → ℕ
 only x y = one_where (y == x)
 
--- how often x stands in the list
+-- how often x is in the list
 abbrev pub times : ℕ → List ℕ → ℕ
 times x xs = sum_of (only x) xs
 
--- the list with the first x taken out
+-- the list without its first x
 abbrev pub remove_one : ℕ → List ℕ → List ℕ
 remove_one x [] = []
 remove_one x (y ∷ ys) = if y == x then ys else y ∷ remove_one x ys
 
--- the second list with each number of the first taken out once
+-- the second list without the numbers of the first, each removed once
 abbrev pub without : List ℕ → List ℕ → List ℕ
 without [] ys = ys
 without (x ∷ xs) ys = without xs (remove_one x ys)

@@ -1,5 +1,5 @@
--- Ownership: each buffer is on one of the two stacks or held by one account, and what an account loaded of a stack
--- stands or is outdated by the tag.
+-- Ownership: each buffer is on one of the two stacks or held by one account, and what an account loaded of a stack is
+-- still so or is outdated by the tag.
 use Rattle.std.specs.Prelude.{◌≡◌, ◌⊎◌, ℕ, ◌+◌, ◌<◌, nat_lt, true, List, [], ◌∷◌, length, Option, Some, None}
 use Rattle.tagged_index.specs.Head.{Head}
 use Rattle.mark_core.specs.declared.which.Which.{Which}
@@ -7,13 +7,13 @@ use Rattle.mark_core.specs.declared.which.Which.TheVariants.{Full, Empty}
 use Rattle.mark_core.specs.Lists.{StandsAt, sum_of, times, one_where}
 use Rattle.mark_core.specs.Account.{Account, Look, look_of}
 
--- from this index on the links give the list
+-- the links from an index on are the list
 abbrev pub Chain : (ℕ → Option ℕ) → Option ℕ → List ℕ → Type 0
 Chain link index [] = index ≡ None
 Chain link index (i ∷ is) = (index ≡ Some i) × Chain link (link i) is
 
--- what was loaded of a stack: the stack's tag is larger now, or its head is the one loaded and the link, where it was
--- loaded, is as it was loaded
+-- what was loaded of a stack is recent or outdated: the stack's tag is larger now, or its head is the one loaded and
+-- the link, if it was loaded, is as it was loaded
 abbrev pub IsRecent : (ℕ → Option ℕ) → Head → Look → Type 0
 IsRecent link now look =
     (h : Head) → look.head ≡ Some h
@@ -28,19 +28,19 @@ held_times b accounts = sum_of (λ a. times b a.held) accounts
 abbrev pub HasOpenPush : List Account → Type 0
 HasOpenPush accounts = (w : ℕ) × (a : Account) × StandsAt accounts w a × (a.open_push ≡ true)
 
--- these are the two stacks, the first buffer on top
+-- the lists are the two stacks, the first buffer on top
 pub record IsOwned
     (buffers : ℕ) (head : Which → Head) (link : ℕ → Option ℕ) (accounts : List Account) (stack : Which → List ℕ)
     : Type 0 where
   pub chain : (q : Which) → Chain link (head q).index (stack q)
-  -- each buffer stands once in both stacks and all held lists taken together, and nothing else does
+  -- each buffer is once in both stacks and all held lists together, and nothing else is
   pub once :
       (b : ℕ) → times b (stack Full) + times b (stack Empty) + held_times b accounts ≡ one_where (nat_lt b buffers)
   pub recent : (q : Which) (w : ℕ) (a : Account) → StandsAt accounts w a → IsRecent link (head q) (look_of a q)
   -- while a buffer is on the full stack, some account has an open push
   pub owed : (stack Full ≡ []) ⊎ HasOpenPush accounts
 
--- the items of a buffer lie in its slot exactly while it is stacked, and on the empty stack it has none
+-- the items of a buffer are in its slot exactly while it is stacked, and on the empty stack it has none
 pub record IsShelved (buffers : ℕ) (slots : List (Option (List ℕ))) (stack : Which → List ℕ) : Type 0 where
   pub places : length slots ≡ buffers
   pub stacked : (q : Which) (b : ℕ) → 0 < times b (stack q) → (items : List ℕ) × StandsAt slots b (Some items)

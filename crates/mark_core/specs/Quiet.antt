@@ -1,5 +1,5 @@
--- Quiet: as many units as the opening account gave away are idle, and it has put nothing on the full stack since. Then
--- nothing is left for the other accounts to do. Account 0 is the opening one.
+-- Quiet: as many units as the opening account gave away are idle, and it has pushed nothing on the full stack since.
+-- Then nothing is left for the other accounts to do. Account 0 is the opening one.
 use Rattle.std.specs.Prelude.{◌≡◌, ℕ, ◌+◌, ◌<◌, false, List, []}
 use Rattle.mark_core.specs.declared.which.Which.TheVariants.{Full}
 use Rattle.mark_core.specs.Lists.{StandsAt}
@@ -16,19 +16,19 @@ pub record HasGivenUnits (n : ℕ) (a : Account) : Type 0 where
   pub pushed : a.pushed ≡ false
 
 -- the marking is quiet for n, which is at least 1: the idle word is n, no account was joined, and the opening one gave
--- just n units away
+-- exactly n units away
 pub record IsQuiet (m : Marking) (n : ℕ) : Type 0 where
   pub least : 0 < n
   pub word : m.idle ≡ n
   pub apart : (w : ℕ) (a : Account) → StandsAt m.accounts w a → a.joined ≡ false
   pub opening : (a : Account) → StandsAt m.accounts 0 a → HasGivenUnits n a
 
--- nothing is left for the workers: no buffer is on the full stack, and no account but the opening one answers for
--- anything
+-- nothing is left for the workers: no buffer is on the full stack, and only the opening account may have anything in
+-- its charge
 pub record IsDone (m : Marking) : Type 0 where
   pub emptied : (full : List ℕ) → IsListOf m Full full → full ≡ []
   pub others : (w : ℕ) (a : Account) → 0 < w → StandsAt m.accounts w a → a.charge ≡ []
 
--- quiet means done: in every run, where the marking is quiet nothing is left
+-- quiet means done: in every run, nothing is left when the marking is quiet
 abbrev pub QuietIsDone : Type 0
 QuietIsDone = (e : Setup) (m : Marking) (n : ℕ) → IsRun e m → IsQuiet m n → IsDone m

@@ -1,4 +1,4 @@
--- How a marking begins, and what holds of every run.
+-- The opening of a marking, and what holds of every run.
 use Rattle.std.specs.Prelude.{◌≡◌, ◌≢◌, ◌⊎◌, ◌↔◌, ℕ, ◌+◌, ◌<◌, ◌≤◌, nat_lt, if◌then◌else◌, false, List, [], ◌∷◌}
 use Rattle.std.specs.Prelude.{replicate, Option, Some, None, Contains}
 use Rattle.tagged_index.specs.Head.{Head}
@@ -12,12 +12,12 @@ use Rattle.mark_core.specs.Ownership.{Chain}
 use Rattle.mark_core.specs.Shares.{whole, HasNothing}
 use Rattle.mark_core.specs.Law.{Law}
 
--- at first the full stack has no buffer, and the empty one has 0 on top
+-- at the opening the full stack has no buffer, and the empty one has 0 on top
 abbrev pub first_heads : ℕ → Which → Head
 first_heads tag Full = record { index = None; tag = tag }
 first_heads tag Empty = record { index = Some 0; tag = tag }
 
--- at first the link of each buffer is the next number, while there is one
+-- at the opening the link of each buffer is the next number, except for the last buffer, which has none
 abbrev pub first_link : ℕ → ℕ → Option ℕ
 first_link buffers i = if nat_lt (i + 1) buffers then Some (i + 1) else None
 
@@ -33,32 +33,32 @@ opening e tag =
       accounts = part whole ∷ [];
     }
 
--- this is an opening marking, and there is a buffer
+-- the marking is the opening one, and there is a buffer
 abbrev pub IsOpening : Setup → Marking → Type 0
 IsOpening e m = (tag : ℕ) × (0 < e.buffers) × (m ≡ opening e tag)
 
--- these events may happen in this order from the first marking on, and lead to the last
+-- the events may happen in their order from the first marking on, and lead to the last one
 abbrev pub Run : Setup → Marking → List Event → Marking → Type 0
 Run e first [] last = last ≡ first
 Run e first (event ∷ events) last = IsPossible e first event × Run e (happens first event) events last
 
--- a run from an opening marking leads here
+-- a run from an opening marking leads to this one
 abbrev pub IsRun : Setup → Marking → Type 0
 IsRun e last = (first : Marking) × (events : List Event) × IsOpening e first × Run e first events last
 
--- after every list of events the law holds
+-- the law holds after every list of events
 abbrev pub RunsKeepLaw : Type 0
 RunsKeepLaw = (e : Setup) (m : Marking) → IsRun e m → Law e m
 
--- each event keeps the law. From here on the facts are of every marking under the law, so of every run
+-- each event keeps the law. The facts from here on hold of every marking under the law, and so of every run
 abbrev pub EventsKeepLaw : Type 0
 EventsKeepLaw = (e : Setup) (m : Marking) (event : Event) → Law e m → IsPossible e m event → Law e (happens m event)
 
--- the buffers of a stack are these, the first on top
+-- the list is the buffers of a stack, the first on top
 abbrev pub IsListOf : Marking → Which → List ℕ → Type 0
 IsListOf m q list = Chain m.link (m.head q).index list
 
--- what an event leaves of the list of a stack: a pop from it takes the first buffer off, a push puts one before it, and
+-- the list of a stack before and after an event: a pop from it removes the first buffer, a push adds one before it, and
 -- nothing else changes it
 abbrev pub Changes : Which → Kind → List ℕ → List ℕ → Type 0
 Changes q (Pop p) old new = (p ≡ q → (i : ℕ) × (old ≡ i ∷ new)) × (p ≢ q → new ≡ old)
@@ -78,20 +78,20 @@ TagsRise =
     (m : Marking) (event : Event) (q : Which)
     → ((happens m event).head q ≡ m.head q) ⊎ (((happens m event).head q).tag ≡ (m.head q).tag + 1)
 
--- a pop that is possible finds the very link that its account loaded
+-- a possible pop finds the very link that its account loaded
 abbrev pub PopsFindLinks : Type 0
 PopsFindLinks =
     (e : Setup) (m : Marking) → Law e m
     → (w : ℕ) (a : Account) (q : Which) → StandsAt m.accounts w a → CanPop (m.head q) (look_of a q)
     → (i : ℕ) (l : Option ℕ) → (m.head q).index ≡ Some i → (look_of a q).link ≡ Some l → m.link i ≡ l
 
--- no event lets a mark fall
+-- no event lowers a mark
 abbrev pub MarksRise : Type 0
 MarksRise =
     (e : Setup) (m : Marking) (event : Event) → Law e m → IsPossible e m event
     → (o : ℕ) → m.mark o ≤ (happens m event).mark o
 
--- it holds no buffer twice, and no object is twice in its charge and its finished list taken together
+-- it holds no buffer twice, and no object is twice in its charge and its finished list together
 pub record HasEachOnce (a : Account) : Type 0 where
   pub held : (i : ℕ) → times i a.held ≤ 1
   pub objects : (o : ℕ) → times o a.charge + times o a.finished ≤ 1
@@ -101,7 +101,7 @@ abbrev pub AccountsHaveEachOnce : Type 0
 AccountsHaveEachOnce =
     (e : Setup) (m : Marking) → Law e m → (w : ℕ) (a : Account) → StandsAt m.accounts w a → HasEachOnce a
 
--- no buffer is held by both, and no object stands in the charge or the finished list of both
+-- no buffer is held by both, and no object is in the charge or the finished list of both
 pub record AreApart (a b : Account) : Type 0 where
   pub held : (i : ℕ) → times i a.held + times i b.held ≤ 1
   pub objects : (o : ℕ) → (times o a.charge + times o a.finished) + (times o b.charge + times o b.finished) ≤ 1
@@ -116,7 +116,7 @@ AccountsAreApart =
 abbrev pub LiesIn : Marking → List ℕ → ℕ → Type 0
 LiesIn m list o = (b : ℕ) × (items : List ℕ) × Contains list b × StandsAt m.slots b (Some items) × Contains items o
 
--- what the account w, which is a, has at the close
+-- what holds of the account w, which is a, at the close
 pub record IsClosed (e : Setup) (m : Marking) (w : ℕ) (a : Account) : Type 0 where
   -- the finished objects are its own, each once
   pub finished : (o : ℕ) → (m.mark o ≡ 2) ↔ Contains a.finished o
@@ -131,8 +131,8 @@ pub record IsClosed (e : Setup) (m : Marking) (w : ℕ) (a : Account) : Type 0 w
       → (b : ℕ) → times b full + times b empty + times b a.held ≡ one_where (nat_lt b e.buffers)
   pub others : (v : ℕ) (b : Account) → v ≢ w → StandsAt m.accounts v b → HasNothing b
 
--- where one account has the whole share and answers for nothing, the marks are told by its finished list and the full
--- stack
+-- if one account has the whole share and nothing in its charge, its finished list and the full stack determine the
+-- marks
 abbrev pub ClosedIsDetermined : Type 0
 ClosedIsDetermined =
     (e : Setup) (m : Marking) → Law e m

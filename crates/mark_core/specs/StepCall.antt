@@ -1,4 +1,4 @@
--- What `step` is given and what it answers.
+-- What `step` takes and returns.
 use Rattle.std.specs.Prelude.{◌≡◌, ℕ, ◌<◌, ◌≤◌, max, min, Bool, MatchBool, List, [], length, All, Contains, Option}
 use Rattle.std.specs.Prelude.{Some, None, slice_index, slice_index_or, vec_items}
 use Rattle.tagged_index.specs.Head.{Head, after}
@@ -59,7 +59,7 @@ meant_kind given.TheVariants.LoadIdle = LoadIdle
 abbrev pub event_of : {A : Type 0} → given_event.Event A → Event
 event_of event = record { worker = event.worker; kind = meant_kind event.kind }
 
--- the lists with this head for one of the stacks
+-- the lists with another head for one of the stacks
 abbrev pub with_head : Listing → Which → Head → Listing
 with_head l Full h = record l { full = h }
 with_head l Empty h = record l { empty = h }
@@ -68,8 +68,8 @@ with_head l Empty h = record l { empty = h }
 abbrev pub exchanged : Listing → Which → Option ℕ → Listing
 exchanged l q index = with_head l q (after (heads_of l q) index)
 
--- what an account counts for among the accounts that were made: one while it is there, and no less than its idle
--- number. Each event keeps the sum of these within the number of accounts, so an idle number never outgrows its type
+-- the weight of an account among those that were made: one while it exists, and no less than its idle number. Each
+-- event keeps the sum of the weights within the number of accounts, so an idle number never outgrows its type
 abbrev pub weight : Account → ℕ
 weight a = max a.idle (min a.share 1)
 
@@ -88,11 +88,11 @@ pub record IsLawful (l : Listing) : Type 0 where
   pub rooted : All (λ o. o < l.setup.objects) l.setup.roots
   pub paired : All (λ p. (p.0 < l.setup.objects) × (p.1 < l.setup.objects)) l.setup.pairs
 
--- the account of this number is there: it has a share
+-- the account w exists: it has a share
 abbrev pub HasAccount : Listing → ℕ → Type 0
 HasAccount l w = (w < length l.accounts) × (0 < (account_at l.accounts w).share)
 
--- the account w may do this, and these are the lists after it
+-- the account w may take this step, and `new` is the lists after it
 pub record Does (old : Listing) (w : ℕ) (kind : Kind) (new : Listing) : Type 0 where
   pub allowed : Allows old.setup (marking_of old) w (account_at old.accounts w) kind
   pub marking : marking_of new ≡ effect (marking_of old) w (account_at old.accounts w) kind
@@ -101,15 +101,15 @@ pub record Does (old : Listing) (w : ℕ) (kind : Kind) (new : Listing) : Type 0
   pub slots : length new.slots ≡ length old.slots
   pub marks : length new.marks ≡ length old.marks
 
--- the account w may do this
+-- the account w may take this step
 abbrev pub MayDo : Listing → ℕ → Kind → Type 0
 MayDo l w kind = Allows l.setup (marking_of l) w (account_at l.accounts w) kind
 
--- the account w does this, or it may not
+-- the account w takes this step, or it may not
 abbrev pub Tries : Listing → ℕ → Kind → Bool → Listing → Type 0
 Tries old w kind done new = MatchBool done (Does old w kind new) (¬ MayDo old w kind)
 
--- what a push asks, but that the items are part of the charge and that the tag is not the last
+-- what a push requires, except that the items are part of the charge and that the tag is not the last
 pub record IsReadyToPush (l : Listing) (w : ℕ) (q : Which) (i : ℕ) (items : List ℕ) : Type 0 where
   pub head : (look_of (account_at l.accounts w) q).head ≡ Some (heads_of l q)
   pub held : Contains (account_at l.accounts w).held i
@@ -127,7 +127,7 @@ HasNumber kind accounts = Unit {0}
 abbrev pub CanStep : Listing → Event → Type 0
 CanStep l event = IsPossible l.setup (marking_of l) event × HasNumber event.kind l.accounts
 
--- there was a step, and these are the lists after it
+-- there was a step, and `new` is the lists after it
 pub record Follows (old : Listing) (event : Event) (new : Listing) : Type 0 where
   pub possible : CanStep old event
   pub marking : marking_of new ≡ happens (marking_of old) event
@@ -136,11 +136,11 @@ pub record Follows (old : Listing) (event : Event) (new : Listing) : Type 0 wher
   pub slots : length new.slots ≡ length old.slots
   pub marks : length new.marks ≡ length old.marks
 
--- the step is done, or there is none
+-- the step is taken, or it is not possible
 abbrev pub Steps : Listing → Event → Bool → Listing → Type 0
 Steps old event done new = MatchBool done (Follows old event new) (¬ CanStep old event)
 
--- the lists after the event, of the same setup; or none, exactly where there is no step
+-- the lists after the event, with the same setup; or None, exactly if there is no step
 abbrev pub Answers : Option Listing → Listing → Event → Type 0
 Answers None old event = ¬ CanStep old event
 Answers (Some new) old event =

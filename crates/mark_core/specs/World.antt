@@ -6,8 +6,8 @@ use Rattle.mark_core.specs.declared.which.Which.TheVariants.{Full, Empty}
 use Rattle.mark_core.specs.Lists.{StandsAt}
 use Rattle.mark_core.specs.Account.{Account, no_share}
 
--- what no event changes: the number of objects, the number of buffers, the most items of a buffer, the tag that both
--- heads begin with, the roots, and the pairs of an object and a successor
+-- what no event changes: the number of objects, the number of buffers, the most items of a buffer, the first tag of
+-- both heads, the roots, and the pairs of an object and a successor
 pub record Setup : Type 0 where
   pub objects : ℕ
   pub buffers : ℕ
@@ -34,11 +34,11 @@ pub record Marking : Type 0 where
 abbrev pub items_of : Option (List ℕ) → List ℕ
 items_of slot = unwrap_or slot []
 
--- the account of this number, one without a share where there is none
+-- the account w; one without a share if there is none
 abbrev pub account_at : List Account → ℕ → Account
 account_at accounts w = slice_index_or accounts w no_share
 
--- the account of this number is a, and has a share
+-- the account w is a, and has a share
 abbrev pub IsThere : List Account → ℕ → Account → Type 0
 IsThere accounts w a = StandsAt accounts w a × (0 < a.share)
 
@@ -46,7 +46,7 @@ IsThere accounts w a = StandsAt accounts w a × (0 < a.share)
 abbrev pub put : {X : Type 0} → ℕ → X → (ℕ → X) → ℕ → X
 put i x f j = if j == i then x else f j
 
--- the heads with this one for one of the stacks
+-- the heads with another one for one of the stacks
 abbrev pub put_which : {X : Type 0} → Which → X → (Which → X) → Which → X
 put_which Full x f Full = x
 put_which Full x f Empty = f Empty

@@ -20,8 +20,9 @@ use std::alloc::Allocator;
 use std::marker::Model;
 use tagged_index::HeadWord;
 
-/// The account of a worker: its units, its buffers, the objects that it answers for, saw marked and finished, what it
-/// last loaded of each stack and of the idle word, its idle number, and what is noted for going idle.
+/// The account of a worker: its units, its buffers, the objects in its charge, those it saw marked and those it
+/// finished, what it last loaded of each stack and of the idle word, its idle number, and the notes that allow it to go
+/// idle.
 #[derive(Drop)]
 pub struct Account<A: Allocator> {
     share: u32,
@@ -64,7 +65,7 @@ impl<A: Allocator> Model for Account<A> {
 }
 
 impl<A: Allocator + Copy> Account<A> {
-    /// An account with these units and nothing else.
+    /// Creates an account with `share` units and nothing else.
     pub fn new(alloc: A, share: u32) -> Self
         ensures { result ≡ part share }
     {
@@ -86,7 +87,7 @@ impl<A: Allocator + Copy> Account<A> {
         }
     }
 
-    /// The account that is left where one was put into another: it has nothing.
+    /// Creates what is left of an account that was joined to another: an account that has nothing.
     pub fn gone(alloc: A) -> Self
         ensures { result ≡ no_share }
     {
@@ -97,28 +98,28 @@ impl<A: Allocator + Copy> Account<A> {
 }
 
 impl<A: Allocator> Account<A> {
-    /// Whether the account is there: one that was put into another has no unit left.
+    /// Tests whether the account exists: one that was joined to another has no unit left.
     pub fn is_there(&self) -> bool
         ensures { IsTrue result ↔ (0 < self.now.share) }
     {
         self.share > 0
     }
 
-    /// The numbers of the buffers that the account holds.
+    /// Returns the numbers of the buffers that the account holds.
     pub fn held(&self) -> &[u32]
         ensures { result.now ≡ self.now.held }
     {
         self.held.as_slice()
     }
 
-    /// The objects that the account answers for.
+    /// Returns the objects in the account's charge.
     pub fn charge(&self) -> &[u32]
         ensures { result.now ≡ self.now.charge }
     {
         self.charge.as_slice()
     }
 
-    /// What the account last loaded of this stack.
+    /// Returns what the account last loaded of the stack `which`.
     pub fn look(&self, which: Which) -> Look
         ensures { result ≡ look_of self.now which }
     {
@@ -128,21 +129,21 @@ impl<A: Allocator> Account<A> {
         }
     }
 
-    /// Whether the account holds this buffer.
+    /// Tests whether the account holds `buffer`.
     pub fn holds(&self, buffer: u32) -> bool
         ensures { IsTrue result ↔ Contains self.now.held buffer }
     {
         self.held.contains(buffer)
     }
 
-    /// Whether the account is not idle.
+    /// Tests whether the account is not idle.
     pub fn is_busy(&self) -> bool
         ensures { IsTrue result ↔ IsBusy self.now }
     {
         self.share != 1 || self.idle == 0
     }
 
-    /// Whether the account may push on this stack: on full, it is not idle.
+    /// Tests whether the account may push on the stack `which`. It may push on full only if it is not idle.
     pub fn may_push_on(&self, which: Which) -> bool
         ensures { IsTrue result ↔ (which ≡ Full → IsBusy self.now) }
     {
@@ -152,50 +153,50 @@ impl<A: Allocator> Account<A> {
         }
     }
 
-    /// Whether the object is a root or a successor of an object that the account answers for.
+    /// Tests whether `object` is a root or a successor of an object in the account's charge.
     fn reaches(&self, setup: &Setup<A>, object: u32) -> bool
         ensures { IsTrue result ↔ CanClaim setup.now object self.now }
     {
         setup.is_root(object) || setup.has_pair_from(self.charge.as_slice(), object)
     }
 
-    /// Whether the account may claim this object: it is not idle, and reaches it.
+    /// Tests whether the account may claim `object`: it is not idle, and reaches it.
     pub fn may_claim(&self, setup: &Setup<A>, object: u32) -> bool
         ensures { IsTrue result ↔ (CanClaim setup.now object self.now × IsBusy self.now) }
     {
         self.reaches(setup, object) && self.is_busy()
     }
 
-    /// Whether the account may finish this object: it answers for it, and saw each successor marked.
+    /// Tests whether the account may finish `object`: it has it in its charge, and saw each successor marked.
     pub fn may_finish(&self, setup: &Setup<A>, object: u32) -> bool
         ensures { IsTrue result ↔ CanFinish setup.now object self.now }
     {
         self.charge.contains(object) && setup.has_successors_in(object, &self.seen)
     }
 
-    /// Whether the account may give so many units away: at least one, and not all.
+    /// Tests whether the account may give `units` units away: at least one, and not all.
     pub fn may_split(&self, units: u32) -> bool
         ensures { IsTrue result ↔ CanSplit units self.now }
     {
         0 < units && units < self.share
     }
 
-    /// Whether the account may go idle: it has one unit, is not idle, answers for nothing and found the full stack
-    /// empty.
+    /// Tests whether the account may go idle: it has one unit, is not idle, has nothing in its charge and found the
+    /// full stack empty.
     pub fn may_idle(&self) -> bool
         ensures { IsTrue result ↔ CanIdle self.now }
     {
         self.share == 1 && self.idle == 0 && self.charge.is_empty() && self.found
     }
 
-    /// Whether the account may come back: it has one unit and is idle.
+    /// Tests whether the account may come back: it has one unit and is idle.
     pub fn may_wake(&self) -> bool
         ensures { IsTrue result ↔ CanWake self.now }
     {
         self.share == 1 && self.idle == 1
     }
 
-    /// Sees an object marked whose mark was found so, and answers for it where it was white.
+    /// Notes that `object` is marked, and adds it to the charge if `found`, its mark before the claim, was white.
     pub fn claim(&mut self, object: u32, found: u8) -> Result<(), OutOfMemory>
         ensures { OnOk result (self.new ≡ after_claim object found self.old) }
     {
@@ -206,7 +207,7 @@ impl<A: Allocator> Account<A> {
         Ok(())
     }
 
-    /// Finishes an object: it is no longer answered for.
+    /// Finishes `object`: moves it from the charge to the finished objects.
     pub fn finish(&mut self, object: u32) -> Result<(), OutOfMemory>
         ensures { OnOk result (self.new ≡ after_finish object self.old) }
     {
@@ -215,7 +216,7 @@ impl<A: Allocator> Account<A> {
         Ok(())
     }
 
-    /// Gives units away.
+    /// Gives `units` units away.
     pub fn give(&mut self, units: u32)
         requires { units ≤ self.old.share }
         ensures { self.new ≡ after_split units self.old }
@@ -224,7 +225,7 @@ impl<A: Allocator> Account<A> {
         self.parted = true;
     }
 
-    /// Takes another account in: its units, buffers and objects.
+    /// Adds the units, buffers and objects of `other`.
     pub fn join(&mut self, other: &Account<A>) -> Result<(), OutOfMemory>
         requires shares { self.old.share + other.now.share < 2 ^ 32 }
         requires idles { self.old.idle + other.now.idle < 2 ^ 32 }
@@ -241,7 +242,7 @@ impl<A: Allocator> Account<A> {
         Ok(())
     }
 
-    /// Notes that this head of a stack was loaded.
+    /// Notes that `head` was loaded from the stack `which`.
     pub fn load(&mut self, which: Which, head: HeadWord)
         ensures { self.new ≡ after_load which head self.old }
     {
@@ -255,7 +256,7 @@ impl<A: Allocator> Account<A> {
         }
     }
 
-    /// Notes that this link was loaded, of the buffer that the head loaded last names.
+    /// Notes that `link` was loaded, the link of the buffer that the last loaded head of the stack `which` names.
     pub fn load_link(&mut self, which: Which, link: Option<u32>)
         ensures { self.new ≡ after_load_link which link self.old }
     {
@@ -265,7 +266,7 @@ impl<A: Allocator> Account<A> {
         }
     }
 
-    /// Gets a buffer with what lay in its slot.
+    /// Adds `buffer` to the held buffers, and the items in `slot` to the charge.
     pub fn pop(&mut self, buffer: u32, slot: Option<Numbers<A>>) -> Result<(), OutOfMemory>
         ensures { OnOk result (self.new ≡ after_pop buffer (items_of slot) self.old) }
     {
@@ -276,8 +277,8 @@ impl<A: Allocator> Account<A> {
         Ok(())
     }
 
-    /// Lets a buffer go with these items, and answers whether they are part of the charge. Where they are not, it is
-    /// not said what is left.
+    /// Gives up `buffer` with `items`, and returns whether they are part of the charge. If they are not, the account
+    /// that is left is not specified.
     pub fn push(&mut self, which: Which, buffer: u32, items: &[u32]) -> bool
         ensures part { IsTrue result ↔ IsPart items.now self.old.charge }
         ensures pushed { OnTrue result (self.new ≡ after_push which buffer items.now self.old) }
@@ -302,7 +303,7 @@ impl<A: Allocator> Account<A> {
         self.idle += 1;
     }
 
-    /// Comes back.
+    /// Comes back from being idle.
     pub fn idle_down(&mut self)
         requires { self.old.idle ≡ 1 }
         ensures { self.new ≡ after_idle_down self.old }
@@ -310,7 +311,7 @@ impl<A: Allocator> Account<A> {
         self.idle -= 1;
     }
 
-    /// Notes that this idle word was loaded.
+    /// Notes that the idle word was loaded as `word`.
     pub fn load_idle(&mut self, word: u64)
         ensures { self.new ≡ after_load_idle word self.old }
     {

@@ -1,11 +1,11 @@
-//! What a marking knows of a heap.
+//! The heap, as a marking sees it.
 
 ghost use Rattle.std.specs.Prelude.{◌≡◌, ℕ, ◌<◌, List, All};
 
 /// The objects of a heap, as a marking sees them.
 ///
-/// Objects have numbers from 0 on. The roots are the objects at which reachability begins, and the pairs are
-/// each object with each of its successors.
+/// Objects are numbered from 0. The roots are the objects at which reachability begins. The pairs are each object with
+/// each of its successors.
 pub trait Edges {
     ghost count: { Self → ℕ };
 
@@ -13,7 +13,7 @@ pub trait Edges {
 
     ghost pairs: { Self → List (ℕ × ℕ) };
 
-    /// The number of objects.
+    /// Returns the number of objects.
     fn objects(&self) -> u32
         ensures count { result ≡ count self.now }
         ensures roots { All (λ o. o < result) (roots self.now) }

@@ -1,4 +1,4 @@
-//! Events, as a caller of `step` gives them.
+//! Events, as a caller passes them to `step`.
 
 use crate::which::Which;
 use std::alloc::{Allocator, Global};
@@ -10,26 +10,26 @@ pub enum Kind<A: Allocator = Global> {
     Claim(u32),
     /// Finishes an object of the account's charge, each successor of which it saw marked.
     Finish(u32),
-    /// Gives this many units, at least one and not all, to a new account.
+    /// Gives a number of units, at least one and not all, to a new account.
     Split(u32),
-    /// Takes in the account of this number.
+    /// Joins the account of this number to its own.
     Join(u32),
     /// Loads the head of a stack.
     Load(Which),
-    /// Loads the link of the buffer that the head loaded last names.
+    /// Loads the link of the buffer that the last loaded head names.
     LoadLink(Which),
-    /// Stores a link at a buffer that the account holds: the number of the next buffer, if any.
+    /// Stores the link of a buffer that the account holds: the number of the next buffer, if any.
     StoreLink(u32, Option<u32>),
     /// Exchanges the head of a stack for the link of its first buffer, which goes to the account with its items.
     Pop(Which),
     /// Exchanges the head of a stack for a buffer that the account holds, with items of its charge.
     Push(Which, u32, Vec<u32, A>),
-    /// Tries an exchange of the head of a stack, and finds another head than the one loaded last.
+    /// Tries to exchange the head of a stack, and finds another head than the one it loaded last.
     Fail(Which),
-    /// Goes idle: adds one to the idle word. The account has one unit and answers for nothing, and it found the full
+    /// Goes idle: adds one to the idle word. The account has one unit and nothing in its charge, and it found the full
     /// stack empty since it was split off and since its own last push there.
     IdleUp,
-    /// Comes back: takes one from the idle word.
+    /// Comes back: subtracts one from the idle word.
     IdleDown,
     /// Loads the idle word.
     LoadIdle,
@@ -38,8 +38,8 @@ pub enum Kind<A: Allocator = Global> {
 /// One step of one worker.
 #[derive(Debug, Drop)]
 pub struct Event<A: Allocator = Global> {
-    /// The number of its account.
+    /// The number of the worker's account.
     pub worker: u32,
-    /// What it does.
+    /// What the worker does.
     pub kind: Kind<A>,
 }

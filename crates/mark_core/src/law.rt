@@ -1,4 +1,4 @@
-//! The law over all runs.
+//! The law of all runs.
 
 ghost use Rattle.mark_core.specs.Runs.{RunsKeepLaw, EventsKeepLaw, StacksChange, TagsRise};
 ghost use Rattle.mark_core.specs.Runs.{PopsFindLinks, MarksRise, ClosedIsDetermined};
@@ -7,12 +7,12 @@ ghost use Rattle.mark_core.specs.Conclusions.{FirstTagsAreFirst, ListsKeepLaw};
 ghost use Rattle.mark_core.specs.Conclusions.{LoadedHeadsWere, LossesAreContested, PushesFollowChanges, TagsKeepParity};
 ghost use Rattle.mark_core.specs.Quiet.{QuietIsDone};
 
-/// The law of a marking, after every list of events of any number of workers, splits and joins included. The call does
-/// nothing: its contract is the law.
+/// Does nothing. Its contract is the law of a marking, after every list of events of any number of workers, splits and
+/// joins included.
 ///
-/// From every opening on, each buffer is on one of the two stacks or held by one account, the mark of each object tells
-/// where it stands, and the shares add up to the whole (`law`); each event that is possible keeps that (`events`). The
-/// other clauses say what follows: `docs/MARKING.md` has a row for each, under "The law".
+/// From every opening on, each buffer is on one of the two stacks or held by one account, the mark of each object says
+/// where the object is, and the shares add up to the whole (`law`). Each possible event keeps that (`events`). The
+/// other clauses are what follows from it: `docs/MARKING.md` has a row for each, under "The law".
 pub fn all_runs_keep_law()
     ensures law { RunsKeepLaw }
     ensures events { EventsKeepLaw }

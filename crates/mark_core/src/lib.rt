@@ -1,10 +1,10 @@
 //! The world of a marking with many workers, its events, and the law that they keep.
 //!
 //! Everything here is pure: no thread, no atomic word. A `World` is what all workers share (two stacks of buffers, the
-//! marks) and what each of them answers for (its account). An `Event` is one atomic step of one worker. `step` makes it
-//! where it is possible, and `all_runs_keep_law` is the theorem that the rest of the program stands on: after every
-//! list of possible events, in whatever order threads made them, each claimed object lies in exactly one place and each
-//! finished object has its successors marked.
+//! marks) and the account of each worker, with the objects in its charge. An `Event` is one atomic step of one worker.
+//! `step` makes it if it is possible. `all_runs_keep_law` is the theorem that the rest of the program stands on: after
+//! every list of possible events, in whatever order threads made them, each claimed object is in exactly one place and
+//! each finished object has its successors marked.
 //!
 //! From `crates/core_tests/src/world_example.rt`, which is proved and run as a test:
 //!
@@ -17,7 +17,7 @@
 //!     }
 //!     assert_eq!(rt; world.marks(), &[2, 2][..]);
 //!
-//! The law's parts stand in `specs/Law.antt`, the events in `specs/Events.antt`, both in words in `docs/MARKING.md`.
+//! `specs/Law.antt` defines the law's parts, `specs/Events.antt` the events. `docs/MARKING.md` has both in words.
 
 #![tactic(auto)]
 

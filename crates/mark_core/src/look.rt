@@ -1,4 +1,4 @@
-//! What an account last loaded of a stack.
+//! The head and the link that an account last loaded of a stack.
 
 ghost use Rattle.std.specs.Prelude.{◌≡◌, ◌≢◌, ◌↔◌, ℕ, IsTrue, MatchOption};
 ghost use Rattle.mark_core.specs.Account.{blank};
@@ -7,7 +7,7 @@ ghost use Rattle.tagged_index.specs.Head.{Head};
 use std::marker::Model;
 use tagged_index::HeadWord;
 
-/// The head of a stack that was loaded last, and the link of its buffer, where that was loaded after it.
+/// The head of a stack that was loaded last, and the link of its buffer if that was loaded after it.
 #[derive(Clone, Copy)]
 pub struct Look {
     head: Option<HeadWord>,
@@ -25,7 +25,7 @@ impl Model for Look {
 }
 
 impl Look {
-    /// The look of an account that loaded nothing.
+    /// Creates the look of an account that has loaded nothing.
     pub fn blank() -> Self
         ensures { result ≡ blank }
     {
@@ -35,7 +35,7 @@ impl Look {
         }
     }
 
-    /// The look of an account that loaded this head, and no link after it.
+    /// Creates the look of an account that has loaded `head`, and no link after it.
     pub fn of(head: HeadWord) -> Self
         ensures { result ≡ record { head = Some head; link = None } }
     {
@@ -45,7 +45,7 @@ impl Look {
         }
     }
 
-    /// The look once this link was loaded, too.
+    /// Returns the look after `link` was loaded too.
     pub fn with_link(self, link: Option<u32>) -> Self
         ensures { result ≡ record { head = self.head; link = Some link } }
     {
@@ -55,14 +55,14 @@ impl Look {
         }
     }
 
-    /// The link, where it was loaded.
+    /// Returns the link, or `None` if none was loaded.
     pub fn link(self) -> Option<Option<u32>>
         ensures { result ≡ self.link }
     {
         self.link
     }
 
-    /// The buffer that the head names.
+    /// Returns the buffer that the head names, or `None` if no head was loaded or it names none.
     pub fn buffer(self) -> Option<u32>
         ensures { MatchOption result
             (¬ ((h : Head) × (i : ℕ) × (self.head ≡ Some h) × (h.index ≡ Some i)))
@@ -71,14 +71,14 @@ impl Look {
         self.head?.index()
     }
 
-    /// Whether this is the head that was loaded.
+    /// Tests whether `now` is the head that was loaded.
     pub fn shows(self, now: HeadWord) -> bool
         ensures { IsTrue result ↔ (self.head ≡ Some now) }
     {
         self.head == Some(now)
     }
 
-    /// Whether a head was loaded, and it is not this one.
+    /// Tests whether a head was loaded, and it is not `now`.
     pub fn shows_another(self, now: HeadWord) -> bool
         ensures { IsTrue result ↔ ((h : Head) × (self.head ≡ Some h) × (now ≢ h)) }
     {

@@ -9,7 +9,7 @@ use crate::out_of_memory::OutOfMemory;
 use std::alloc::Allocator;
 use std::marker::Model;
 
-/// Numbers in the order in which they came, with repeats.
+/// A list of numbers in the order in which they were added, with repeats.
 #[derive(Drop)]
 pub struct Numbers<A: Allocator> {
     items: Vec<u32, A>,
@@ -24,7 +24,7 @@ impl<A: Allocator> Model for Numbers<A> {
 }
 
 impl<A: Allocator> Numbers<A> {
-    /// A list without numbers.
+    /// Creates an empty list.
     pub fn new(alloc: A) -> Self
         ensures { result ≡ [] }
     {
@@ -33,42 +33,42 @@ impl<A: Allocator> Numbers<A> {
         }
     }
 
-    /// The list of these numbers.
+    /// Creates a list of `items`.
     pub fn of(items: Vec<u32, A>) -> Self
         ensures { result ≡ vec_items items }
     {
         Numbers { items }
     }
 
-    /// The numbers as a slice.
+    /// Returns the numbers as a slice.
     pub fn as_slice(&self) -> &[u32]
         ensures { result.now ≡ self.now }
     {
         self.items.as_slice()
     }
 
-    /// How many numbers there are, repeats counted.
+    /// Returns how many numbers the list has, repeats included.
     pub fn len(&self) -> usize
         ensures { result ≡ length self.now }
     {
         self.items.len()
     }
 
-    /// Whether there is no number.
+    /// Tests whether the list is empty.
     pub fn is_empty(&self) -> bool
         ensures { IsTrue result ↔ (self.now ≡ []) }
     {
         self.items.is_empty()
     }
 
-    /// Whether this number is one of them.
+    /// Tests whether the list contains `number`.
     pub fn contains(&self, number: u32) -> bool
         ensures { IsTrue result ↔ Contains self.now number }
     {
         self.items.contains(&number)
     }
 
-    /// Puts a number at the end.
+    /// Appends `number`.
     pub fn add(&mut self, number: u32) -> Result<(), OutOfMemory>
         ensures { OnOk result (self.new ≡ self.old ++ number ∷ []) }
     {
@@ -76,7 +76,7 @@ impl<A: Allocator> Numbers<A> {
         Ok(())
     }
 
-    /// Puts these numbers at the end.
+    /// Appends the numbers in `other`.
     pub fn append(&mut self, other: &[u32]) -> Result<(), OutOfMemory>
         ensures { OnOk result (self.new ≡ self.old ++ other.now) }
     {
@@ -84,7 +84,7 @@ impl<A: Allocator> Numbers<A> {
         Ok(())
     }
 
-    /// Where this number stands first.
+    /// Returns the position of the first `number`.
     fn place_of(&self, number: u32) -> Option<usize>
         ensures there { IsSome result ↔ Contains self.now number }
         ensures first { result ≡ position (λ item. item == number) self.now }
@@ -92,7 +92,7 @@ impl<A: Allocator> Numbers<A> {
         self.items.iter().position(|item| *item == number)
     }
 
-    /// Takes this number out where it stands first, and answers whether it was there.
+    /// Removes the first `number`, and returns whether the list had one.
     pub fn take_one(&mut self, number: u32) -> bool
         ensures there { IsTrue result ↔ Contains self.old number }
         ensures left { self.new ≡ remove_one number self.old }
@@ -106,8 +106,8 @@ impl<A: Allocator> Numbers<A> {
         }
     }
 
-    /// Takes each of these numbers out once, and answers whether the list had each as often as it is given. Where it
-    /// had not, it is not said what is left.
+    /// Removes each of `numbers`, and returns whether the list had each as often as `numbers` has. If it had not, the
+    /// list that is left is not specified.
     pub fn take_all(&mut self, numbers: &[u32]) -> bool
         ensures part { IsTrue result ↔ IsPart numbers.now self.old }
         ensures left { OnTrue result (self.new ≡ without numbers.now self.old) }

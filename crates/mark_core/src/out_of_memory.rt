@@ -1,9 +1,9 @@
-//! The one refusal of a world: want of memory.
+//! The only error of a world: out of memory.
 
 use std::alloc::{AllocError, AllocFailed};
 use thiserror::Error;
 
-/// A request for memory was refused.
+/// An allocation failed.
 #[derive(Clone, Copy, Debug, PartialEq, Eq, Error)]
 #[error("out of memory")]
 pub struct OutOfMemory;

@@ -1,4 +1,4 @@
-//! What no event changes.
+//! The part of a marking that no event changes.
 
 ghost use Rattle.std.specs.Prelude.{◌≡◌, ◌↔◌, ◌≤◌, ℕ, IsTrue, Contains, [], length};
 ghost use Rattle.mark_core.specs.World.{Setup};
@@ -8,14 +8,14 @@ use crate::which::Which;
 use std::alloc::Allocator;
 use std::marker::Model;
 
-/// What a marking is made with, and no event changes.
+/// The part of a marking that is fixed when it opens, and that no event changes.
 #[derive(Drop)]
 pub struct Setup<A: Allocator> {
-    /// How many objects there are, numbered from 0.
+    /// The number of objects, which are numbered from 0.
     pub objects: u32,
-    /// How many buffers there are, numbered from 0.
+    /// The number of buffers, which are numbered from 0.
     pub buffers: u32,
-    /// The most objects of a buffer.
+    /// The most objects that a buffer takes.
     pub size: u32,
     /// The tag that both heads begin with.
     pub first_tag: u64,
@@ -41,21 +41,21 @@ impl<A: Allocator> Model for Setup<A> {
 }
 
 impl<A: Allocator> Setup<A> {
-    /// Whether the object is a root.
+    /// Tests whether `object` is a root.
     pub fn is_root(&self, object: u32) -> bool
         ensures { IsTrue result ↔ Contains self.now.roots object }
     {
         self.roots.contains(&object)
     }
 
-    /// Whether the second object is a successor of the first.
+    /// Tests whether `successor` is a successor of `object`.
     pub fn has_pair(&self, object: u32, successor: u32) -> bool
         ensures { IsTrue result ↔ Contains self.now.pairs (object, successor) }
     {
         self.pairs.contains(&(object, successor))
     }
 
-    /// Whether the object is a successor of one of these.
+    /// Tests whether `successor` is a successor of one of `objects`.
     pub fn has_pair_from(&self, objects: &[u32], successor: u32) -> bool
         ensures { IsTrue result
             ↔ ((p : ℕ) × Contains objects.now p × Contains self.now.pairs (p, successor)) }
@@ -65,7 +65,7 @@ impl<A: Allocator> Setup<A> {
             .any(|&object| self.has_pair(object, successor))
     }
 
-    /// Whether each successor of the object is among these.
+    /// Tests whether each successor of `object` is in `seen`.
     pub fn has_successors_in(&self, object: u32, seen: &Numbers<A>) -> bool
         ensures { IsTrue result
             ↔ ((s : ℕ) → Contains self.now.pairs (object, s) → Contains seen.now s) }
@@ -78,8 +78,8 @@ impl<A: Allocator> Setup<A> {
         true
     }
 
-    /// Whether a buffer may go on this stack with these items: at most as many as it takes, and none on the empty
-    /// stack.
+    /// Tests whether a buffer with `items` may go on the stack `which`: at most as many as it takes, and none on the
+    /// empty stack.
     pub fn takes(&self, which: Which, items: &Numbers<A>) -> bool
         ensures { IsTrue result
             ↔ ((length items.now ≤ self.now.size) × (which ≡ Which.Empty → items.now ≡ [])) }

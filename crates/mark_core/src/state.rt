@@ -1,4 +1,4 @@
-//! The tables of a world, and what each event does to them.
+//! The tables of a world, and the effect of each event on them.
 
 ghost use Rattle.std.specs.Prelude.{◌≡◌, ◌↔◌, IsTrue, IsSome, IfSome, length};
 ghost use Rattle.std.specs.Prelude.{slice_index_or};
@@ -21,7 +21,7 @@ use std::alloc::Allocator;
 use std::marker::Model;
 use tagged_index::HeadWord;
 
-/// The setup of a world and its tables, on which nothing is asked.
+/// The setup of a world and its tables. This type has no invariant; that of [`World`](crate::World) is the law.
 #[derive(Drop)]
 pub struct State<A: Allocator> {
     setup: Setup<A>,
@@ -52,7 +52,7 @@ impl<A: Allocator> Model for State<A> {
 }
 
 impl<A: Allocator> State<A> {
-    /// Whether the account of this number is there.
+    /// Tests whether the account `worker` exists.
     pub fn is_there(&self, worker: u32) -> bool
         ensures { IsTrue result ↔ HasAccount self.now worker }
     {
@@ -62,7 +62,7 @@ impl<A: Allocator> State<A> {
         }
     }
 
-    /// The head of a stack.
+    /// Returns the head of the stack `which`.
     pub fn head(&self, which: Which) -> HeadWord
         ensures { result ≡ heads_of self.now which }
     {
@@ -72,14 +72,14 @@ impl<A: Allocator> State<A> {
         }
     }
 
-    /// The link of a buffer: the next one, if any. `None` also where there is no such buffer.
+    /// Returns the link of `buffer`: the next one, if any. Returns `None` also if there is no such buffer.
     pub fn link(&self, buffer: u32) -> Option<u32>
         ensures { result ≡ slice_index_or self.now.links buffer None }
     {
         self.links.get(buffer as usize).copied().flatten()
     }
 
-    /// The account of this number, `None` where it is not there.
+    /// Returns the account `worker`, or `None` if it does not exist.
     pub fn account(&self, worker: u32) -> Option<&Account<A>>
         ensures there { IsSome result ↔ HasAccount self.now worker }
         ensures same { IfSome result (λ a. a.now ≡ account_at self.now.accounts worker) }
@@ -90,14 +90,14 @@ impl<A: Allocator> State<A> {
         }
     }
 
-    /// The mark of each object: 0 for white, 1 for claimed, 2 for finished.
+    /// Returns the mark of each object: 0 for white, 1 for claimed, 2 for finished.
     pub fn marks(&self) -> &[u8]
         ensures { result.now ≡ self.now.marks }
     {
         self.marks.as_slice()
     }
 
-    /// Gives a stack this head.
+    /// Sets the head of the stack `which`.
     fn set_head(&mut self, which: Which, head: HeadWord)
         ensures { self.new ≡ with_head self.old which head }
     {

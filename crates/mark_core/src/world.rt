@@ -1,4 +1,4 @@
-//! A world, which keeps the law from one event to the next.
+//! A world, which keeps the law from event to event.
 
 ghost use Rattle.std.specs.Prelude.{◌≡◌, ◌↔◌, ◌<◌, ◌≤◌, All, IfErr, IfOk, IsSome, IfSome, length};
 ghost use Rattle.std.specs.Prelude.{vec_items};
@@ -34,10 +34,10 @@ impl<A: Allocator> Model for World<A> {
 }
 
 impl<A: Allocator + Copy> World<A> {
-    /// The opening world of a heap with so many objects, at most 16,777,216, these roots, and these pairs of an object
-    /// and a successor; with 4 to 65,534 buffers for 2 to 4,096 objects each. All objects are white, all buffers lie on
-    /// the empty stack with 0 on top and rising numbers below, both heads bear the first tag, and account 0 has the
-    /// whole share of 65,536 units.
+    /// Creates the opening world of a heap with `objects` objects, at most 16,777,216, with `roots`, and with `pairs`
+    /// of an object and a successor. It has `buffers` buffers, 4 to 65,534, each for `size` objects, 2 to 4,096. All
+    /// objects are white, all buffers are on the empty stack with 0 on top and rising numbers below, both heads have
+    /// the tag `first_tag`, and account 0 has the whole share of 65,536 units.
     pub fn new(
         alloc: A,
         objects: u32,
@@ -77,7 +77,7 @@ impl<A: Allocator + Copy> World<A> {
 }
 
 impl<A: Allocator> World<A> {
-    /// The mark of each object: 0 for white, 1 for claimed, 2 for finished.
+    /// Returns the mark of each object: 0 for white, 1 for claimed, 2 for finished.
     pub fn marks(&self) -> &[u8]
         ensures same { result.now ≡ self.now.marks }
         ensures each { length result.now ≡ self.now.setup.objects }
@@ -86,7 +86,7 @@ impl<A: Allocator> World<A> {
         self.state.marks()
     }
 
-    /// The objects that an account answers for, `None` where the account is not there.
+    /// Returns the objects in the charge of the account `worker`, or `None` if that account does not exist.
     pub fn charge(&self, worker: u32) -> Option<&[u32]>
         ensures there { IsSome result ↔ HasAccount self.now worker }
         ensures charge { IfSome result (λ c. c.now ≡ (account_at self.now.accounts worker).charge) }
@@ -95,7 +95,7 @@ impl<A: Allocator> World<A> {
         Some(account.charge())
     }
 
-    /// The buffers that an account holds, `None` where the account is not there.
+    /// Returns the buffers that the account `worker` holds, or `None` if that account does not exist.
     pub fn held(&self, worker: u32) -> Option<&[u32]>
         ensures there { IsSome result ↔ HasAccount self.now worker }
         ensures held { IfSome result (λ h. h.now ≡ (account_at self.now.accounts worker).held) }
@@ -104,14 +104,14 @@ impl<A: Allocator> World<A> {
         Some(account.held())
     }
 
-    /// The head of a stack: its first buffer, if any, and its tag.
+    /// Returns the head of the stack `which`: its first buffer, if any, and its tag.
     pub fn head(&self, which: Which) -> HeadWord
         ensures { result ≡ (marking_of self.now).head which }
     {
         self.state.head(which)
     }
 
-    /// The link of a buffer: the next one, if any. `None` also where there is no such buffer.
+    /// Returns the link of buffer `i`: the next one, if any. Returns `None` also if there is no such buffer.
     pub fn link(&self, i: u32) -> Option<u32>
         ensures { result ≡ (marking_of self.now).link i }
     {
@@ -119,9 +119,9 @@ impl<A: Allocator> World<A> {
     }
 }
 
-/// The world after this event. `None` exactly where the event is not possible, or is a split and 4,294,967,295 accounts
-/// were made. Memory is asked for only where the event is possible. At `None`, and where memory is refused, the world
-/// is given up.
+/// Returns the world after `event`. Returns `None` exactly if the event is not possible, or is a split and
+/// 4,294,967,295 accounts were made. Allocates only if the event is possible. At `None`, and if an allocation fails,
+/// the world is dropped.
 pub fn step<A: Allocator + Copy>(
     alloc: A,
     world: World<A>,

@@ -1,4 +1,4 @@
-//! A head in one word: the tag in the upper 48 bits, and in the lower 16 bits 0 for no index, else the index plus 1.
+//! A head in one word: the tag in the upper 48 bits, and the index plus 1, or 0 for no index, in the lower 16.
 
 ghost use Rattle.std.specs.Prelude.{◌≡◌, ◌+◌, ◌<◌, ◌≤◌, MatchOption};
 ghost use Rattle.std.specs.Option.{ForSome};
@@ -6,17 +6,17 @@ ghost use Rattle.tagged_index.specs.Head.{after, head_of, word_of};
 
 use std::marker::Model;
 
-/// The largest tag. A head that bears it is exchanged no more.
+/// The largest tag. A head with this tag is never exchanged again.
 pub const LAST_TAG: u64 = 281_474_976_710_655;
 
 /// The largest index that a head can hold.
 pub const LAST_INDEX: u32 = 65_534;
 
-/// How many values the lower 16 bits have.
+/// The number of values of the lower 16 bits.
 const LOW_VALUES: u64 = 65_536;
 
-/// The head of a stack: the index of its first buffer, if any, and a tag. Contracts see these two; `word` gives the 64
-/// bits.
+/// The head of a stack: the index of its first buffer, if any, and a tag. Contracts see these two. [`HeadWord::word`]
+/// returns the 64 bits.
 #[derive(Clone, Copy, PartialEq, Eq, Debug)]
 pub struct HeadWord {
     word: u64,
@@ -37,7 +37,7 @@ impl Model for HeadWord {
 }
 
 impl HeadWord {
-    /// The head of an empty stack, with this tag, at most [`LAST_TAG`].
+    /// Creates the head of an empty stack with `tag`, which is at most [`LAST_TAG`].
     pub fn none(tag: u64) -> Self
         requires { tag ≤ LAST_TAG }
         ensures { result ≡ record { index = None; tag = tag } }
@@ -47,7 +47,7 @@ impl HeadWord {
         }
     }
 
-    /// The head with this index, at most [`LAST_INDEX`], and this tag, at most [`LAST_TAG`].
+    /// Creates the head with `index`, at most [`LAST_INDEX`], and `tag`, at most [`LAST_TAG`].
     pub fn of(index: u32, tag: u64) -> Self
         requires small { index ≤ LAST_INDEX }
         requires tagged { tag ≤ LAST_TAG }
@@ -58,14 +58,14 @@ impl HeadWord {
         }
     }
 
-    /// The head that a word spells. Each word of 64 bits spells one.
+    /// Returns the head that `word` spells. Each word of 64 bits spells one.
     pub fn from_word(word: u64) -> Self
         ensures { result ≡ head_of word }
     {
         HeadWord { word }
     }
 
-    /// The word that spells the head: the tag times 65,536, and the index plus 1 where there is one.
+    /// Returns the word that spells the head: the tag times 65,536, plus the index plus 1 if there is one.
     pub fn word(self) -> u64
         ensures spelled { head_of result ≡ self }
         ensures value { result ≡ word_of self }
@@ -73,7 +73,7 @@ impl HeadWord {
         self.word
     }
 
-    /// The index, `None` for an empty stack.
+    /// Returns the index, or `None` for an empty stack.
     pub fn index(self) -> Option<u32>
         ensures same { result ≡ self.index }
         ensures small { ForSome result (λ i. i ≤ LAST_INDEX) }
@@ -82,7 +82,7 @@ impl HeadWord {
         if low == 0 { None } else { Some(low - 1) }
     }
 
-    /// The tag, which each change of the head makes one higher.
+    /// Returns the tag, which each change of the head raises by one.
     pub fn tag(self) -> u64
         ensures same { result ≡ self.tag }
         ensures small { result ≤ LAST_TAG }
@@ -90,7 +90,8 @@ impl HeadWord {
         self.word / LOW_VALUES
     }
 
-    /// The head with this index, at most [`LAST_INDEX`], and the tag one higher: `None` exactly at the last tag.
+    /// Returns the head with `index`, at most [`LAST_INDEX`], and the tag one higher. Returns `None` exactly at the
+    /// last tag.
     pub fn next(self, index: Option<u32>) -> Option<Self>
         requires { ForSome index (λ i. i ≤ LAST_INDEX) }
         ensures { MatchOption result (self.tag ≡ LAST_TAG) (λ h. (self.tag < LAST_TAG) × (h ≡ after self index)) }

@@ -1,8 +1,8 @@
-//! What holds of all heads.
+//! A law of all heads.
 
 ghost use Rattle.tagged_index.specs.Words.{WordsDetermineHeads};
 
-/// Two pairs of index and tag have two words. It does nothing: its contract is the law.
+/// Does nothing. Its contract is the law: two different pairs of index and tag have different words.
 pub fn words_tell_heads_apart()
     ensures { WordsDetermineHeads }
 {}

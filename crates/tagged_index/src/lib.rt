@@ -1,8 +1,8 @@
 //! The head word of a stack: the index of the buffer on top, if any, and a tag that counts the changes, in 64 bits.
 //!
-//! Who exchanges a head compares the whole word. Each change makes the tag one higher, so a head that was changed and
-//! changed back is another word, and an exchange that began before is refused. At the last tag `next` answers `None`:
-//! tags never begin anew.
+//! An exchange of a head compares the whole word. Each change raises the tag by one, so a head that was changed and
+//! changed back is another word, and an exchange that began before fails. At the last tag `next` returns `None`: tags
+//! never wrap.
 //!
 //! From `crates/core_tests/src/head_example.rt`, which is proved and run as a test:
 //!
@@ -12,7 +12,7 @@
 //!     assert_eq!(rt; popped.map(|head| (head.index(), head.tag())), Some((None, 9)));
 //!     assert!(rt; popped != Some(empty), "the tag tells the two apart");
 //!
-//! What the words mean stands in `specs/Head.antt`; how stacks use them in `docs/MARKING.md`.
+//! `specs/Head.antt` defines what the words mean. `docs/MARKING.md` says how stacks use them.
 
 #![tactic(auto)]
 

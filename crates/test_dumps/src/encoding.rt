@@ -1,4 +1,4 @@
-//! How a dump is encoded: the bytes of its header, records and sub-records.
+//! Encodes a dump: the bytes of its header, records and sub-records.
 
 ghost use Rattle.std.specs.Prelude.{◌≡◌, ◌++◌, OnOk};
 
@@ -6,16 +6,16 @@ use crate::record::Record;
 use crate::sub::{ClassParts, Sub};
 use std::alloc::{AllocError, Global};
 
-/// Bytes that grow by numbers, records and sub-records, with identifiers of this size.
+/// A buffer that grows by numbers, records and sub-records, with identifiers of one size.
 #[derive(Drop)]
 pub struct Bytes {
-    /// What was put so far.
+    /// The bytes written so far.
     pub bytes: Vec<u8>,
     id_size: u32,
 }
 
 impl Bytes {
-    /// Nothing, with identifiers of 8 bytes, or else of 4.
+    /// Creates an empty buffer, with identifiers of 8 bytes if `id_size` is 8 and of 4 bytes otherwise.
     pub fn new(alloc: Global, id_size: u32) -> Self {
         Bytes {
             bytes: Vec::new(alloc),
@@ -23,7 +23,7 @@ impl Bytes {
         }
     }
 
-    /// The header, with both time words 0.
+    /// Creates a buffer with the header of a dump. Both of its time words are 0.
     pub fn header(alloc: Global, id_size: u32) -> Result<Self, AllocError> {
         let mut dump = Bytes::new(alloc, id_size);
         dump.raw(b"JAVA PROFILE 1.0.2\0")?;
@@ -32,7 +32,7 @@ impl Bytes {
         Ok(dump)
     }
 
-    /// A dump of these records.
+    /// Creates a buffer with a dump of `records`.
     pub fn dump(alloc: Global, id_size: u32, records: &[Record]) -> Result<Self, AllocError> {
         let mut dump = Bytes::header(alloc, id_size)?;
         for record in records {
@@ -41,31 +41,31 @@ impl Bytes {
         Ok(dump)
     }
 
-    /// Puts these bytes.
+    /// Appends `bytes`.
     pub fn raw(&mut self, bytes: &[u8]) -> Result<(), AllocError>
         ensures { OnOk result (self.new.bytes.items ≡ self.old.bytes.items ++ bytes.now) }
     {
         self.bytes.extend_from_slice(bytes)
     }
 
-    /// Puts a number of 4 bytes.
+    /// Appends `value` as a number of 4 bytes.
     pub fn number(&mut self, value: u32) -> Result<(), AllocError> {
         self.raw(&value.to_be_bytes())
     }
 
-    /// Puts how many there are, as a number of 2 bytes.
+    /// Appends `count` as a number of 2 bytes, and 65,535 if it is larger.
     fn count(&mut self, count: usize) -> Result<(), AllocError> {
         self.raw(&u16::try_from(count).unwrap_or(u16::MAX).to_be_bytes())
     }
 
-    /// Puts an identifier.
+    /// Appends the identifier `value`.
     fn id(&mut self, value: u64) -> Result<(), AllocError> {
         let bytes = value.to_be_bytes();
         let front = if self.id_size == 8 { 0 } else { 4 };
         self.raw(&bytes[front..])
     }
 
-    /// Puts a record of this tag and body.
+    /// Appends a record with `tag`, time 0 and `body`.
     pub fn record(&mut self, tag: u8, body: &[u8]) -> Result<(), AllocError> {
         self.raw(&[tag, 0, 0, 0, 0])?;
         self.number(u32::try_from(body.len()).unwrap_or(u32::MAX))?;
@@ -103,7 +103,7 @@ impl Bytes {
         self.record(tag, body.bytes.as_slice())
     }
 
-    /// Puts these sub-records.
+    /// Appends each of `subs`.
     pub fn subs(&mut self, subs: &[Sub]) -> Result<(), AllocError> {
         for sub in subs {
             self.sub(*sub)?;
@@ -111,7 +111,7 @@ impl Bytes {
         Ok(())
     }
 
-    /// Puts a sub-record.
+    /// Appends `sub`.
     pub fn sub(&mut self, sub: Sub) -> Result<(), AllocError> {
         match sub {
             Sub::Class(id, above, fields) => self.class(&ClassParts::plain(id, above, fields)),
@@ -139,14 +139,14 @@ impl Bytes {
         }
     }
 
-    /// Puts what an object sub-record begins with.
+    /// Appends the first fields of an object's sub-record: `tag`, `id` and stack serial 0.
     fn head(&mut self, tag: u8, id: u64) -> Result<(), AllocError> {
         self.raw(&[tag])?;
         self.id(id)?;
         self.number(0)
     }
 
-    /// Puts a class as far as its instance size.
+    /// Appends a class dump up to and including its instance size, which is 0.
     fn class_head(&mut self, id: u64, others: &[u64]) -> Result<(), AllocError> {
         self.head(0x20, id)?;
         for other in others {
@@ -202,7 +202,7 @@ impl Bytes {
         self.raw(&[0, 0])
     }
 
-    /// Puts an object array of these elements.
+    /// Appends an object array with `elements`.
     pub fn objects(&mut self, id: u64, class: u64, elements: &[u64]) -> Result<(), AllocError> {
         self.head(0x22, id)?;
         self.number(u32::try_from(elements.len()).unwrap_or(u32::MAX))?;

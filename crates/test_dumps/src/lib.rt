@@ -1,8 +1,8 @@
 //! Dumps for tests: tables of records, and their bytes.
 //!
-//! A test writes the records that matter, and `Bytes` spells them with identifiers of 4 bytes or of 8. `TWO_OBJECTS` is
-//! the worked dump of the documents: a class with one field, two instances that refer to each other, and a root.
-//! Nothing here is promised; what reads these bytes is.
+//! A test writes down the records that matter, and `Bytes` encodes them with identifiers of 4 or 8 bytes. `TWO_OBJECTS`
+//! is the worked dump of the documents: a class with one field, two instances that refer to each other, and a root.
+//! Nothing is promised of this crate, only of what reads its bytes.
 #![tactic(auto)]
 
 mod encoding;

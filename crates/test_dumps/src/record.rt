@@ -13,6 +13,6 @@ pub enum Record {
     Heap(&'static [Sub]),
     /// A heap dump segment.
     Segment(&'static [Sub]),
-    /// A record of any tag with this body.
+    /// A record of any tag, and its body.
     Other(u8, &'static [u8]),
 }

@@ -3,19 +3,19 @@
 /// A sub-record of a heap dump. All serials are 0.
 #[derive(Clone, Copy)]
 pub enum Sub {
-    /// A class, its superclass, and the types of its fields. The name of each field is 2.
+    /// A class, its superclass, and the types of its fields. The identifier of each field's name is 2.
     Class(u64, u64, &'static [u8]),
     /// A class, its superclass, and the name and the type of each of its fields.
     Named(u64, u64, &'static [(u64, u8)]),
     /// A class without fields, and the type and the value of its one static field.
     Static(u64, u8, &'static [u8]),
-    /// A class with any of its parts.
+    /// A class given by all of its parts.
     Whole(ClassParts),
-    /// An instance, its class, and its values.
+    /// An instance, its class, and the bytes of its field values.
     Instance(u64, u64, &'static [u8]),
     /// An object array, its class, and its elements.
     Objects(u64, u64, &'static [u64]),
-    /// A primitive array, the type and number of its elements, and these.
+    /// A primitive array, the type of its elements, their number, and their bytes.
     Values(u64, u8, u32, &'static [u8]),
     /// A root of unknown kind.
     Root(u64),
@@ -23,23 +23,23 @@ pub enum Sub {
     Raw(&'static [u8]),
 }
 
-/// The parts of a class dump. The name of each field is 2, and its instance size is 0.
+/// The parts of a class dump. The identifier of each field's name is 2, and the instance size is 0.
 #[derive(Clone, Copy)]
 pub struct ClassParts {
     /// The identifier of the class itself.
     pub id: u64,
-    /// Superclass, loader, signers, protection domain, and the two that are reserved.
+    /// The superclass, the loader, the signers, the protection domain, and the two reserved identifiers.
     pub others: [u64; 6],
     /// The index, the type and the value of each constant.
     pub constants: &'static [(u16, u8, &'static [u8])],
     /// The type and the value of each static field.
     pub statics: &'static [(u8, &'static [u8])],
-    /// The types of the fields that it declares.
+    /// The types of the fields that the class declares.
     pub fields: &'static [u8],
 }
 
 impl ClassParts {
-    /// A class with a superclass and these fields.
+    /// Creates a class with `superclass` and `fields`, and nothing else.
     pub(crate) fn plain(id: u64, superclass: u64, fields: &'static [u8]) -> ClassParts {
         ClassParts {
             id,

@@ -1,13 +1,13 @@
-//! Dumps that several crates test.
+//! Dumps that several crates use in tests.
 
 use crate::record::Record;
 use crate::sub::Sub;
 
-/// No object.
+/// A dump without objects: one empty heap dump.
 pub const NOTHING: &[Record] = &[Record::Heap(&[])];
 
 /// Two instances of a class with one field, which refer to each other. The first is a root. With identifiers of 4 bytes
-/// it has 174 bytes.
+/// the dump has 174 bytes.
 pub const TWO_OBJECTS: &[Record] = &[
     Record::Text(1, b"A"),
     Record::Load(0x100, 1),

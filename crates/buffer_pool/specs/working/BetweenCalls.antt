@@ -1,4 +1,4 @@
--- What ties a table to its setup, and what a worker is known to have.
+-- How a table fits its setup, and what a worker is known to have between two calls.
 use Rattle.std.specs.Prelude.{◌≡◌, ◌+◌, ◌<◌, ◌≤◌, [], Option, All}
 use Rattle.atomic_table.specs.Table.{Me}
 use Rattle.atomic_table.specs.Seated.{TableId}
@@ -14,7 +14,7 @@ use Rattle.buffer_pool.specs.working.Setups.{setup_of}
 use Rattle.buffer_pool.specs.working.Slots.{Carries}
 use Rattle.buffer_pool.specs.working.Views.{HasSaidAll}
 
--- the table has the words and slots of this setup, and roots and pairs are of objects
+-- the table has the words and slots of the setup, and roots and pairs are of objects
 pub record IsLaid (t : TableId) (e : Setup) : Type 0 where
   pub words : t.words ≡ 32 + e.buffers + mark_words e.objects
   pub slots : t.slots ≡ e.buffers
@@ -24,7 +24,7 @@ pub record IsLaid (t : TableId) (e : Setup) : Type 0 where
   pub roots : All (λ o. o < e.objects) e.roots
   pub pairs : All (λ p. (p.0 < e.objects) × (p.1 < e.objects)) e.pairs
 
--- what a worker's seat keeps between two calls
+-- the invariant of a worker's seat between two calls
 pub record IsSound {B : Type 0} (t : TableId) (m : Me (Option B) SeatView) : Type 0 where
   pub laid : IsLaid t m.0.book.setup
   pub share : 0 < m.0.book.account.share
@@ -33,7 +33,7 @@ pub record IsSound {B : Type 0} (t : TableId) (m : Me (Option B) SeatView) : Typ
   pub settled : HasSaidAll m.0
   pub story : LeadsToBook m.0.log m.0.book
 
--- a seat of this table, which is laid for the setup of its key
+-- a seat of the table, which is laid for the setup of its key
 pub record SitsAt
     {B P : Type 0} (words : Shared (Option B) SeatView Key P) (seat : Seat (Option B) SeatView) : Type 0 where
   pub same : seat.table_id ≡ words.table_id
@@ -44,7 +44,7 @@ pub record IsSameSeat {B : Type 0} (old new : Seat (Option B) SeatView) : Type 0
   pub table : new.table_id ≡ old.table_id
   pub number : new.id ≡ old.id
 
--- nothing is out
+-- no slot is out with the seat
 pub record IsBare {B : Type 0} (m : Me (Option B) SeatView) : Type 0 where
   pub slots : m.1 ≡ []
   pub out : m.0.out ≡ 0

@@ -1,4 +1,4 @@
--- How the pool's buffers are read.
+-- How clauses read the pool's buffers.
 use Rattle.buffer_pool.specs.declared.buffer.Buffer.{Buffer}
 use Rattle.buffer_pool.specs.working.Slots.{Reading}
 

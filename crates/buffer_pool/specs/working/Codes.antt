@@ -22,7 +22,7 @@ look_code =
     code_by (Option Head × Option (Option ℕ)) (coded× (coded_option head_code) (coded_option (coded_option coded_ℕ)))
     (λ l. (l.head, l.link)) (λ p. record { head = p.0; link = p.1 }) (λ _. refl)
 
--- the share and the open push, the lists, what was loaded last, and what is noted for going idle
+-- the share and the open push, the lists, what was loaded last, and the notes for going idle
 abbrev pub account_code : Coded Account
 account_code =
     code_by
@@ -105,7 +105,7 @@ same_stack Empty = refl
 abbrev pub which_code : Coded Which
 which_code = code_by Bool coded_bool is_full stack_of same_stack
 
--- the kinds that have a number alone, those that have a stack alone, and a store and a push
+-- the kinds that have only a number, those that have only a stack, and a store and a push
 abbrev Numbered : Type 0
 Numbered = (ℕ ⊎ ℕ) ⊎ (ℕ ⊎ ℕ)
 

@@ -1,14 +1,14 @@
--- How the marks of objects lie in words: those of 32 objects to a word, two bits each.
+-- The layout of marks in words: two bits for each object, 32 objects to a word.
 use Rattle.std.specs.Prelude.{ℕ, ◌+◌, ◌-◌, ◌*◌, ◌/◌, ◌%◌, ◌^◌, List, map, nat_lt, if◌then◌else◌, slice_index}
 use Rattle.std.specs.Int.{bit_at}
 use Rattle.std.specs.List.{range_with_len}
 
--- how many words the marks of so many objects take
+-- the number of words for the marks of n objects
 abbrev pub mark_words : ℕ → ℕ
 mark_words objects = (objects + 31) / 32
 
--- The mark that a pair of bits says, of the low bit and the high one: 00 is white, 01 claimed, 11 finished. The pair 10
--- is no mark: it is read as 3, which the colours leave no room for.
+-- the mark of a pair of bits, the low bit and the high one: 00 is white, 01 claimed, 11 finished. The pair 10 is no
+-- mark: it is read as 3, which is no colour
 abbrev pub mark_of : ℕ → ℕ → ℕ
 mark_of low high = low + high + 2 * (high - low)
 
@@ -16,18 +16,18 @@ mark_of low high = low + high + 2 * (high - low)
 abbrev pub pair_mark : ℕ → ℕ → ℕ
 pair_mark word pair = mark_of (bit_at word (2 * pair)) (bit_at word (2 * pair + 1))
 
--- the mark of an object, where the first word of marks is that one
+-- the mark of an object, given the first word of marks
 abbrev pub mark_in : List ℕ → ℕ → ℕ → ℕ
 mark_in words first o = pair_mark (slice_index words (first + o / 32)) (o % 32)
 
--- the marks of so many objects
+-- the marks of n objects
 abbrev pub marks_in : List ℕ → ℕ → ℕ → List ℕ
 marks_in words first objects = map (mark_in words first) (range_with_len 0 objects)
 
--- these two bits at an object's pair
+-- two bits, shifted to an object's pair
 abbrev pub pair_bits : ℕ → ℕ → ℕ
 pair_bits bits o = bits * 2 ^ (2 * (o % 32))
 
--- the marks of the objects alone
+-- the marks of the objects only: 0 for all other numbers
 abbrev pub cut_marks : ℕ → (ℕ → ℕ) → ℕ → ℕ
 cut_marks objects mark o = if nat_lt o objects then mark o else 0

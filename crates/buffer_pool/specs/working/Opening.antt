@@ -1,4 +1,4 @@
--- The words and slots of a pool that nobody has used.
+-- The words and slots of a new pool.
 use Rattle.std.specs.Prelude.{◌≡◌, ℕ, ◌+◌, ◌<◌, ◌≤◌, List, [], length, Option, Some, slice_index}
 use Rattle.tagged_index.specs.Head.{head_of}
 use Rattle.mark_core.specs.declared.which.Which.{Which}
@@ -6,8 +6,8 @@ use Rattle.mark_core.specs.Runs.{first_heads}
 use Rattle.buffer_pool.specs.working.Layout.{head_word, idle_word, link_word}
 use Rattle.buffer_pool.specs.working.Slots.{Reading}
 
--- the full stack has no buffer, each of the first buffers of the empty stack links to the next one, and every later
--- word is 0
+-- the full stack has no buffer, each of the first buffers of the empty stack links to the next one, and each later word
+-- is 0
 pub record HasFirstWords (count tag linked : ℕ) (words : List ℕ) : Type 0 where
   pub word_count : length words ≡ count
   pub heads : (q : Which) → head_of (slice_index words (head_word q)) ≡ first_heads tag q
@@ -15,6 +15,6 @@ pub record HasFirstWords (count tag linked : ℕ) (words : List ℕ) : Type 0 wh
   pub links : (i : ℕ) → i + 1 < linked → slice_index words (link_word i) ≡ i + 2
   pub rest : (k : ℕ) → 31 + linked ≤ k → slice_index words k ≡ 0
 
--- a slot with a buffer of this size that has no items
+-- a slot with a buffer of the given size that has no items
 abbrev pub IsFirstSlot : {B : Type 0} → Reading B → ℕ → Option B → Type 0
 IsFirstSlot {B} r size slot = (b : B) × (slot ≡ Some b) × (r.items b ≡ []) × (r.size b ≡ size)

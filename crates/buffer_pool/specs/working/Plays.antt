@@ -1,5 +1,5 @@
--- What each step on the table tells the worker that makes it: of the step, the seat before, the number found and the
--- seat after.
+-- The plays: what each step on the table says to the worker that makes it. Each relates the step, the seat before, the
+-- number found and the seat after.
 use Rattle.std.specs.Prelude.{Contains, ◌≡◌, ◌≢◌, ℕ, suc, ◌%◌, ◌<◌, ◌≤◌, true, false, List, [], ◌∷◌, ◌++◌, length}
 use Rattle.std.specs.Prelude.{Option, Some, None}
 use Rattle.atomic_table.specs.Table.{Me, Step}
@@ -23,16 +23,16 @@ use Rattle.buffer_pool.specs.working.MarkBits.{pair_bits, pair_mark}
 use Rattle.buffer_pool.specs.working.Layout.{head_word, link_word, mark_word}
 use Rattle.buffer_pool.specs.working.Slots.{Reading, free}
 
--- the seat between two calls, with this log and this book and no slot out
+-- the seat between two calls, with a log, a book and no slot out
 abbrev pub rested : {B : Type 0} → Me (Option B) SeatView → Log → Book → Me (Option B) SeatView
 rested m log b = (record (logged log (free m.0)) { book = b }, [])
 
--- a buffer of this setup: it takes as many items, and its items are objects
+-- a buffer of the setup: it takes as many items as the setup says, and its items are objects
 pub record IsOurs {B : Type 0} (r : Reading B) (e : Setup) (b : B) : Type 0 where
   pub size : r.size b ≡ e.size
   pub objects : (o : ℕ) → Contains (r.items b) o → o < e.objects
 
--- the seat may exchange the head `old` for the buffer b of number i, whose slot is out and has it
+-- the seat may exchange the head `old` for the buffer b of number i, whose slot is out and has b
 pub record CanPut
     {B : Type 0} (r : Reading B) (q : Which) (m : Me (Option B) SeatView) (old new i : ℕ) (b : B) : Type 0 where
   pub carried : m.1 ≡ (i, Some b) ∷ []
@@ -50,7 +50,7 @@ pub record CanPut
   pub fits : length (r.items b) ≤ m.0.book.setup.size
   pub busy : q ≡ Full → IsBusy m.0.book.account
 
--- the seat did just this, which its log tells after it
+-- the seat took exactly these steps, and its log has them afterwards
 abbrev pub SeatDid : {B : Type 0} → Me (Option B) SeatView → List Kind → Me (Option B) SeatView → Type 0
 SeatDid m kinds after = Did m.0.log kinds after.0.log
 
@@ -58,7 +58,7 @@ SeatDid m kinds after = Did m.0.log kinds after.0.log
 abbrev pub StoryLeads : {B : Type 0} → Me (Option B) SeatView → Type 0
 StoryLeads after = LeadsToBook after.0.log after.0.book
 
--- the seat rests with this book: its log tells just these events after it, and leads to the book
+-- the seat rests with the book: its log has exactly the new events after it, and leads to the book
 pub record RestsWith
     {B : Type 0} (m : Me (Option B) SeatView) (book : Book) (kinds : List Kind) (after : Me (Option B) SeatView)
     : Type 0 where
@@ -86,7 +86,7 @@ module _ {B : Type 0} where
       → (after ≡ (record (logged after.0.log m.0) { out = suc i; out_link = n }, (i, None) ∷ []))
       × SeatDid m (StoreLink i (index_of n) ∷ []) after × StoryLeads after
 
-  -- an exchange of a head for the link of its buffer i has won: the buffer comes out, and its slot has this value
+  -- an exchange of a head for the link of its buffer i has succeeded: the buffer's slot comes out, with its value
   pub record HasTaken
       (r : Reading B) (q : Which) (i : ℕ) (value : Option B) (m after : Me (Option B) SeatView) (b : B) : Type 0 where
     pub slots : after.1 ≡ (i, value) ∷ []
@@ -109,11 +109,11 @@ module _ {B : Type 0} where
       → (n ≡ st.first → (i : ℕ) → (head_of n).index ≡ Some i → (b : B) × HasTaken r q i (Some b) m after b)
       × ((n ≡ st.first → ⊥) → HasMissed q m after)
 
-  -- an exchange of a head for the buffer i has won: its slot goes home with it
+  -- an exchange of a head for the buffer i has succeeded: its slot goes home with it
   abbrev pub HasPushed : Which → ℕ → List ℕ → Me (Option B) SeatView → Me (Option B) SeatView → Type 0
   HasPushed q i items m after = RestsWith m (pushed q i items m.0.book) (Push q i items ∷ []) after
 
-  -- it has failed, and the slots that are out stay out
+  -- such an exchange has failed, and the slots that are out stay out
   abbrev pub HasKept : Which → List (ℕ × Option B) → Me (Option B) SeatView → Me (Option B) SeatView → Type 0
   HasKept q slots m after =
       (after ≡ (record (logged after.0.log m.0) { book = failed m.0.book }, slots)) × SeatDid m (Fail q ∷ []) after
@@ -157,8 +157,8 @@ module _ {B : Type 0} where
       × SeatDid m [] after
 
   -- The slot that was out went home, and the account has each thing once, all of it the pool's. The log is up to date:
-  -- it tells what was noted, and goes on from the story that was taken in. That story is another worker's, who did
-  -- nothing more where it was joined; and a worker that learns its number just now did nothing
+  -- it has the noted steps, and continues the story that was taken in. That story is another worker's, which did
+  -- nothing after it if it was joined. A worker that learns its number only now did nothing
   pub record IsUpToDate (m after : Me (Option B) SeatView) : Type 0 where
     pub same : after ≡ (logged after.0.log (free m.0), [])
     pub each : HasEachOnce m.0.book.account

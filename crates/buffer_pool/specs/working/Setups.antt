@@ -1,4 +1,4 @@
--- The setup that a key says, and the views at a start, a split and a join.
+-- The setup of a key, and the views at the opening, a split and a join.
 use Rattle.std.specs.Prelude.{true, false, [], ◌∷◌, ◌++◌, Some, None}
 use Rattle.mark_core.specs.Shares.{whole}
 use Rattle.mark_core.specs.World.{Setup}
@@ -38,14 +38,14 @@ view_with b =
 abbrev pub first_view : Setup → SeatView
 first_view e = record (view_with (new_book e whole)) { named = true }
 
--- what a worker keeps of a split, which it notes, and what it gives away
+-- what a worker keeps at a split, which it notes, and what it gives away
 abbrev pub kept_part : SeatView → SeatView
 kept_part v = record v { book = parted v.aside v.book; unsaid = v.unsaid ++ Split v.aside ∷ []; aside = 0 }
 
 abbrev pub given_part : SeatView → SeatView
 given_part v = record (view_with (new_book v.book.setup v.aside)) { taken = v.log.story; from = Some v.log.number }
 
--- what two workers put together have; the first one's slot and log stay as they are, and the join is noted
+-- what two joined workers have. The first one's slot and log stay as they are, and the join is noted
 abbrev pub joined_view : SeatView → SeatView → SeatView
 joined_view v w =
     record v {

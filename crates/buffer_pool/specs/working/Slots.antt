@@ -1,4 +1,4 @@
--- The slots of the pool's table, one for each buffer: which one is out with a seat, and what lies in the others.
+-- The slots of the pool's table, one for each buffer: which one is out with a seat, and what the others have.
 use Rattle.std.specs.Prelude.{◌≡◌, ℕ, zero, suc, ◌<◌, List, [], ◌∷◌, Option, Some, None, slice_index}
 use mathlib.Core.Option.{none, some}
 use mathlib.Core.Option as maybe
@@ -21,7 +21,7 @@ slots_of (suc i) = (i, None) ∷ []
 abbrev pub Carries : {B : Type 0} → Me (Option B) SeatView → Type 0
 Carries m = m.1 ≡ slots_of m.0.out
 
--- the view once that slot is at home
+-- the view after that slot went home
 abbrev pub free : SeatView → SeatView
 free v = record v { out = 0; out_link = 0 }
 
@@ -30,7 +30,7 @@ abbrev pub IsTied : List ℕ → SeatView → Type 0
 IsTied words v =
     (i : ℕ) → v.out ≡ suc i → (0 < times i v.book.account.held) × (slice_index words (link_word i) ≡ v.out_link)
 
--- the slot of every other held buffer lies at home, without its buffer
+-- the slot of each other held buffer is at home, without its buffer
 abbrev pub Rests : {B : Type 0} → List (maybe.Option (Option B)) → SeatView → Type 0
 Rests homes v = (i : ℕ) → 0 < times i v.book.account.held → (v.out ≡ suc i → ⊥) → get_elem? homes i ≡ some (some None)
 

@@ -18,7 +18,7 @@ use Rattle.buffer_pool.specs.working.MarkBits.{cut_marks, mark_in, mark_words}
 use Rattle.buffer_pool.specs.working.Layout.{first_mark, head_word, idle_word, link_word}
 use Rattle.buffer_pool.specs.working.Slots.{Reading, IsTied, Rests, slot_of}
 
--- the mark of each object in these words
+-- the mark of each object in the words
 abbrev pub marks_of : Setup → List ℕ → ℕ → ℕ
 marks_of e words = cut_marks e.objects (mark_in words (first_mark e))
 
@@ -30,7 +30,7 @@ account_of v = v.book.account
 abbrev pub view_counts : SeatView → Counts
 view_counts v = counts_of v.book
 
--- the links of the buffers alone
+-- the links of the buffers only: None for all other numbers
 abbrev pub cut : ℕ → (ℕ → Option ℕ) → ℕ → Option ℕ
 cut buffers link i = if nat_lt i buffers then link i else None
 
@@ -47,14 +47,14 @@ module _ {B : Type 0} (r : Reading B) where
         accounts = map account_of s.views;
       }
 
-  -- a list of events leads from the opening to the marking and to the counts in the views, and each log is a beginning
-  -- of it
+  -- a list of events leads from the opening to the marking and to the counts in the views, and each log is a prefix of
+  -- it
   pub record Reached (e : Setup) (s : State (Option B) SeatView) : Type 0 where
     pub events : List Event
     pub led : LeadTo e events (marking_of e s) (map view_counts s.views)
     pub views : AreViewsOf events s.views
 
-  -- what holds between any two steps: the run that led here, and what the code needs besides
+  -- the invariant between any two steps: the run that led here, and what the code needs besides
   pub record Rule (e : Setup) (s : State (Option B) SeatView) : Type 0 where
     pub word_count : length s.words ≡ 32 + e.buffers + mark_words e.objects
     pub slot_count : length s.homes ≡ e.buffers

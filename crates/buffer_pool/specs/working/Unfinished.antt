@@ -5,7 +5,7 @@ use Rattle.std.specs.Prelude.{List, length, slice_index, ℕ, ◌<◌, ◌≡◌
 abbrev pub AreFinishedBelow : List ℕ → ℕ → ℕ → Type 0
 AreFinishedBelow marks from to = (o : ℕ) → from ≤ o → o < to → o < length marks → slice_index marks o ≡ 2
 
--- those in front of this one are, and it is not, if it is an object
+-- the objects from one number on and below another are finished, and that other one is not, if it is an object
 pub record IsFirstUnfinished (marks : List ℕ) (from found : ℕ) : Type 0 where
   pub behind : from ≤ found
   pub before : AreFinishedBelow marks from found

@@ -5,7 +5,7 @@ use Rattle.mark_core.specs.Events.{Event, Join}
 use Rattle.buffer_pool.specs.declared.seat_view.SeatView.{SeatView}
 use Rattle.buffer_pool.specs.WorkerLog.{Log, LeadsToBook, deeds}
 
--- the worker n, whose story this is, did nothing more until another one took it in
+-- the worker n, whose story is given, did nothing after it until it was joined to another
 pub record IsTakenIn (events : List Event) (n : ℕ) (story : List Event) : Type 0 where
   pub quiet : List Event
   pub by : ℕ
@@ -14,28 +14,28 @@ pub record IsTakenIn (events : List Event) (n : ℕ) (story : List Event) : Type
   pub other : by ≢ n
   pub nothing : deeds n quiet ≡ []
 
--- the view of the worker w: its log is a beginning of the events
+-- the view of the worker w: its log is a prefix of the events
 pub record IsViewOf (events : List Event) (w : ℕ) (v : SeatView) : Type 0 where
   pub number : v.named ≡ true → v.log.number ≡ w
   pub since : List Event
   pub goes_on : events ≡ v.log.story ++ since
-  -- what it did since is a split or a join, and noted
+  -- its steps since then are splits and joins, and noted
   pub unsaid : deeds w since ≡ v.unsaid
-  -- the story that it took in is a beginning, too
+  -- the story that it took in is a prefix too
   pub taken : (more : List Event) × (events ≡ v.taken ++ more)
-  -- it is another's, who did nothing after it where it was taken in
+  -- it is another worker's, which did nothing after it if it was joined
   pub apart : (n : ℕ) → v.from ≡ Some n → n ≢ w
   pub ended : v.named ≡ true → (n : ℕ) → v.from ≡ Some n → IsTakenIn events n v.taken
   -- a worker that does not know its number did nothing
   pub fresh : v.named ≡ false → deeds w events ≡ []
-  -- its story leads to its book, where it has said all that it did
+  -- its story leads to its book, if it has no step left to say
   pub leads : v.named ≡ true → v.unsaid ≡ [] → LeadsToBook v.log v.book
 
--- so it is with each view that has a share
+-- each view that has a share is such a view
 abbrev pub AreViewsOf : List Event → List SeatView → Type 0
 AreViewsOf events views = (w : ℕ) (v : SeatView) → StandsAt views w v → 0 < v.book.account.share → IsViewOf events w v
 
--- the view once its log has these events, and nothing is left to say
+-- the view once its log has the events, and nothing is left to say
 abbrev pub logged : Log → SeatView → SeatView
 logged log v = record v { log = log; unsaid = []; taken = []; from = None; named = true }
 

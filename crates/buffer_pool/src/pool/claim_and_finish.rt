@@ -16,8 +16,9 @@ use crate::rules::{Token, Words};
 use crate::worker::Worker;
 use std::alloc::Allocator;
 
-/// Raises the mark of an object to claimed: true exactly where it was white. It writes also where the object was
-/// marked: a load in front has no operand, so its play could not know which of the 32 objects is meant.
+/// Raises the mark of `object` to claimed if it is lower, and returns whether it was white.
+// It writes also if the object was marked: a load before the step has no operand, so its play could not know which of
+// the 32 objects is meant.
 fn raise_to_claimed<A: Allocator>(
     words: &Words<A>,
     seat: &mut Token<A>,
@@ -43,7 +44,7 @@ fn raise_to_claimed<A: Allocator>(
     (word >> mark_place(object)) & CLAIMED == 0
 }
 
-/// Raises the mark of an object to finished.
+/// Raises the mark of `object` to finished.
 fn raise_to_finished<A: Allocator>(words: &Words<A>, seat: &mut Token<A>, buffers: u32, object: u32)
     requires table { SitsAt words.now seat.old }
     requires buffers { buffers ≡ words.now.key.buffers }
@@ -62,7 +63,7 @@ fn raise_to_finished<A: Allocator>(words: &Words<A>, seat: &mut Token<A>, buffer
 }
 
 impl<A: Allocator> Pool<A> {
-    /// Claims an object: true exactly where it was white. Then the worker answers for it. One atomic step;
+    /// Claims `object` and returns whether it was white. If it was, it joins the worker's charge. One atomic step that
     /// waits for nobody.
     pub fn claim(&self, worker: &mut Worker<A>, object: u32) -> bool
         requires pool { worker.old.pool ≡ self.now }
@@ -76,8 +77,8 @@ impl<A: Allocator> Pool<A> {
         raise_to_claimed(&self.table.shared, &mut worker.seat, self.buffers, object)
     }
 
-    /// Finishes an object that the worker answers for and of which it has seen each successor marked. One
-    /// atomic step; waits for nobody.
+    /// Finishes `object`, which is in the worker's charge and each successor of which the worker has seen marked. One
+    /// atomic step that waits for nobody.
     pub fn finish(&self, worker: &mut Worker<A>, object: u32)
         requires pool { worker.old.pool ≡ self.now }
         requires can { CanFinish worker.old.book.setup object worker.old.book.account }

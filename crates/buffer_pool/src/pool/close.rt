@@ -1,4 +1,4 @@
-//! How a marking is ended.
+//! The end of a marking.
 ghost use Rattle.std.specs.Prelude.{◌≡◌, []};
 ghost use Rattle.mark_core.specs.Shares.{whole};
 ghost use Rattle.buffer_pool.specs.Closing.{IsAtTheEnd, MarksTell};
@@ -11,8 +11,8 @@ use crate::worker::Worker;
 use std::alloc::Allocator;
 
 impl<A: Allocator> Pool<A> {
-    /// Ends the marking. The worker has the whole share, no buffer and no charge, so no other worker has
-    /// anything. The buffers are given back.
+    /// Ends the marking and returns the marks. `worker` has the whole share, no buffer and no charge, so no other
+    /// worker has anything. Frees the buffers.
     pub fn close(self, worker: Worker<A>) -> Marks<A>
         requires pool { worker.pool ≡ self }
         requires share { worker.book.account.share ≡ whole }

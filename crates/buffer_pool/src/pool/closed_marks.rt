@@ -13,12 +13,12 @@ use atomic_table::Closed;
 use std::alloc::Allocator;
 use std::marker::Model;
 
-/// Which objects were claimed and which were finished. No worker steps any more.
+/// The marks of the objects after the last step: which were claimed, and which were finished.
 pub struct Marks<A: Allocator> {
     pub(super) closed: Closed<Option<Buffer<A>>, A>,
     pub(super) first_mark: usize,
     pub(super) objects: u32,
-    /// How many objects are finished.
+    /// The number of finished objects.
     pub(super) finished: u64,
 }
 
@@ -39,7 +39,7 @@ impl<A: Allocator> Model for Marks<A> {
 }
 
 impl<A: Allocator> Marks<A> {
-    /// The marks in the words of a table that is closed and whose slots are empty: from this word on, to the last.
+    /// Creates the marks of a closed table with empty slots. They are its words from `first_mark` to the last.
     pub(super) fn of_words(
         closed: Closed<Option<Buffer<A>>, A>,
         first_mark: usize,
@@ -61,14 +61,14 @@ impl<A: Allocator> Marks<A> {
         }
     }
 
-    /// How many objects have marks.
+    /// Returns how many objects have marks.
     fn len(&self) -> u32
         ensures { result ≡ length self.now }
     {
         self.objects
     }
 
-    /// The word that has the mark of an object.
+    /// Returns the word that has the mark of `object`.
     fn word_of(&self, object: u32) -> u64
         requires { object < length self.now }
         ensures { (o : ℕ) → o / 32 ≡ object / 32 → o < length self.now
@@ -77,7 +77,7 @@ impl<A: Allocator> Marks<A> {
         self.closed.word(self.first_mark + object as usize / 32)
     }
 
-    /// The two bits of an object's mark.
+    /// Returns the two bits of the mark of `object`.
     fn bits(&self, object: u32) -> u64
         requires { object < length self.now }
         ensures few { result < 4 }
@@ -86,8 +86,8 @@ impl<A: Allocator> Marks<A> {
         (self.word_of(object) >> mark_place(object)) & 3
     }
 
-    /// The first object from this one on, of those that share its word, whose mark in it is not finished: it may stand
-    /// behind the last object.
+    /// Returns the first object from `object` on, of those that share its word, whose mark is not finished. It may be a
+    /// number beyond the last object.
     fn first_unfinished_of_word(&self, object: u32) -> Option<u32>
         requires { object < length self.now }
         ensures found { IfSome result (λ found. IsFirstUnfinished self.now object found) }
@@ -100,7 +100,7 @@ impl<A: Allocator> Marks<A> {
         Some(object + unfinished.trailing_zeros() / 2)
     }
 
-    /// Whether an object was claimed. A finished object was claimed, too.
+    /// Tests whether `object` was claimed. A finished object was claimed too.
     pub fn is_claimed(&self, object: u32) -> bool
         requires { object < length self.now }
         ensures { IsTrue result ↔ (1 ≤ slice_index self.now object) }
@@ -108,7 +108,7 @@ impl<A: Allocator> Marks<A> {
         self.bits(object) != 0
     }
 
-    /// Whether an object was finished.
+    /// Tests whether `object` was finished.
     pub fn is_finished(&self, object: u32) -> bool
         requires { object < length self.now }
         ensures { IsTrue result ↔ (slice_index self.now object ≡ 2) }
@@ -116,8 +116,8 @@ impl<A: Allocator> Marks<A> {
         self.bits(object) == 3
     }
 
-    /// The first object from this number on that was not finished: `None` where each of them was. A word of 32 marks
-    /// is looked at as a whole.
+    /// Returns the first object from number `from` on that was not finished, or `None` if each of them was. Reads a
+    /// word of 32 marks as a whole.
     pub fn next_unfinished(&self, from: u32) -> Option<u32>
         ensures { result ≡ find (λ o. not (slice_index self.now o == 2))
             (range_with_len from (length self.now - from)) }
@@ -134,8 +134,8 @@ impl<A: Allocator> Marks<A> {
         None
     }
 
-    /// How many objects were finished: 0 up to the number of objects. One that was claimed and not finished does not
-    /// count. The workers counted them, so no mark is read.
+    /// Returns how many objects were finished, 0 up to the number of objects. One that was claimed and not finished
+    /// does not count. The workers counted them, so no mark is read.
     pub fn finished_len(&self) -> u64
         ensures { result ≡ count_by (λ m. m == 2) self.now }
     {

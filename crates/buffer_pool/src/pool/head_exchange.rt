@@ -1,4 +1,4 @@
-//! The steps of a pop and of a push, each one atomic step on the table or one access to a slot that is out.
+//! The steps of a pop and of a push. Each is one atomic step on the table, or one access to a slot that is out.
 ghost use Rattle.std.specs.Prelude.{◌≡◌, ℕ, suc, ◌+◌, ◌<◌, ◌≤◌, [], ◌∷◌, Option, Some, None, MatchOption, MatchResult};
 ghost use Rattle.std.specs.Prelude.{Contains, length};
 ghost use Rattle.std.specs.Option.{ForSome};
@@ -27,7 +27,7 @@ use mark_core::Which;
 use std::alloc::Allocator;
 use tagged_index::HeadWord;
 
-/// Loads the head of a stack.
+/// Loads the head of a stack, and returns it.
 pub(crate) fn load_head<A: Allocator>(
     words: &Words<A>,
     seat: &mut Token<A>,
@@ -43,7 +43,7 @@ pub(crate) fn load_head<A: Allocator>(
     HeadWord::from_word(words.load::<SeeHead>(seat, head_word(which)))
 }
 
-/// Loads the link of the buffer that the head loaded last names.
+/// Loads the link of the buffer that the last loaded head names, and returns it.
 pub(crate) fn load_link<A: Allocator>(
     words: &Words<A>,
     seat: &mut Token<A>,
@@ -71,7 +71,7 @@ pub(crate) fn load_link<A: Allocator>(
     }
 }
 
-/// Exchanges the head for the next one, and takes the buffer that was on top. None where the head had changed.
+/// Exchanges the head for the next one, and takes the buffer that was on top. Returns `None` if the head had changed.
 pub(crate) fn take_top<A: Allocator>(
     words: &Words<A>,
     seat: &mut Token<A>,
@@ -101,7 +101,8 @@ pub(crate) fn take_top<A: Allocator>(
     Some(buffer)
 }
 
-/// The link word of a buffer before which this head stands: 0 where it has no index, else the index plus 1.
+/// Returns the link word of a buffer that is pushed before `head`: 0 if it has no index, and the index plus 1
+/// otherwise.
 fn link_to(head: HeadWord) -> u64
     ensures { result ≡ low_of head.index }
 {
@@ -134,7 +135,7 @@ pub(crate) fn store_link<A: Allocator>(
     words.store::<StoreLink>(seat, FIRST_LINK + index as usize, link_to(head));
 }
 
-/// Exchanges a head for the buffer whose slot is out. Answers the head found.
+/// Exchanges a head for the buffer whose slot is out, if it has not changed. Returns the head found.
 fn exchange_for_buffer<A: Allocator>(
     words: &Words<A>,
     seat: &mut Token<A>,
@@ -155,7 +156,7 @@ fn exchange_for_buffer<A: Allocator>(
     }
 }
 
-/// Exchanges the head for a held buffer whose link was stored. The buffer comes back where the head had changed.
+/// Exchanges the head for a held buffer whose link was stored. Returns the buffer if the head had changed.
 pub(crate) fn put_top<A: Allocator>(
     words: &Words<A>,
     seat: &mut Token<A>,

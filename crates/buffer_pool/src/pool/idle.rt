@@ -1,4 +1,4 @@
-//! Idle workers: each goes idle, comes back, and asks how many are.
+//! Idle workers: how a worker goes idle, comes back, and tests how many are idle.
 ghost use Rattle.std.specs.Prelude.{◌≡◌, ◌↔◌, ℕ, [], ◌∷◌, IsTrue};
 ghost use Rattle.mark_core.specs.Events.{CanIdle, CanWake, IdleDown, IdleUp, LoadIdle};
 ghost use Rattle.buffer_pool.specs.Book.{idle_loaded, idled, woken};
@@ -26,7 +26,7 @@ fn add_idle<A: Allocator>(words: &Words<A>, seat: &mut Token<A>)
     words.fetch_add::<GoIdle>(seat, IDLE, 1);
 }
 
-/// Takes one from the idle word.
+/// Subtracts one from the idle word.
 fn take_idle<A: Allocator>(words: &Words<A>, seat: &mut Token<A>)
     requires table { SitsAt words.now seat.old }
     requires sound { IsSound seat.old.table_id seat.old.me }
@@ -38,7 +38,7 @@ fn take_idle<A: Allocator>(words: &Words<A>, seat: &mut Token<A>)
     words.fetch_sub::<ComeBack>(seat, IDLE, 1);
 }
 
-/// Loads the idle word.
+/// Loads the idle word, and returns it.
 fn load_idle<A: Allocator>(words: &Words<A>, seat: &mut Token<A>) -> u64
     requires table { SitsAt words.now seat.old }
     requires sound { IsSound seat.old.table_id seat.old.me }
@@ -51,8 +51,8 @@ fn load_idle<A: Allocator>(words: &Words<A>, seat: &mut Token<A>) -> u64
 }
 
 impl<A: Allocator> Pool<A> {
-    /// Goes idle. The worker has one unit, answers for nothing, and has found the full stack empty since it was split
-    /// off and since its own last push there. One atomic step; waits for nobody.
+    /// Lets `worker` go idle. It has one unit and nothing in its charge, and it has found the full stack empty since it
+    /// was split off and since its own last push there. One atomic step that waits for nobody.
     pub fn idle_up(&self, worker: &mut Worker<A>)
         requires pool { worker.old.pool ≡ self.now }
         requires may { CanIdle worker.old.book.account }
@@ -63,7 +63,7 @@ impl<A: Allocator> Pool<A> {
         add_idle(&self.table.shared, &mut worker.seat);
     }
 
-    /// Comes back. The worker has one unit and is idle. One atomic step; waits for nobody.
+    /// Lets `worker` come back. It has one unit and is idle. One atomic step that waits for nobody.
     pub fn idle_down(&self, worker: &mut Worker<A>)
         requires pool { worker.old.pool ≡ self.now }
         requires may { CanWake worker.old.book.account }
@@ -74,11 +74,11 @@ impl<A: Allocator> Pool<A> {
         take_idle(&self.table.shared, &mut worker.seat);
     }
 
-    /// True exactly where the idle word that it loads is this number. One atomic step; waits for nobody.
+    /// Tests whether the idle word is `workers`. One atomic step that waits for nobody.
     ///
-    /// The worker's story then leads to a marking with this idle word. If besides no account was joined there, and the
-    /// opening one is busy, gave exactly so many units away and has pushed nothing on full since it first did, a true
-    /// answer means that nothing is left: `mark_core::all_runs_keep_law`, clause `quiet`.
+    /// The worker's story then leads to a marking with the idle word that it loaded. If also no account was joined
+    /// there, and the opening one is busy, gave exactly `workers` units away and has pushed nothing on full since it
+    /// first gave any, then `true` means that nothing is left: `mark_core::all_runs_keep_law`, clause `quiet`.
     pub fn all_idle(&self, worker: &mut Worker<A>, workers: u32) -> bool
         requires { worker.old.pool ≡ self.now }
         ensures pool { worker.new.pool ≡ worker.old.pool }

@@ -1,4 +1,4 @@
-//! The ranges of a pool's numbers, and why a pool was not made.
+//! The ranges of a pool's numbers, and the error of making one.
 ghost use Rattle.std.specs.Prelude.{◌≡◌, ◌↔◌, IsTrue};
 ghost use Rattle.buffer_pool.specs.Ranges.{IsInside};
 
@@ -15,10 +15,10 @@ pub const LEAST_BUFFERS: u32 = 4;
 /// The most buffers of a pool.
 pub const MOST_BUFFERS: u32 = 65_534;
 
-/// The fewest objects that a buffer can be made for.
+/// The smallest size of a buffer, in objects.
 pub const LEAST_SIZE: u32 = 2;
 
-/// The most objects that a buffer can be made for.
+/// The largest size of a buffer, in objects.
 pub const MOST_SIZE: u32 = 4096;
 
 /// Why a pool was not made.
@@ -27,7 +27,7 @@ pub enum PoolFault {
     /// A number is out of its range.
     #[error("an option is out of its range")]
     BadOptions,
-    /// A request for memory was refused.
+    /// An allocation failed.
     #[error("out of memory")]
     OutOfMemory,
 }
@@ -42,7 +42,7 @@ impl From<AllocError> for PoolFault {
     }
 }
 
-/// Whether a pool can be made with these numbers.
+/// Tests whether a pool may be made with these numbers.
 pub(super) fn is_inside(objects: u32, buffers: u32, size: u32, first_tag: u64) -> bool
     ensures { IsTrue result ↔ IsInside objects buffers size first_tag }
 {

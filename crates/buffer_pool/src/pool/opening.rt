@@ -1,4 +1,4 @@
-//! The words that a pool begins with.
+//! The words of a new pool.
 ghost use Rattle.std.specs.Prelude.{◌+◌, ◌<◌, ◌≤◌, IfOk};
 ghost use Rattle.buffer_pool.specs.working.Opening.{HasFirstWords};
 ghost use Rattle.buffer_pool.specs.working.MarkBits.{mark_words};
@@ -9,7 +9,7 @@ use mark_core::Which;
 use std::alloc::{AllocError, Allocator};
 use tagged_index::HeadWord;
 
-/// The words of a pool that nobody has used: all buffers on the empty stack, with buffer 0 on top, and all marks 0.
+/// Returns the words of a new pool: all buffers on the empty stack, with buffer 0 on top, and all marks 0.
 #[tactic(auto, using(crate::proofs::Starts::heads_alone, crate::proofs::Starts::link_laid))]
 pub(crate) fn first_words<A: Allocator>(
     alloc: A,

@@ -1,4 +1,4 @@
-//! How a worker's share is cut in two, and how two workers become one.
+//! How a worker's share is split in two, and how two workers are joined.
 ghost use Rattle.std.specs.Prelude.{◌≡◌, ◌≢◌, ℕ, ◌<◌, ◌≤◌, [], ◌∷◌};
 ghost use Rattle.mark_core.specs.Events.{Split, Join};
 ghost use Rattle.mark_core.specs.Lists.{times};
@@ -13,9 +13,10 @@ use crate::rules::{GivePart, TakeIn, Token, Words};
 use crate::worker::Worker;
 use std::alloc::Allocator;
 
-// A view changes only at a step on a word, and a split sees only the view: so the units are noted first, by
-// an exchange that changes nothing. Nor does it see what happened in the table: so each of the two tells the
-// split by a load of its own.
+/// Splits `units` units off the share of a seat, for a new seat.
+// A view changes only at a step on a word, and a split sees only the view. So the units are noted first, by an exchange
+// that changes nothing. Nor does a split see what happened in the table. So each of the two seats reports the split by
+// a load of its own.
 fn give_part<A: Allocator>(words: &Words<A>, seat: &mut Token<A>, units: u64) -> Token<A>
     requires table { seat.old.table_id ≡ words.now.table_id }
     requires sound { IsSound seat.old.table_id seat.old.me }
@@ -34,7 +35,8 @@ fn give_part<A: Allocator>(words: &Words<A>, seat: &mut Token<A>, units: u64) ->
     other
 }
 
-// The second seat's slot goes home before it is given up, and the last load tells that the two had nothing in common.
+/// Joins the seat `other` to `seat`.
+// The slot of `other` goes home before it is joined. The last load shows that the two had nothing in common.
 fn take_in<A: Allocator>(words: &Words<A>, seat: &mut Token<A>, mut other: Token<A>)
     requires table { (seat.old.table_id ≡ words.now.table_id) × (other.table_id ≡ words.now.table_id) }
     requires sound { IsSound seat.old.table_id seat.old.me × IsSound other.table_id other.me }
@@ -52,8 +54,8 @@ fn take_in<A: Allocator>(words: &Words<A>, seat: &mut Token<A>, mut other: Token
 }
 
 impl<A: Allocator> Pool<A> {
-    /// Gives units of a worker's share to a new worker, which has no buffer and answers for no object. The
-    /// first keeps all else.
+    /// Gives `units` units of a worker's share to a new worker, which has no buffer and no charge. The first worker
+    /// keeps everything else. Returns both.
     pub fn split(&self, worker: Worker<A>, units: u32) -> (Worker<A>, Worker<A>)
         requires pool { worker.pool ≡ self.now }
         requires units { (0 < units) × (units < worker.book.account.share) }
@@ -72,8 +74,8 @@ impl<A: Allocator> Pool<A> {
         (Worker { seat, finished }, newcomer)
     }
 
-    /// Puts two workers together: shares and counts are added, and so are buffers, charges, objects seen and
-    /// objects finished. What the first loaded of the stacks stays. They had nothing in common.
+    /// Joins `other` to `worker`: adds shares and counts, and buffers, charges, objects seen and objects finished. What
+    /// `worker` loaded of the stacks stays. The two had nothing in common.
     pub fn join(&self, worker: Worker<A>, other: Worker<A>) -> Worker<A>
         requires pool { (worker.pool ≡ self.now) × (other.pool ≡ self.now) }
         ensures together { result ≡ record worker { book = joined worker.book other.book; log = result.log } }

@@ -1,5 +1,6 @@
-//! The slots of the pool's table, one for each buffer: what they have at first, and how they are emptied at the end.
-//! `steps.rt` has what a step takes from a slot and puts there, `specs/working/Slots.antt` what lies where between two.
+//! The slots of the pool's table, one for each buffer: their first values, and how they are emptied at the end.
+//! `head_exchange.rt` has what a step takes from a slot and puts there. `specs/working/Slots.antt` says what they have
+//! between two steps.
 ghost use Rattle.std.specs.Prelude.{◌≡◌, ◌<◌, All, IfOk, length};
 ghost use Rattle.std.specs.Slots.{IsFull, slots_filled, slots_len};
 ghost use Rattle.buffer_pool.specs.Closing.{IsEmptied};
@@ -10,7 +11,7 @@ use crate::buffer::Buffer;
 use atomic_table::Closed;
 use std::alloc::{AllocError, Allocator};
 
-/// For each buffer a slot with it, without items.
+/// Creates a slot for each of `buffers` buffers, with that buffer, which has no items.
 pub(super) fn first_slots<A: Allocator + Copy>(
     alloc: A,
     buffers: u32,
@@ -26,7 +27,7 @@ pub(super) fn first_slots<A: Allocator + Copy>(
     Ok(slots)
 }
 
-/// Drops each buffer: no slot has one then.
+/// Drops each buffer. After it no slot has one.
 pub(super) fn empty_slots<A: Allocator>(closed: &mut Closed<Option<Buffer<A>>, A>)
     requires full { IsFull closed.old.slots }
     ensures words { closed.new.words ≡ closed.old.words }

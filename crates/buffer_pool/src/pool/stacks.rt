@@ -1,4 +1,4 @@
-//! The two stacks, as workers use them.
+//! The calls of workers on the two stacks.
 ghost use Rattle.std.specs.Prelude.{◌≡◌, ℕ, [], ◌∷◌, Option};
 ghost use Rattle.mark_core.specs.Events.{IsBusy, Load};
 ghost use Rattle.buffer_pool.specs.Calls.{MayPush, TriesPop, Pops, TriesPush, Pushes, Sees, ended};
@@ -18,7 +18,7 @@ use std::alloc::Allocator;
 use std::sync::Wait;
 
 impl<A: Allocator> Pool<A> {
-    /// True exactly where the head that it loads has no buffer. One atomic step; waits for nobody.
+    /// Loads the head of the stack `which` and tests whether it has no buffer. One atomic step that waits for nobody.
     pub fn sees_empty(&self, worker: &mut Worker<A>, which: Which) -> bool
         requires { worker.old.pool ≡ self.now }
         ensures pool { worker.new.pool ≡ worker.old.pool }
@@ -30,8 +30,8 @@ impl<A: Allocator> Pool<A> {
             .is_none()
     }
 
-    /// Tries once to take the buffer on top of a stack. Waits for nobody and takes no memory. An empty stack answers
-    /// `Empty` also at the last tag.
+    /// Tries once to take the buffer on top of the stack `which`. Waits for nobody and does not allocate. Returns
+    /// `Empty` for an empty stack also at the last tag.
     pub fn try_pop(&self, worker: &mut Worker<A>, which: Which) -> TryPopped<Held<A>>
         requires pool { worker.old.pool ≡ self.now }
         requires busy { IsBusy worker.old.book.account }
@@ -42,8 +42,8 @@ impl<A: Allocator> Pool<A> {
         try_pop(&self.table.shared, &mut worker.seat, which)
     }
 
-    /// Tries once to put a held buffer on a stack. Waits for nobody and takes no memory. Its items have to be
-    /// part of what the worker answers for; on the empty stack it has none.
+    /// Tries once to put a held buffer on the stack `which`. Waits for nobody and does not allocate. Its items are part
+    /// of the worker's charge, and on the empty stack it has none.
     pub fn try_push(
         &self,
         worker: &mut Worker<A>,
@@ -59,7 +59,7 @@ impl<A: Allocator> Pool<A> {
         try_push(&self.table.shared, &mut worker.seat, which, held)
     }
 
-    /// Tries to take the buffer on top of a stack until a try is not lost.
+    /// Tries to take the buffer on top of the stack `which` until a try is not lost.
     pub fn pop<R: Wait>(&self, rt: &R, worker: &mut Worker<A>, which: Which) -> Popped<Held<A>>
         requires pool { worker.old.pool ≡ self.now }
         requires busy { IsBusy worker.old.book.account }
@@ -79,8 +79,8 @@ impl<A: Allocator> Pool<A> {
         unreachable!()
     }
 
-    /// Tries to put a held buffer on a stack until a try is not lost. The buffer comes back where the stack's
-    /// last tag was loaded.
+    /// Tries to put a held buffer on the stack `which` until a try is not lost. Returns the buffer if the stack's last
+    /// tag was loaded.
     pub fn push<R: Wait>(
         &self,
         rt: &R,

@@ -1,4 +1,4 @@
-//! One try of a pop, as its steps in order.
+//! One try of a pop, step by step.
 ghost use Rattle.std.specs.Prelude.{◌≡◌};
 ghost use Rattle.mark_core.specs.Events.{IsBusy};
 ghost use Rattle.buffer_pool.specs.Calls.{TriesPop};
@@ -16,8 +16,9 @@ use std::alloc::Allocator;
 use tagged_index::LAST_TAG;
 
 /// Loads the head and its link, and exchanges the head for the link. The tag is tested first: a head with the last tag
-/// is exchanged no more, so its link serves nothing, and such a try has the same one event as a push has there.
-/// It is what `Pool::try_pop` does, over the words and the worker's seat: `Pool` and `Worker` are opened around it.
+/// is never exchanged again, so its link is of no use, and such a try has one event, as a push has there.
+///
+/// This is `Pool::try_pop` on the words and the worker's seat. `Pool` and `Worker` are opened around it.
 pub(crate) fn try_pop<A: Allocator>(
     words: &Words<A>,
     seat: &mut Token<A>,

@@ -1,4 +1,4 @@
-//! One try of a push, as its steps in order.
+//! One try of a push, step by step.
 ghost use Rattle.std.specs.Prelude.{◌≡◌, ℕ, Option};
 ghost use Rattle.buffer_pool.specs.Calls.{MayPush, TriesPush};
 ghost use Rattle.buffer_pool.specs.working.BetweenCalls.{IsSound, SitsAt};
@@ -13,8 +13,9 @@ use crate::rules::{Token, Words};
 use mark_core::Which;
 use std::alloc::Allocator;
 
-/// Loads the head, stores it as the buffer's link, and exchanges it for the buffer.
-/// It is what `Pool::try_push` does, over the words and the worker's seat: `Pool` and `Worker` are opened around it.
+/// Loads the head, stores its index as the buffer's link, and exchanges the head for the buffer.
+///
+/// This is `Pool::try_push` on the words and the worker's seat. `Pool` and `Worker` are opened around it.
 pub(crate) fn try_push<A: Allocator>(
     words: &Words<A>,
     seat: &mut Token<A>,

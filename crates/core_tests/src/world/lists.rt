@@ -9,7 +9,7 @@ use Which::{Empty, Full};
 use mark_core::{Kind, OutOfMemory, Which, World};
 use std::alloc::Allocator;
 
-/// What an account does, as a table has it: a buffer that is pushed has no items.
+/// A step of an account, as a row of a table has it. A buffer that is pushed has no items.
 #[derive(Clone, Copy, Drop)]
 pub enum Does {
     Claim(u32),
@@ -47,7 +47,7 @@ impl Does {
     }
 }
 
-/// The worlds that lists begin with.
+/// The opening worlds of the lists.
 #[derive(Clone, Copy, Drop)]
 pub enum Opening {
     /// Object 1 is a root. It leads to 0 and 2, and 2 leads to 0 and 1.
@@ -71,16 +71,16 @@ fn three_objects<A: Allocator + Copy>(alloc: A) -> Result<World<A>, OutOfMemory>
     World::new(alloc, 3, roots, pairs, 4, 2, 0)
 }
 
-/// An account, and what it does.
+/// An account and its steps.
 pub type Turn = (u32, &'static [Does]);
 
-/// A list of events: where it begins, and what accounts do in turn.
+/// A list of events: its opening world, and the turns of the accounts.
 pub type List = (Opening, &'static [Turn]);
 
-/// Pops the first buffer of the empty stack, undisturbed.
+/// Pops the first buffer of the empty stack, without another account's step in between.
 const POP_EMPTY: &[Does] = &[Load(Empty), LoadLink(Empty), Pop(Empty)];
 
-/// Pops the first buffer of the full stack, undisturbed.
+/// Pops the first buffer of the full stack, without another account's step in between.
 const POP_FULL: &[Does] = &[Load(Full), LoadLink(Full), Pop(Full)];
 
 pub const START: List = (ThreeObjects, &[]);
@@ -145,7 +145,7 @@ pub const OVERTAKEN: List = (
     ],
 );
 
-/// And account 0 finds another head.
+/// The same, and then account 0 finds another head.
 pub const FAILED: List = (
     NoObjects,
     &[
@@ -167,25 +167,25 @@ pub const LEADER_WAITS: List = (ThreeObjects, &[(0, &[Load(Full)])]);
 /// Account 1 has one unit, and has found the full stack empty.
 pub const ONE_WAITS: List = (ThreeObjects, &[(0, &[Split(1)]), (1, &[Load(Full)])]);
 
-/// It went idle.
+/// Account 1 has gone idle.
 pub const ONE_IDLE: List = (
     ThreeObjects,
     &[(0, &[Split(1)]), (1, &[Load(Full), IdleUp])],
 );
 
-/// It came back.
+/// Account 1 has gone idle and come back.
 pub const ONE_WOKEN: List = (
     ThreeObjects,
     &[(0, &[Split(1)]), (1, &[Load(Full), IdleUp, IdleDown])],
 );
 
-/// It has found the full stack empty, and then claimed the root.
+/// Account 1 has found the full stack empty, and then claimed the root.
 pub const ONE_CHARGED: List = (
     ThreeObjects,
     &[(0, &[Split(1)]), (1, &[Load(Full), Claim(1)])],
 );
 
-/// It has found the full stack empty, and then pushed there.
+/// Account 1 has found the full stack empty, and then pushed there.
 pub const ONE_PUSHED: List = (
     ThreeObjects,
     &[
@@ -196,7 +196,7 @@ pub const ONE_PUSHED: List = (
     ],
 );
 
-/// It has taken that buffer back, and found the stack empty again.
+/// Account 1 has popped that buffer again, and found the full stack empty once more.
 pub const ONE_LOOKED_AGAIN: List = (
     ThreeObjects,
     &[

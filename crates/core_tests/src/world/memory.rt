@@ -1,4 +1,4 @@
-//! Want of memory: each request of a replay is refused in turn, and what a world tells makes none.
+//! Tests of memory: each allocation of a replay fails in turn, and reading a world makes none.
 
 use super::lists::{ALL_FINISHED, List, OVERTAKEN};
 use super::{End, ends, replayed};
@@ -6,11 +6,11 @@ use limited_heap::LimitedHeap;
 use mark_core::OutOfMemory;
 use std::alloc::Global;
 
-/// Lists that take memory, and how they end.
+/// Lists that allocate, and how they end.
 static TAKING: [(List, End); 2] = [(OVERTAKEN, End::Overtaken), (ALL_FINISHED, End::Finished)];
 
-/// Whether a list ends so over this heap, or want of memory is told where the heap refused a request; and whether it
-/// refused none.
+/// Tests whether `list` ends as `end` on `heap`, or is out of memory and the heap refused a request. Returns that, and
+/// whether the heap refused none.
 fn is_right_or_told(heap: &LimitedHeap<Global>, list: &List, end: End) -> (bool, bool) {
     let right = match ends(heap, list, end) {
         Ok(right) => right,
@@ -19,27 +19,27 @@ fn is_right_or_told(heap: &LimitedHeap<Global>, list: &List, end: End) -> (bool,
     (right, heap.refusals() == 0)
 }
 
-/// How many requests the list takes where none is refused.
+/// Returns how many requests `list` makes if none is refused.
 fn requests_of(alloc: Global, list: &List, end: End) -> u64 {
     let heap = LimitedHeap::new(alloc, u64::MAX);
     let _right = is_right_or_told(&heap, list, end);
     u64::MAX.saturating_sub(heap.requests_left())
 }
 
-/// The same over a heap that grants so many requests.
+/// Like [`is_right_or_told`], on a heap that grants the first `requests` requests only.
 fn where_the_rest_is_refused(alloc: Global, requests: u64, list: &List, end: End) -> (bool, bool) {
     let heap = LimitedHeap::new(alloc, requests);
     is_right_or_told(&heap, list, end)
 }
 
-/// The same over a heap that refuses this request alone.
+/// Like [`is_right_or_told`], on a heap that refuses request number `request` only.
 fn where_one_is_refused(alloc: Global, request: u64, list: &List, end: End) -> (bool, bool) {
     let heap = LimitedHeap::refusing(alloc, request);
     is_right_or_told(&heap, list, end)
 }
 
-/// One heap serves a whole replay, so what a step takes is refused as well as what the world does: with all requests
-/// behind it, and alone.
+/// One heap serves a whole replay, so the allocations of a step are refused as well as those of the world: each with
+/// all later ones, and alone.
 #[test]
 fn each_request_may_be_refused(rt: HostRuntime) {
     let alloc = rt.alloc();
@@ -56,7 +56,7 @@ fn each_request_may_be_refused(rt: HostRuntime) {
     }
 }
 
-/// How many requests this heap has left behind a list, and whether the world is right.
+/// Returns how many requests `heap` has left after `list`, and whether the world is right.
 fn left_behind(
     heap: &LimitedHeap<Global>,
     list: &List,
@@ -68,15 +68,15 @@ fn left_behind(
     }
 }
 
-/// How many requests a heap that grants what the list takes has left behind it, whether the world is right, and how
-/// many requests were refused.
+/// Runs `list` on a heap that grants exactly as many requests as it makes. Returns how many are left after it, whether
+/// the world is right, and how many requests were refused.
 fn looked_at(alloc: Global, list: &List, end: End) -> Result<(u64, bool, u64), OutOfMemory> {
     let heap = LimitedHeap::new(alloc, requests_of(alloc, list, end));
     let (left, right) = left_behind(&heap, list, end)?;
     Ok((left, right, heap.refusals()))
 }
 
-/// What a world tells takes no memory: it is asked while each request would be refused.
+/// Reading a world makes no allocation: it is read while each request would be refused.
 #[test]
 fn looking_takes_no_memory(rt: HostRuntime) -> Result<(), OutOfMemory> {
     for (list, end) in &TAKING {

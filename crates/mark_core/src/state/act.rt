@@ -10,7 +10,7 @@ use crate::state::State;
 use std::alloc::Allocator;
 
 impl<A: Allocator + Copy> State<A> {
-    /// Does the event, where it is possible, and answers whether it was.
+    /// Makes `event` if it is possible, and returns whether it was.
     pub fn act(&mut self, alloc: A, event: Event<A>) -> Result<bool, OutOfMemory>
         requires { IsLawful self.old }
         ensures done { IfOk result (λ done. Steps self.old (event_of event) done self.new) }

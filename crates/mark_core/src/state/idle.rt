@@ -8,7 +8,7 @@ use crate::state::State;
 use std::alloc::Allocator;
 
 impl<A: Allocator> State<A> {
-    /// The account `w` goes idle, where it may.
+    /// Lets the account `w` go idle if it may, and returns whether it did.
     pub fn idle_up(&mut self, w: usize) -> bool
         requires { w < length self.old.accounts }
         ensures { Tries self.old w IdleUp result self.new }
@@ -21,7 +21,7 @@ impl<A: Allocator> State<A> {
         true
     }
 
-    /// The account `w` comes back, where it may.
+    /// Lets the account `w` come back if it may, and returns whether it did.
     pub fn idle_down(&mut self, w: usize) -> bool
         requires { w < length self.old.accounts }
         ensures { Tries self.old w IdleDown result self.new }
@@ -34,7 +34,7 @@ impl<A: Allocator> State<A> {
         true
     }
 
-    /// The account `w` loads the idle word.
+    /// Lets the account `w` load the idle word.
     pub fn load_idle(&mut self, w: usize)
         requires { w < length self.old.accounts }
         ensures { Tries self.old w LoadIdle true self.new }

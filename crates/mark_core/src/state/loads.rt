@@ -9,7 +9,7 @@ use crate::which::Which;
 use std::alloc::Allocator;
 
 impl<A: Allocator> State<A> {
-    /// The account `w` loads the head of a stack.
+    /// Lets the account `w` load the head of the stack `which`.
     pub fn load(&mut self, w: usize, which: Which)
         requires { w < length self.old.accounts }
         ensures { Tries self.old w (Load which) true self.new }
@@ -18,7 +18,8 @@ impl<A: Allocator> State<A> {
         self.accounts[w].load(which, head);
     }
 
-    /// The account `w` loads the link of the buffer that its last head of a stack names, where it may.
+    /// Lets the account `w` load the link of the buffer that its last loaded head of the stack `which` names, if it
+    /// may, and returns whether it did.
     pub fn load_link(&mut self, w: usize, which: Which) -> bool
         requires { w < length self.old.accounts }
         ensures { Tries self.old w (LoadLink which) result self.new }
@@ -31,7 +32,7 @@ impl<A: Allocator> State<A> {
         true
     }
 
-    /// Whether an exchange of the head of a stack by the account `w` may fail. It changes nothing.
+    /// Tests whether an exchange of the head of the stack `which` by the account `w` may fail. Changes nothing.
     pub fn fail(&mut self, w: usize, which: Which) -> bool
         requires { w < length self.old.accounts }
         ensures { Tries self.old w (Fail which) result self.new }

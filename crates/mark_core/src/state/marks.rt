@@ -9,7 +9,7 @@ use crate::state::State;
 use std::alloc::Allocator;
 
 impl<A: Allocator> State<A> {
-    /// The account `w` claims an object, where it may.
+    /// Lets the account `w` claim `object` if it may, and returns whether it did.
     pub fn claim(&mut self, w: usize, object: u32) -> Result<bool, OutOfMemory>
         requires there { w < length self.old.accounts }
         requires lawful { IsLawful self.old }
@@ -24,7 +24,7 @@ impl<A: Allocator> State<A> {
         Ok(true)
     }
 
-    /// The account `w` finishes an object, where it may.
+    /// Lets the account `w` finish `object` if it may, and returns whether it did.
     pub fn finish(&mut self, w: usize, object: u32) -> Result<bool, OutOfMemory>
         requires there { w < length self.old.accounts }
         requires lawful { IsLawful self.old }
@@ -40,7 +40,7 @@ impl<A: Allocator> State<A> {
     }
 }
 
-/// Raises the mark of an object to this one, where it is lower, and answers what it was.
+/// Raises the mark of `object` to `mark` if it is lower, and returns the old mark.
 fn fetch_max<A: Allocator>(marks: &mut Vec<u8, A>, object: usize, mark: u8) -> u8
     requires { object < vec_len marks.old }
     ensures found { result ≡ slice_index marks.old.items object }

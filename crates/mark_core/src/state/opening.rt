@@ -1,4 +1,4 @@
-//! The tables at the beginning.
+//! The tables at the opening.
 
 ghost use Rattle.std.specs.Prelude.{◌≡◌, ◌<◌, ◌≤◌, ℕ, Some, None, [], IfOk, replicate, length};
 ghost use Rattle.std.specs.Prelude.{slice_index_or};
@@ -13,12 +13,12 @@ use crate::state::State;
 use std::alloc::Allocator;
 use tagged_index::{HeadWord, LAST_TAG};
 
-/// All units together, which the first account has at the beginning.
+/// All units together. The first account has them at the opening.
 const WHOLE: u32 = 65_536;
 
 impl<A: Allocator + Copy> State<A> {
-    /// The tables of a marking that begins: all objects are white, all buffers are on the empty stack with 0 on top,
-    /// and one account has the whole share.
+    /// Creates the tables of an opening marking: all objects are white, all buffers are on the empty stack with 0 on
+    /// top, and one account has the whole share.
     pub fn opening(alloc: A, setup: Setup<A>) -> Result<Self, OutOfMemory>
         requires { setup.first_tag ≤ LAST_TAG }
         ensures marking { IfOk result (λ s. marking_of s ≡ opening setup setup.first_tag) }
@@ -46,7 +46,7 @@ impl<A: Allocator + Copy> State<A> {
     }
 }
 
-/// The links of all buffers at the beginning.
+/// Returns the links of all buffers at the opening.
 fn links_of<A: Allocator>(alloc: A, buffers: u32) -> Result<Vec<Option<u32>, A>, OutOfMemory>
     ensures len { IfOk result (λ links. length links.items ≡ buffers) }
     ensures links { IfOk result (λ links. (i : ℕ) → slice_index_or links.items i None ≡ first_link buffers i) }
@@ -58,7 +58,7 @@ fn links_of<A: Allocator>(alloc: A, buffers: u32) -> Result<Vec<Option<u32>, A>,
     Ok(links)
 }
 
-/// The link of a buffer at the beginning: the next number, while there is one.
+/// Returns the link of `buffer` at the opening: the next number, or `None` for the last buffer.
 fn link_of(buffer: u32, buffers: u32) -> Option<u32>
     requires { buffer < buffers }
     ensures { result ≡ first_link buffers buffer }
@@ -67,7 +67,7 @@ fn link_of(buffer: u32, buffers: u32) -> Option<u32>
     if next < buffers { Some(next) } else { None }
 }
 
-/// The slots of all buffers at the beginning: each has its buffer, without items.
+/// Returns the slots of all buffers at the opening: each has its buffer, without items.
 fn slots_of<A: Allocator + Copy>(
     alloc: A,
     buffers: u32,

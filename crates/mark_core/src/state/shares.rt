@@ -10,11 +10,11 @@ use crate::state::State;
 use std::alloc::Allocator;
 use std::mem;
 
-/// The most accounts that have a number.
+/// The most accounts that can have a number.
 const MOST_ACCOUNTS: usize = 4_294_967_295;
 
 impl<A: Allocator> State<A> {
-    /// Whether there is a number for one more account.
+    /// Tests whether there is a number for one more account.
     pub fn has_number(&self) -> bool
         ensures { IsTrue result ↔ (length self.now.accounts < 4294967295) }
     {
@@ -23,7 +23,7 @@ impl<A: Allocator> State<A> {
 }
 
 impl<A: Allocator + Copy> State<A> {
-    /// The account `w` gives units to a new account, where it may.
+    /// Lets the account `w` give `units` units to a new account if it may, and returns whether it did.
     pub fn split(&mut self, alloc: A, w: usize, units: u32) -> Result<bool, OutOfMemory>
         requires { w < length self.old.accounts }
         ensures done { IfOk result (λ done. Tries self.old w (Split units) done self.new) }
@@ -37,7 +37,7 @@ impl<A: Allocator + Copy> State<A> {
         Ok(true)
     }
 
-    /// The account `w` takes another one in, where it may.
+    /// Joins the account `other` to the account `w` if it may, and returns whether it did.
     pub fn join(&mut self, alloc: A, w: usize, other: u32) -> Result<bool, OutOfMemory>
         requires there { w < length self.old.accounts }
         requires lawful { IsLawful self.old }

@@ -14,7 +14,7 @@ use std::alloc::Allocator;
 use tagged_index::{LAST_INDEX, LAST_TAG};
 
 impl<A: Allocator> State<A> {
-    /// The account `w` stores the link of a buffer, where it may.
+    /// Lets the account `w` store `link` at `buffer` if it may, and returns whether it did.
     pub fn store_link(&mut self, w: usize, buffer: u32, link: Option<u32>) -> bool
         requires there { w < length self.old.accounts }
         requires lawful { IsLawful self.old }
@@ -27,7 +27,8 @@ impl<A: Allocator> State<A> {
         true
     }
 
-    /// The account `w` exchanges the head of a stack for the link that it loaded, where it may.
+    /// Lets the account `w` exchange the head of the stack `which` for the link that it loaded, if it may, and returns
+    /// whether it did.
     pub fn pop(&mut self, w: usize, which: Which) -> Result<bool, OutOfMemory>
         requires there { w < length self.old.accounts }
         requires lawful { IsLawful self.old }
@@ -49,7 +50,7 @@ impl<A: Allocator> State<A> {
         let Some(link) = look.link() else {
             return Ok(false);
         };
-        // Before memory is asked for, so that want of memory is told of a possible pop alone.
+        // Before any allocation, so that only a possible pop can run out of memory.
         if now.tag() == LAST_TAG {
             return Ok(false);
         }
@@ -58,7 +59,8 @@ impl<A: Allocator> State<A> {
         Ok(self.exchange(which, link))
     }
 
-    /// The account `w` exchanges the head of a stack for a buffer with these items, where it may.
+    /// Lets the account `w` exchange the head of the stack `which` for `buffer` with `items`, if it may, and returns
+    /// whether it did.
     pub fn push(&mut self, w: usize, which: Which, buffer: u32, items: Numbers<A>) -> bool
         requires there { w < length self.old.accounts }
         requires lawful { IsLawful self.old }
@@ -74,7 +76,7 @@ impl<A: Allocator> State<A> {
         self.exchange(which, Some(buffer))
     }
 
-    /// Exchanges the head of a stack for this index with the next tag, and answers whether there is a next tag.
+    /// Exchanges the head of the stack `which` for `index` with the next tag, and returns whether there is a next tag.
     fn exchange(&mut self, which: Which, index: Option<u32>) -> bool
         requires { ForSome index (λ i. i ≤ LAST_INDEX) }
         ensures low { IsTrue result ↔ ((heads_of self.old which).tag < LAST_TAG) }
@@ -89,7 +91,8 @@ impl<A: Allocator> State<A> {
         }
     }
 
-    /// What a push asks besides that the items are part of the charge, and that the tag is not the last.
+    /// Tests whether the account `w` may push `buffer` with `items`, but for two conditions: that the items are part of
+    /// its charge, and that the tag is not the last.
     fn may_push(&self, w: usize, which: Which, buffer: u32, items: &Numbers<A>) -> bool
         requires { w < length self.now.accounts }
         ensures { IsTrue result ↔ IsReadyToPush self.now w which buffer items.now }
@@ -111,7 +114,7 @@ impl<A: Allocator> State<A> {
         self.links_to(buffer, now.index())
     }
 
-    /// Whether the buffer's link is this one.
+    /// Tests whether the link of `buffer` is `next`.
     fn links_to(&self, buffer: u32, next: Option<u32>) -> bool
         ensures { IsTrue result ↔ (slice_index_or self.now.links buffer None ≡ next) }
     {

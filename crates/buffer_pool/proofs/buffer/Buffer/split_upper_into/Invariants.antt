@@ -1,4 +1,4 @@
--- What was moved so far are the objects from the lower half on.
+-- The objects moved so far are those after the lower half.
 use Rattle.std.proofs.Common.{◌≡◌, ◌+◌, ◌-◌, vec_len, take, drop}
 use Rattle.buffer_pool.proofs.buffer.Buffer.split_upper_into.Given as goal
 

@@ -1,4 +1,4 @@
--- The marks in the words are those of the last marking. Of them as many are finished as the worker's list is long,
+-- The marks in the words are those of the last marking. As many of them are finished as the worker's list is long,
 -- since it has each finished object once.
 use Rattle.std.proofs.Common.{◌≡◌, ◌==◌, ◌∙◌, ℕ, ◌+◌, List, ap, arith, count_by, subst, sym}
 use Rattle.std.specs.Slots.{IsFull, slots_items}

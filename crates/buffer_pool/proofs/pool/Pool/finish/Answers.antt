@@ -1,4 +1,4 @@
--- What the worker's value says of its account, its seat has. It has finished few objects, so one more can be counted.
+-- The worker's account is its seat's. It has finished few objects, so one more can be counted.
 use Rattle.buffer_pool.proofs.Words.{CanFinish, Holder, arith, subst, sym}
 use Rattle.buffer_pool.proofs.Few.{small_count}
 use Rattle.buffer_pool.proofs.pool.Pool.finish.Goals as goal

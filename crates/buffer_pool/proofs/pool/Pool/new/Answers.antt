@@ -1,5 +1,5 @@
 -- The words and buffers are those of an opening, and the first worker finished nothing. The first tag is named nowhere
--- here: that it is the one asked for is what the clause has to find.
+-- here: the clause has to find that it is the one asked for.
 use Rattle.buffer_pool.proofs.Words.{All, Buffer, HasFirstWords, IsInside, IsLaid, IsSound, Key, Me, Option, SeatView}
 use Rattle.buffer_pool.proofs.Words.{ap, arith, buffer_reading, length, mark_words, setup_of, subst, sym, ℕ, ◌+◌, ◌<◌}
 use Rattle.buffer_pool.proofs.Starts.{starts, laid_first, sound_first}

@@ -1,4 +1,4 @@
--- So far the tries were lost, and the worker did those alone.
+-- So far all tries were lost, and the worker did nothing else.
 use Rattle.buffer_pool.proofs.Words.{Did, IsBusy, LostPops, lost_pops, ℕ, ◌≡◌}
 use Rattle.buffer_pool.proofs.pool.Pool.pop.Given as goal
 

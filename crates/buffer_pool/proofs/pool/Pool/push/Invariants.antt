@@ -1,4 +1,4 @@
--- So far the tries were lost, the buffer came back, and the worker did those tries alone.
+-- So far all tries were lost, each returned the buffer, and the worker did nothing else.
 use Rattle.buffer_pool.proofs.Words.{Did, List, LostPushes, MayPush, Option, lost_pushes, ℕ, ◌≡◌}
 use Rattle.buffer_pool.proofs.pool.Pool.push.Given as goal
 

@@ -1,4 +1,4 @@
--- A load of a head keeps the rule, and tells the head.
+-- A load of a head keeps the rule, and returns the head.
 use Rattle.buffer_pool.proofs.Words.{Allows, Head, Load, RestsWith, Rule, Some, [], arith, buffer_reading, head_seen}
 use Rattle.buffer_pool.proofs.Words.{loaded, none, setup_of, step, subst, sym, ℕ, ◌<◌, ◌∷◌, ◌≡◌}
 use Rattle.buffer_pool.proofs.Loads.{sees_head}

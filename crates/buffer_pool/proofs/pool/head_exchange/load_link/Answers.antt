@@ -1,4 +1,4 @@
--- A load of a link keeps the rule, and tells the link of the last head's buffer.
+-- A load of a link keeps the rule, and returns the link of the last head's buffer.
 use Rattle.buffer_pool.proofs.Words.{Full, Empty, buffer_reading}
 use Rattle.buffer_pool.proofs.Loads.{may_see_link}
 use Rattle.buffer_pool.proofs.pool.head_exchange.load_link.Goals as goal

@@ -1,4 +1,4 @@
--- The slot carries the buffer into the exchange, and out of it where it failed.
+-- The slot carries the buffer into the exchange, and out of it if it failed.
 use Rattle.std.proofs.Common.{◌≡◌, suc, ◌<◌, arith, sym, subst, ap, ◌∙◌, Option, Some, Contains, refl}
 use Rattle.buffer_pool.proofs.Words.{Head, index_of, after, last_tag, index_of-low_of, stands_times, buffer_reading}
 use Rattle.buffer_pool.proofs.Words.{IsPart, HeldBuffer, CanPut}

@@ -1,4 +1,4 @@
--- The links before this number are laid.
+-- The links of the buffers before this one are laid.
 use Rattle.buffer_pool.proofs.Words.{HasFirstWords, ◌<◌}
 use Rattle.buffer_pool.proofs.pool.opening.first_words.Given as goal
 

@@ -2,7 +2,7 @@
 use Rattle.std.proofs.Common.{◌∙◌, ap, refl, sym, Option, arith}
 use Rattle.buffer_pool.proofs.Words.{Me, TableId, Buffer, SeatView, buffer_reading, setup_of, Log}
 use Rattle.buffer_pool.proofs.Loads.{sets_aside, settles}
-use Rattle.buffer_pool.proofs.Parts.{noted_units, splits, kept_may, given_may, keeps_part, has_part}
+use Rattle.buffer_pool.proofs.SplitsAndJoins.{noted_units, splits, kept_may, given_may, keeps_part, has_part}
 use Rattle.buffer_pool.proofs.pool.shares.give_part.Given as given
 use Rattle.buffer_pool.proofs.pool.shares.give_part.Goals as goal
 

@@ -2,7 +2,7 @@
 use Rattle.buffer_pool.proofs.Words.{AreApart, Buffer, HasEachOnce, IsSound, Me, Option, SeatView, TableId, after_join}
 use Rattle.buffer_pool.proofs.Words.{ap, arith, buffer_reading, setup_of, subst, sym, times, ◌∙◌}
 use Rattle.buffer_pool.proofs.Loads.{settles}
-use Rattle.buffer_pool.proofs.Parts.{apart_by, carries_joined, has_joined, joins}
+use Rattle.buffer_pool.proofs.SplitsAndJoins.{apart_by, carries_joined, has_joined, joins}
 use Rattle.buffer_pool.proofs.pool.shares.take_in.Given as given
 use Rattle.buffer_pool.proofs.pool.shares.take_in.Goals as goal
 

@@ -1,4 +1,4 @@
--- Each slot so far has its buffer.
+-- Each slot made so far has its buffer.
 use Rattle.std.proofs.Common.{◌≡◌, ◌-◌, ◌≤◌, All, vec_len, vec_capacity}
 use Rattle.buffer_pool.proofs.Words.{buffer_reading, IsFirstSlot}
 use Rattle.buffer_pool.proofs.pool.slots.first_slots.Given as goal

@@ -1,4 +1,4 @@
--- What the seat keeps is kept at each step and at each end.
+-- The seat's invariant holds after each step and at each end.
 use Rattle.buffer_pool.proofs.Words.{Fail, IsSound, Load, LoadLink, Pop, Setup, failed, refl, subst, sym, ◌<◌, ◌∙◌, ◌≡◌}
 use Rattle.buffer_pool.proofs.Loads.{is_loaded}
 use Rattle.buffer_pool.proofs.Deeds.{did_three}

@@ -1,4 +1,4 @@
--- What the seat keeps is kept at each step and at each end.
+-- The seat's invariant holds after each step and at each end.
 use Rattle.buffer_pool.proofs.Words.{Did, HeldBuffer, IsPart, IsSound, Kind, Log, Option, [], ap, arith, failed, loaded}
 use Rattle.buffer_pool.proofs.Words.{low_of, refl, stands_times, subst, suc, sym, times, ℕ, ◌<◌, ◌∙◌, ◌∷◌, ◌≡◌}
 use Rattle.buffer_pool.proofs.Loads.{is_loaded}

@@ -1,5 +1,4 @@
--- A seat that is sound has a story that leads to its book, and lies in a pool whose roots and references are of
--- objects.
+-- A sound seat has a story that leads to its book, and is of a pool whose roots and references are of objects.
 use Rattle.buffer_pool.proofs.Words.{Holder, length, subst, times, ℕ, ◌≤◌}
 use Rattle.buffer_pool.proofs.Few.{few_finished, once_finished}
 use Rattle.buffer_pool.proofs.worker.Worker.recall_few_finished.Goals as goal

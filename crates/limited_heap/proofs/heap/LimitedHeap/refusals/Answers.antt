@@ -1,4 +1,4 @@
--- At most one is refused where one is refused alone: the quota's own clause, with "alone" read from the number.
+-- At most one request is refused if only one is to be: the quota's own clause, with "only one" read from the number.
 use Rattle.std.proofs.Common.{◌≡◌, ℕ, Bool, true, false, Some, refl}
 use Rattle.std.proofs.lemmas.Option.{none-some}
 use Rattle.limited_heap.specs.Limit.{alone_of}

@@ -1,4 +1,4 @@
--- Any thread may give a block back, where any may give one to the allocator behind.
+-- Any thread may free a block if any thread may free one of the inner allocator's.
 use mir.Syntax.{Dict}
 use denote.RattleType.{RattleType}
 use denote.Param.Send.{Frees}

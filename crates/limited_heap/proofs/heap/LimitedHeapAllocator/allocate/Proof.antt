@@ -1,5 +1,5 @@
--- It asks the quota first. Where the request is granted it answers what the allocator behind answers, else `Err`.
--- Assumes `Logic`.
+-- It counts the request first. It returns what the inner allocator returns if the request is granted, and `Err`
+-- otherwise. Assumes `Logic`.
 use Rattle.std.proofs.Common.{◌≡◌, ℕ, ◌+◌, ◌^◌, ◌<◌, Bool, true, false, List, [], ◌∷◌, Ok, Err, refl, sym, subst, T}
 use Rattle.std.proofs.Common.{w64, Bor}
 use seplogic.Ra.Ura.{Ura}
@@ -133,7 +133,7 @@ module _ (Z : Al) {M : Type 1} {𝓤 : Ura M} (𝓛 : Logic 𝓤) (at_mem : Memo
         move ! (1 ∷ []) $ split ! $ heard ! (κ₂ ⊑ Z.row.lives) (λ le. heard ! Said (λ said.
         split ! $ split ! $ move ! (2 ∷ []) $ fsplit ! $ fsplit ! $ move ! (1 ∷ []) $ unhide ! $ fsplit ! $ fsplit ! $
         use1 𝓛 (‵ (seen Z κ₁ p h)) (id⊢ 𝓤 _) $ move ! (1 ∷ []) $ fsplit ! $ keep ! (0 ∷ 6 ∷ 2 ∷ 7 ∷ []) $
-        -- [the `&` to the quota; κ₁'s token; the `&` to the allocator behind; κ₂'s]
+        -- [the `&` to the quota; κ₁'s token; the `&` to the inner allocator; κ₂'s]
         enter ! 𝓣.C 𝓣.Λ (here Z) vs _ $
         alloc_all ! (λ l. pass_all ! refl
         ((tt, tt), ((tt, record { fits = fn }), ((tt, record { fits = fa }), tt))) $

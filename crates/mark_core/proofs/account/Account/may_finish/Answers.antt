@@ -1,4 +1,4 @@
--- An object of the charge may be finished where all its successors were seen, and only there.
+-- An object of the charge may be finished if all its successors were seen, and only then.
 use Rattle.std.proofs.Common.{refl}
 use Rattle.mark_core.proofs.account.Account.may_finish.Goals as goal
 

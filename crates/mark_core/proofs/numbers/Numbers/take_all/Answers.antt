@@ -1,4 +1,4 @@
--- A number that is there is taken. One that is not shows that the numbers are no part of the list.
+-- A number that is in the list is removed. One that is missing shows that the numbers are no part of the list.
 use Rattle.std.proofs.Common.{refl, arith}
 use Rattle.mark_core.proofs.Taking.{takes_more, takes_stop, false_is_not_true}
 use Rattle.mark_core.proofs.numbers.Numbers.take_all.Goals as goal

@@ -1,4 +1,4 @@
--- To take the numbers to come out of what is left is to take all of them out of the list.
+-- Removing the remaining numbers from what is left is the same as removing all of them from the list.
 use Rattle.std.proofs.Common.{drop}
 use Rattle.mark_core.proofs.Taking.{Takes}
 use Rattle.mark_core.proofs.numbers.Numbers.take_all.Given as goal

@@ -1,4 +1,4 @@
--- What the object refers to by the pairs before this one was seen.
+-- The successors of the object by the pairs before this one were seen.
 use Rattle.std.proofs.Common.{◌≡◌, ℕ, ◌<◌, get_or, Contains}
 use Rattle.mark_core.proofs.setup.Setup.has_successors_in.Given as goal
 

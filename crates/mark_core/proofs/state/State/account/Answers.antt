@@ -1,4 +1,4 @@
--- The account that is looked up is the one that the tables have at this number; where none is, there is no such number.
+-- The account looked up is the one that the tables have at this number. If there is none, the number is out of range.
 use Rattle.std.proofs.Common.{◌<◌, ap, refl, sym, subst, ◌∙◌}
 use Rattle.std.proofs.lemmas.Bool.{false≢true}
 use Rattle.mark_core.proofs.Words.{Account, Listing}

@@ -1,4 +1,4 @@
--- An object that may be claimed has a mark, since the state is lawful: what was found there says which claim it is.
+-- An object that may be claimed has a mark, since the state is lawful. The mark found says which claim it is.
 use Rattle.std.proofs.Common.{sym, subst, refl}
 use Rattle.mark_core.proofs.Words.{Account, CanClaim, IsBusy, IsLawful}
 use Rattle.mark_core.proofs.Steps.{always}

@@ -1,4 +1,4 @@
--- The account that is looked up is the one that the tables have at this number.
+-- The account looked up is the one that the tables have at this number.
 use Rattle.std.proofs.Common.{◌<◌, ap, sym, subst, ◌∙◌}
 use Rattle.mark_core.proofs.Words.{Account, Listing}
 use Rattle.mark_core.proofs.Looked.{is_of}

@@ -1,4 +1,4 @@
--- What is asked one by one, of the head, the hold, the items, the stack and the link, is all that is asked of a push.
+-- The tests, of the head, the hold, the items, the stack and the link, are together what a push requires.
 use Rattle.std.proofs.Common.{sym, ap, refl, ◌∙◌}
 use Rattle.tagged_index.specs.Head.{Head}
 use Rattle.mark_core.proofs.Vectors.{may_push}

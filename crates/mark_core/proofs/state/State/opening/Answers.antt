@@ -1,4 +1,4 @@
--- Table by table this is the opening: its heads, its links, white marks, slots without items, and one account.
+-- The tables are the opening's: its heads, its links, white marks, slots without items, and one account.
 use Rattle.std.proofs.Common.{List, [], ◌∷◌, ◌++◌, ap, refl, length, ◌∙◌}
 use lib.ListN.{length-replicate}
 use Rattle.mark_core.specs.Account.{Account}

@@ -1,4 +1,4 @@
--- The head that was loaded still stands, so its buffer is on top and has a slot, and the link fits into the next head.
+-- The loaded head is still the stack's, so its buffer is on top and has a slot, and the link fits into the next head.
 use Rattle.std.proofs.Common.{◌≡◌, ℕ, List, Option, get_or, ap, sym, subst, refl, arith, ◌∙◌}
 use Rattle.tagged_index.specs.Head.{Head}
 use Rattle.mark_core.specs.StepCall.{IsLawful}

@@ -1,4 +1,4 @@
--- A buffer that is held is one of the setup's, since the state is lawful: it has a slot, and its number fits a head.
+-- A held buffer is one of the setup's, since the state is lawful: it has a slot, and its number fits into a head.
 use Rattle.std.proofs.Common.{◌≡◌, sym, subst, refl, arith}
 use Rattle.mark_core.specs.StepCall.{IsLawful}
 use Rattle.mark_core.proofs.Vectors.{tries_push, push_within}

@@ -1,4 +1,4 @@
--- One more slot without items, behind so many, makes one more of them.
+-- One more slot without items, after those already made, makes one more of them.
 use Rattle.std.proofs.Common.{Some, [], ◌∷◌, ◌++◌, ap, ◌∙◌}
 use Rattle.mark_core.proofs.Begins.{one_more}
 use Rattle.mark_core.proofs.state.opening.slots_of.Goals as goal

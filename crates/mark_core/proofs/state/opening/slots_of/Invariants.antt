@@ -1,4 +1,4 @@
--- So many slots are there, each with a buffer without items.
+-- The slots made so far each have a buffer without items.
 use Rattle.std.proofs.Common.{◌≡◌, Some, [], replicate}
 use Rattle.mark_core.proofs.state.opening.slots_of.Given as goal
 

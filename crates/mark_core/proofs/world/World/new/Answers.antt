@@ -1,4 +1,4 @@
--- The opening keeps the law, and its tables are as long as the setup says: so it is a world.
+-- The opening meets the law, and its tables are as long as the setup says: so it is a world.
 use Rattle.std.proofs.Common.{ap, sym, arith, ◌∙◌}
 use Rattle.mark_core.proofs.Words.{Setup, opening}
 use Rattle.mark_core.proofs.Begins.{lawful_opening}

@@ -1,4 +1,4 @@
--- The two bits at the place of an object in its word are its mark.
+-- The two bits at the position of an object in its word are its mark.
 use Rattle.std.proofs.Common.{◌≡◌, ℕ, ◌*◌, ◌/◌, ◌%◌, ◌^◌, bit_and, ap, refl, ◌∙◌}
 use Rattle.std.proofs.lemmas.Nat.{and_mask}
 use Rattle.buffer_pool.proofs.Bits.{pair_read}

@@ -1,4 +1,4 @@
--- The lowest bit that is not set, from the object's pair on, is of the first pair that is not finished.
+-- The lowest bit that is not set, from the object's pair on, is in the first pair that is not finished.
 use Rattle.std.proofs.Common.{◌≡◌, ◌≢◌, ◌+◌, ◌-◌, ◌*◌, ◌/◌, ◌%◌, ◌^◌, ◌<◌, ◌∙◌, ℕ, ap, sym, arith, rules, w64}
 use Rattle.std.proofs.Math.Nat.{div-le_self}
 use Rattle.buffer_pool.proofs.Words.{bit_at-trailing_zeros, bit_at-zero, pair_mark}

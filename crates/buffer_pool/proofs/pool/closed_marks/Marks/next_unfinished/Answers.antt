@@ -1,4 +1,4 @@
--- Objects that are finished are passed over, a word at a time, and the first that is not is found.
+-- Finished objects are skipped, a word at a time, and the first that is not finished is found.
 use Rattle.std.proofs.Common.{◌≡◌, ◌≢◌, ◌<◌, ◌≤◌, ◌==◌, ◌∙◌, ℕ, Bool, List, true, false, length, not, slice_index, ap}
 use Rattle.std.proofs.Common.{sym, arith, eq-eqb, ne_eqb}
 use Rattle.buffer_pool.proofs.Finding.{finds, finds_none, skips_to}

@@ -1,4 +1,4 @@
--- The first object that is not finished is the first from the object in hand on.
+-- The first object that is not finished is the first from the current object on.
 use Rattle.std.proofs.Common.{◌≡◌, ◌-◌, ◌==◌, length, not, slice_index}
 use Rattle.buffer_pool.proofs.Finding.{first_from}
 use Rattle.buffer_pool.proofs.pool.closed_marks.Marks.next_unfinished.Given as goal

@@ -1,4 +1,4 @@
--- The word of an object is there, and has the marks of the 32 objects that share it.
+-- The word of an object exists, and has the marks of the 32 objects that share it.
 use Rattle.std.proofs.Common.{◌/◌, ap, sym, ◌∙◌, arith, List, ℕ, slice_index}
 use Rattle.std.specs.Slots.{slots_items, slots_small}
 use Rattle.buffer_pool.proofs.Closes.{mark_there, object_below}

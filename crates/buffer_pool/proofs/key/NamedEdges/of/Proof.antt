@@ -1,4 +1,4 @@
--- `of` makes a value of no bytes, whose ghost fields are the roots and pairs of the edges behind the reference.
+-- `of` makes a value of no bytes. Its ghost fields are the roots and pairs of the edges that the reference refers to.
 use mathlib.Core.Path.{refl, sym, subst}
 use Prim.Native.Nat.{ℕ}
 use mathlib.Core.List.{List, [], ◌∷◌, ◌++◌}
@@ -33,10 +33,10 @@ use denote.Triple.Entry.{on_entry, alive}
 use denote.Triple.Spec.{Meets, triple_of}
 use denote.Triple.Table.{entered}
 use denote.Triple.Walked.{says, Stays, stay_dropped, walk_of, ends_at, Goes-dropped, walk_Meets}
-use Rattle.buffer_pool.specs.contracts.key.Named.of.{ended, clauses}
-use Rattle.buffer_pool.specs.contracts.key.Named.of.Key.{name as #self}
-use Rattle.buffer_pool.proofs.key.Named.of.Statement as stated
-use Rattle.buffer_pool.proofs.key.Named.of.Code as code
+use Rattle.buffer_pool.specs.contracts.key.NamedEdges.of.{ended, clauses}
+use Rattle.buffer_pool.specs.contracts.key.NamedEdges.of.Key.{name as #self}
+use Rattle.buffer_pool.proofs.key.NamedEdges.of.Statement as stated
+use Rattle.buffer_pool.proofs.key.NamedEdges.of.Code as code
 use Rattle.mark_core.specs.declared.edges.Edges as Edges
 
 module _ (Y : RattleType) (g : Edges.Ghosts Y.Denot) (d : Dict) where
