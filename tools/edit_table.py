@@ -6,8 +6,8 @@ PAGE = "docs/EDITS.md"
 
 
 def refused_by(said):
-    """Returns what refuses an edit, by function: its open goals, or what a proof written by hand says. `said` is all that
-    the prover said of the edit. A function without an open goal that only calls an unproved one is left out."""
+    """Returns what refuses an edit, by function: its open goals, or what a proof written by hand says. `said` is all
+    that the prover said of the edit. A function without an open goal that only calls an unproved one is skipped."""
     found = {}
     for line in said.splitlines():
         line, _, calls = line.partition("it calls `")
@@ -18,7 +18,8 @@ def refused_by(said):
         if searched:
             found.setdefault(searched[1], []).extend(f"`{it}`" for it in re.findall(r"`([\w+-]+)`", searched[2]))
         elif by_hand:
-            found.setdefault(by_hand[1].replace("/", "::"), []).append(f"an answer to `{by_hand[2]}`" if by_hand[2] else "an answer")
+            answer = f"an answer to `{by_hand[2]}`" if by_hand[2] else "an answer"
+            found.setdefault(by_hand[1].replace("/", "::"), []).append(answer)
         else:
             found.setdefault("", []).append(line[:80].replace("`", "'").replace("|", " "))
     return found
