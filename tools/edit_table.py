@@ -6,18 +6,20 @@ PAGE = "docs/EDITS.md"
 
 
 def refused_by(said):
-    """What refuses an edit, of all that the prover said of it: each function that is not proved any more, with its open
-    goals, or with what a proof written by hand says. A function that only calls such a one is left out."""
+    """Returns what refuses an edit, by function: its open goals, or what a proof written by hand says. `said` is all
+    that the prover said of the edit. A function without an open goal that only calls an unproved one is skipped."""
     found = {}
     for line in said.splitlines():
-        if "it calls `" in line or not (": error: " in line or ": no proof" in line):
+        line, _, calls = line.partition("it calls `")
+        if not (": error: " in line or ": no proof" in line) or calls and "did not prove" not in line:
             continue
         searched = re.match(r"fn \w+::(\S+): no proof.*`search` did not prove (.*)$", line)
         by_hand = re.match(r"\./proofs/(\S+)/(?:Answers|Proof)\.antt:\S+ error: (?:`([\w+-]+)`)?", line)
         if searched:
             found.setdefault(searched[1], []).extend(f"`{it}`" for it in re.findall(r"`([\w+-]+)`", searched[2]))
         elif by_hand:
-            found.setdefault(by_hand[1].replace("/", "::"), []).append(f"an answer to `{by_hand[2]}`" if by_hand[2] else "an answer")
+            answer = f"an answer to `{by_hand[2]}`" if by_hand[2] else "an answer"
+            found.setdefault(by_hand[1].replace("/", "::"), []).append(answer)
         else:
             found.setdefault("", []).append(line[:80].replace("`", "'").replace("|", " "))
     return found
