@@ -1,4 +1,4 @@
--- What the tests' workers have after a call.
+-- The state of a test's worker after a call.
 use Rattle.std.proofs.Common.{◌≡◌, ℕ, ◌<◌, List, [], ◌∷◌, ◌++◌, All, Contains, cond}
 use Rattle.std.proofs.Common.{eq-eqb, ap, sym, subst, ◌∙◌, inl, arith}
 use Rattle.std.proofs.lemmas.List.FromFn.{length-range_with_len, get_or-range_with_len}

@@ -1,4 +1,4 @@
--- What the tests ask of a worker and its pair.
+-- What the tests require of a worker and its pair.
 use Rattle.std.specs.Prelude.{◌≡◌, ℕ, List, []}
 use Rattle.std.specs.List.{range_with_len}
 use Rattle.atomic_table.specs.Seated.{TableId}
@@ -9,13 +9,13 @@ use Rattle.work_pair.specs.PairState.{PairState, IsOpen, IsBacked}
 unfoldable pub numbers : ℕ → List ℕ
 numbers n = range_with_len 0 n
 
--- a worker of the pool, which was made for n objects that are all roots; it is not idle
+-- a worker of the pool, which is for n objects that are all roots; it is not idle
 pub record IsWorker (n : ℕ) (pool : TableId) (w : Holder) : Type 0 where
   pub same : w.pool ≡ pool
   pub roots : w.book.setup.roots ≡ numbers n
   pub idle : w.book.account.idle ≡ 0
 
--- and with a pair that it backs
+-- such a worker, with a pair that it backs
 pub record IsReady (n : ℕ) (pool : TableId) (w : Holder) (p : PairState) : Type 0 where
   pub worker : IsWorker n pool w
   pub going : IsOpen p

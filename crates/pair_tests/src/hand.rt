@@ -1,4 +1,4 @@
-//! A worker with its pair, over objects that are all roots.
+//! A worker with its pair, in a pool whose objects are all roots.
 ghost use Rattle.std.specs.Prelude.{◌≡◌, ◌⊎◌, [], ◌∷◌, IfNone, IfOk, true};
 ghost use Rattle.mark_core.specs.Events.{IsBusy};
 ghost use Rattle.mark_core.specs.Shares.{whole};
@@ -11,13 +11,13 @@ use std::process::Abort;
 use std::sync::Wait;
 use work_pair::{Pair, Stop};
 
-/// The objects of each test.
+/// The number of objects of each test.
 pub(crate) const OBJECTS: u32 = 400;
 
-/// How many objects the places of a pair have, and `None` for a place without a buffer.
+/// The number of objects at each place of a pair, and `None` for a place without a buffer.
 pub(crate) type Lens = [Option<u32>; 3];
 
-/// Objects that are all roots, without successors.
+/// A heap whose objects are all roots, without successors.
 #[derive(Drop)]
 struct Roots {
     objects: u32,
@@ -35,7 +35,7 @@ impl Edges for Roots {
     }
 }
 
-/// A pool over roots alone, and its worker.
+/// Creates a pool whose objects are all roots. Returns it with its worker.
 pub(crate) fn pool_of_roots<A: Allocator + Copy>(
     alloc: A,
     buffers: u32,
@@ -48,7 +48,7 @@ pub(crate) fn pool_of_roots<A: Allocator + Copy>(
     Pool::new(alloc, &Roots { objects: OBJECTS }, buffers, size, first_tag)
 }
 
-/// Opens a pair, where there are two buffers.
+/// Opens a pair, for which there are two buffers.
 pub(crate) fn open<R: Wait + Abort, A: Allocator>(
     rt: &R,
     alloc: A,
@@ -67,7 +67,7 @@ pub(crate) fn open<R: Wait + Abort, A: Allocator>(
     }
 }
 
-/// A pair without buffers.
+/// Creates a pair without buffers.
 pub(crate) fn bare<A: Allocator>(alloc: A, pool: &Pool<A>, worker: &Worker<A>) -> Pair<A>
     requires { IsWorker OBJECTS pool.now worker.now }
     ensures ready { IsReady OBJECTS pool.now worker.now result }
@@ -76,7 +76,7 @@ pub(crate) fn bare<A: Allocator>(alloc: A, pool: &Pool<A>, worker: &Worker<A>) -
     Pair::bare(alloc)
 }
 
-/// Claims an object, which is white, for the pair.
+/// Claims `object`, which is white, for the pair.
 pub(crate) fn claim<R: Abort, A: Allocator>(
     rt: &R,
     pool: &Pool<A>,
@@ -97,7 +97,7 @@ pub(crate) fn claim<R: Abort, A: Allocator>(
     }
 }
 
-/// Claims a white object and puts it into the pair.
+/// Claims `object`, which is white, and puts it into the pair.
 pub(crate) fn put<R: Wait + Abort, A: Allocator>(
     rt: &R,
     pool: &Pool<A>,
@@ -114,7 +114,7 @@ pub(crate) fn put<R: Wait + Abort, A: Allocator>(
     };
 }
 
-/// Claims a white object, for which there is no buffer and no memory.
+/// Claims `object`, which is white and for which there is no buffer and no memory.
 pub(crate) fn put_in_vain<R: Wait + Abort, A: Allocator>(
     rt: &R,
     pool: &Pool<A>,
@@ -133,7 +133,7 @@ pub(crate) fn put_in_vain<R: Wait + Abort, A: Allocator>(
     assert!(rt; back == object);
 }
 
-/// Gets an object. Where there is none left none is spilled.
+/// Gets an object. If there is none left, none is spilled.
 pub(crate) fn get<R: Wait + Abort, A: Allocator>(
     rt: &R,
     pool: &Pool<A>,
@@ -182,7 +182,7 @@ pub(crate) fn publish<R: Wait + Abort, A: Allocator>(
     };
 }
 
-/// Whether the full stack is seen empty.
+/// Tests whether the full stack is seen empty.
 pub(crate) fn full_is_empty<A: Allocator>(
     pool: &Pool<A>,
     worker: &mut Worker<A>,
@@ -194,7 +194,7 @@ pub(crate) fn full_is_empty<A: Allocator>(
     pool.sees_empty(worker, buffer_pool::Which::Full)
 }
 
-/// Disposes of the pair. Where a last tag stops that, answers what the places of the pair have.
+/// Disposes of the pair. Returns what its places have if a last tag stops that.
 pub(crate) fn dispose<R: Wait + Abort, A: Allocator>(
     rt: &R,
     pool: &Pool<A>,

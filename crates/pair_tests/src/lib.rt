@@ -1,8 +1,8 @@
-//! Tests of `work_pair`, in a crate of their own: so that crate is proved once, not twice. They ask
-//! what callers may ask. The crate has nothing to hand out.
+//! Tests of `work_pair`. They stand in a crate of their own, so that `work_pair` is proved once, not twice, and use
+//! public calls only.
 //!
-//! What only a run shows: the order in which objects come back, last tags, want of memory, and threads to their end.
-//! `hand` has the calls of a pair over objects that are all roots, `runs` what goes through a table of them.
+//! They test what only a run shows: the order in which objects are got, last tags, running out of memory, and that
+//! threads end. `hand` has the calls of a pair whose objects are all roots, and `runs` takes a table of such calls.
 
 #![tactic(auto)]
 

@@ -1,4 +1,4 @@
-//! Want of memory for the spill list, and all that takes none.
+//! Tests of memory: the spill list runs out of it, and all other calls make no allocation.
 ghost use Rattle.std.specs.Prelude.{◌≤◌, IfOk};
 
 use crate::hand::{Lens, bare, pool_of_roots};
@@ -12,10 +12,10 @@ use std::process::Abort;
 use std::sync::Wait;
 use std::test::Fail;
 
-/// A limit that no pool of these tests meets.
+/// A limit that no pool of these tests reaches.
 const MANY: u64 = 1 << 32;
 
-/// Which requests for memory behind the opening of a pool are refused.
+/// The requests that are refused after the opening of a pool.
 #[derive(Clone, Copy, Debug)]
 enum Refused {
     /// All.
@@ -26,7 +26,7 @@ enum Refused {
     First,
 }
 
-/// How many requests for memory a pool of four buffers for two objects makes.
+/// Returns how many requests a pool of four buffers for two objects makes.
 fn requests_of_a_pool(alloc: Global) -> Result<u64, PoolFault>
     ensures { IfOk result (λ n. n ≤ MANY) }
 {
@@ -35,7 +35,7 @@ fn requests_of_a_pool(alloc: Global) -> Result<u64, PoolFault>
     Ok(MANY - heap.requests_left())
 }
 
-/// A heap that grants what such a pool takes, and refuses these requests behind it.
+/// Creates a heap that grants the requests of such a pool, and refuses `refused` after them.
 fn heap_of_a_pool(alloc: Global, refused: Refused) -> Result<LimitedHeap<Global>, PoolFault> {
     let requests = requests_of_a_pool(alloc)?;
     Ok(match refused {
@@ -45,7 +45,7 @@ fn heap_of_a_pool(alloc: Global, refused: Refused) -> Result<LimitedHeap<Global>
     })
 }
 
-/// Where the list cannot have its first block the ninth object comes back, and the pair has its eight, each to be got.
+/// If the list cannot have its first block, the ninth object is returned, and the pair keeps its eight.
 const NINTH: Run = (
     "the ninth in vain",
     &[
@@ -57,15 +57,15 @@ const NINTH: Run = (
     AllGot,
 );
 
-/// Where it has a block, and no larger one, what it has is given up with the pair.
+/// If the list has a block but cannot have a larger one, its objects are given up with the pair.
 const THIRTEENTH: Run = (
     "the thirteenth in vain",
     &[Fill(12), Spilled(4)],
     End::InVain(12, 4),
 );
 
-/// Where the list's first block alone is refused, that object comes back, and the next one is put and got as ever. Each
-/// of the two puts has changed the places of the buffers, so they are where they were.
+/// If only the list's first block is refused, the ninth object is returned, and the next one is put and got as usual.
+/// Each of the two puts has exchanged the buffers, so they are where they were.
 const TENTH: Run = (
     "the tenth behind a ninth in vain",
     &[
@@ -78,7 +78,7 @@ const TENTH: Run = (
     AllGot,
 );
 
-/// What a pair does while there is room takes no memory.
+/// The calls of a pair make no allocation while there is room.
 const SIX: Run = (
     "six objects",
     &[
@@ -98,7 +98,7 @@ const SIX: Run = (
     AllGot,
 );
 
-/// A run, the objects of a buffer, what is refused behind the opening of the pool, and how many requests that are.
+/// A run, the size of a buffer, the requests refused after the opening of the pool, and the number of those refused.
 type Row = (Run, u32, Refused, u64);
 
 /// The run of six objects makes no request while each would be refused.
@@ -109,7 +109,7 @@ const ROWS: [Row; 4] = [
     (SIX, 8, Refused::Each, 0),
 ];
 
-/// Goes through that run over such a heap: what is left of the pair, and how many requests were refused.
+/// Makes a run on such a heap. Returns what is left of the pair, and how many requests were refused.
 fn refused_in<R: Wait + Abort>(
     rt: &R,
     alloc: Global,
@@ -131,14 +131,14 @@ fn runs_without_memory(rt: HostRuntime) -> Result<(), Fail> {
     Ok(())
 }
 
-/// What a pair without buffers has.
+/// Returns what the places of a pair without buffers have.
 fn bare_lens<A: Allocator + Copy>(alloc: A) -> Result<Lens, PoolFault> {
     let (pool, worker) = pool_of_roots(alloc, 4, 8, 0)?;
     Ok(bare(alloc, &pool, &worker).lens())
 }
 
-/// What a pair without buffers has beside a pool that left no request, how many requests are left then, and how many
-/// were refused.
+/// Creates a pair without buffers on a heap that has no request left after the pool. Returns what its places have, how
+/// many requests are left, and how many were refused.
 fn bare_pair_without_memory(alloc: Global) -> Result<(Lens, u64, u64), PoolFault> {
     let heap = heap_of_a_pool(alloc, Refused::Each)?;
     let lens = bare_lens(&heap)?;

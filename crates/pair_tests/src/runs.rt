@@ -1,4 +1,4 @@
-//! Runs of a pair, as tables of steps that one function goes through, and how they end.
+//! Runs of a pair: tables of steps, and the function that makes them.
 ghost use Rattle.std.specs.Prelude.{◌≡◌, ◌⊎◌, []};
 ghost use Rattle.work_pair.specs.PairState.{HasStopped};
 ghost use Rattle.pair_tests.specs.Ready.{IsReady};
@@ -13,39 +13,39 @@ use std::process::Abort;
 use std::sync::Wait;
 use work_pair::Pair;
 
-/// What is done with a pair, and what is asked of it.
+/// A step: a call of a pair, or a test of it.
 #[derive(Clone, Copy)]
 pub(crate) enum Step {
-    /// So many objects are put, from 0 on.
+    /// Puts a number of objects, from 0 on.
     Fill(u32),
     Put(u32),
-    /// There is no buffer and no memory for this object.
+    /// Puts an object for which there is no buffer and no memory.
     InVain(u32),
     Balance,
     Publish,
-    /// These objects are got, in this order.
+    /// Gets objects, which come in this order.
     Get(&'static [u32]),
     NoneLeft,
     FullIsEmpty(bool),
-    /// What the places have.
+    /// The places have these numbers of objects.
     Has(Lens),
-    /// How many objects the spill list has.
+    /// The spill list has this number of objects.
     Spilled(usize),
 }
 
-/// How a run ends, so that its pair can be disposed of.
+/// The end of a run, after which its pair can be disposed of.
 #[derive(Clone, Copy)]
 pub(crate) enum End {
     /// No object is left, and the full stack is seen empty.
     AllGot,
-    /// There is no buffer and no memory for this object, and the spill list has so many.
+    /// There is no buffer and no memory for an object, and the spill list has the given number of objects.
     InVain(u32, usize),
 }
 
 /// A run: its name, its steps, and how it ends.
 pub(crate) type Run = (&'static str, &'static [Step], End);
 
-/// Puts so many objects, from 0 on.
+/// Puts `count` objects, from 0 on.
 fn fill<R: Wait + Abort, A: Allocator>(
     rt: &R,
     pool: &Pool<A>,
@@ -61,7 +61,7 @@ fn fill<R: Wait + Abort, A: Allocator>(
     }
 }
 
-/// Gets these objects, in this order.
+/// Gets objects, and tests that they are `wanted`, in this order.
 fn get_all<R: Wait + Abort, A: Allocator>(
     rt: &R,
     pool: &Pool<A>,
@@ -77,7 +77,7 @@ fn get_all<R: Wait + Abort, A: Allocator>(
     }
 }
 
-/// Sees that no object is left.
+/// Tests that no object is left.
 fn get_none<R: Wait + Abort, A: Allocator>(
     rt: &R,
     pool: &Pool<A>,
@@ -93,7 +93,7 @@ fn get_none<R: Wait + Abort, A: Allocator>(
     };
 }
 
-/// Does one step. False where what it asks is not so.
+/// Makes one step. Returns `false` if the pair is not as the step says.
 fn does<R: Wait + Abort, A: Allocator>(
     rt: &R,
     pool: &Pool<A>,
@@ -119,7 +119,7 @@ fn does<R: Wait + Abort, A: Allocator>(
     true
 }
 
-/// Does these steps.
+/// Makes `steps`.
 pub(crate) fn go_through<R: Wait + Abort, A: Allocator>(
     rt: &R,
     pool: &Pool<A>,
@@ -135,7 +135,7 @@ pub(crate) fn go_through<R: Wait + Abort, A: Allocator>(
     }
 }
 
-/// Ends a run. Behind it the pair can be disposed of.
+/// Ends a run. After it the pair can be disposed of.
 fn finish<R: Wait + Abort, A: Allocator>(
     rt: &R,
     pool: &Pool<A>,
@@ -159,8 +159,8 @@ fn finish<R: Wait + Abort, A: Allocator>(
     }
 }
 
-/// Opens a pair on a new pool of four buffers for so many objects, goes through that run, and disposes of the pair.
-/// Where a last tag stops that, answers what the places of the pair have.
+/// Opens a pair on a new pool of four buffers, makes a run, and disposes of the pair. Returns what the places of the
+/// pair have if a last tag stops that.
 pub(crate) fn left_after<R: Wait + Abort, A: Allocator + Copy>(
     rt: &R,
     alloc: A,

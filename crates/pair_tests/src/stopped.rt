@@ -1,5 +1,5 @@
-//! A pair that a last tag stopped, in the middle of a call or before it changed anything, keeps each buffer that it
-//! could not push, when it is disposed of too.
+//! Tests that a pair keeps each buffer that it could not push after a last tag stopped it, in the middle of a call or
+//! before it changed anything, and also when it is disposed of.
 ghost use Rattle.pair_tests.specs.Ready.{IsReady, IsWorker};
 
 use crate::hand::{Lens, OBJECTS, bare, claim, dispose, get, open, pool_of_roots};
@@ -18,16 +18,16 @@ const LAST_TAG: u64 = 281_474_976_710_655;
 /// The call that is stopped.
 #[derive(Clone, Copy)]
 enum Call {
-    /// This object is put.
+    /// Puts an object.
     Puts(u32),
-    /// An object of the full stack is to be got.
+    /// Gets an object of the full stack.
     Gets,
 }
 
-/// What the places of a pair have, where a last tag stopped it, and where that stopped its disposal too.
+/// What the places of a pair have after a last tag stopped it, and after one stopped its disposal too, if it did.
 type Stopped = (Lens, Option<Lens>);
 
-/// Claims a white object, whose put is stopped, and disposes of the pair.
+/// Claims `object`, which is white and whose put is stopped, and disposes of the pair.
 fn stopped_by_put<R: Wait + Abort, A: Allocator>(
     rt: &R,
     pool: &Pool<A>,
@@ -60,8 +60,8 @@ fn stopped_by_get<R: Wait + Abort, A: Allocator>(
     (pair.lens(), dispose(rt, pool, worker, pair))
 }
 
-/// Takes a buffer from the full stack, an object from that, and gives it back: two exchanges of that stack's head, and
-/// none of the other's.
+/// Pops a buffer from the full stack, takes an object from it, and gives it back: two exchanges of that stack's head,
+/// and none of the other's.
 fn exchange_full_twice<R: Wait + Abort, A: Allocator>(
     rt: &R,
     alloc: A,
@@ -79,7 +79,7 @@ fn exchange_full_twice<R: Wait + Abort, A: Allocator>(
     assert!(rt; left.is_none());
 }
 
-/// Does so this often.
+/// Does that a number of times.
 fn exchange_full<R: Wait + Abort, A: Allocator + Copy>(
     rt: &R,
     alloc: A,
@@ -95,8 +95,8 @@ fn exchange_full<R: Wait + Abort, A: Allocator + Copy>(
     }
 }
 
-/// Opens a pair on a new pool of four buffers for four objects, goes through these steps, lets another worker exchange
-/// the full stack's head twice so often, and makes the call that is stopped.
+/// Opens a pair on a new pool of four buffers for four objects, makes some steps, lets another worker exchange the full
+/// stack's head twice a number of times, and makes the call that is stopped.
 fn stopped_after<R: Wait + Abort>(
     rt: &R,
     alloc: Global,
@@ -116,8 +116,8 @@ fn stopped_after<R: Wait + Abort>(
     })
 }
 
-/// The first tag, the steps, how often the full stack's head is exchanged twice behind them, the call, and what the
-/// pair has where it was stopped, and where its disposal was.
+/// The first tag, the steps, how often the full stack's head is exchanged twice after them, the call, and what the pair
+/// has after it was stopped, and after its disposal was, if it was.
 type Row = (u64, &'static [Step], u32, Call, Lens, Option<Lens>);
 
 const ROWS: [Row; 3] = [

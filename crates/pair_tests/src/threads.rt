@@ -1,4 +1,4 @@
-//! Four threads, each with a pair on one pool of few buffers, until all their objects were got.
+//! Four threads, each with a pair on one pool of few buffers, put objects and get until none is left.
 ghost use Rattle.std.specs.Prelude.{◌≡◌, ◌+◌, ◌*◌, ◌≤◌, [], false};
 ghost use Rattle.mark_core.specs.Shares.{whole};
 ghost use Rattle.pair_tests.specs.Ready.{IsReady, IsWorker};
@@ -12,7 +12,7 @@ use std::test::Fail;
 use std::thread::{Threads, join};
 use work_pair::Pair;
 
-/// The objects of one thread.
+/// The number of objects of one thread.
 const PART: u32 = 100;
 
 /// A worker with its pair.
@@ -22,7 +22,7 @@ struct Hand {
     pair: Pair<Global>,
 }
 
-/// A worker, and what it got.
+/// A worker, and the objects that it got.
 #[derive(Drop)]
 struct Taker {
     worker: Worker<Global>,
@@ -130,7 +130,7 @@ fn put_and_get<R: Wait + Abort, A: Allocator>(
     assert!(rt; left.is_none());
 }
 
-/// The work of one thread: what it got comes back with its worker.
+/// Does the work of one thread. Returns its worker with what it got.
 fn go_through<R: Wait + Abort>(
     rt: &R,
     alloc: Global,
@@ -148,7 +148,7 @@ fn go_through<R: Wait + Abort>(
     Taker { worker, got }
 }
 
-/// Two threads, each with a part of its own.
+/// Runs two threads side by side, each with a part of its own.
 fn go_side_by_side<R: Threads + Wait + Abort + Sync>(
     rt: &R,
     alloc: Global,
@@ -170,7 +170,7 @@ fn go_side_by_side<R: Threads + Wait + Abort + Sync>(
     both(rt, pool, front, back)
 }
 
-/// What two threads did.
+/// Joins two workers, and what they got.
 fn both<R: Abort>(rt: &R, pool: &Pool<Global>, front: Taker, back: Taker) -> Taker
     requires front { IsWorker OBJECTS pool.now front.worker }
     requires back { IsWorker OBJECTS pool.now back.worker }
@@ -184,7 +184,7 @@ fn both<R: Abort>(rt: &R, pool: &Pool<Global>, front: Taker, back: Taker) -> Tak
     Taker { worker, got }
 }
 
-/// A worker with a new pair.
+/// Opens a new pair for `worker`.
 fn hand_of<R: Wait + Abort>(
     rt: &R,
     alloc: Global,
@@ -199,7 +199,7 @@ fn hand_of<R: Wait + Abort>(
     Hand { worker, pair }
 }
 
-/// Four threads, each with a part of its own.
+/// Runs four threads side by side, each with a part of its own.
 fn go_in_four<R: Threads + Wait + Abort + Sync>(
     rt: &R,
     alloc: Global,
@@ -229,7 +229,7 @@ fn go_in_four<R: Threads + Wait + Abort + Sync>(
     both(rt, pool, front, back)
 }
 
-/// Four workers with a pair each, and what they got.
+/// Runs four workers with a pair each. Returns what they got.
 fn got_by_four<R: Threads + Wait + Abort + Sync>(
     rt: &R,
     alloc: Global,
@@ -250,7 +250,7 @@ fn got_by_four<R: Threads + Wait + Abort + Sync>(
     go_in_four(rt, alloc, pool, (first, second), (third, fourth))
 }
 
-/// Whether each object is there, in order.
+/// Tests whether `got` has each object, in order.
 fn are_all(got: &[u32]) -> bool {
     for (place, object) in got.iter().enumerate() {
         if *object as usize != place {
@@ -260,7 +260,7 @@ fn are_all(got: &[u32]) -> bool {
     got.len() == OBJECTS as usize
 }
 
-/// What one worker more gets then is added. Whether each object is there once.
+/// Adds what one more worker gets afterwards, and tests whether each object was got once.
 fn all_got<R: Wait + Abort>(rt: &R, alloc: Global, pool: &Pool<Global>, taker: Taker) -> bool
     requires { IsWorker OBJECTS pool.now taker.worker }
 {
@@ -274,7 +274,7 @@ fn all_got<R: Wait + Abort>(rt: &R, alloc: Global, pool: &Pool<Global>, taker: T
     are_all(got.as_slice())
 }
 
-/// Whether four threads got each object once.
+/// Tests whether four threads got each object once.
 fn got_by_threads<R: Threads + Wait + Abort + Sync>(
     rt: &R,
     alloc: Global,
@@ -284,7 +284,7 @@ fn got_by_threads<R: Threads + Wait + Abort + Sync>(
     Ok(all_got(rt, alloc, &pool, taker))
 }
 
-/// None is lost, and none is got twice.
+/// No object is lost, and none is got twice.
 #[test]
 fn four_threads(rt: HostRuntime) -> Result<(), Fail> {
     let all = got_by_threads(&rt, rt.alloc())?;

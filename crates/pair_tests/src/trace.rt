@@ -1,4 +1,4 @@
-//! Four buffers for two objects, filled one after the other: which objects each has, and where it lies.
+//! Four buffers for two objects, filled one after the other: which objects each has, and where it is.
 ghost use Rattle.std.specs.Prelude.{◌≡◌};
 ghost use Rattle.pair_tests.specs.Ready.{IsReady, IsWorker};
 
@@ -10,13 +10,13 @@ use std::sync::Wait;
 use std::test::Fail;
 use work_pair::Pair;
 
-/// A buffer for two: its number, and its objects in the order in which they were put.
+/// A buffer for two objects: its number, and its objects in the order in which they were put.
 type Two = (u32, [Option<u32>; 2]);
 
-/// A stack, its top first.
+/// The buffers of a stack, its top first.
 type Stack = [Option<Two>; 4];
 
-/// What is in the first and in the second place, the full stack, the empty one, and how many objects are spilled.
+/// The buffers at the first and at the second place, the full stack, the empty one, and the number of spilled objects.
 #[derive(Clone, Copy, PartialEq, Eq)]
 struct Seen {
     places: [Option<Two>; 2],
@@ -25,7 +25,7 @@ struct Seen {
     spilled: usize,
 }
 
-/// The number and the objects of that buffer.
+/// Returns the number and the objects of `held`.
 fn two_of<A: Allocator>(held: Held<A>) -> Two {
     let mut held = held;
     let index = held.index();
@@ -36,7 +36,7 @@ fn two_of<A: Allocator>(held: Held<A>) -> Two {
     }
 }
 
-/// The buffer at that place.
+/// Returns the number and the objects of the buffer at a place, if there is one.
 fn two_at<A: Allocator>(place: Option<Held<A>>) -> Option<Two> {
     match place {
         Some(held) => Some(two_of(held)),
@@ -44,7 +44,7 @@ fn two_at<A: Allocator>(place: Option<Held<A>>) -> Option<Two> {
     }
 }
 
-/// Pops a buffer, if the stack has one.
+/// Pops a buffer. Returns `None` if the stack has none.
 fn pop_one<R: Wait + Abort, A: Allocator>(
     rt: &R,
     pool: &Pool<A>,
@@ -61,7 +61,7 @@ fn pop_one<R: Wait + Abort, A: Allocator>(
     }
 }
 
-/// Takes all buffers off a stack.
+/// Pops all buffers of a stack.
 fn buffers_on<R: Wait + Abort, A: Allocator>(
     rt: &R,
     pool: &Pool<A>,
@@ -78,7 +78,7 @@ fn buffers_on<R: Wait + Abort, A: Allocator>(
     stack
 }
 
-/// Opens a pair, puts so many objects, from 1 on, and publishes them where that is asked for.
+/// Opens a pair, puts a number of objects, from 1 on, and publishes them if asked to.
 fn pair_after<R: Wait + Abort, A: Allocator>(
     rt: &R,
     alloc: A,
@@ -100,7 +100,7 @@ fn pair_after<R: Wait + Abort, A: Allocator>(
     pair
 }
 
-/// What is seen then, in a new pool.
+/// Does that in a new pool, and returns what is seen afterwards.
 fn seen_after<R: Wait + Abort>(
     rt: &R,
     alloc: Global,
@@ -119,7 +119,7 @@ fn seen_after<R: Wait + Abort>(
     })
 }
 
-/// Each buffer as it is before anything is put, and with the objects that it takes.
+/// The buffers before anything is put, and with the objects that they take.
 const BARE_0: Option<Two> = Some((0, [None, None]));
 
 const BARE_1: Option<Two> = Some((1, [None, None]));
@@ -138,7 +138,7 @@ const SEVEN: Option<Two> = Some((3, [Some(7), None]));
 
 const EIGHT: Option<Two> = Some((3, [Some(7), Some(8)]));
 
-/// A stack without buffers, the empty one with two and with one, and the full one with one and with two.
+/// A stack without buffers, the empty stack with two and with one, and the full stack with one and with two.
 const NONE: Stack = [None; 4];
 
 const TWO_LEFT: Stack = [BARE_2, BARE_3, None, None];
@@ -149,11 +149,11 @@ const ONE_GIVEN: Stack = [ONE, None, None, None];
 
 const TWO_GIVEN: Stack = [THREE, ONE, None, None];
 
-/// How many objects are put, whether they are published, the two places, the full stack and the empty one, and how many
-/// objects are spilled.
+/// The number of objects put, whether they are published, the two places, the full stack and the empty one, and the
+/// number of spilled objects.
 type Row = (u32, bool, [Option<Two>; 2], Stack, Stack, usize);
 
-/// The seventh object takes the last buffer, so there is none to publish with, and a ninth has none.
+/// The seventh object takes the last buffer, so there is none left to publish with, or for a ninth object.
 const ROWS: [Row; 8] = [
     (0, false, [BARE_0, BARE_1], NONE, TWO_LEFT, 0),
     (2, false, [ONE, BARE_1], NONE, TWO_LEFT, 0),

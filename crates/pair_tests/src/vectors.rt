@@ -1,4 +1,4 @@
-//! Small runs of one thread: which objects come back in which order, and how often the head of the empty stack changes.
+//! Small runs of one thread: the order in which objects are got, and how often the head of the empty stack changes.
 
 use crate::hand::{Lens, bare, dispose, open, pool_of_roots};
 use crate::runs::{End, Run, Step, go_through, left_after};
@@ -10,23 +10,23 @@ use std::process::Abort;
 use std::sync::Wait;
 use std::test::Fail;
 
-/// Five objects, a balance, and all of them back. The upper half of them stays, and the lower part comes back from the
-/// full stack.
+/// Puts five objects, balances, and gets all of them. The upper half stays in the pair, and the lower part is got from
+/// the full stack.
 const FIVE: Run = (
     "five objects",
     &[Fill(5), Balance, FullIsEmpty(false), Get(&[4, 3, 2, 1, 0])],
     AllGot,
 );
 
-/// Four objects are few: a balance leaves them.
+/// Four objects are few: a balance does not move them.
 const FOUR: Run = (
     "four objects",
     &[Fill(4), Balance, FullIsEmpty(true), Get(&[3, 2, 1, 0])],
     AllGot,
 );
 
-/// Four buffers for two objects take eight. A ninth goes to the spill list, and changes nothing else but the places of
-/// the buffers; it comes back first.
+/// Four buffers for two objects take eight. A ninth goes to the spill list, and changes nothing else except the places
+/// of the buffers. It is got first.
 const NINE: Run = (
     "nine objects",
     &[
@@ -38,11 +38,11 @@ const NINE: Run = (
     AllGot,
 );
 
-/// A run, the objects of a buffer, the first tag, and what the pair has left where it could not be disposed of.
+/// A run, the size of a buffer, the first tag, and what the pair has left if it could not be disposed of.
 type Row = (Run, u32, u64, Option<Lens>);
 
-/// From the opening to the end of five objects the head of the empty stack changes six times, so it does from six tags
-/// before the last. One tag later the last buffer cannot be given back, and stays with the pair.
+/// From the opening to the end of five objects the head of the empty stack changes six times, and it can do so from six
+/// tags before the last. If it begins one tag later the last buffer cannot be pushed, and stays with the pair.
 const ROWS: [Row; 5] = [
     (FIVE, 8, 0, None),
     (FOUR, 8, 0, None),
@@ -60,14 +60,14 @@ fn runs_of_one_pair(rt: HostRuntime) -> Result<(), Fail> {
     Ok(())
 }
 
-/// A pair without buffers takes two objects and gives them back, and has none still.
+/// A pair without buffers takes two objects, both are got again, and it still has no buffer.
 const TAKES_AND_GIVES: &[Step] = &[Fill(2), Get(&[1, 0]), NoneLeft, Has([None, None, None])];
 
-/// It has a buffer once one is to be found.
+/// It has a buffer as soon as there is one.
 const FINDS_A_BUFFER: &[Step] = &[Put(2), Has([Some(1), None, None]), FullIsEmpty(true)];
 
-/// Goes through both with a pair without buffers, while others have all; between them one is disposed of. Answers what
-/// was left of that.
+/// Makes both runs with a pair without buffers, while others have all buffers. One of the others is disposed of between
+/// the two. Returns what was left of it.
 fn left_beside_a_bare_pair<R: Wait + Abort>(
     rt: &R,
     alloc: Global,
@@ -84,7 +84,7 @@ fn left_beside_a_bare_pair<R: Wait + Abort>(
     Ok(left)
 }
 
-/// A pair without buffers keeps what is put into it, and has a buffer once one is to be found.
+/// A pair without buffers keeps what is put into it, and has a buffer as soon as there is one.
 #[test]
 fn a_bare_pair_takes_and_gives(rt: HostRuntime) -> Result<(), Fail> {
     let left = left_beside_a_bare_pair(&rt, rt.alloc())?;

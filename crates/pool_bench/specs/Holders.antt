@@ -1,4 +1,4 @@
--- What is asked of the workers of a pool, and what they have done.
+-- What is required of the workers of a pool, and what they have done.
 use Rattle.std.specs.Prelude.{◌≡◌, ◌⊎◌, ℕ, ◌<◌, ◌≤◌, Bool, true, false, List, Contains}
 use Rattle.std.specs.List.{range_with_len}
 use Rattle.mark_core.specs.declared.which.Which.TheVariants.{Empty}
@@ -15,7 +15,7 @@ numbers n = range_with_len 0 n
 abbrev pub AreRoots : ℕ → Holder → Type 0
 AreRoots n w = (o : ℕ) → o < n → Contains w.book.setup.roots o
 
--- each number from one up to another was claimed, by this worker or before
+-- each number from one up to another was claimed, by this worker or by another before it
 abbrev pub HasSeen : ℕ → ℕ → Holder → Type 0
 HasSeen from to w = (o : ℕ) → from ≤ o → o < to → Contains w.book.account.seen o
 

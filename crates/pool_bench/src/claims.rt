@@ -1,4 +1,4 @@
-//! Claims of objects, each thread's in rows of its own.
+//! Claims of objects: each thread claims those of its own rows.
 
 ghost use Rattle.std.specs.Prelude.{◌≡◌, All};
 ghost use Rattle.pool_bench.specs.Holders.{AreRoots, HasSeen, SamePool};
@@ -10,7 +10,7 @@ use std::alloc::{AllocError, Allocator, Global};
 use std::thread;
 use std::thread::Threads;
 
-/// Claims the objects from `from` up to `to`, and answers how many were white.
+/// Claims the objects from `from` up to but not including `to`, and returns how many were white.
 fn claim_part<A: Allocator>(pool: &Pool<A>, worker: &mut Worker<A>, from: u32, to: u32) -> u32
     requires pool { worker.old.pool ≡ pool.now }
     requires roots { AreRoots to worker.old }
@@ -27,7 +27,7 @@ fn claim_part<A: Allocator>(pool: &Pool<A>, worker: &mut Worker<A>, from: u32, t
     white
 }
 
-/// Claims each object of a worker's rows once, and answers how many were white.
+/// Claims each object of the rows of worker `number` once, and returns how many were white.
 fn claim_rows(pool: &Pool<Global>, worker: &mut Worker<Global>, number: u32, sizes: Sizes) -> u32
     requires pool { worker.old.pool ≡ pool.now }
     requires roots { AreRoots sizes.objects worker.old }
@@ -45,7 +45,7 @@ fn claim_rows(pool: &Pool<Global>, worker: &mut Worker<Global>, number: u32, siz
     white
 }
 
-/// Claims each object of a worker's rows in each pass, and answers how many were white.
+/// Claims each object of a worker's rows in each pass, and returns how many were white.
 fn claim_passes(pool: &Pool<Global>, numbered: NumberedWorker, sizes: Sizes) -> u64
     requires pool { numbered.worker.pool ≡ pool.now }
     requires roots { AreRoots sizes.objects numbered.worker }
@@ -59,7 +59,7 @@ fn claim_passes(pool: &Pool<Global>, numbered: NumberedWorker, sizes: Sizes) -> 
     white
 }
 
-/// Claims all objects in each pass, and answers how many were white.
+/// Claims all objects in each pass, on all threads, and returns how many were white.
 pub(crate) fn claim_all<R: Threads + Sync>(
     rt: &R,
     pool: &Pool<Global>,

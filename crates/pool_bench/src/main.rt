@@ -1,7 +1,7 @@
-//! Measures the pool alone: claims of objects, and pops and pushes of buffers, on some threads.
+//! Measures the pool on its own: claims of objects, and pops and pushes of buffers, on a number of threads.
 //!
-//! `bench/pool.sh` runs it beside the same work with std alone (`bench/std_baseline.rs`), and `docs/PERFORMANCE.md` has
-//! what came of it. Its words are numbers: see `src/sizes.rt`.
+//! `bench/pool.sh` runs it next to the same work with std only (`bench/std_baseline.rs`). `docs/PERFORMANCE.md` has the
+//! results. Its arguments are numbers: see `src/sizes.rt`.
 
 #![tactic(auto)]
 

@@ -1,4 +1,4 @@
-//! A pool over objects that are all roots.
+//! A pool whose objects are all roots.
 
 ghost use Rattle.std.specs.Prelude.{◌≡◌, ℕ, [], IfErr, IfOk};
 ghost use Rattle.mark_core.specs.Shares.{whole};
@@ -10,7 +10,7 @@ use crate::sizes::{BUFFERS, SIZE};
 use buffer_pool::{Edges, Pool, PoolFault, Worker};
 use std::alloc::Global;
 
-/// Objects that are all roots, without successors.
+/// A heap whose objects are all roots, without successors.
 #[derive(Drop)]
 struct Roots {
     objects: u32,
@@ -28,7 +28,7 @@ impl Edges for Roots {
     }
 }
 
-/// A pool for so many objects, which are all roots, and its worker.
+/// Creates a pool for `objects` objects, which are all roots. Returns it with its worker.
 pub(crate) fn pool_of_roots(
     alloc: Global,
     objects: u32,

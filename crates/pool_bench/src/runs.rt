@@ -1,4 +1,4 @@
-//! The two runs: what they count goes to standard output, the time that they took to standard error.
+//! The two runs. Each prints its count to standard output, and its time to standard error.
 
 use crate::claims::claim_all;
 use crate::roots::pool_of_roots;
@@ -12,7 +12,7 @@ use std::sync::Wait;
 use std::thread::Threads;
 use std::time::Instant;
 
-/// Claims each object of a pool as often as there are passes.
+/// Claims each object of a pool in each pass, and prints how many were white.
 pub(crate) fn run_claims<R: Threads + Clock + Print + Eprint + Sync>(
     rt: &R,
     alloc: Global,
@@ -29,7 +29,8 @@ pub(crate) fn run_claims<R: Threads + Clock + Print + Eprint + Sync>(
     Ok(())
 }
 
-/// Pops from the empty stack of a pool and pushes on it, as often as there are turns, on each thread.
+/// Takes the given number of turns on each thread, each a pop from the empty stack of a pool and a push on it. Prints
+/// how many popped and pushed a buffer.
 pub(crate) fn run_turns<R: Threads + Wait + Clock + Print + Eprint + Sync>(
     rt: &R,
     alloc: Global,

@@ -1,30 +1,30 @@
-//! How large a run is: the words of the command line, and what is the same in each run.
+//! The sizes of a run: the arguments of the command line, and what is the same in each run.
 
 ghost use Rattle.std.specs.Prelude.{◌<◌, ◌≤◌};
 
 use anyhow::{Context, Result, bail, ensure};
 
-/// How many buffers a pool has.
+/// The number of buffers of a pool.
 pub(crate) const BUFFERS: u32 = 64;
 
-/// How many objects a buffer is made for.
+/// The number of objects that a buffer takes.
 pub(crate) const SIZE: u32 = 256;
 
 /// The most threads.
 const MOST_THREADS: u32 = 64;
 
-/// How much is done, and by how many threads.
+/// The amount of work, and the number of threads.
 #[derive(Clone, Copy)]
 pub(crate) struct Sizes {
-    /// How many threads there are, from 1 to 64.
+    /// The number of threads, 1 to 64.
     pub(crate) threads: u32,
-    /// How many objects the pool has. The threads claim them by rows, in turn.
+    /// The number of objects of the pool. The threads claim them by rows, in turn.
     pub(crate) objects: u32,
-    /// How many objects side by side are claimed by one thread before those of the next begin, from 1 on.
+    /// The number of neighbouring objects that one thread claims before those of the next begin, at least 1.
     pub(crate) row: u32,
-    /// How often each object is claimed.
+    /// The number of times that each object is claimed.
     pub(crate) passes: u32,
-    /// How often each thread pops and pushes.
+    /// The number of times that each thread pops and pushes.
     pub(crate) turns: u32,
     ghost some: { 0 < threads },
     ghost few: { threads ≤ 64 },
@@ -36,7 +36,7 @@ fn number(word: &String) -> Result<u32> {
         .context(format_args!("reading {word:?}"))
 }
 
-/// Reads threads, objects, row, passes and turns, behind the program's name.
+/// Reads threads, objects, row, passes and turns, which follow the program's name in `words`.
 pub(crate) fn sizes_of(words: &[String]) -> Result<Sizes> {
     let [_, threads, objects, row, passes, turns] = words else {
         bail!("usage: pool_bench THREADS OBJECTS ROW PASSES TURNS");

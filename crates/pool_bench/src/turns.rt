@@ -10,7 +10,7 @@ use std::sync::Wait;
 use std::thread;
 use std::thread::Threads;
 
-/// Pops a buffer and pushes it. False where there was none, or the last tag is reached.
+/// Pops a buffer and pushes it. Returns `false` if there was none, or if the last tag is reached.
 fn turn<R: Wait, A: Allocator>(rt: &R, pool: &Pool<A>, worker: &mut Worker<A>) -> bool
     requires pool { worker.old.pool ≡ pool.now }
     requires awake { worker.old.book.account.idle ≡ 0 }
@@ -23,7 +23,7 @@ fn turn<R: Wait, A: Allocator>(rt: &R, pool: &Pool<A>, worker: &mut Worker<A>) -
     }
 }
 
-/// Takes so many turns, and answers in how many a buffer was popped and pushed.
+/// Takes `turns` turns, and returns the number of those that popped and pushed a buffer.
 fn take_turns<R: Wait>(rt: &R, pool: &Pool<Global>, numbered: NumberedWorker, turns: u32) -> u64
     requires pool { numbered.worker.pool ≡ pool.now }
     requires awake { numbered.worker.book.account.idle ≡ 0 }
@@ -42,7 +42,7 @@ fn take_turns<R: Wait>(rt: &R, pool: &Pool<Global>, numbered: NumberedWorker, tu
     moved
 }
 
-/// Takes so many turns on each thread, and answers in how many a buffer was popped and pushed.
+/// Takes the given number of turns on each thread, and returns the number of those that popped and pushed a buffer.
 pub(crate) fn turn_all<R: Threads + Wait + Sync>(
     rt: &R,
     pool: &Pool<Global>,

@@ -15,7 +15,7 @@ pub(crate) struct NumberedWorker {
     pub(crate) number: u32,
 }
 
-/// Splits a worker into so many, each with a number of its own.
+/// Splits a worker into `threads` workers, each with a number of its own.
 pub(crate) fn split_among(
     alloc: Global,
     pool: &Pool<Global>,
@@ -46,7 +46,7 @@ pub(crate) fn split_among(
     Ok(workers)
 }
 
-/// The sum of what the threads counted, or the largest number where it is more.
+/// Returns the sum of `counts`, or the largest number if the sum is more.
 pub(crate) fn sum_of(counts: &[u64]) -> u64 {
     counts
         .iter()

@@ -1,5 +1,5 @@
--- A worker with the whole share loses no push: nobody else does anything, and a loss is contested. This rests on the
--- clauses of the calls alone, whatever the rule of the table.
+-- A worker with the whole share loses no push: no other worker does anything, and a loss is contested. This rests only
+-- on the clauses of the calls, whatever the rule of the table.
 use Rattle.std.proofs.Common.{◌≡◌, ℕ, zero, suc, ◌<◌, if◌then◌else◌, List, [], ◌∷◌, ◌++◌, Option, ap, sym, refl, subst}
 use Rattle.std.proofs.Common.{◌∙◌, eq-eqb, arith}
 use mathlib.Core.Option.{some-injective, some-ne-none}

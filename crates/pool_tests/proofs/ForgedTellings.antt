@@ -1,4 +1,4 @@
--- What the rule leaves no room for.
+-- What the rule excludes.
 use Rattle.std.proofs.Common.{◌≡◌, ℕ, ◌≤◌, List, length, map, slice_index, slice_set, ap, sym, subst, ◌∙◌, ⊎_elim}
 use Rattle.std.proofs.Common.{arith}
 use Rattle.std.proofs.lemmas.List.{get_or-set_same}

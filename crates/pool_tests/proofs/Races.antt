@@ -1,4 +1,4 @@
--- What a worker has that takes one buffer at a time, which has no items.
+-- The state of a worker that takes one buffer at a time, without items.
 use Rattle.std.proofs.Common.{◌≡◌, ℕ, List, [], ◌∷◌, ◌++◌, length, Contains, ap, refl, subst, sym, ◌∙◌, arith}
 use Rattle.mark_core.specs.declared.which.Which.{Which}
 use Rattle.mark_core.specs.Lists.{remove_one}

@@ -1,4 +1,4 @@
--- What a worker has between the calls of a round.
+-- The state of a worker between the calls of a round.
 use Rattle.std.proofs.Common.{◌≡◌, ◌≢◌, ◌↔◌, ℕ, Bool, false, IsTrue, ◌+◌, ◌<◌, List, [], ◌∷◌, ◌++◌, Option, All}
 use Rattle.std.proofs.Common.{Contains, if◌then◌else◌, ◌==◌, cond, eq-eqb, ne_eqb, ap, sym, refl, subst, ◌∙◌, inl, inr}
 use Rattle.std.proofs.Common.{arith}

@@ -1,4 +1,4 @@
--- What the calls of a small run leave of a worker.
+-- The state of a worker after the calls of a small run.
 use Rattle.std.proofs.Common.{◌≡◌, ℕ, List, [], ◌∷◌, ◌++◌, length, Contains, ap, sym, refl, subst, ◌∙◌, inr, arith}
 use Rattle.std.proofs.lemmas.List.{nil_from_length}
 use Rattle.mark_core.specs.declared.which.Which.{Which}

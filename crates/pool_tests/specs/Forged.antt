@@ -1,5 +1,5 @@
--- What no step of a pool may tell, whatever its author notes and proves of it: what the rule of the table leaves no
--- room for.
+-- What no step of a pool can report, whatever its author notes and proves of it, because the rule of the table excludes
+-- it.
 use Rattle.std.specs.Prelude.{◌≡◌, ◌≢◌, ℕ, ◌+◌, ◌*◌, ◌<◌, true, List, length, Option, Some, slice_index, slice_set}
 use mathlib.Core.Option.{some}
 use lib.ListN.{get_elem?}
@@ -25,7 +25,7 @@ WasNotLost try_push.Done = Unit {0}
 WasNotLost (try_push.Lost back) = ⊥
 WasNotLost (try_push.Spent back) = Unit {0}
 
--- a table between two steps, at which the seat of this number is, and which has this word
+-- a table between two steps that has the seat and the word of the given numbers
 pub record IsBetweenSteps {B : Type 0} (r : Reading B) (e : Setup) (slots id word : ℕ) (me : Me (Option B) SeatView)
     (s : State (Option B) SeatView) : Type 0 where
   pub rule : Rule r e s
@@ -33,15 +33,15 @@ pub record IsBetweenSteps {B : Type 0} (r : Reading B) (e : Setup) (slots id wor
   pub view : get_elem? s.views id ≡ some me.0
   pub fits : slice_index s.words word < 18446744073709551616
 
--- the head of the stack bears the first tag in these words
+-- the head of the stack has the first tag in the words
 abbrev pub HasFirstTag : Setup → List ℕ → Which → Type 0
 HasFirstTag e words q = (head_of (slice_index words (head_word q))).tag ≡ e.first_tag
 
--- the words of a table after a step that makes f of a word
+-- the words of a table after a step that applies f to a word
 abbrev pub words_after : {B : Type 0} → State (Option B) SeatView → ℕ → (ℕ → ℕ) → List ℕ
 words_after s word f = slice_set s.words word (f (slice_index s.words word))
 
--- in no run the stack has this head
+-- the stack has the head in no run
 abbrev pub NeverWas : Setup → Which → Head → Type 0
 NeverWas e q h =
     (events : List Event) (m : Marking) → Run e (opening e e.first_tag) events m
@@ -54,29 +54,29 @@ OtherFirstHeadsWereNot =
     (e : Setup) (q : Which) (h : Head) → h.tag ≡ e.first_tag → h ≢ first_heads e.first_tag q → NeverWas e q h
 
 module _ {B : Type 0} (r : Reading B) where
-  -- while no head has changed, no step on any word may tell that an exchange has failed
+  -- while no head has changed, no step on any word can report that an exchange has failed
   abbrev pub NoForgedLoss : Type 0
   NoForgedLoss =
       (e : Setup) (slots id word : ℕ) (me : Me (Option B) SeatView) (f : ℕ → ℕ) (s : State (Option B) SeatView)
       → IsBetweenSteps r e slots id word me s → ((q : Which) → HasFirstTag e (words_after s word f) q)
       → Allows (Rule r e) slots id me word f (λ n after. 0 < after.0.book.failures) → ⊥
 
-  -- no step on any word may tell that the head loaded last is one that never was
+  -- no step on any word can report as the last loaded head one that never was
   abbrev pub NoForgedHead : Type 0
   NoForgedHead =
       (e : Setup) (slots id word : ℕ) (me : Me (Option B) SeatView) (f : ℕ → ℕ) (s : State (Option B) SeatView)
       → IsBetweenSteps r e slots id word me s → (q : Which) (h : Head) → NeverWas e q h
       → Allows (Rule r e) slots id me word f (λ n after. (look_of after.0.book.account q).head ≡ Some h) → ⊥
 
-  -- while the full head has not changed, no step may tell a push on full, as of an exchange of the empty head
+  -- while the full head has not changed, no step can report a push on full, such as an exchange of the empty head
   abbrev pub NoForgedPush : Type 0
   NoForgedPush =
       (e : Setup) (slots id word : ℕ) (me : Me (Option B) SeatView) (f : ℕ → ℕ) (s : State (Option B) SeatView)
       → IsBetweenSteps r e slots id word me s → HasFirstTag e (words_after s word f) Full
       → Allows (Rule r e) slots id me word f (λ n after. after.0.book.account.open_push ≡ true) → ⊥
 
-  -- no step may exchange a head for the link of its buffer under the same tag, or under one that is two more: whatever
-  -- it tells
+  -- no step can exchange a head for the link of its buffer under the same tag, or under one that is two more, whatever
+  -- it reports
   abbrev pub NoEvenPop : Type 0
   NoEvenPop =
       (e : Setup) (slots id : ℕ) (q : Which) (me : Me (Option B) SeatView) (f : ℕ → ℕ) (s : State (Option B) SeatView)

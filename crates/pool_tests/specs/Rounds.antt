@@ -1,4 +1,4 @@
--- What is asked of a worker that goes through its part of the objects in rounds.
+-- What is required of a worker that goes through its part of the objects in rounds.
 use Rattle.std.specs.Prelude.{◌≡◌, ℕ, List, [], ◌∷◌}
 use Rattle.std.specs.List.{range_with_len}
 use Rattle.mark_core.specs.Lists.{times}
@@ -21,13 +21,13 @@ pub record HasRoots (n : ℕ) (w : Holder) : Type 0 where
   pub roots : w.book.setup.roots ≡ numbers n
   pub pairs : w.book.setup.pairs ≡ []
 
--- it holds no buffer, answers for no object, and is not idle
+-- it holds no buffer, has nothing in its charge, and is not idle
 pub record HasNone (w : Holder) : Type 0 where
   pub held : w.book.account.held ≡ []
   pub charge : w.book.account.charge ≡ []
   pub awake : w.book.account.idle ≡ 0
 
--- it holds this buffer alone, answers for the buffer's items, and is not idle
+-- it holds only the buffer h, has its items in its charge, and is not idle
 pub record HasOne (w : Holder) (h : HeldBuffer) : Type 0 where
   pub held : w.book.account.held ≡ h.index ∷ []
   pub charge : (o : ℕ) → times o w.book.account.charge ≡ times o h.items

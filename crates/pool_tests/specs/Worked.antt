@@ -1,32 +1,32 @@
--- What is asked of a worker in small runs of one thread.
+-- What is required of a worker in small runs of one thread.
 use Rattle.std.specs.Prelude.{◌≡◌, ℕ, List, [], ◌∷◌, ◌++◌}
 use Rattle.mark_core.specs.Shares.{whole}
 use Rattle.mark_core.specs.World.{Setup}
 use Rattle.buffer_pool.specs.Book.{Book, new_book, claimed, finished}
 use Rattle.buffer_pool.specs.Calls.{Holder, HeldBuffer}
 
--- it holds these buffers, which take so many objects, answers for no object, and is not idle
+-- it holds the buffers of the list, which take `size` objects, has nothing in its charge, and is not idle
 pub record Holds (size : ℕ) (list : List ℕ) (w : Holder) : Type 0 where
   pub held : w.book.account.held ≡ list
   pub charge : w.book.account.charge ≡ []
   pub room : w.book.setup.size ≡ size
   pub awake : w.book.account.idle ≡ 0
 
--- it has one unit, answers for no object, and is not idle
+-- it has one unit, nothing in its charge, and is not idle
 pub record IsOfOneUnit (w : Holder) : Type 0 where
   pub share : w.book.account.share ≡ 1
   pub charge : w.book.account.charge ≡ []
   pub awake : w.book.account.idle ≡ 0
 
--- a buffer of this number without items
+-- a buffer without items, of a given number
 abbrev pub bare : ℕ → ℕ → HeldBuffer
 bare room i = record { index = i; items = []; size = room }
 
--- the references of two objects with their class, each an object with one that it refers to
+-- the references of two objects and their class, each an object and one that it refers to
 abbrev pub references : List (ℕ × ℕ)
 references = (1, 0) ∷ (1, 2) ∷ (2, 0) ∷ (2, 1) ∷ []
 
--- a pool over them: the root is object 1
+-- the setup of a pool for them: the root is object 1
 abbrev pub three_objects : Setup
 three_objects = record { objects = 3; buffers = 4; size = 2; first_tag = 0; roots = 1 ∷ []; pairs = references }
 
@@ -34,8 +34,8 @@ three_objects = record { objects = 3; buffers = 4; size = 2; first_tag = 0; root
 abbrev pub claimed_again : ℕ → Book → Book
 claimed_again o b = record b { account = record b.account { seen = b.account.seen ++ o ∷ [] } }
 
--- the worker's book before the first claim; once the root and what it refers to were claimed; once the root was
--- finished too; and once all were
+-- the worker's book before the first claim; after the root and what it refers to were claimed; after the root was
+-- finished too; and after all were
 abbrev pub begun : Book
 begun = new_book three_objects whole
 

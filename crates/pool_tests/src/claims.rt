@@ -8,7 +8,7 @@ use std::alloc::{Allocator, Global};
 use std::test::Fail;
 use std::thread::{Threads, join};
 
-/// How many of the objects were white.
+/// Claims objects 0 to `objects` - 1, and returns how many were white.
 fn claim_all<A: Allocator>(pool: &Pool<A>, mut worker: Worker<A>, objects: u32) -> u32
     requires pool { worker.pool ≡ pool.now }
     requires roots { HasRoots objects worker }
@@ -23,7 +23,7 @@ fn claim_all<A: Allocator>(pool: &Pool<A>, mut worker: Worker<A>, objects: u32) 
     white
 }
 
-/// How many claims of two threads, of which each claims all of so many objects, were of a white object.
+/// Lets two threads claim all of `objects` objects each, and returns how many claims were of a white object.
 fn claim_twice<R: Threads>(rt: &R, alloc: Global, objects: u32) -> Result<u32, PoolFault> {
     let (pool, worker) = pool_of_roots(alloc, objects, 4, 2)?;
     let (one, other) = pool.split(worker, 1);
@@ -50,7 +50,7 @@ fn each_object_is_claimed_once(rt: HostRuntime) -> Result<(), Fail> {
     Ok(())
 }
 
-/// The marks of 64 objects lie in two words, so all claims are of words that the other thread claims in.
+/// The marks of 64 objects are in two words, so each claim is in a word in which the other thread claims too.
 #[test]
 fn each_object_of_two_words_is_claimed_once(rt: HostRuntime) -> Result<(), Fail> {
     for _ in 0..100 {

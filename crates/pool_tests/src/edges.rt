@@ -1,4 +1,4 @@
-//! Pools over small heaps.
+//! Pools of small heaps.
 ghost use Rattle.std.specs.Prelude.{◌≡◌, ℕ, [], IfOk};
 ghost use Rattle.mark_core.specs.Shares.{whole};
 ghost use Rattle.pool_tests.specs.Rounds.{HasNone, HasRoots, numbers};
@@ -6,7 +6,7 @@ ghost use Rattle.pool_tests.specs.Rounds.{HasNone, HasRoots, numbers};
 use buffer_pool::{Edges, Pool, PoolFault, Worker};
 use std::alloc::Allocator;
 
-/// Objects that are all roots, without successors.
+/// A heap whose objects are all roots, without successors.
 #[derive(Drop)]
 pub(crate) struct Roots {
     pub(crate) objects: u32,
@@ -24,7 +24,7 @@ impl Edges for Roots {
     }
 }
 
-/// A pool over roots alone, and its worker.
+/// Creates a pool whose `objects` objects are all roots. Returns it with its worker.
 pub(crate) fn pool_of_roots<A: Allocator + Copy>(
     alloc: A,
     objects: u32,

@@ -1,4 +1,4 @@
-//! What no step of a pool may tell, whatever its author notes and proves of it.
+//! What no step of a pool can report, whatever its author notes and proves of it.
 ghost use Rattle.pool_tests.specs.Forged.{NoEvenPop, NoForgedHead, NoForgedLoss, NoForgedPush};
 ghost use Rattle.pool_tests.specs.Forged.{OtherFirstHeadsWereNot, WasNotLost};
 ghost use Rattle.buffer_pool.specs.Calls.{MayPush};
@@ -11,15 +11,15 @@ use buffer_pool::{Held, Pool, PoolFault, TryPopped, TryPushed, Which, Worker};
 use std::alloc::{Allocator, Global};
 use std::test::Fail;
 
-/// It does nothing: its contract says what the rule of a pool's table leaves no room for.
+/// Does nothing. Its contract says what the rule of a pool's table excludes.
 ///
-/// - `loss`: while no head has changed, no step tells that an exchange has failed. So a try of a pop that loads the
-///   head and answers `Lost`, or one that finds a lock taken, has no telling there.
-/// - `head`: no step tells as the head loaded last one that the stack never had.
-/// - `first`: such is each head with the first tag that is not the first head, as one without a buffer on the empty
-///   stack, and one with a buffer on full. So `sees_empty` cannot invent its answer.
-/// - `push`: while the full head has not changed, no step tells a push on full. So a push that exchanges the other
-///   stack's head has no telling there.
+/// - `loss`: while no head has changed, no step reports that an exchange has failed. So a try of a pop that loads the
+///   head and returns `Lost`, or that finds a lock taken, has nothing to report there.
+/// - `head`: no step reports as the last loaded head one that the stack never had.
+/// - `first`: each head with the first tag that is not the first head is such a head: one without a buffer on the empty
+///   stack, or one with a buffer on full. So `sees_empty` cannot invent its result.
+/// - `push`: while the full head has not changed, no step reports a push on full. So a push that exchanges the other
+///   stack's head has nothing to report there.
 /// - `pop`: no step exchanges a head for the link of its buffer under the same tag, or under one that is two more.
 fn no_telling_is_forged<A: Allocator>()
     ensures loss { NoForgedLoss (buffer_reading {A = A}) }
@@ -34,8 +34,8 @@ fn tellings() {
     no_telling_is_forged::<Global>();
 }
 
-/// A try of a push by a worker that has the whole share: it is never lost. This follows from the contracts of
-/// the calls alone, and names nothing that a pool's author may choose.
+/// Tries to push a buffer for a worker that has the whole share: such a try is never lost. This follows only from the
+/// contracts of the calls, and names nothing that a pool's author may choose.
 fn push_alone<A: Allocator>(
     pool: &Pool<A>,
     worker: &mut Worker<A>,
@@ -54,7 +54,8 @@ fn push_alone<A: Allocator>(
     tried
 }
 
-/// A worker that is alone pops a buffer and pushes it. Whether the push was done, where the pop was.
+/// Lets the only worker of a pool pop a buffer and push it. Returns whether it was pushed, or `None` if none was
+/// popped.
 fn is_pushed_alone(alloc: Global) -> Result<Option<bool>, PoolFault> {
     let (pool, mut worker) = bare_pool(alloc, 0)?;
     let TryPopped::Took(held) = pool.try_pop(&mut worker, Which::Empty) else {

@@ -1,4 +1,4 @@
-//! A run over objects with references: two objects with their class.
+//! A run over objects with references: two objects and their class.
 ghost use Rattle.std.specs.Prelude.{◌≡◌, ◌≢◌, ℕ, [], ◌∷◌, IfOk};
 ghost use Rattle.mark_core.specs.Events.{CanClaim};
 ghost use Rattle.buffer_pool.specs.Book.{claimed};
@@ -12,8 +12,8 @@ use std::test::Fail;
 
 const OBJECTS: u32 = 3;
 
-/// Object 0 is the class. Object 1 is a root and refers to the class and to object 2, which refers to the
-/// class and to object 1.
+/// A heap of three objects. Object 0 is the class. Object 1 is a root and refers to the class and to object 2, which
+/// refers to the class and to object 1.
 #[derive(Drop)]
 struct TwoObjects;
 
@@ -36,7 +36,7 @@ fn pool_of_two_objects(alloc: Global) -> Result<(Pool<Global>, Worker<Global>), 
     Pool::new(alloc, &TwoObjects, 4, 2, 0)
 }
 
-/// Claims an object that is white.
+/// Claims `object`, which is white.
 pub(crate) fn claim_white<R: Abort, A: Allocator>(
     rt: &R,
     pool: &Pool<A>,
@@ -52,7 +52,7 @@ pub(crate) fn claim_white<R: Abort, A: Allocator>(
     assert!(rt; pool.claim(worker, object), "object {object}");
 }
 
-/// Claims an object that was marked.
+/// Claims `object`, which is marked.
 fn claim_marked<R: Abort, A: Allocator>(rt: &R, pool: &Pool<A>, worker: &mut Worker<A>, object: u32)
     requires pool { worker.old.pool ≡ pool.now }
     requires can { CanClaim worker.old.book.setup object worker.old.book.account }
@@ -89,7 +89,7 @@ fn scan_rest<R: Abort, A: Allocator>(rt: &R, pool: &Pool<A>, worker: &mut Worker
     pool.finish(worker, 2);
 }
 
-/// Whether each object was claimed and whether it was finished, and how many were finished.
+/// For each object, whether it was claimed and whether it was finished; and the number of finished objects.
 type Marked = ([(bool, bool); 3], u64);
 
 fn marked_by_one<R: Abort>(rt: &R, alloc: Global) -> Result<Marked, PoolFault> {

@@ -8,9 +8,9 @@ use buffer_pool::{Pool, PoolFault, Which, Worker};
 use std::alloc::Allocator;
 use std::test::Fail;
 
-/// Both go idle, and the first comes back. Answers what each sees of the other before and after that: whether one is
-/// idle and so two are, whether two are, whether it is one, and whether two are still. None where the full stack was
-/// not seen empty.
+/// Lets both workers go idle, and the first one come back. Returns whether two are seen idle after the first went idle,
+/// whether two and whether one are seen idle after both did, and whether two still are after the first came back.
+/// Returns `None` if the full stack was not seen empty.
 fn idle_in_turn<A: Allocator>(
     pool: &Pool<A>,
     one: &mut Worker<A>,
@@ -31,7 +31,7 @@ fn idle_in_turn<A: Allocator>(
     Some([two_with_one_idle, two, one_alone, pool.all_idle(other, 2)])
 }
 
-/// Two workers of one unit each go idle in turn.
+/// Lets two workers of one unit each go idle in turn, in a new pool.
 fn two_idle_workers<A: Allocator + Copy>(alloc: A) -> Result<Option<[bool; 4]>, PoolFault> {
     let (pool, leader) = pool_of_roots(alloc, 1, 4, 2)?;
     let (leader, mut one) = pool.split(leader, 1);

@@ -1,9 +1,9 @@
-//! Tests of `buffer_pool`, in a crate of their own: so that crate is proved once, not twice. They
-//! ask what callers may ask. The crate has nothing to hand out.
+//! Tests of `buffer_pool`. They stand in a crate of their own, so that `buffer_pool` is proved once, not twice, and use
+//! public calls only.
 //!
-//! What only a run shows: that calls succeed, memory that is refused, last tags, and threads to their end. `worked` has
-//! the run that `buffer_pool` quotes, `waiting` and `mark_bits` the words of a pool's table, and `forged` what its rule
-//! leaves no room for.
+//! They test what only a run shows: that calls succeed, that memory runs out, last tags, and that threads end. `worked`
+//! has the run that `buffer_pool` quotes, `waiting` and `mark_bits` the words of a pool's table, and `forged` what its
+//! rule excludes.
 
 #![tactic(auto)]
 

@@ -1,4 +1,4 @@
-//! The two bits of each object, as they lie in the words of marks.
+//! The two bits of each object in the words of marks.
 ghost use Rattle.std.specs.Prelude.{◌≡◌, ◌<◌};
 ghost use Rattle.buffer_pool.specs.Book.{claimed, finished};
 ghost use Rattle.pool_tests.specs.MarkBits.{LowWithHigh};
@@ -13,19 +13,19 @@ use std::alloc::{Allocator, Global};
 use std::process::Abort;
 use std::test::Fail;
 
-/// One more than a word has marks of.
+/// One object more than a word has marks for.
 const OBJECTS: u32 = 33;
 
 const BUFFERS: u32 = 4;
 
-/// The word of marks of that number as it is now, if there is one.
+/// Returns word `number` of the marks as it is now, if there is one.
 fn word_now<A: Allocator>(pool: &Pool<A>, number: usize) -> Option<u64>
     requires { number < 4 }
 {
     pool.peek(mark_word(BUFFERS, 0) + number)
 }
 
-/// Claims a white object.
+/// Claims `object`, which is white.
 fn claim_root<R: Abort, A: Allocator>(rt: &R, pool: &Pool<A>, worker: &mut Worker<A>, object: u32)
     requires pool { worker.old.pool ≡ pool.now }
     requires roots { HasRoots OBJECTS worker.old }
@@ -37,7 +37,7 @@ fn claim_root<R: Abort, A: Allocator>(rt: &R, pool: &Pool<A>, worker: &mut Worke
     claim_white(rt, pool, worker, object);
 }
 
-/// Claims a white object and finishes it. Answers word 0 after each of the two.
+/// Claims `object`, which is white, and finishes it. Returns word 0 after each of the two.
 fn claim_and_finish<R: Abort, A: Allocator>(
     rt: &R,
     pool: &Pool<A>,
@@ -59,11 +59,11 @@ fn claim_and_finish<R: Abort, A: Allocator>(
     (claimed, word_now(pool, 0))
 }
 
-/// The words of marks as objects 0, 31 and 32 are claimed, the first two of them finished at once: word 0 after each of
-/// these four, and words 0, 1 and 2 at the end. And how many are finished then.
+/// The words of marks while objects 0, 31 and 32 are claimed and the first two of them finished at once: word 0 after
+/// each of these four steps, words 0, 1 and 2 at the end, and what the marks say then.
 type Words = ([Option<u64>; 4], [Option<u64>; 3], Told);
 
-/// How many objects are finished, and which is the first that is not: of all, and from object 31 on.
+/// The number of finished objects, and the first object that is not finished: of all, and from object 31 on.
 type Told = (u64, [Option<u32>; 2]);
 
 fn words_of_33<R: Abort>(rt: &R, alloc: Global) -> Result<Words, PoolFault> {
@@ -101,7 +101,7 @@ fn bits_of_33_objects(rt: HostRuntime) -> Result<(), Fail> {
     Ok(())
 }
 
-/// It does nothing: its contract says that the rule of a pool's table leaves no room for a high bit alone.
+/// Does nothing. Its contract says that the rule of a pool's table excludes a high bit without its low bit.
 fn no_high_bit_stands_alone<A: Allocator>()
     ensures { LowWithHigh (buffer_reading {A = A}) }
 {}

@@ -1,11 +1,11 @@
-//! Want of memory at each request that a pool makes when it is opened. What is done with it makes none: `worked.rt`.
+//! Tests that run out of memory at each request of the opening of a pool. Its other calls make none: `worked.rt`.
 
 use crate::edges::Roots;
 use buffer_pool::{Pool, PoolFault, Which};
 use limited_heap::LimitedHeap;
 use std::alloc::Global;
 
-/// Whether a pool of four buffers is opened over this heap, or want of memory is told where the heap refused a request.
+/// Tests whether a pool of four buffers is opened on `heap`, or is out of memory and the heap refused a request.
 fn is_right_or_told(heap: &LimitedHeap<Global>) -> bool {
     match Pool::new(heap, &Roots { objects: 3 }, 4, 2, 0) {
         Ok((pool, mut worker)) => !pool.sees_empty(&mut worker, Which::Empty),
@@ -13,25 +13,25 @@ fn is_right_or_told(heap: &LimitedHeap<Global>) -> bool {
     }
 }
 
-/// How many requests a pool of four buffers makes where none is refused.
+/// Returns how many requests a pool of four buffers makes if none is refused.
 fn requests_of_a_pool(alloc: Global) -> u64 {
     let heap = LimitedHeap::new(alloc, u64::MAX);
     let _right = is_right_or_told(&heap);
     u64::MAX.saturating_sub(heap.requests_left())
 }
 
-/// A heap that grants what a pool of four buffers takes, and nothing behind it.
+/// Creates a heap that grants the requests of a pool of four buffers, and no later one.
 pub(crate) fn heap_of_a_pool(alloc: Global) -> LimitedHeap<Global> {
     LimitedHeap::new(alloc, requests_of_a_pool(alloc))
 }
 
-/// Whether a pool over this heap is right or its fault is told, and whether the heap refused a request for it.
+/// Tests whether a pool on `heap` is right or out of memory, and whether the heap refused a request.
 fn opening_over(heap: LimitedHeap<Global>) -> (bool, bool) {
     let right = is_right_or_told(&heap);
     (right, heap.refusals() > 0)
 }
 
-/// Each request is refused in turn: with all behind it, and alone.
+/// Refuses each request in turn: with all later ones, and alone.
 #[test]
 fn memory_refused_in_turn(rt: HostRuntime) {
     let requests = requests_of_a_pool(rt.alloc());

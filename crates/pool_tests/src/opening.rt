@@ -1,10 +1,10 @@
-//! Sizes that are refused.
+//! Sizes that a pool refuses.
 
 use crate::edges::Roots;
 use buffer_pool::{Pool, PoolFault};
 use tagged_index::LAST_TAG;
 
-/// Objects, buffers, size and first tag, and whether they are inside.
+/// Objects, buffers, size and first tag, and whether a pool may have them.
 const SIZES: [(u32, u32, u32, u64, bool); 10] = [
     (0, 4, 2, 0, true),
     (16_777_216, 4, 2, LAST_TAG, true),

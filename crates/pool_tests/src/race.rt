@@ -1,6 +1,6 @@
-//! Four threads that pop and push four buffers at the same time. Where they overlap they lose exchanges. How many is
-//! the machine's choice, and none is right too, as on a single processor that runs the threads one after another: no
-//! call of a pool can be held between its load and its exchange. So losses are counted and not asked for.
+//! Four threads that pop and push four buffers at the same time. They lose exchanges when they overlap. How often is
+//! the machine's choice, and never is right too, as on a single processor that runs the threads one after another: no
+//! call of a pool can be held up between its load and its exchange. So losses are counted and not required.
 ghost use Rattle.std.specs.Prelude.{◌≡◌, [], ◌∷◌, IfOk, MatchOption};
 ghost use Rattle.pool_tests.specs.Worked.{Holds, bare};
 
@@ -15,7 +15,7 @@ use std::thread::{Threads, join};
 /// The rounds of each of the four threads.
 const ROUNDS: u32 = 20_000;
 
-/// A worker, how many exchanges of a head it has won, and how many tries of a pop it has lost.
+/// A worker, the number of exchanges of a head that it has won, and the number of tries of a pop that it has lost.
 #[derive(Drop)]
 struct Racer {
     worker: Worker<Global>,
@@ -46,8 +46,8 @@ fn pop_any<R: Wait + Abort, A: Allocator>(
     }
 }
 
-/// Moves the buffer on top of one stack to the other. Answers how many exchanges were won: two, or none where there is
-/// no buffer.
+/// Moves the buffer on top of one stack to the other. Returns how many exchanges were won: two, or none if there is no
+/// buffer.
 fn carry<R: Wait + Abort, A: Allocator>(
     rt: &R,
     pool: &Pool<A>,
@@ -69,7 +69,7 @@ fn carry<R: Wait + Abort, A: Allocator>(
     }
 }
 
-/// Tries once to pop, and puts back what was taken. True where the try was lost.
+/// Tries once to pop, and pushes back what was popped. Returns whether the try was lost.
 fn loses<R: Wait + Abort, A: Allocator>(
     rt: &R,
     pool: &Pool<A>,
@@ -94,7 +94,7 @@ fn loses<R: Wait + Abort, A: Allocator>(
     }
 }
 
-/// Carries buffers to and fro, and tries once to pop in each round.
+/// Moves buffers to and fro between the stacks, and tries once to pop in each round.
 fn run<R: Wait + Abort>(rt: &R, pool: &Pool<Global>, worker: Worker<Global>) -> Racer
     requires pool { worker.pool ≡ pool.now }
     requires none { Holds 2 [] worker }
@@ -114,7 +114,7 @@ fn run<R: Wait + Abort>(rt: &R, pool: &Pool<Global>, worker: Worker<Global>) -> 
     Racer { worker, won, lost }
 }
 
-/// Two threads side by side.
+/// Runs two threads side by side.
 fn run_two<R: Threads + Wait + Abort + Sync>(
     rt: &R,
     pool: &Pool<Global>,
@@ -147,7 +147,7 @@ fn both(pool: &Pool<Global>, first: Racer, second: Racer) -> Racer
     }
 }
 
-/// Carries all buffers back to the empty stack. Answers how many exchanges were won in all, and how many tries lost.
+/// Moves all buffers back to the empty stack. Returns how many exchanges were won in all, and how many tries were lost.
 fn carry_back<R: Wait + Abort>(rt: &R, pool: &Pool<Global>, racer: Racer) -> (u64, u64)
     requires pool { racer.worker.pool ≡ pool.now }
     requires none { Holds 2 [] racer.worker }
@@ -163,9 +163,9 @@ fn carry_back<R: Wait + Abort>(rt: &R, pool: &Pool<Global>, racer: Racer) -> (u6
     (won, lost)
 }
 
-/// All pops and pushes end, also where threads lose exchanges, and the tags count those that were won. A try is lost
-/// only to an exchange that another thread won since its load, and each of these takes at most one try from each of the
-/// three others.
+/// All pops and pushes end, even if threads lose exchanges, and the tags count the exchanges that were won. A try is
+/// lost only to an exchange that another thread won since its load, and each of these costs each of the three others at
+/// most one try.
 #[test]
 fn lost_exchanges(rt: HostRuntime) -> Result<(), Fail> {
     let (pool, worker) = bare_pool(rt.alloc(), 0)?;

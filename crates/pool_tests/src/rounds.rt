@@ -1,4 +1,4 @@
-//! Four threads that fill buffers, push them, pop them and finish what they find, all at the same time.
+//! Four threads that fill buffers, push them, pop them and finish the objects in them, all at the same time.
 ghost use Rattle.std.specs.Prelude.{◌≡◌, ◌≤◌, ◌+◌, ◌*◌, [], MatchOption};
 ghost use Rattle.mark_core.specs.declared.which.Which.TheVariants.{Empty};
 ghost use Rattle.pool_tests.specs.Rounds.{HasNone, HasOne, HasRoots, IsSameWorker};
@@ -14,13 +14,13 @@ pub(crate) const OBJECTS: u32 = 4_000;
 
 const BUFFERS: u32 = 64;
 
-/// The objects of one thread.
+/// The number of objects of one thread.
 const PART: u32 = 1_000;
 
-/// The objects of one round, which are as many as a buffer takes.
+/// The number of objects of one round, which is as many as a buffer takes.
 const ROUND: u32 = 16;
 
-/// The tries of one pop or push. One is lost only where another thread's pop or push succeeds between its two
+/// The most tries of one pop or push. A try is lost only if another thread's pop or push succeeds between its two
 /// steps, and all threads together make about a thousand of these.
 const TURNS: u32 = 10_000;
 
@@ -70,7 +70,7 @@ fn push_within<R: Abort, A: Allocator>(
     panic!(rt; "each push was lost")
 }
 
-/// Claims these objects, and puts those that were white into the buffer.
+/// Claims objects `from` to `to` - 1, and puts those that were white into `held`.
 fn fill<R: Abort, A: Allocator>(
     rt: &R,
     pool: &Pool<A>,
@@ -108,7 +108,8 @@ fn finish_items<A: Allocator>(pool: &Pool<A>, worker: &mut Worker<A>, held: &mut
     }
 }
 
-/// Finishes what a buffer of the full stack has, and puts it on the empty one. False where there is none.
+/// Pops a buffer from the full stack, finishes its objects, and pushes it on the empty one. Returns `false` if there is
+/// none.
 pub(crate) fn finish_buffer<R: Abort, A: Allocator>(
     rt: &R,
     pool: &Pool<A>,
@@ -128,7 +129,7 @@ pub(crate) fn finish_buffer<R: Abort, A: Allocator>(
     true
 }
 
-/// Claims these objects, and puts a buffer with them on the full stack.
+/// Claims objects `from` to `to` - 1, and pushes a buffer with those that were white on the full stack.
 pub(crate) fn fill_buffer<R: Abort, A: Allocator>(
     rt: &R,
     pool: &Pool<A>,
@@ -150,7 +151,7 @@ pub(crate) fn fill_buffer<R: Abort, A: Allocator>(
     push_within(rt, pool, worker, Which::Full, held);
 }
 
-/// The work of one thread.
+/// Does the work of one thread.
 fn go_through<R: Abort, A: Allocator>(
     rt: &R,
     pool: &Pool<A>,
@@ -174,7 +175,7 @@ fn go_through<R: Abort, A: Allocator>(
     worker
 }
 
-/// Two threads, each with a part of its own.
+/// Runs two threads side by side, each with a part of its own.
 fn go_side_by_side<R: Threads + Abort + Sync>(
     rt: &R,
     pool: &Pool<Global>,

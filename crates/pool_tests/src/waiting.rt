@@ -1,4 +1,4 @@
-//! Pops and pushes that try again until one is not lost, and what is seen of the stacks between them.
+//! Pops and pushes that try again until a try is not lost, and the stacks between them.
 ghost use Rattle.std.specs.Prelude.{◌≡◌, ℕ, ◌<◌, List, [], ◌∷◌, ◌++◌, Contains, IfOk};
 ghost use Rattle.mark_core.specs.Lists.{remove_one};
 ghost use Rattle.mark_core.specs.Shares.{whole};
@@ -16,7 +16,7 @@ use tagged_index::HeadWord;
 
 pub(crate) const BUFFERS: u32 = 4;
 
-/// A pool without objects, of four buffers for two objects each.
+/// Creates a pool without objects, of four buffers for two objects each.
 pub(crate) fn bare_pool<A: Allocator + Copy>(
     alloc: A,
     first_tag: u64,
@@ -28,7 +28,7 @@ pub(crate) fn bare_pool<A: Allocator + Copy>(
     Pool::new(alloc, &Roots { objects: 0 }, BUFFERS, 2, first_tag)
 }
 
-/// A word of the table, as it stands there.
+/// Returns word `number` of the table as it is now.
 fn word<R: Abort, A: Allocator>(rt: &R, pool: &Pool<A>, number: usize) -> u64 {
     let Some(word) = pool.peek(number) else {
         panic!(rt; "the table has each of these words");
@@ -36,7 +36,7 @@ fn word<R: Abort, A: Allocator>(rt: &R, pool: &Pool<A>, number: usize) -> u64 {
     word
 }
 
-/// The index and the tag of a head, as they stand in the table.
+/// Returns the index and the tag of a head as they are in the table.
 pub(crate) fn head<R: Abort, A: Allocator>(
     rt: &R,
     pool: &Pool<A>,
@@ -46,7 +46,7 @@ pub(crate) fn head<R: Abort, A: Allocator>(
     (head.index(), head.tag())
 }
 
-/// The link word of a buffer, as it stands in the table.
+/// Returns the link word of `buffer` as it is in the table.
 fn link<R: Abort, A: Allocator>(rt: &R, pool: &Pool<A>, buffer: usize) -> u64
     requires { buffer < 4 }
 {
@@ -111,7 +111,7 @@ fn sees_empty<A: Allocator>(pool: &Pool<A>, worker: &mut Worker<A>, which: Which
     pool.sees_empty(worker, which)
 }
 
-/// Takes buffers 0, 1 and 2 from the empty stack. The last two come back.
+/// Pops buffers 0, 1 and 2 from the empty stack, and returns the last two.
 fn pop_three<R: Wait + Abort, A: Allocator>(
     rt: &R,
     pool: &Pool<A>,
@@ -129,7 +129,7 @@ fn pop_three<R: Wait + Abort, A: Allocator>(
     (second, third)
 }
 
-/// Puts buffer 2 and then 1 on the full stack, which is seen empty before the first and not after it.
+/// Pushes buffer 2 and then 1 on the full stack, which is seen empty before the first and not after it.
 fn push_two<R: Wait + Abort, A: Allocator>(
     rt: &R,
     pool: &Pool<A>,
@@ -148,7 +148,7 @@ fn push_two<R: Wait + Abort, A: Allocator>(
     push_bare(rt, pool, worker, Which::Full, second);
 }
 
-/// Takes both from the full stack, which is then seen empty, and puts buffer 1 back.
+/// Pops both from the full stack, which is then seen empty, and pushes buffer 1 back.
 fn pop_two_push_one<R: Wait + Abort, A: Allocator>(rt: &R, pool: &Pool<A>, worker: &mut Worker<A>)
     requires pool { worker.old.pool ≡ pool.now }
     requires none { Holds 2 [] worker.old }
@@ -172,7 +172,7 @@ fn stacks<R: Abort, A: Allocator>(rt: &R, pool: &Pool<A>) -> Stacks {
     )
 }
 
-/// The stacks of a new pool, and whether the full one and the empty one are seen empty.
+/// Returns the stacks of a new pool, and whether the full one and the empty one are seen empty.
 fn opened<R: Abort>(
     rt: &R,
     alloc: Global,
@@ -184,7 +184,7 @@ fn opened<R: Abort>(
     Ok((stacks(rt, &pool), full, empty))
 }
 
-/// Both heads bear the first tag, and the empty stack has buffers 0 to 3 in this order.
+/// Both heads have the first tag, and the empty stack has buffers 0 to 3 in this order.
 #[test]
 fn stacks_at_the_opening(rt: HostRuntime) -> Result<(), Fail> {
     for first_tag in [0, 5, tagged_index::LAST_TAG] {
@@ -194,7 +194,8 @@ fn stacks_at_the_opening(rt: HostRuntime) -> Result<(), Fail> {
     Ok(())
 }
 
-/// The pops and pushes of the worked table of events. Answers the stacks once two buffers were pushed, and at the end.
+/// Makes the pops and pushes of the worked table of events. Returns the stacks after two buffers were pushed, and at
+/// the end.
 fn go_in_turn<R: Wait + Abort, A: Allocator + Copy>(
     rt: &R,
     alloc: A,

@@ -1,4 +1,4 @@
-//! Small runs of one thread, with their answers.
+//! Small runs of one thread, with their results.
 ghost use Rattle.std.specs.Prelude.{◌≡◌, ◌≤◌, ◌<◌, [], length};
 ghost use Rattle.pool_tests.specs.Rounds.{HasNone, HasRoots, IsSameWorker};
 
@@ -10,14 +10,14 @@ use std::alloc::{Allocator, Global};
 use std::process::Abort;
 use std::test::Fail;
 
-/// Whether an object was claimed, and whether it was finished.
+/// Tests whether `object` was claimed, and whether it was finished.
 pub(crate) fn mark<A: Allocator>(marks: &Marks<A>, object: u32) -> (bool, bool)
     requires { object < length marks.now }
 {
     (marks.is_claimed(object), marks.is_finished(object))
 }
 
-/// The marks of objects 0 to 4, and how many objects are finished.
+/// The marks of objects 0 to 4, and the number of finished objects.
 type Told = ([(bool, bool); 5], u64);
 
 fn told<A: Allocator>(marks: &Marks<A>) -> Told
@@ -33,8 +33,8 @@ fn told<A: Allocator>(marks: &Marks<A>) -> Told
     (first, marks.finished_len())
 }
 
-/// Objects 0 and 1 are finished, 2 and 3 lie on the full stack, and 4 is white. And the first that is not finished, of
-/// all and from object 3 on.
+/// Returns the marks after a run in which objects 0 and 1 are finished, 2 and 3 are on the full stack, and 4 is white.
+/// Returns also the first object that is not finished, of all and from object 3 on.
 fn marks_of_each_kind<R: Abort>(
     rt: &R,
     alloc: Global,
@@ -50,15 +50,15 @@ fn marks_of_each_kind<R: Abort>(
     Ok((told(&marks), next))
 }
 
-/// Of two workers the one that does something.
+/// The one of two workers that takes a turn.
 #[derive(Clone, Copy, Drop)]
 enum Who {
     One,
     Other,
 }
 
-/// What a worker does: it claims these objects and puts a buffer with them on the full stack, or it finishes what a
-/// buffer of the full stack has, and finds one or none.
+/// A turn: claims a range of objects and pushes a buffer with them on the full stack, or finishes the objects of a
+/// buffer of the full stack, and finds one or none.
 #[derive(Clone, Copy, Drop)]
 enum Does {
     Fill(u32, u32),
@@ -81,7 +81,7 @@ fn take_turn<R: Abort, A: Allocator>(rt: &R, pool: &Pool<A>, worker: &mut Worker
     }
 }
 
-/// Two workers do this in turn.
+/// Lets two workers take their turns.
 fn go_in_turn<R: Abort, A: Allocator>(
     rt: &R,
     pool: &Pool<A>,
@@ -103,7 +103,7 @@ fn go_in_turn<R: Abort, A: Allocator>(
     }
 }
 
-/// What is told of a new pool once two workers did this in turn.
+/// Returns the marks of a new pool after two workers have taken their turns.
 fn told_after<R: Abort, A: Allocator + Copy>(
     rt: &R,
     alloc: A,
@@ -123,11 +123,12 @@ const CLAIMED: (bool, bool) = (true, false);
 
 const FINISHED: (bool, bool) = (true, true);
 
-/// What two workers do in turn, and then the marks of objects 0 to 4 and how many objects are finished.
+/// The turns of two workers, and then the marks of objects 0 to 4 and the number of finished objects.
 type Run = (&'static [(Who, Does)], &'static [(bool, bool)], u64);
 
-/// Nothing is claimed. One worker finishes objects 0 and 1, another one object 2, and 3 is claimed and not finished.
-/// Both fill a buffer, of which they share an object, and finish one; then both buffers are taken.
+/// Three runs. In the first nothing is claimed. In the second one worker finishes objects 0 and 1, the other one object
+/// 2, and 3 is claimed and not finished. In the third both claim object 1, each finishes a buffer, and then the full
+/// stack is empty.
 static RUNS: [Run; 3] = [
     (&[], &[WHITE, WHITE, WHITE, WHITE, WHITE], 0),
     (
@@ -163,8 +164,8 @@ fn marks_of_one_run(rt: HostRuntime) -> Result<(), Fail> {
     Ok(())
 }
 
-/// What is done with a pool takes no memory: it is done while each request would be refused, and makes none. The tests
-/// of idle workers, of the last tags, of items and of pops and pushes that wait run over such a heap too.
+/// The calls of a pool make no allocation: they run while each request would be refused, and make none. The tests of
+/// idle workers, of the last tags, of items and of pops and pushes that wait run on such a heap too.
 #[test]
 fn the_pool_takes_no_memory(rt: HostRuntime) -> Result<(), Fail> {
     for (turns, wanted, wanted_finished) in &RUNS {
@@ -178,7 +179,7 @@ fn the_pool_takes_no_memory(rt: HostRuntime) -> Result<(), Fail> {
     Ok(())
 }
 
-/// Puts objects until one comes back, and answers that one.
+/// Puts `objects` into the buffer until one is refused, and returns that one.
 fn put_until_full<A: Allocator>(held: &mut Held<A>, objects: &[u32]) -> Option<u32>
     ensures { held.new.size ≡ held.old.size }
 {
@@ -190,7 +191,7 @@ fn put_until_full<A: Allocator>(held: &mut Held<A>, objects: &[u32]) -> Option<u
     None
 }
 
-/// What three takes answer, and how many objects are left.
+/// The results of three takes, and the number of objects left.
 type Taken = ([Option<u32>; 3], u32);
 
 fn take_three<A: Allocator>(held: &mut Held<A>) -> Taken {
@@ -198,11 +199,12 @@ fn take_three<A: Allocator>(held: &mut Held<A>) -> Taken {
     (taken, held.len())
 }
 
-/// The object that came back where one more was put than there is room for, how many objects each of two buffers had
-/// then, and what was taken from each once the upper half was moved.
+/// The object that was refused when one more was put than there is room for, the number of objects of each of two
+/// buffers then, and what was taken from each after the upper half was moved.
 type Items = (Option<u32>, (u32, u32), Taken, Taken);
 
-/// Puts 10 to 15 into a buffer of a new pool and moves the upper half into another one. None where two are not found.
+/// Puts 10 to 15 into a buffer of a new pool and moves the upper half into another one. Returns `None` if there are not
+/// two.
 fn items_of_two<A: Allocator>(pool: &Pool<A>, worker: &mut Worker<A>) -> Option<Items>
     requires pool { worker.old.pool ≡ pool.now }
     requires awake { worker.old.book.account.idle ≡ 0 }
@@ -224,7 +226,7 @@ fn items_of_a_pool<A: Allocator + Copy>(alloc: A) -> Result<Option<Items>, PoolF
     Ok(items_of_two(&pool, &mut worker))
 }
 
-/// Five objects put, two of them moved, and all taken: the last first. A full buffer gives an object back.
+/// Puts five objects, moves two of them, and takes all, the last first. A full buffer refuses an object.
 #[test]
 fn items_of_buffers(rt: HostRuntime) -> Result<(), Fail> {
     let heap = heap_of_a_pool(rt.alloc());

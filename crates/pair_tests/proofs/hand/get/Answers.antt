@@ -1,4 +1,4 @@
--- A pair that had no object to give has none spilled.
+-- A pair from which no object was got has none spilled.
 use Rattle.std.proofs.Common.{◌≡◌, [], Option, ℕ, subst}
 use Rattle.std.specs.Prelude.{IfNone}
 use Rattle.mark_core.specs.declared.which.Which.TheVariants.{Full}

@@ -1,4 +1,4 @@
--- The worker of a pair that took an object backs it still.
+-- A worker still backs its pair after the pair took an object.
 use Rattle.std.proofs.Common.{[], ◌∷◌}
 use Rattle.pair_tests.proofs.Readiness.{ready_after}
 use Rattle.pair_tests.proofs.hand.put.Goals as goal

@@ -1,4 +1,4 @@
--- However often it did so, the worker is one of the pool still.
+-- After any number of exchanges the worker is still one of the pool.
 use Rattle.pair_tests.specs.Ready.{IsWorker}
 use Rattle.pair_tests.proofs.stopped.exchange_full.Given as goal
 

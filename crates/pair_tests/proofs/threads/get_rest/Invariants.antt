@@ -1,4 +1,4 @@
--- Between two objects the worker is ready, with a pair that its book backs.
+-- Between two objects the worker is ready, with a pair that it backs.
 use Rattle.pair_tests.specs.Ready.{IsReady}
 use Rattle.pair_tests.proofs.threads.get_rest.Given as goal
 

@@ -1,4 +1,4 @@
--- Whatever was popped so far, it is a worker of this pool still.
+-- Whatever was popped so far, it is still a worker of this pool.
 use Rattle.pair_tests.specs.Ready.{IsWorker}
 use Rattle.pair_tests.proofs.trace.buffers_on.Given as goal
 

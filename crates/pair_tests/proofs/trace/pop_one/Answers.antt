@@ -1,4 +1,4 @@
--- A pop leaves the worker's setup and its idle number.
+-- A pop keeps the worker's setup and its idle number.
 use Rattle.pair_tests.proofs.Readiness.{popped_worker}
 use Rattle.pair_tests.proofs.trace.pop_one.Goals as goal
 use Rattle.buffer_pool.specs.declared.answers.Popped.TheVariants as pop

@@ -1,4 +1,4 @@
--- What is asked of each worker is asked of the one at this place.
+-- What is required of each worker is required of the one at this position.
 use Rattle.std.proofs.Common.{ap, sym, subst, ◌∙◌}
 use Rattle.pool_bench.specs.declared.workers.NumberedWorker.{NumberedWorker}
 use Rattle.pool_bench.specs.Holders.{AreRoots}

@@ -1,4 +1,4 @@
--- Each object of the part is a root, and is seen once it was claimed.
+-- Each object of the part is a root, and is seen after it was claimed.
 use Rattle.std.proofs.Common.{◌≤◌, ◌+◌, ap, inr, ◌∙◌, arith}
 use Rattle.buffer_pool.specs.Book.{Book}
 use Rattle.pool_bench.proofs.Holders.{may_claim, one_more_seen, same_roots}

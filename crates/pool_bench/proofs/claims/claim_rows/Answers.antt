@@ -1,4 +1,4 @@
--- A row ends with the objects or before.
+-- A row ends at the last object or before it.
 use Rattle.std.proofs.Common.{arith}
 use Rattle.pool_bench.proofs.Holders.{same_roots}
 use Rattle.pool_bench.proofs.claims.claim_rows.Goals as goal

@@ -1,4 +1,4 @@
--- Story and book before the try, and after it, leave no room for a loss.
+-- The story and the book before and after the try exclude a loss.
 use Rattle.std.proofs.Common.{arith}
 use Rattle.pool_tests.proofs.Alone.{was_not_lost}
 use Rattle.pool_tests.proofs.forged.push_alone.Goals as goal

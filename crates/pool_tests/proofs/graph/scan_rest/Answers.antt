@@ -1,4 +1,4 @@
--- Object 2 is left, and refers to the class.
+-- Object 2 remains, and refers to the class.
 use Rattle.std.proofs.Common.{ap, ◌∙◌}
 use Rattle.buffer_pool.specs.Book.{finished}
 use Rattle.pool_tests.proofs.SmallRuns.{may_claim_again}

@@ -1,4 +1,4 @@
--- A white root that was claimed is answered for, and has no successors.
+-- A white root that was claimed is in the charge, and has no successors.
 use Rattle.std.proofs.Common.{◌∙◌, refl}
 use Rattle.pool_tests.proofs.RoundSteps.{claimed_finishable, same_again, same_finished, same_roots}
 use Rattle.pool_tests.proofs.mark_bits.claim_and_finish.Goals as goal

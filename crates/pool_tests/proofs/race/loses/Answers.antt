@@ -1,4 +1,4 @@
--- What was taken goes back, and a try that was lost changes nothing that is asked of the worker.
+-- A popped buffer is pushed back, and a lost try changes nothing that is required of the worker.
 use Rattle.std.proofs.Common.{◌≡◌, [], ◌∷◌, length, inr, arith}
 use Rattle.mark_core.specs.declared.which.Which.TheVariants.{Empty}
 use Rattle.pool_tests.proofs.Races.{has_it, lost_try, none_left, took_try, tried_nothing}

@@ -1,4 +1,4 @@
--- It has no items, and where there was none nothing changed.
+-- The buffer has no items. If there was none, nothing changed.
 use Rattle.std.proofs.Common.{◌≡◌, [], length, inr, arith}
 use Rattle.pool_tests.proofs.Races.{found_nothing, took_at_last}
 use Rattle.pool_tests.proofs.race.pop_any.Goals as goal

@@ -1,4 +1,4 @@
--- What was taken out is finished.
+-- The object taken from the buffer is finished.
 use Rattle.pool_tests.proofs.RoundSteps.{may_finish, same_again, same_finished, same_roots, taken}
 use Rattle.pool_tests.proofs.rounds.finish_items.Goals as goal
 

@@ -1,4 +1,4 @@
--- The buffer has what the worker still answers for.
+-- The buffer has the objects that are still in the worker's charge.
 use Rattle.std.proofs.Common.{length}
 use Rattle.pool_tests.specs.Rounds.{HasOne, IsSameWorker}
 use Rattle.pool_tests.proofs.rounds.finish_items.Given as goal

@@ -1,4 +1,4 @@
--- A try that was lost changes nothing that is asked of the worker.
+-- A lost try changes nothing that is required of the worker.
 use Rattle.std.proofs.Common.{inr}
 use Rattle.pool_tests.proofs.RoundSteps.{found_none, lost_pop, same_again, same_worker, took}
 use Rattle.pool_tests.proofs.rounds.pop_within.Goals as goal

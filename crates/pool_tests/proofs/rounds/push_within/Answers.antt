@@ -1,4 +1,4 @@
--- A try that was lost gives the buffer back.
+-- A lost try returns the buffer.
 use Rattle.std.proofs.Common.{◌∙◌, refl, ap}
 use Rattle.buffer_pool.specs.Calls.{HeldBuffer}
 use Rattle.pool_tests.proofs.RoundSteps.{done, lost_push, may_push, same_again, same_worker}

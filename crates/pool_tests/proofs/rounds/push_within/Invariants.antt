@@ -1,4 +1,4 @@
--- The buffer came back from the tries so far.
+-- Each try so far returned the buffer.
 use Rattle.std.proofs.Common.{◌≡◌}
 use Rattle.pool_tests.specs.Rounds.{HasOne, IsSameWorker}
 use Rattle.pool_tests.proofs.rounds.push_within.Given as goal

@@ -1,4 +1,4 @@
--- It has that number, and no items.
+-- The buffer has the expected number, and no items.
 use Rattle.std.proofs.Common.{◌≡◌, length, inr, arith}
 use Rattle.pool_tests.proofs.SmallRuns.{pops_bare}
 use Rattle.pool_tests.proofs.waiting.pop_bare.Goals as goal

@@ -1,4 +1,4 @@
--- One after the other.
+-- The three pops, one after the other.
 use Rattle.std.proofs.Common.{[], ◌∷◌}
 use Rattle.pool_tests.proofs.waiting.pop_three.Goals as goal
 

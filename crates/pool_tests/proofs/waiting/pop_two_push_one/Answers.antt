@@ -1,4 +1,4 @@
--- Buffer 1 is held once both were popped.
+-- Buffer 1 is held after both were popped.
 use Rattle.std.proofs.Common.{[], ◌∷◌, refl, arith}
 use Rattle.pool_tests.proofs.SmallRuns.{by_number}
 use Rattle.pool_tests.proofs.waiting.pop_two_push_one.Goals as goal

@@ -1,4 +1,4 @@
--- It had no items.
+-- The buffer had no items.
 use Rattle.std.proofs.Common.{ap}
 use Rattle.buffer_pool.specs.Calls.{HeldBuffer}
 use Rattle.pool_tests.proofs.SmallRuns.{may_push_bare, pushes_bare}

@@ -1,4 +1,4 @@
--- Buffer 1 is still held once buffer 2 was pushed.
+-- Buffer 1 is still held after buffer 2 was pushed.
 use Rattle.std.proofs.Common.{◌≡◌, [], ◌∷◌, ap, refl, subst, arith}
 use Rattle.mark_core.specs.Lists.{remove_one}
 use Rattle.buffer_pool.specs.Calls.{HeldBuffer}
