@@ -58,6 +58,6 @@ loop-answer-preserved g c =
 pub returns-clause-linked : goal.returns-clause-linked
 returns-clause-linked g c = λ heap are told.
     let end = reaches c.loop-answer.answer-index (length c.as_slice-places.result.now) c.part_of-size.result
-    c.part_of-size.ensures (omega (arith, c.in-Ok.ensures.len, c.loop-answer-test.false)) in
+    c.part_of-size.ensures.some (omega (arith, c.in-Ok.ensures.len, c.loop-answer-test.false)) in
     all_linked _ _ _ _ heap _ (omega (arith, end, c.as_slice-places.ensures)) are
     (c.loop-answer.invariant.fine heap are told)

@@ -71,4 +71,4 @@ returns-in-None-2 g c =
 pub returns : goal.returns
 returns g c =
     let (n, count, left, had) = c.loop-part.invariant in
-    all_parts _ _ _ _ n _ c.part_of-size.ensures (omega (arith, count, c.in-None.ensures.steps.0)) had
+    all_parts _ _ _ _ n _ c.part_of-size.ensures.some (omega (arith, count, c.in-None.ensures.steps.0)) had
