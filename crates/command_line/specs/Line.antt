@@ -11,7 +11,7 @@ use Rattle.clap.specs.declared.error.kind.ErrorKind.{ErrorKind}
 use Rattle.clap.specs.declared.error.kind.ErrorKind.TheVariants as variant
 use Rattle.command_line.specs.declared.parsed_arguments.Arguments.{Arguments}
 
--- the file, which has to be there
+-- the file, which is required
 abbrev pub file_rule : Rule
 file_rule = record (new_rule (codes "file")) {
   required = true;
@@ -29,7 +29,7 @@ option_rule name values default = record (new_rule name) {
   defaults = default ∷ [];
 }
 
--- an option `--NAME N` with a default, whose numbers go from `least` to `most`
+-- an option `--NAME N` with a default, whose numbers are `least` to `most`
 abbrev pub number_rule : Text → ℕ → ℕ → Text → Rule
 number_rule name least most default = option_rule name (parser.Unsigned least most) default
 
@@ -41,7 +41,7 @@ skip_rule = record (new_rule (codes "skip")) {
   value_names = 1;
 }
 
--- a command that tells its version at --version
+-- a command that prints its version at --version
 abbrev pub with_version : App → App
 with_version a = record a { top = record a.top { has_version = true } }
 
@@ -56,11 +56,11 @@ heapmark_line =
     (number_rule (codes "first-tag") 0 281474976710655 (codes "0")))
     skip_rule
 
--- the texts of words
+-- the texts of these words
 abbrev pub texts_of : List (Bor Text) → List Text
 texts_of = map (λ word. word.now)
 
--- what the words give for the file or an option: the text that stands there, or the option's default
+-- what the words give for the file or an option: the text in them, or the option's default
 abbrev pub text_given : Text → List Text → Option Text
 text_given name words = first_of name (matches_of heapmark_line words)
 

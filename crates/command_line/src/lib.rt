@@ -1,7 +1,8 @@
 //! The command line of `heapmark`: its definition, its help, and what its words give.
 //!
-//! `arguments` hands the words to clap, and answers the file and the options, each in its range, with the defaults
-//! where none is given; or clap's error, whose text is for the user. What the list of `--skip` means is not known here.
+//! `arguments` passes the words to clap. It returns the file and the options, each in its range, with defaults for
+//! those that are not given; or clap's error, whose text is for the user. What the list of `--skip` means is not known
+//! here.
 //!
 //! From `crates/command_line_tests/src/words.rt`, which is proved and run:
 //!
@@ -16,7 +17,7 @@
 //!     };
 //!     assert_eq!(rt; given, want);
 //!
-//! The command is defined in clap's words in `specs/Line.antt`; the texts of the help stand in `help.rt`.
+//! The command is defined in clap's words in `specs/Line.antt`; `help.rt` has the texts of the help.
 #![tactic(auto)]
 
 mod help;

@@ -1,4 +1,4 @@
-//! The file and the options with their ranges and defaults, in clap's words.
+//! The file and the options, with their ranges and defaults, in clap's words.
 ghost use Rattle.std.specs.Prelude.{◌≡◌, IfOk, codes, false};
 ghost use Rattle.clap.specs.Words.{app_of, rule_of};
 ghost use Rattle.command_line.specs.Line.{file_rule, heapmark_line, number_rule, option_rule, skip_rule};
@@ -8,7 +8,8 @@ use clap::builder::ValueParser;
 use clap::{Arg, ArgAction, Command, value_parser};
 use std::alloc::{AllocError, Global};
 
-/// `heapmark FILE --workers N --buffer N --buffers N --first-tag N --skip LIST`, with `--help` and `--version`.
+/// Builds the command `heapmark FILE --workers N --buffer N --buffers N --first-tag N --skip LIST`, with `--help` and
+/// `--version`. `Err(AllocError)` if an allocation fails.
 pub(crate) fn command<'a>(alloc: Global) -> Result<Command<'a>, AllocError>
     ensures { IfOk result (λ c. app_of c ≡ heapmark_line) }
 {
@@ -25,7 +26,7 @@ pub(crate) fn command<'a>(alloc: Global) -> Result<Command<'a>, AllocError>
     Ok(command)
 }
 
-/// The heap dump.
+/// Builds the argument for the heap dump.
 fn file<'a>(alloc: Global) -> Arg<'a>
     ensures rule { rule_of result ≡ file_rule }
     ensures local { result.global ≡ false }
@@ -37,7 +38,7 @@ fn file<'a>(alloc: Global) -> Arg<'a>
         .help(help::FILE)
 }
 
-/// How many threads mark.
+/// Builds the option for the number of threads that mark.
 fn workers<'a>(alloc: Global) -> Arg<'a>
     ensures rule { rule_of result ≡ number_rule (codes "workers") 1 64 (codes "4") }
     ensures local { result.global ≡ false }
@@ -46,7 +47,7 @@ fn workers<'a>(alloc: Global) -> Arg<'a>
     option(alloc, "workers", values, "4").help(help::WORKERS)
 }
 
-/// How many objects a buffer holds.
+/// Builds the option for the number of objects in a buffer.
 fn buffer<'a>(alloc: Global) -> Arg<'a>
     ensures rule { rule_of result ≡ number_rule (codes "buffer") 2 4096 (codes "256") }
     ensures local { result.global ≡ false }
@@ -55,7 +56,7 @@ fn buffer<'a>(alloc: Global) -> Arg<'a>
     option(alloc, "buffer", values, "256").help(help::BUFFER)
 }
 
-/// How many buffers there are.
+/// Builds the option for the number of buffers.
 fn buffers<'a>(alloc: Global) -> Arg<'a>
     ensures rule { rule_of result ≡ number_rule (codes "buffers") 4 65534 (codes "1024") }
     ensures local { result.global ≡ false }
@@ -64,7 +65,7 @@ fn buffers<'a>(alloc: Global) -> Arg<'a>
     option(alloc, "buffers", values, "1024").help(help::BUFFERS)
 }
 
-/// The first tag of the two stacks of buffers.
+/// Builds the option for the first tag of the two stacks of buffers.
 fn first_tag<'a>(alloc: Global) -> Arg<'a>
     ensures rule { rule_of result ≡ number_rule (codes "first-tag") 0 281474976710655 (codes "0") }
     ensures local { result.global ≡ false }
@@ -73,7 +74,7 @@ fn first_tag<'a>(alloc: Global) -> Arg<'a>
     option(alloc, "first-tag", values, "0").help(help::FIRST_TAG)
 }
 
-/// The fields that are not followed.
+/// Builds the option for the fields that are not followed.
 fn skip<'a>(alloc: Global) -> Arg<'a>
     ensures rule { rule_of result ≡ skip_rule }
     ensures local { result.global ≡ false }
@@ -85,8 +86,8 @@ fn skip<'a>(alloc: Global) -> Arg<'a>
         .help(help::SKIP)
 }
 
-/// An option with one of these values, and a default. The values are of type `u64`, which clap reads as they are
-/// written: so the text of an option spells its number.
+/// Builds the option `name` with the values `values` and a `default`. The values are of type `u64`, which clap reads as
+/// they are written: so the text of an option spells its number.
 fn option<'a>(alloc: Global, name: &'a str, values: ValueParser<'a>, default: &'a str) -> Arg<'a>
     ensures rule { rule_of result ≡ option_rule name.entry.now values.entry default.entry.now }
     ensures local { result.global ≡ false }

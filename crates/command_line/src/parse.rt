@@ -1,4 +1,4 @@
-//! From words to the file and the options.
+//! From the words of a command line to the file and the options.
 ghost use Rattle.std.specs.Prelude.{◌≡◌, ◌≤◌, IfErr, IfOk, codes, option_map, true, ℕ};
 ghost use Rattle.clap.specs.Words.{FailsBy, first_value, found_of, kind_of, takes};
 ghost use Rattle.command_line.specs.Line.{AreGiven, AreInRange, faults_of, heapmark_line, texts_of};
@@ -10,16 +10,17 @@ use clap::error::ErrorKind;
 use clap::{ArgMatches, Error};
 use std::alloc::Global;
 
-/// What the words of a command line give, the program's own name first.
+/// Returns the arguments that `words` give, the program's own name first.
 ///
-/// An error is a fault of the words, a wish for help, or want of memory, as its kind says. Its text is for the user.
+/// The error is a fault of the words, a request for the help or the version, or out of memory, as its kind says. Its
+/// text is for the user.
 pub fn arguments<'a>(alloc: Global, words: &'a [&'a str]) -> Result<Arguments<'a>, Error>
     ensures given { IfOk result (AreGiven (texts_of words.entry.now)) }
     ensures ranges { IfOk result AreInRange }
     ensures taken { IfErr result (λ e.
         takes heapmark_line (texts_of words.entry.now) ≡ true → kind_of e ≡ ErrorKind.OutOfMemory) }
 
-    // Words are taken only where nothing is wrong with them, and else the error has one of the kinds of what is wrong.
+    // Words are taken only if nothing is wrong with them, and else the error has one of the kinds of what is wrong.
     ensures faults { FailsBy (faults_of (texts_of words.entry.now)) result }
 {
     let command = match command(alloc) {
@@ -32,7 +33,7 @@ pub fn arguments<'a>(alloc: Global, words: &'a [&'a str]) -> Result<Arguments<'a
     }
 }
 
-/// The values of a parse that succeeded.
+/// Returns the values of `matches`, the result of a parse that succeeded.
 fn values<'a>(matches: &ArgMatches<'a>) -> Arguments<'a>
     requires { HoldsAll (found_of matches.now) }
     ensures file { first_value (found_of matches.now) (codes "file") ≡ Some result.file.now }
@@ -56,7 +57,7 @@ fn values<'a>(matches: &ArgMatches<'a>) -> Arguments<'a>
     }
 }
 
-/// The number of an option.
+/// Returns the number of the option `name`.
 fn number(matches: &ArgMatches<'_>, name: &str) -> u64
     requires { (least : ℕ) × (most : ℕ) × HoldsNumber (found_of matches.now) name.now least most }
     ensures value { ReadsNumber (found_of matches.now) name.now result }

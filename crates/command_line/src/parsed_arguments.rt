@@ -1,18 +1,18 @@
-//! What the words of a command line give.
+//! The arguments that the words of a command line give.
 
 /// The file and the options of a command line.
 #[derive(Clone, Copy, Debug, PartialEq, Eq)]
 pub struct Arguments<'a> {
     /// The name of the heap dump.
     pub file: &'a str,
-    /// How many threads mark: 1 to 64.
+    /// The number of threads that mark: 1 to 64.
     pub workers: u32,
-    /// How many objects a buffer holds: 2 to 4096.
+    /// The number of objects in a buffer: 2 to 4096.
     pub buffer: u32,
-    /// How many buffers there are: 4 to 65534.
+    /// The number of buffers: 4 to 65534.
     pub buffers: u32,
     /// The first tag of the two stacks of buffers: 0 to 281474976710655.
     pub first_tag: u64,
-    /// The text that lists the fields that are not followed, whatever it is, where the words have one.
+    /// The text that lists the fields that are not followed, whatever it is, if the words have one.
     pub skip: Option<&'a str>,
 }

@@ -1,11 +1,11 @@
-//! What no clause says: that the words of a user are taken, and what is told of those that are not.
+//! What no clause says: that the words of a user are taken, and the messages about those that are not.
 
 use clap::error::ErrorKind;
 use command_line::{Arguments, arguments};
 use std::alloc::Global;
 use std::test::Fail;
 
-/// What a user is told of a list that comes again.
+/// The message about a list that is given twice.
 const LIST_TWICE: &str = "\
 error: the argument '--skip <LIST>' cannot be used multiple times
 
@@ -29,7 +29,7 @@ fn takes_a_file_alone(rt: HostRuntime) -> Result<(), Fail> {
     Ok(())
 }
 
-/// Whether the words are taken, and give this list.
+/// Tests whether `words` are taken and give the list `list`.
 fn gives_list(alloc: Global, words: &[&str], list: &str) -> bool {
     match arguments(alloc, words) {
         Ok(given) => given.skip == Some(list),
@@ -37,7 +37,7 @@ fn gives_list(alloc: Global, words: &[&str], list: &str) -> bool {
     }
 }
 
-/// Whether the words are refused by an error of this kind, which is told so.
+/// Tests whether `words` are refused by an error of this `kind` and `text`.
 fn is_told(alloc: Global, words: &[&str], kind: ErrorKind, text: &str) -> bool {
     let Err(error) = arguments(alloc, words) else {
         return false;
@@ -50,7 +50,7 @@ fn is_told(alloc: Global, words: &[&str], kind: ErrorKind, text: &str) -> bool {
 
 #[test]
 fn takes_one_list_of_fields(rt: HostRuntime) {
-    // no text is a text: what it lists is not known here
+    // An empty text is a text: what it lists is not known here.
     let lists: [(&[&str], &str); 3] = [
         (&["heapmark", "--skip", "a.b,c.d", "app.hprof"], "a.b,c.d"),
         (&["heapmark", "app.hprof", "--skip="], ""),
@@ -63,7 +63,7 @@ fn takes_one_list_of_fields(rt: HostRuntime) {
     assert!(rt; is_told(rt.alloc(), &two, ErrorKind::ArgumentConflict, LIST_TWICE));
 }
 
-/// The kind of the error by which the words are refused.
+/// Returns the kind of the error by which `words` are refused.
 fn kind_of_refusal(alloc: Global, words: &[&str]) -> Option<ErrorKind> {
     match arguments(alloc, words) {
         Ok(_) => None,

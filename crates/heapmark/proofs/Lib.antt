@@ -1,4 +1,3 @@
-pub mod Accepted
 pub mod Codes
 pub mod Faults
 mod OfMarking

@@ -1,4 +1,4 @@
--- What a run answers for the bytes that it read.
+-- The result of a run for the bytes that it read.
 use Rattle.std.specs.Prelude.{IfSome, IsSome, List, Option, take, ℕ, ◌≡◌, ◌≢◌, ◌≤◌, ◌↔◌, ◌⊎◌}
 use Rattle.std.specs.Io.KnownBytes.{Appends, Consumes}
 use Rattle.heap_graph.specs.Accepted.{IsAccepted}
@@ -15,7 +15,7 @@ use Rattle.hprof_grammar.specs.Record.{Record}
 abbrev pub bytes_read : List ℕ → List ℕ
 bytes_read given = take 1073741825 given
 
--- They were taken from what the reader gives, and no others.
+-- They were taken from what the reader gives, and no other bytes were.
 abbrev pub ConsumesBytesRead : Option (List ℕ) → Option (List ℕ) → Type 0
 ConsumesBytesRead old new = IfSome old (λ given. Consumes old new (bytes_read given))
 
@@ -23,7 +23,7 @@ ConsumesBytesRead old new = IfSome old (λ given. Consumes old new (bytes_read g
 abbrev pub IsAcceptedText : List ℕ → Type 0
 IsAcceptedText text = (id_size : ℕ) × (records : List Record) × IsAccepted text id_size records
 
--- The first fault of a text: that of its form, or, where its form has none, that of its links.
+-- The first fault of a text: that of its form, or, if its form has none, that of its links.
 abbrev pub FirstFaultOf : List ℕ → ℕ → ℕ → Type 0
 FirstFaultOf text code place = FirstFault text code place ⊎ HasLinkFault text code place
 
@@ -33,15 +33,15 @@ pub record RefusesFirstFault (text : List ℕ) (refusal : Refusal) : Type 0 wher
   pub is : refusal ≡ fault_refusal refusal.code place
   pub fault : FirstFaultOf text refusal.code place
 
--- The codes are 1 to 20, since a run is given options that are in their ranges, and not 17, which is withdrawn. Those
--- up to 14, and no others, have a place.
+-- The codes are 1 to 20, since the options of a run are in their ranges, but not 17, which is withdrawn. Those up to
+-- 14, and no others, have a place.
 pub record IsRunRefusal (refusal : Refusal) : Type 0 where
   pub least : 1 ≤ refusal.code
   pub most : refusal.code ≤ 20
   pub in_use : refusal.code ≢ 17
   pub placed : (refusal.code ≤ 14) ↔ IsSome refusal.offset
 
--- What a run refuses of a text that is not accepted: its first fault, or the means to find it.
+-- The refusal of a text that is not accepted: its first fault, or that memory or the reader failed before it was found.
 abbrev pub IsRefusalOf : List ℕ → Refusal → Type 0
 IsRefusalOf text refusal = RefusesFirstFault text refusal ⊎ (refusal ≡ out_of_memory) ⊎ (refusal ≡ read_fault)
 

@@ -4,13 +4,13 @@ use Rattle.heap_graph.specs.Skips.{SkipEntry}
 use Rattle.heapmark.specs.Answer.{WritesReport, bytes_read}
 use Rattle.heapmark.specs.declared.refusal.Refusal.{Refusal}
 
--- Where the outcome is no refusal, the bytes read are an accepted dump, and what was written, and nothing else, is the
--- report of exactly the objects that a path of references joins to a root, each counted once. What stands in a field
--- that is to be skipped is no reference.
+-- If the result is no refusal, the bytes read are an accepted dump, and all that was written is the report of exactly
+-- the objects that a path of references joins to a root, each counted once. The value of a field to be skipped is no
+-- reference.
 --
--- `given` is what the reader gives from here on, where a contract can name it; `skip` are the fields to be skipped;
--- `old` and `new` are what the writer had and has. `WritesReport` says the rest by `IsReport`, whose fields are the
--- sentences above one by one: the graph is that of the accepted text without those fields, the marks are those of
+-- `given` is what the reader gives from now on, if a contract can name it; `skip` are the fields to be skipped; `old`
+-- and `new` are what the writer had before and has after. `WritesReport` says the rest by `IsReport`, whose fields are
+-- the sentences above one by one: the graph is that of the accepted text without those fields, the marks are those of
 -- exactly its reachable objects (`MarksReachableOf`), and the rows of the histogram count each marked object once
 -- (`IsHistogram`).
 abbrev pub Headline : {X : Type 0} → Result X Refusal → Option (List ℕ) → List SkipEntry → Option (List ℕ)

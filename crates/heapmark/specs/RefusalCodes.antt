@@ -1,4 +1,4 @@
--- The refusal of a run for that of each of its parts.
+-- The refusal of a run for the refusal of each of its parts.
 use Rattle.std.specs.Prelude.{None}
 use Rattle.drain.specs.declared.marked.RunFault.{RunFault}
 use Rattle.drain.specs.declared.marked.RunFault.TheVariants as marking

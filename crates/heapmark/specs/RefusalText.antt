@@ -1,8 +1,8 @@
--- How a refusal is shown.
+-- The text of a refusal.
 use Rattle.std.specs.Prelude.{List, None, Option, Some, codes, decimal, if◌then◌else◌, ℕ, ◌++◌, ◌==◌}
 use Rattle.heapmark.specs.declared.refusal.Refusal.{Refusal}
 
--- the name by which a code is shown; 17 is withdrawn, and no run tells it
+-- the name of a code; 17 is withdrawn, and no run reports it
 abbrev pub code_name : ℕ → List ℕ
 code_name code =
     if code == 1 then codes "BadHeader" else (
@@ -27,7 +27,7 @@ code_name code =
     if code == 20 then codes "WriteFault" else (
     codes "BadOptions"))))))))))))))))))))
 
--- what is shown of a refusal: its code, the name of that, and the place if there is one
+-- the text of a code and a place: the code, its name, and the place if there is one
 abbrev pub text_of : ℕ → Option ℕ → List ℕ
 text_of code None = codes "refused " ++ decimal code ++ codes " " ++ code_name code
 text_of code (Some place) =

@@ -1,4 +1,4 @@
--- What a run refuses with.
+-- The refusals of a run.
 use Rattle.std.specs.Prelude.{IsErrAnd, None, Result, Some, ℕ, ◌≡◌}
 use Rattle.heapmark.specs.declared.refusal.Refusal.{Refusal}
 

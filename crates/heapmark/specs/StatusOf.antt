@@ -6,17 +6,17 @@ use Rattle.heapmark.specs.SkippedFields.{HasBadList, WritesBeginningFor, WritesR
 use Rattle.histogram.specs.Counting.{failures_of, inner_of, is_flushed}
 use Rattle.histogram.specs.declared.counted.Counted.{Counted}
 
--- The status of the program for these words. `old` and `new` are its output before and behind, and `bytes_of` what an
--- output has, where a contract can name it.
+-- The status of the program for these words. `old` and `new` are its output before and after, and `bytes_of` what an
+-- output has, if a contract can name it.
 pub record IsStatusOf {W : Type 0} (words : List (List ℕ)) (status : ℕ) (bytes_of : W → Option (List ℕ))
     (old new : Counted W) : Type 0 where
   pub most : status ≤ 2
-  -- 2 is for words that are wrong, and for no others. Such words are answered by 2, or by 1 for want of memory.
+  -- 2 is for words that are wrong, and for no others. Such words get 2, or 1 if an allocation fails.
   pub usage : status ≡ 2 → IsWrong words
   pub wrong : (IsTaken words → ⊥) → (AsksAboutProgram words → ⊥) → status ≢ 0
   pub untouched : status ≡ 2 → Keeps (bytes_of (inner_of old)) (bytes_of (inner_of new))
-  -- At 0, where neither help nor version was asked for, a report without the fields that the words list was written,
-  -- and flushed.
+  -- At 0, if neither help nor version was asked for, a report without the fields that the words list was written and
+  -- flushed.
   pub reported : status ≡ 0 → (AsksAboutProgram words → ⊥)
       → WritesReportFor (text_given (codes "skip") words) (bytes_of (inner_of old)) (bytes_of (inner_of new))
   pub flushed : status ≡ 0 → (AsksAboutProgram words → ⊥) → is_flushed new ≡ true
@@ -26,7 +26,7 @@ pub record IsStatusOf {W : Type 0} (words : List (List ℕ)) (status : ℕ) (byt
       → (status ≢ 0) × Keeps (bytes_of (inner_of old)) (bytes_of (inner_of new))
   pub bad_list : HasBadList (text_given (codes "skip") words) → (AsksAboutProgram words → ⊥)
       → (status ≢ 0) × Keeps (bytes_of (inner_of old)) (bytes_of (inner_of new))
-  -- At 1 nothing was written, but for a beginning of a report where the writer failed.
+  -- At 1 nothing was written, but for a beginning of a report if the writer failed.
   pub unwritten : status ≡ 1 → failures_of new ≡ failures_of old
       → Keeps (bytes_of (inner_of old)) (bytes_of (inner_of new))
   pub beginning : status ≡ 1 → failures_of new ≡ failures_of old + 1

@@ -1,4 +1,4 @@
-//! The program over its words, and its exit status.
+//! The program on its command line, and its exit status.
 
 ghost use Rattle.std.specs.Prelude.{◌≡◌, ◌≢◌, ◌↔◌, ◌⊎◌, ◌*◌, ◌+◌, ◌-◌, ◌^◌, ◌<◌, ◌≤◌};
 ghost use Rattle.std.specs.Prelude.{IfErr, IfOk, IsOk, IsSome, OnErr, OnOk, true, ℕ, codes};
@@ -31,17 +31,17 @@ use std::sync::Wait;
 use std::thread::Threads;
 use std::{fs, io};
 
-/// What is told of a word that is no text.
+/// The message about a word that is not text.
 const NOT_TEXT: &str = "\
 error: a word of the command line is not UTF-8 text
 
 For more information, try '--help'.
 ";
 
-/// Does all that the program does, for its words with its own name first, and answers its exit status: 0 where the
-/// report of the file, or the help or the version that was asked for, is on `out`; 1 at a refusal; 2 where the words
-/// are wrong. A refusal, in one line, or the faults of the words go to `err`. A fault of `err`, or of `out` at the help
-/// and the version, changes nothing.
+/// Does all that the program does for `words`, its own name first, and returns its exit status: 0 if the report of the
+/// file is on `out`, or if the help or the version was asked for; 1 after a refusal; 2 if the words are wrong. Prints a
+/// refusal, in one line, or the faults of the words on `err`. A fault of `err`, or of `out` during the help or the
+/// version, changes nothing.
 pub fn program<T: Files + AllocGlobal + Threads + Wait + Sync, W: Write, E: Write>(
     rt: &T,
     words: &[&str],
@@ -51,13 +51,13 @@ pub fn program<T: Files + AllocGlobal + Threads + Wait + Sync, W: Write, E: Writ
     requires { failures_of out.old < 2 ^ 64 - 1 }
     ensures status { result ≤ 2 }
 
-    // 2 is for words that are wrong, and for no others. Such words are answered by 2, or by 1 for want of memory.
+    // 2 is for words that are wrong, and for no others. Such words get 2, or 1 if an allocation fails.
     ensures usage { result ≡ 2 → IsWrong (texts_of words.now) }
     ensures wrong { (IsTaken (texts_of words.now) → ⊥) → (AsksAboutProgram (texts_of words.now) → ⊥) → result ≢ 0 }
     ensures untouched { result ≡ 2 → Keeps (W.contents (inner_of out.old)) (W.contents (inner_of out.new)) }
 
-    // At 0 no refusal was told, and what was written, where neither help nor version was asked for, is a report without
-    // the fields that the words list, flushed. No contract can say that it is the report of the file.
+    // At 0 no refusal was printed. If neither help nor version was asked for, a report without the fields that the
+    // words list was written and flushed. No contract can say that it is the report of the file.
     ensures reported { result ≡ 0 → (AsksAboutProgram (texts_of words.now) → ⊥)
         → WritesReportFor (text_given (codes "skip") (texts_of words.now))
         (W.contents (inner_of out.old)) (W.contents (inner_of out.new)) }
@@ -75,7 +75,7 @@ pub fn program<T: Files + AllocGlobal + Threads + Wait + Sync, W: Write, E: Writ
         → (AsksAboutProgram (texts_of words.now) → ⊥)
         → (result ≢ 0) × Keeps (W.contents (inner_of out.old)) (W.contents (inner_of out.new)) }
 
-    // At 1 nothing was written, but for a beginning of a report where the writer failed.
+    // At 1 nothing was written, but for a beginning of a report if the writer failed.
     ensures unwritten { result ≡ 1 → failures_of out.new ≡ failures_of out.old
         → Keeps (W.contents (inner_of out.old)) (W.contents (inner_of out.new)) }
     ensures beginning { result ≡ 1 → failures_of out.new ≡ failures_of out.old + 1
@@ -89,8 +89,8 @@ pub fn program<T: Files + AllocGlobal + Threads + Wait + Sync, W: Write, E: Writ
     status
 }
 
-/// The program where people read `err`: behind the refusal a second line tells why the file could not be opened, or
-/// what can be done. Its status says what that of `program` says.
+/// Like [`program`], if `err` is a terminal: after a refusal it prints a second line, which says why the file could not
+/// be opened, or what can be done. The status means what that of `program` means.
 pub fn program_at_terminal<T: Files + AllocGlobal + Threads + Wait + Sync, W: Write, E: Write>(
     rt: &T,
     words: &[&str],
@@ -108,8 +108,8 @@ pub fn program_at_terminal<T: Files + AllocGlobal + Threads + Wait + Sync, W: Wr
     status
 }
 
-/// Does what the words want, and tells a refusal in one line, or what is wrong with the words. Answers the exit status,
-/// and why there is no report of the file, where one was wanted.
+/// Does what `words` ask for, and prints a refusal in one line, or what is wrong with the words. Returns the exit
+/// status, and why there is no report of the file, if one was asked for and refused.
 fn answer_line<'a, T: Files + AllocGlobal + Threads + Wait + Sync, W: Write, E: Write>(
     rt: &T,
     words: &'a [&'a str],
@@ -133,7 +133,7 @@ fn answer_line<'a, T: Files + AllocGlobal + Threads + Wait + Sync, W: Write, E: 
     }
 }
 
-/// Answers words that give no arguments: the help or the version on `out`, or what is wrong on `err`.
+/// Prints the help or the version on `out`, or what is wrong on `err`, as `error` says. Returns the exit status.
 fn answer_words<W: Write, E: Write>(
     alloc: Global,
     error: &Error,
@@ -169,7 +169,7 @@ fn answer_words<W: Write, E: Write>(
     }
 }
 
-/// Answers a command line with a word that is no text, so that none of its words can be told.
+/// Prints that a word of the command line is not text, so that no word of it can be shown. Returns the exit status.
 pub fn refuse_bytes<E: Write>(err: &mut E) -> u8
     ensures { result ≡ 2 }
 {
@@ -177,7 +177,7 @@ pub fn refuse_bytes<E: Write>(err: &mut E) -> u8
     status::WRONG_WORDS
 }
 
-/// Prints in one line that there is no report of a file, and answers the exit status.
+/// Prints in one line the refusal for which there is no report of a file, and returns the exit status.
 fn tell<E: Write>(err: &mut E, reason: &NoReport) -> u8
     ensures { result ≡ 1 }
 {
@@ -189,7 +189,7 @@ fn tell<E: Write>(err: &mut E, reason: &NoReport) -> u8
 }
 
 /// Prints why a file could not be opened, or what can be done about a refusal.
-fn explain<T: Files, E: Write>(rt: &T, err: &mut E, unreported: &Unreported<'_>) {
+fn explain<T: Files + AllocGlobal, E: Write>(rt: &T, err: &mut E, unreported: &Unreported<'_>) {
     let Unreported { arguments, reason } = unreported;
     match reason {
         NoReport::Refused(refusal) => advise(rt, err, arguments, refusal, None),
@@ -201,7 +201,7 @@ fn explain<T: Files, E: Write>(rt: &T, err: &mut E, unreported: &Unreported<'_>)
     }
 }
 
-/// Prints a refusal and answers its exit status.
+/// Prints `refusal` in one line, and returns its exit status.
 pub fn refused<E: Write>(err: &mut E, refusal: &Refusal) -> u8
     ensures { result ≡ 1 }
 {
@@ -209,7 +209,7 @@ pub fn refused<E: Write>(err: &mut E, refusal: &Refusal) -> u8
     status::REFUSED
 }
 
-/// How the words want the heap to be marked.
+/// Returns the options by which the heap is to be marked.
 fn options_of(arguments: &Arguments<'_>) -> Result<Options, BadOptions>
     ensures allowed { IsOk result ↔ IsInRange (wanted arguments.now) }
     ensures value { IfOk result (λ options. options ≡ wanted arguments.now) }
@@ -225,7 +225,7 @@ fn options_of(arguments: &Arguments<'_>) -> Result<Options, BadOptions>
     Options::new(workers, buffer, buffers, first_tag)
 }
 
-/// The fields that the words want to be skipped.
+/// Returns the fields to be skipped.
 fn skip_of<'a>(alloc: Global, arguments: &Arguments<'a>) -> Result<Skip<'a, Global>, SkipRefusal>
     ensures list { IfOk result (IsSkipListOf (list_of arguments.now)) }
     ensures bad { result ≡ Err SkipRefusal.BadOptions → HasBadList (list_of arguments.now) }
@@ -236,7 +236,7 @@ fn skip_of<'a>(alloc: Global, arguments: &Arguments<'a>) -> Result<Skip<'a, Glob
     }
 }
 
-/// Runs on a file with these options. The options and the list of fields are tested before the file is opened.
+/// Runs on the file of `arguments`. Tests the options and the list of fields before it opens the file.
 fn report_file<T: Files + AllocGlobal + Threads + Wait + Sync, W: Write>(
     rt: &T,
     arguments: &Arguments<'_>,
@@ -280,8 +280,8 @@ fn report_file<T: Files + AllocGlobal + Threads + Wait + Sync, W: Write>(
     }
 }
 
-/// Opens a file to read all of it. The system also opens a directory, but reads none: so that is told here.
-fn open<T: Files>(rt: &T, name: &str) -> io::Result<Counted<T::File>>
+/// Opens the file `name` to read all of it. The system opens a directory too, but reads none: so it is refused here.
+pub(crate) fn open<T: Files>(rt: &T, name: &str) -> io::Result<Counted<T::File>>
     ensures { IfOk result (λ reader. failures_of reader ≡ 0) }
 {
     let file = fs::open(rt, name)?;
@@ -294,8 +294,11 @@ fn open<T: Files>(rt: &T, name: &str) -> io::Result<Counted<T::File>>
     Ok(Counted::of_size(file, expected_size(metadata.len())))
 }
 
-/// How many bytes room is wanted for, for a file of this size: one more, so that the last read finds the end. The file
-/// may change.
-pub(crate) fn expected_size(size: u64) -> usize {
+/// Returns the number of bytes to reserve for a file of `size` bytes: one more, so that the last read finds the end.
+/// The file may change.
+pub(crate) fn expected_size(size: u64) -> usize
+    ensures most { result ≤ size + 1 }
+    ensures whole { size < 2 ^ 64 - 1 → result ≡ size + 1 }
+{
     usize::try_from(size).unwrap_or(0).saturating_add(1)
 }

@@ -1,7 +1,8 @@
 //! What people can do about a refusal.
 
 mod beginning;
-mod records;
+mod file_hint;
+pub(crate) mod records;
 
 ghost use Rattle.std.specs.Prelude.{◌≡◌, ◌↔◌, ◌+◌, ◌*◌, IsSome, IsTrue};
 ghost use Rattle.std.specs.Io.KnownBytes.{Keeps};
@@ -13,44 +14,35 @@ use crate::reopened::open_again;
 use crate::shown::Shown;
 use beginning::{Beginning, Packer, Version};
 use command_line::Arguments;
+use file_hint::FileHint;
 use hprof_grammar::LIMIT;
 use records::record_end;
 use std::io::{Read, Write};
 use std::rt::Files;
-use std::{fmt, io};
+use std::{fmt, fs, io};
 
 /// What can be done about a refusal.
 #[derive(Clone, Copy)]
 pub(crate) enum Hint<'a> {
-    /// This file has no bytes.
-    Empty(Shown<'a>),
-    /// This file ends within a dump.
-    EndsEarly(Shown<'a>),
-    /// This file is compressed.
+    /// What is wrong with this file.
+    File(Shown<'a>, FileHint),
+    /// This file was compressed by this program.
     Packed(Shown<'a>, Packer),
-    /// This file is a dump of another version of the format.
+    /// This file is a dump of this other version of the format.
     OtherVersion(Shown<'a>, Version),
-    /// This file is no dump of the format.
-    NoDump(Shown<'a>),
-    /// This file has more bytes than a dump may have.
-    TooManyBytes(Shown<'a>),
-    /// This file has more objects than a dump may have.
-    TooManyObjects(Shown<'a>),
-    /// This file takes more memory than there is, with so many workers.
-    Memory(Shown<'a>, u32),
     /// This first tag leaves too few tags.
     FirstTag(u64),
-    /// One of so many workers has no thread.
+    /// A thread of this number of workers could not be started.
     Threads(u32),
-    /// So many buffers are too few for so many workers.
+    /// This number of buffers is too low for this number of workers.
     Buffers(u32, u32),
     /// The text of the fields to be skipped lists none.
     Fields,
 }
 
-/// Prints in one line what can be done about a refusal, where something can. `length` is how many bytes of the file
-/// were read, where that is known.
-pub(crate) fn advise<T: Files, E: Write>(
+/// Prints in one line what can be done about `refusal`, or nothing if no hint is known. `length` is the number of bytes
+/// of the file that were read, if it is known.
+pub(crate) fn advise<T: Files + AllocGlobal, E: Write>(
     rt: &T,
     err: &mut E,
     arguments: &Arguments<'_>,
@@ -64,8 +56,8 @@ pub(crate) fn advise<T: Files, E: Write>(
     }
 }
 
-/// What can be done about the refusal of a run with these arguments.
-fn hint_of<'a, T: Files>(
+/// Returns what can be done about the `refusal` of a run with these `arguments`, if a hint is known.
+fn hint_of<'a, T: Files + AllocGlobal>(
     rt: &T,
     arguments: &Arguments<'a>,
     refusal: &Refusal,
@@ -86,13 +78,13 @@ fn hint_of<'a, T: Files>(
     let shown = Shown(file);
     match refusal.code {
         1 => Some(hint_of_beginning(rt, file)),
-        3 => Some(Hint::EndsEarly(shown)),
-        6 if is_in_last_record(rt, file, refusal.offset, length) => Some(Hint::EndsEarly(shown)),
-        8 if is_at_end(refusal.offset, length) => Some(Hint::EndsEarly(shown)),
-        // The place at which a file is refused that has more bytes than a dump may have.
-        14 if refusal.offset == Some(u64::from(LIMIT)) => Some(Hint::TooManyBytes(shown)),
-        14 => Some(Hint::TooManyObjects(shown)),
-        15 => Some(Hint::Memory(shown, workers)),
+        3 => Some(Hint::File(shown, FileHint::EndsEarly)),
+        6 if is_in_last_record(rt, file, refusal.offset, length) => {
+            Some(Hint::File(shown, FileHint::EndsEarly))
+        }
+        8 if is_at_end(refusal.offset, length) => Some(Hint::File(shown, FileHint::EndsEarly)),
+        14 => Some(Hint::File(shown, hint_of_excess(refusal.offset))),
+        15 => Some(Hint::File(shown, hint_of_memory(rt, file, workers))),
         16 => Some(Hint::FirstTag(first_tag)),
         18 => Some(Hint::Threads(workers)),
         21 if u64::from(buffers) < least_buffers(workers) => Some(Hint::Buffers(buffers, workers)),
@@ -101,19 +93,19 @@ fn hint_of<'a, T: Files>(
     }
 }
 
-/// What can be done about a file that does not begin as a dump does.
+/// Returns what can be done about a file that does not begin as a dump does.
 fn hint_of_beginning<'a, T: Files>(rt: &T, name: &'a str) -> Hint<'a> {
     let shown = Shown(name);
     match beginning_of(rt, name) {
-        Ok(Beginning::Empty) => Hint::Empty(shown),
-        Ok(Beginning::Part) => Hint::EndsEarly(shown),
+        Ok(Beginning::Empty) => Hint::File(shown, FileHint::Empty),
+        Ok(Beginning::Part) => Hint::File(shown, FileHint::EndsEarly),
         Ok(Beginning::Version(version)) => Hint::OtherVersion(shown, version),
         Ok(Beginning::Packed(packer)) => Hint::Packed(shown, packer),
-        Ok(Beginning::Other) | Err(_) => Hint::NoDump(shown),
+        Ok(Beginning::Other) | Err(_) => Hint::File(shown, FileHint::NoDump),
     }
 }
 
-/// What a file is, by its first bytes.
+/// Reads the first bytes of the file `name`, and returns what they say of it.
 fn beginning_of<T: Files>(rt: &T, name: &str) -> io::Result<Beginning> {
     let mut file = open_again(rt, name)?;
     let mut bytes = [0; beginning::LENGTH];
@@ -121,15 +113,45 @@ fn beginning_of<T: Files>(rt: &T, name: &str) -> io::Result<Beginning> {
     Ok(Beginning::of(&bytes[..length]))
 }
 
-/// Whether a place is known to be that where the reading of the file ended.
+/// Returns what can be done about a file that is too large, refused at the offset `place`.
+fn hint_of_excess(place: Option<u64>) -> FileHint {
+    // The place at which a file is refused that has more bytes than a dump may have.
+    if place == Some(u64::from(LIMIT)) {
+        FileHint::TooManyBytes
+    } else {
+        FileHint::TooManyObjects
+    }
+}
+
+/// Returns what can be done about a file for which memory was refused, to a run with this number of `workers`.
+fn hint_of_memory<T: Files>(rt: &T, name: &str, workers: u32) -> FileHint {
+    if is_too_long(rt, name) {
+        FileHint::TooManyBytes
+    } else if workers == 1 {
+        FileHint::Memory
+    } else {
+        FileHint::MemoryOfWorkers
+    }
+}
+
+/// Tests whether the file `name` is known to have more bytes than a dump may have: no memory serves it then.
+fn is_too_long<T: Files>(rt: &T, name: &str) -> bool {
+    match fs::metadata(rt, name) {
+        Ok(metadata) => metadata.len() > u64::from(LIMIT),
+        Err(_) => false,
+    }
+}
+
+/// Tests whether `place` is known to be the offset at which the reading of the file ended.
 fn is_at_end(place: Option<u64>, length: Option<u64>) -> bool
     ensures { IsTrue result ↔ (IsSome place × (place ≡ length)) }
 {
     place.is_some() && place == length
 }
 
-/// Whether this place of a file is known to stand in the record that ends where the reading did.
-fn is_in_last_record<T: Files>(
+/// Tests whether the offset `place` of the file `name` is known to lie in the record that ends at `length`, where the
+/// reading of the file ended.
+fn is_in_last_record<T: Files + AllocGlobal>(
     rt: &T,
     name: &str,
     place: Option<u64>,
@@ -139,12 +161,12 @@ fn is_in_last_record<T: Files>(
         return false;
     };
     match open_again(rt, name) {
-        Ok(mut file) => record_end(&mut file, place) == Some(length),
+        Ok(file) => record_end(rt.alloc(), file, place) == Some(length),
         Err(_) => false,
     }
 }
 
-/// The least number of buffers for so many workers: two for each, and two more.
+/// Returns the least number of buffers for `workers` workers: two for each, and two more.
 fn least_buffers(workers: u32) -> u64
     ensures { result ≡ 2 * workers + 2 }
 {
@@ -154,9 +176,9 @@ fn least_buffers(workers: u32) -> u64
 impl fmt::Display for Hint<'_> {
     fn fmt<W: fmt::Write>(&self, f: &mut fmt::Formatter<W>) -> fmt::Result {
         match *self {
-            Hint::Empty(file) => write!(f, "{file}: empty: still being written, or on a full disk"),
-            Hint::EndsEarly(file) => {
-                write!(f, "{file}: ends too early: still being written, or cut")
+            Hint::File(file, hint) => {
+                let text = hint.text();
+                write!(f, "{file}: {text}")
             }
             Hint::Packed(file, packer) => {
                 let unpacker = packer.unpacker();
@@ -166,38 +188,17 @@ impl fmt::Display for Hint<'_> {
                 f,
                 "{file}: HPROF of version {version}; only 1.0.2 is read, as `jcmd PID GC.heap_dump FILE` writes it"
             ),
-            Hint::NoDump(file) => write!(
-                f,
-                "{file}: no HPROF binary dump of version 1.0.2, as `jcmd PID GC.heap_dump FILE` writes it"
-            ),
-            Hint::TooManyBytes(file) => write!(
-                f,
-                "{file}: more than 1,073,741,824 bytes: dump a smaller heap, or live objects only (without -all)"
-            ),
-            Hint::TooManyObjects(file) => write!(
-                f,
-                "{file}: more than 16,777,216 objects: dump a smaller heap, or live objects only (without -all)"
-            ),
-            Hint::Memory(file, 1) => write!(
-                f,
-                "{file}: takes its own size in memory and about 24 bytes for each object: free as much"
-            ),
-            Hint::Memory(file, _) => write!(
-                f,
-                "{file}: takes its own size in memory and about 24 bytes for each object: free as much, \
-                or try --workers 1, which takes the least"
-            ),
             Hint::FirstTag(tag) => write!(
                 f,
-                "--first-tag {tag}: too few tags are left behind it: leave the option out"
+                "--first-tag {tag}: too few tags are left after it: leave the option out"
             ),
             Hint::Threads(1) => write!(
                 f,
-                "--workers 1: the system starts no thread: see ulimit -u"
+                "--workers 1: the system starts no thread: see ulimit -u and ulimit -v"
             ),
             Hint::Threads(workers) => write!(
                 f,
-                "--workers {workers}: the system starts no more threads: try fewer, 1 at least"
+                "--workers {workers}: the system starts no more threads: try fewer, or see ulimit -u and ulimit -v"
             ),
             Hint::Buffers(buffers, workers) => {
                 let least = least_buffers(workers);

@@ -1,4 +1,4 @@
-//! What the faults of a text exclude, as laws: functions whose bodies are the laws that they stand on.
+//! What the faults of a text exclude, as laws: functions whose bodies call the laws from which they follow.
 
 ghost use Rattle.std.specs.Prelude.{◌≡◌, ◌⊎◌, List, ℕ};
 ghost use Rattle.hprof_grammar.specs.Laws.{AreBytes};
@@ -7,7 +7,7 @@ ghost use Rattle.heapmark.specs.Answer.{FirstFaultOf, IsAcceptedText};
 use heap_graph::always_linked_or_fault;
 use hprof_grammar::{always_dump_or_fault, dump_or_fault, one_fault, one_list_of_records};
 
-/// A text of bytes is accepted or has a first fault.
+/// States that a text of bytes is accepted or has a first fault.
 pub fn always_accepted_or_fault()
     ensures { (text : List ℕ) → AreBytes text
         → IsAcceptedText text ⊎ ((code : ℕ) × (place : ℕ) × FirstFaultOf text code place) }
@@ -16,7 +16,7 @@ pub fn always_accepted_or_fault()
     always_linked_or_fault();
 }
 
-/// A text that is accepted has no first fault. So a refusal that tells one means that the bytes read are not accepted.
+/// States that an accepted text has no first fault. So if a refusal reports one, the bytes read are not accepted.
 pub fn accepted_or_fault()
     ensures { (text : List ℕ) (code place : ℕ) → IsAcceptedText text → FirstFaultOf text code place → ⊥ }
 {
@@ -24,7 +24,7 @@ pub fn accepted_or_fault()
     one_list_of_records();
 }
 
-/// A text has at most one first fault: its code, and its place.
+/// States that a text has at most one first fault: one code and one offset.
 pub fn one_first_fault()
     ensures { (text : List ℕ) (code place other_code other_place : ℕ) → FirstFaultOf text code place
         → FirstFaultOf text other_code other_place → (code ≡ other_code) × (place ≡ other_place) }

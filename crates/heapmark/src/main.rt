@@ -1,15 +1,15 @@
 //! Marks the reachable objects of a Java heap dump and prints a histogram by class.
 //!
-//! `run`, in `pipeline.rt`, is all that is promised: it reads the bytes, builds the graph, marks it, and writes the
-//! report, or answers why it does not. `program`, in `command.rt`, gives it the file and the options of the words, and
-//! makes the exit status of its answer; `main` is one line over `process`, below: that is `start`, and at a
-//! terminal a look at the fields that were not to be followed.
+//! `run`, in `pipeline.rt`, is all that is promised: it reads the bytes, builds the graph, marks it and writes the
+//! report, or returns why it does not. `program`, in `command.rt`, opens the file, passes it to `run` with the options
+//! of the command line, and turns the result into the exit status. `main` is one line over `process`, below: `process`
+//! is `start` and, after a report at a terminal, a second look at the fields to be skipped.
 //!
-//! The headline stands in `specs/Headline.antt`, the refusals in `specs/RunRefusals.antt`; README.md at the top says
-//! both in words, and `docs/ARCHITECTURE.md` where everything else is.
+//! The headline is defined in `specs/Headline.antt`, the refusals in `specs/RunRefusals.antt`; README.md at the top
+//! says both in words, and `docs/ARCHITECTURE.md` says where everything else is.
 #![tactic(auto)]
 
-ghost use Rattle.std.specs.Prelude.{◌≡◌, ◌-◌, ◌^◌, ◌<◌};
+ghost use Rattle.std.specs.Prelude.{◌≡◌, ◌-◌, ◌^◌, ◌<◌, false};
 ghost use Rattle.std.specs.Io.KnownBytes.{Keeps};
 ghost use Rattle.heapmark.specs.working.StatusOfSome.{IsStatusOfSome};
 ghost use Rattle.histogram.specs.Counting.{failures_of};
@@ -48,29 +48,34 @@ use std::{env, io};
 use unmet_skips::tell_unmet_skips;
 
 fn main(rt: HostRuntime) -> ExitCode {
-    let mut out = Counted::new(rt.stdout());
-    ExitCode::from(process(&rt, &rt, &mut out, &mut rt.stderr()))
+    let (mut out, mut err) = (Counted::new(rt.stdout()), rt.stderr());
+    let is_terminal = err.is_terminal();
+    ExitCode::from(process(&rt, &rt, &mut out, &mut err, is_terminal))
 }
 
-/// All that the process does, and its exit status: that of `start`. Behind a report, where people read standard error,
-/// they are told of fields to be skipped that the dump does not have, so of standard error no clause speaks.
-fn process<T, V, W, E>(rt: &T, line: &V, out: &mut Counted<W>, err: &mut E) -> u8
+/// Does all that the process does, and returns its exit status, that of `start`. After a report it prints the fields to
+/// be skipped that the dump does not have, only if standard error `is_terminal`.
+fn process<T, V, W, E>(rt: &T, line: &V, out: &mut Counted<W>, err: &mut E, is_terminal: bool) -> u8
 where
     T: Files + AllocGlobal + Threads + Wait + Sync,
     V: Env,
     W: Write,
-    E: Write + IsTerminal,
+    E: Write,
     requires { failures_of out.old < 2 ^ 64 - 1 }
-    ensures { IsStatusOfSome result W.contents out.old out.new }
+    ensures status { IsStatusOfSome result W.contents out.old out.new }
+
+    // At 0 no refusal was printed, if standard error is no terminal: so the status is not 0 where that of `start` is
+    // not.
+    ensures silent { result ≡ 0 → is_terminal ≡ false → Keeps (E.contents err.old) (E.contents err.new) }
 {
-    let status = start(rt, line, out, err);
-    if status == status::DONE && err.is_terminal() {
+    let status = start(rt, line, out, err, is_terminal);
+    if status == status::DONE && is_terminal {
         look_again(rt, line, err);
     }
     status
 }
 
-/// Tells what is to be told behind a report. Where the words cannot be read once more, that is nothing.
+/// Prints the hints that follow a report. Prints nothing if the command line cannot be read again.
 fn look_again<T, V, E>(rt: &T, line: &V, err: &mut E)
 where
     T: Files + AllocGlobal + Threads + Sync,
@@ -85,18 +90,18 @@ where
     }
 }
 
-/// Hands the words of the command line to the program, and answers the exit status. No contract knows these words, so
-/// the clauses say what each status means for the streams alone.
-fn start<T, V, W, E>(rt: &T, line: &V, out: &mut Counted<W>, err: &mut E) -> u8
+/// Passes the words of the command line to the program, and returns the exit status. No contract knows these words, so
+/// the clauses say only what each status means for the streams.
+fn start<T, V, W, E>(rt: &T, line: &V, out: &mut Counted<W>, err: &mut E, is_terminal: bool) -> u8
 where
     T: Files + AllocGlobal + Threads + Wait + Sync,
     V: Env,
     W: Write,
-    E: Write + IsTerminal,
+    E: Write,
     requires { failures_of out.old < 2 ^ 64 - 1 }
     ensures status { IsStatusOfSome result W.contents out.old out.new }
 
-    // At 0 no refusal was told.
+    // At 0 no refusal was printed.
     ensures silent { result ≡ 0 → Keeps (E.contents err.old) (E.contents err.new) }
 {
     let args = match args_of(line, rt.alloc()) {
@@ -105,18 +110,19 @@ where
         Err(_) => return refused(err, &Refusal::OUT_OF_MEMORY),
     };
     match words_of(&args, rt.alloc()) {
-        Ok(words) if err.is_terminal() => program_at_terminal(rt, words.as_slice(), out, err),
+        Ok(words) if is_terminal => program_at_terminal(rt, words.as_slice(), out, err),
         Ok(words) => program(rt, words.as_slice(), out, err),
         Err(_) => refused(err, &Refusal::OUT_OF_MEMORY),
     }
 }
 
-/// The words of the command line, as text: `InvalidData` where one is not, and else a fault is want of memory.
+/// Reads the words of the command line as text. The error is `InvalidData` if a word is not text; any other error means
+/// that an allocation failed.
 fn args_of<V: Env>(line: &V, alloc: Global) -> io::Result<Vec<String>> {
     Ok(env::args(&(line, alloc))?.collect(alloc)?)
 }
 
-/// The words that these texts are.
+/// Borrows each of `args` as a word.
 fn words_of(args: &[String], alloc: Global) -> Result<Vec<&str>, AllocError> {
     args.iter().map(|arg| arg.as_str()).collect(alloc)
 }

@@ -9,17 +9,17 @@ use std::io;
 pub(crate) enum NoReport {
     /// The options were refused.
     Refused(Refusal),
-    /// The run was refused, when so many bytes of the file were read. A pipe does not tell how many.
+    /// The run was refused, after this number of bytes of the file was read: `None` for a pipe, which has no position.
     Stopped(Refusal, Option<u64>),
-    /// The file could not be opened, for the system's reason.
+    /// The file could not be opened, for this reason of the system.
     NotOpened(io::Error),
 }
 
 /// A file of which there is no report.
 #[derive(Drop)]
 pub(crate) struct Unreported<'a> {
-    /// What the words gave.
+    /// The arguments of the command line.
     pub(crate) arguments: Arguments<'a>,
-    /// Why there is none.
+    /// Why there is no report.
     pub(crate) reason: NoReport,
 }

@@ -25,19 +25,19 @@ use std::io::{Read, Write};
 use std::sync::Wait;
 use std::thread::Threads;
 
-/// One byte more than a dump may have, so that a longer one is seen as such.
+/// The number of bytes to read at most: one more than a dump may have, so that a longer file is seen as such.
 const READ_LIMIT: usize = LIMIT as usize + 1;
 
-/// Reads a heap dump, marks its reachable objects with a thread for each worker, and writes the histogram of them. What
-/// stands in the fields to be skipped is not followed, and does not count as unresolved.
+/// Reads a heap dump, marks its reachable objects with a thread for each worker, and writes the histogram of them. The
+/// fields of `skip` are not followed, and what they name does not count as unresolved.
 ///
-/// Reads until a read answers 0, or one byte more than a dump may have is there. No read or write that fails is tried
-/// again, and nothing is written but the report.
+/// Reads until a read returns 0, or until it has one byte more than a dump may have. Tries no failed read or write
+/// again, and writes nothing but the report.
 ///
-/// At `Ok` the clause `headline` holds of a reader whose bytes a contract can name, as a slice. Of any other, as a
-/// file, no more is said than that the report of some text was written and flushed. At an error of 1 to 14 these bytes
-/// have that first fault. Bytes that are no accepted dump are refused so, or by 15 or 19 where memory or the reader
-/// failed first; and 15 to 20 may also refuse an accepted dump. A run knows no exit status: that is the program's.
+/// At `Ok` the clause `headline` holds for a reader whose bytes a contract can name, such as a slice. For any other,
+/// such as a file, the clauses only say that the report of some text was written and flushed. At an error of 1 to 14
+/// the bytes have that first fault. Bytes that are no accepted dump are refused so, or by 15 or 19 if an allocation or
+/// the reader failed first; 15 to 20 may also refuse an accepted dump. A run has no exit status: that is the program's.
 pub fn run<T, A, R, W, B, G>(
     rt: &T,
     alloc: A,
@@ -57,25 +57,25 @@ where
     requires reads { failures_of reader.old < 2 ^ 64 - 1 }
     requires writes { failures_of writer.old < 2 ^ 64 - 1 }
 
-    // The bytes read are an accepted dump, and their report was written behind what the writer had.
+    // The bytes read are an accepted dump, and their report was written after what the writer had.
     ensures headline { Headline result (R.remaining (inner_of reader.old)) skip.now
         (W.contents (inner_of writer.old)) (W.contents (inner_of writer.new)) }
 
-    // Of any reader, also one whose bytes no contract can name, as a file: what was written is the report of a text.
+    // For any reader, also one whose bytes no contract can name, such as a file: the report of some text was written.
     ensures report_of_a_text { OnOk result
         (WritesSomeReport skip.now (W.contents (inner_of writer.old)) (W.contents (inner_of writer.new))) }
 
     ensures flushed { OnOk result (is_flushed writer.new ≡ true) }
 
-    // The other side: a fault is told only where it is the first one, and where there is one nothing else is told but
-    // want of memory or of the reader.
+    // The converse: a fault is reported only if it is the first one, and bytes with a fault are refused by nothing else
+    // but a failure of an allocation or of the reader.
     ensures first_fault { IfErr result (λ refusal. refusal.code ≤ 14
         → IfSome (R.remaining (inner_of reader.old)) (λ given. RefusesFirstFault (bytes_read given) refusal)) }
     ensures not_accepted { IfSome (R.remaining (inner_of reader.old)) (λ given.
         (IsAcceptedText (bytes_read given) → ⊥) → IsErrAnd result (IsRefusalOf (bytes_read given))) }
     ensures known { IfErr result IsRunRefusal }
 
-    // Of the reader's bytes those were taken that were read, and no others: no read is made once the limit is reached.
+    // The bytes read were taken from the reader, and no others: no read is made after the limit is reached.
     ensures consumed { OnOk result
         (ConsumesBytesRead (R.remaining (inner_of reader.old)) (R.remaining (inner_of reader.new))) }
     ensures consumed_at_a_refusal { IfErr result (λ refusal. refusal.code ≢ 15 → refusal.code ≢ 19
@@ -100,17 +100,11 @@ where
     ensures untouched { IfErr result (λ refusal. refusal.code ≢ 20
         → Keeps (W.contents (inner_of writer.old)) (W.contents (inner_of writer.new))) }
 {
-    let bytes = match read_bytes(&alloc, reader) {
-        Ok(bytes) => bytes,
-        Err(refusal) => return Err(refusal),
-    };
-    match report_bytes(rt, &alloc, bytes.as_slice(), writer, options, skip, gate) {
-        Ok(()) => Ok(()),
-        Err(refusal) => Err(refusal),
-    }
+    let bytes = read_bytes(&alloc, reader)?;
+    report_bytes(rt, &alloc, bytes.as_slice(), writer, options, skip, gate)
 }
 
-/// The bytes of a run: all that the reader gives, but no more than one byte above the largest dump.
+/// Reads the bytes of a run: all that `reader` gives, but no more than one byte above the largest dump.
 pub(crate) fn read_bytes<A: Allocator, R: Read>(
     alloc: A,
     reader: &mut Counted<R>,
@@ -128,13 +122,10 @@ pub(crate) fn read_bytes<A: Allocator, R: Read>(
     ensures fault { HasCode result 19 ↔ (failures_of reader.new ≡ failures_of reader.old + 1) }
     ensures no_fault { (HasCode result 19 → ⊥) → failures_of reader.new ≡ failures_of reader.old }
 {
-    match reader.read_to_limit(alloc, READ_LIMIT) {
-        Ok(bytes) => Ok(bytes),
-        Err(refusal) => Err(Refusal::from(refusal)),
-    }
+    Ok(reader.read_to_limit(alloc, READ_LIMIT)?)
 }
 
-/// Writes the report of the bytes of a dump. It knows nothing of readers.
+/// Writes the report of a dump, its `bytes`. Knows nothing of readers.
 fn report_bytes<T, A, W, B, G>(
     rt: &T,
     alloc: A,
@@ -164,17 +155,14 @@ where
     ensures untouched { IfErr result (λ refusal. refusal.code ≢ 20
         → Keeps (W.contents (inner_of writer.old)) (W.contents (inner_of writer.new))) }
 {
-    let report = match answer(rt, alloc, bytes, options, skip, gate) {
-        Ok(report) => report,
-        Err(refusal) => return Err(refusal),
-    };
+    let report = answer(rt, alloc, bytes, options, skip, gate)?;
     match write_report(alloc, &report, writer) {
         Ok(()) => Ok(()),
         Err(refusal) => Err(Refusal::from(refusal)),
     }
 }
 
-/// The report of the bytes of a dump. It knows nothing of readers and writers.
+/// Returns the report of a dump, its `bytes`. Knows nothing of readers and writers.
 fn answer<T, A, B, G>(
     rt: &T,
     alloc: A,
@@ -201,7 +189,7 @@ where
     report_of_graph(rt, &team, alloc, &graph, options, gate)
 }
 
-/// The report of a graph.
+/// Marks `graph` and returns its report.
 fn report_of_graph<T, A, G>(
     rt: &T,
     team: &Team<'_, T>,
@@ -226,7 +214,7 @@ where
     Ok(rows(team, alloc, graph, &marked)?)
 }
 
-/// The graph of the bytes of a dump.
+/// Returns the graph of a dump, its `bytes`.
 fn graph_of<'a, T, A, B>(
     team: &Team<'_, T>,
     alloc: A,

@@ -1,4 +1,4 @@
-//! Why a run gave no report.
+//! Why a run has no report.
 
 mod codes;
 mod parts;
@@ -6,11 +6,11 @@ mod text;
 
 use thiserror::Error;
 
-/// Why a run gave no report.
+/// Why a run has no report.
 #[derive(Clone, Copy, Debug, PartialEq, Eq, Error)]
 pub struct Refusal {
-    /// 1 to 21, but for 17, which is withdrawn. The codes 1 to 14 are faults of the bytes.
+    /// The code: 1 to 21, but not 17, which is withdrawn. The codes 1 to 14 are faults of the bytes.
     pub code: u8,
-    /// At the codes 1 to 14 the place of the fault in the bytes.
+    /// The offset of the fault in the bytes, if the code is 1 to 14.
     pub offset: Option<u64>,
 }

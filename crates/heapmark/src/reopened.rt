@@ -1,11 +1,11 @@
-//! A file that is read once more.
+//! A file that is read a second time.
 
 use std::fs::OpenFile;
 use std::rt::Files;
 use std::{fs, io};
 
-/// Opens a file that the run has read, only where it is a plain one: what a pipe gave is gone, and to open a named one
-/// would wait for its writer.
+/// Opens the file `name`, which the run has read, only if it is a plain file: what a pipe gave is gone, and to open a
+/// named one would wait for its writer. Else the error is `Unsupported`.
 pub(crate) fn open_again<T: Files>(rt: &T, name: &str) -> io::Result<T::File> {
     if !fs::metadata(rt, name)?.is_file() {
         return Err(io::Error::from(io::ErrorKind::Unsupported));

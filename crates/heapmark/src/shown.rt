@@ -1,9 +1,9 @@
-//! How a word of the command line is shown.
+//! How a word of the command line is printed.
 
 use std::fmt;
 
-/// A file's name, or another word, as it is shown to people: each byte of a control character, which a terminal would
-/// obey, as `\x` and two hexadecimal digits, and all else as it is.
+/// A file's name, or another word, as it is printed for people. Each byte of a control character, which a terminal
+/// would obey, becomes `\x` and two hexadecimal digits; all else stays as it is.
 #[derive(Clone, Copy, Debug, PartialEq, Eq)]
 pub(crate) struct Shown<'a>(pub(crate) &'a str);
 
@@ -20,7 +20,7 @@ impl fmt::Display for Shown<'_> {
     }
 }
 
-/// Writes each byte of a character as `\x` and two hexadecimal digits.
+/// Writes each byte of `c` as `\x` and two hexadecimal digits.
 fn escape<W: fmt::Write>(f: &mut fmt::Formatter<W>, c: char) -> fmt::Result {
     for byte in c.encode_utf8(&mut [0; 4]).bytes() {
         write!(f, "\\x{byte:02x}")?;

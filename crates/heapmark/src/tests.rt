@@ -1,20 +1,24 @@
-//! What no contract says: the worked rows, damaged dumps, streams and memory that fail, and what the program prints.
+//! What no contract says: the worked rows, damaged dumps, streams and allocations that fail, and what the program
+//! prints.
 //!
-//! A damaged dump is a row of `rows/refused.rt`, with its code and place; `cuts.rt` has the cuts at each length alone,
-//! and `damage.rt` each byte changed to each other value.
+//! A damaged dump is a row of `rows/refused.rt`, with its code and place. Only the cuts at each length, in `cuts.rt`,
+//! and each byte changed to each other value, in `damage.rt`, are not.
 
 mod command_lines;
 mod cuts;
 mod damage;
 mod drip;
 mod dumps;
+mod files;
 mod hints;
 mod idle;
+mod many_objects;
 mod many_rows;
 mod marking;
 mod memory;
 mod process;
 mod program;
+mod records;
 mod refusals;
 mod rows;
 mod skips;
@@ -30,7 +34,7 @@ use std::io::{Read, Write};
 use std::sync::Wait;
 use std::thread::Threads;
 
-/// The program's options for this number of workers, 1 to 64.
+/// Returns the program's options with `workers` workers, 1 to 64.
 fn usual(workers: u32) -> Options
     requires some { 1 ≤ workers }
     requires most { workers ≤ 64 }
@@ -41,7 +45,7 @@ fn usual(workers: u32) -> Options
     options
 }
 
-/// The least buffers for this number of workers, 1 to 64.
+/// Returns options with the least buffers for `workers` workers, 1 to 64.
 fn least(workers: u32) -> Options
     requires some { 1 ≤ workers }
     requires most { workers ≤ 64 }
@@ -52,10 +56,10 @@ fn least(workers: u32) -> Options
     options
 }
 
-/// What a run answers, and how much of its report it has written: none where anything else was written.
+/// The result of a run, and how much of its report it has written: `None` if it has written anything else.
 type Answered = (Result<(), Refusal>, Option<usize>);
 
-/// A run with these options, which skips these fields, and this gate.
+/// Runs with these options, fields to skip and gate. Returns the result and the writer.
 fn run_with<T, A, R, W, B, G>(
     rt: &T,
     alloc: A,
@@ -79,7 +83,7 @@ where
     (outcome, writer.into_inner())
 }
 
-/// How much of a report was written: none where anything else was.
+/// Returns how much of `report` was written, or `None` if anything else was.
 fn length_of(written: &[u8], report: &str) -> Option<usize> {
     if report.as_bytes().starts_with(written) {
         Some(written.len())
@@ -88,8 +92,8 @@ fn length_of(written: &[u8], report: &str) -> Option<usize> {
     }
 }
 
-/// The answer of a run with these options, which skips these fields, and a gate that does nothing. All that a run
-/// needs is let go of here, so that a test holds nothing while it asserts: that makes its proof cheap.
+/// Runs with these options and fields to skip, and a gate that does nothing. All that a run needs is dropped here, so
+/// that a test holds nothing while it asserts: that makes its proof cheap.
 fn answer<T, R>(
     rt: &T,
     alloc: Global,
@@ -107,7 +111,7 @@ where
     (outcome, length_of(written.as_slice(), report))
 }
 
-/// Whether a run with these options, which skips no field, answers so and writes this report.
+/// Tests whether a run with these options, which skips no field, has the result `want` and writes just `report`.
 fn is_answered<T, R>(
     rt: &T,
     alloc: Global,
@@ -124,7 +128,7 @@ where
     told == (want, Some(report.len()))
 }
 
-/// The outcome of a refusal.
+/// Returns the result of a run that is refused.
 fn refused(code: u8, offset: Option<u64>) -> Result<(), Refusal> {
     Err(Refusal { code, offset })
 }

@@ -1,8 +1,8 @@
-//! What people are told of entries of `--skip` that name no field of the dump.
+//! The lines about entries of `--skip` that name no field of the dump.
 //!
-//! Such an entry changes neither the report nor the status, so it is told behind the report, where people read standard
-//! error, and nowhere else. The file is read once more for it. No clause speaks of these lines: those of `start` end
-//! with the report.
+//! Such an entry changes neither the report nor the status, so a line about it is printed after the report, only if
+//! standard error is a terminal. The file is read a second time for it. No clause speaks of these lines: those of
+//! `start` end with the report.
 
 use crate::command::expected_size;
 use crate::pipeline::read_bytes;
@@ -17,8 +17,8 @@ use std::io::Write;
 use std::rt::Files;
 use std::thread::Threads;
 
-/// Prints a line for each entry of the words' list whose field no class of the dump declares. Where the list, the file
-/// or the dump cannot be read nothing is told, as where there is no list.
+/// Prints a line for each entry of the list in `words` whose field no class of the dump declares. Prints nothing if
+/// `words` have no list, or if the list, the file or the dump cannot be read.
 pub(crate) fn tell_unmet_skips<T: Files + AllocGlobal + Threads + Sync, E: Write>(
     rt: &T,
     words: &[&str],
@@ -35,7 +35,7 @@ pub(crate) fn tell_unmet_skips<T: Files + AllocGlobal + Threads + Sync, E: Write
     }
 }
 
-/// Of each entry of a list, whether it names a field of the dump in the words' file, where that can be known.
+/// Returns for each entry of `list` whether a class of the dump declares its field, or `None` if that cannot be known.
 fn met_in_file<T: Files + AllocGlobal + Threads + Sync>(
     rt: &T,
     arguments: &Arguments<'_>,
@@ -48,7 +48,7 @@ fn met_in_file<T: Files + AllocGlobal + Threads + Sync>(
     skip.met(rt.alloc(), bytes.as_slice(), &dump).ok()
 }
 
-/// The bytes of a file that the run has read.
+/// Reads the bytes of `file` again, if the run has read a plain file.
 fn bytes_again<T: Files + AllocGlobal>(rt: &T, file: &str) -> Option<Vec<u8>> {
     let file = open_again(rt, file).ok()?;
     let size = file.metadata().ok()?.len();
@@ -56,14 +56,15 @@ fn bytes_again<T: Files + AllocGlobal>(rt: &T, file: &str) -> Option<Vec<u8>> {
     read_bytes(rt.alloc(), &mut reader).ok()
 }
 
-/// Prints a line for each entry of a list that is not met. Entries have commas between, and none within.
+/// Prints a line for each entry of `list` that is not `met`. Commas separate the entries, and none has one within.
 fn tell_unmet<E: Write>(err: &mut E, list: &str, met: &[bool]) {
     for (entry, is_met) in list.split(',').zip(met) {
         if !*is_met {
             let entry = Shown(entry);
             let _ = writeln!(
                 err,
-                "heapmark: --skip {entry}: no class of the dump declares this field"
+                "heapmark: --skip {entry}: no class of the dump declares this field of its instances \
+                (static fields are always followed)"
             );
         }
     }

@@ -3,7 +3,7 @@ use Rattle.std.specs.Prelude.{Bool, List, Option, length, take, ℕ, ◌<◌, �
 use Rattle.std.specs.Io.KnownBytes.{Appends, Consumes}
 use Rattle.histogram.specs.declared.counted.Counted.{Counted}
 
--- how many calls have failed so far
+-- the number of calls that have failed so far
 abbrev pub failures_of : {T : Type 0} → Counted T → ℕ
 failures_of c = c.failures
 

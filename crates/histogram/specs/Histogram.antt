@@ -51,7 +51,7 @@ pub record Histogram : Type 0 where
   pub unreachable : ℕ × ℕ
   pub unresolved : ℕ
 
--- This is the histogram of the graph with these marks: each row that has a marked object stands there once, in order.
+-- This is the histogram of the graph with these marks: it has each row with a marked object once, in order.
 pub record IsHistogram (g : ObjectGraph) (marks : List Bool) (h : Histogram) : Type 0 where
   pub each_once : IsPermutation (entries g (marked_objects g marks)) h.rows
   pub in_order : IsSorted compare h.rows

@@ -1,4 +1,4 @@
--- The names that a report shows.
+-- The names in a report.
 use Rattle.std.specs.Prelude.{Bool, List, None, Option, Some, [], codes, false, flat_map, if◌then◌else◌, nat_le}
 use Rattle.std.specs.Prelude.{nat_lt, not, ℕ, ◌%◌, ◌&&◌, ◌++◌, ◌+◌, ◌/◌, ◌==◌, ◌∷◌}
 use Rattle.heap_graph.specs.ObjectGraph.{ObjectGraph, class_at}
@@ -14,7 +14,7 @@ hex_digit n = if nat_lt n 10 then 48 + n else 87 + n
 abbrev pub is_plain : ℕ → Bool
 is_plain b = nat_le 0x21 b && nat_le b 0x7E && not (b == 0x5C)
 
--- they are shown as they are, every other byte as a backslash, an x and two hex digits
+-- such a byte is shown as it is, any other as a backslash, an x and two hex digits
 abbrev pub shown_byte : ℕ → List ℕ
 shown_byte b = if is_plain b then b ∷ [] else 0x5C ∷ 0x78 ∷ hex_digit (b / 16) ∷ hex_digit (b % 16) ∷ []
 

@@ -1,4 +1,4 @@
-//! A report is determined, as laws: functions that do nothing.
+//! That a text has one report, as laws: functions that do nothing.
 
 ghost use Rattle.std.specs.Prelude.{◌≡◌, Bool, List, ℕ};
 ghost use Rattle.histogram.specs.Histogram.{Histogram, IsHistogram};
@@ -9,18 +9,18 @@ ghost use Rattle.histogram.specs.Report.{IsReport};
 use drain::one_marking;
 use heap_graph::one_graph;
 
-/// A graph with marks has one histogram.
+/// States that a graph with marks has one histogram.
 ///
-/// The histogram is defined as a relation: its rows are some arrangement in order. Only one arrangement is in
-/// order, since the order tells any two rows apart.
+/// The histogram is defined as a relation: its rows are some arrangement in order. Only one arrangement is in order,
+/// since the order tells any two rows apart.
 pub fn one_histogram()
     ensures { (g : ObjectGraph) (marks : List Bool) (h k : Histogram) → IsHistogram g marks h → IsHistogram g marks k
         → h ≡ k }
 {}
 
-/// A text and a list of fields that are not followed have at most one report.
+/// States that a text and a list of fields that are not followed have at most one report.
 ///
-/// They have one graph, that graph one list of marks that are exactly at the reachable objects, and those one
+/// They have one graph, the graph has one list of marks that are exactly at the reachable objects, and these have one
 /// histogram.
 pub fn one_report()
     ensures { (text : List ℕ) (skip : List SkipEntry) (report other : List ℕ) → IsReport text skip report

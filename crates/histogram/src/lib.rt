@@ -1,8 +1,8 @@
 //! The histogram of a marked heap, and its report.
 //!
 //! `rows` makes the histogram of a graph and of a marking of it: a line for each row with a marked object, and the
-//! three totals. `write_report` writes its text and nothing else. `Counted` stands around a reader or a writer and
-//! counts its failures, so that contracts can say which calls failed.
+//! three totals. `write_report` writes its text and nothing else. `Counted` wraps a reader or a writer and counts its
+//! failures, so that contracts can say which calls failed.
 //!
 //! From `crates/histogram_tests/src/reports.rt`, which is proved and run:
 //!
@@ -10,8 +10,8 @@
 //!     let is_whole = write_report(alloc, report, &mut writer).is_ok() && writer.failures() == 0;
 //!     is_whole && writer.into_inner().as_slice() == text.as_bytes()
 //!
-//! The definition of the histogram stands in `specs/Histogram.antt`, that of its text in `specs/Report.antt`; both in
-//! words in `docs/HISTOGRAM.md` and `docs/FORMAT.md`.
+//! The histogram is defined in `specs/Histogram.antt`, its text in `specs/Report.antt`; `docs/HISTOGRAM.md` and
+//! `docs/FORMAT.md` have both in words.
 
 #![tactic(auto)]
 

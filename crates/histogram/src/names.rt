@@ -1,4 +1,4 @@
-//! The names that a report shows.
+//! The names in a report.
 
 ghost use Rattle.std.specs.Prelude.{◌≡◌, ◌<◌, ◌++◌, IfOk, OnOk};
 ghost use Rattle.heap_graph.specs.ObjectGraph.{class_at, class_count};
@@ -10,7 +10,7 @@ use heap_graph::{Graph, RowKey};
 use std::alloc::{AllocError, Allocator};
 use std::io::Write;
 
-/// The name of a row.
+/// Returns the name of `row`.
 pub(crate) fn row_name<A: Allocator, B: Allocator>(
     alloc: B,
     graph: &Graph<'_, A>,
@@ -26,7 +26,7 @@ pub(crate) fn row_name<A: Allocator, B: Allocator>(
     }
 }
 
-/// The identifier of the row's class, or 0 where the row is no class.
+/// Returns the identifier of the class of `row`, or 0 if the row is no class.
 pub(crate) fn row_class<A: Allocator>(graph: &Graph<'_, A>, row: RowKey) -> u64
     requires { IsRowIn graph.now row }
     ensures { result ≡ row_id graph.now row }
@@ -38,7 +38,7 @@ pub(crate) fn row_class<A: Allocator>(graph: &Graph<'_, A>, row: RowKey) -> u64
     }
 }
 
-/// The name of a class, or what stands for it where the dump has none.
+/// Returns the name of `class`, or what is shown in place of it if the dump has none.
 fn class_name<A: Allocator, B: Allocator>(
     alloc: B,
     graph: &Graph<'_, A>,
@@ -56,7 +56,7 @@ fn class_name<A: Allocator, B: Allocator>(
     Ok(name)
 }
 
-/// The name of a class as the report shows it, from its bytes.
+/// Appends `text`, the bytes of a name, as the report shows it.
 fn append_shown<A: Allocator>(out: &mut Vec<u8, A>, text: &[u8]) -> Result<(), AllocError>
     ensures { OnOk result (out.new.items ≡ out.old.items ++ shown_text text.now) }
 {
@@ -66,7 +66,7 @@ fn append_shown<A: Allocator>(out: &mut Vec<u8, A>, text: &[u8]) -> Result<(), A
     Ok(())
 }
 
-/// A byte as it is if it is plain, else `\x` and two lower-case hex digits.
+/// Appends `byte` as it is if it is plain, else `\x` and two lower-case hex digits.
 fn append_shown_byte<A: Allocator>(out: &mut Vec<u8, A>, byte: u8) -> Result<(), AllocError>
     ensures { OnOk result (out.new.items ≡ out.old.items ++ shown_byte byte) }
 {
@@ -78,23 +78,22 @@ fn append_shown_byte<A: Allocator>(out: &mut Vec<u8, A>, byte: u8) -> Result<(),
     Ok(())
 }
 
-/// Whether a byte is from 0x21 to 0x7E and no backslash.
+/// Tests whether `byte` is from 0x21 to 0x7E and no backslash.
 fn is_plain_byte(byte: u8) -> bool
     ensures { result ≡ is_plain byte }
 {
     0x21 <= byte && byte <= 0x7E && byte != b'\\'
 }
 
-/// Appends what stands for the name of a class that has none: `?0x` and its identifier in lower-case hex digits.
-///
-/// `AllocError`: the memory for it was refused.
+/// Appends what is shown in place of the name of a class without one: `?0x` and the identifier `class` in lower-case
+/// hex digits. `Err(AllocError)` if an allocation fails.
 pub fn append_unnamed<A: Allocator>(out: &mut Vec<u8, A>, class: u64) -> Result<(), AllocError>
     ensures { OnOk result (out.new.items ≡ out.old.items ++ unnamed class) }
 {
     write!(out, "?0x{class:x}").map_err(|_| AllocError)
 }
 
-/// The name of a row of primitive arrays.
+/// Returns the name of the row of the primitive arrays of type `code`.
 fn primitive_name(code: u8) -> &'static [u8]
     ensures { result.now ≡ shown_primitive code }
 {

@@ -1,4 +1,4 @@
-//! What is told of the objects that are marked.
+//! The total of the marked objects.
 
 ghost use Rattle.std.specs.Prelude.{◌≡◌};
 ghost use Rattle.drain.specs.Marks.{IsMarkingOf};
@@ -8,7 +8,7 @@ use drain::Marked;
 use heap_graph::{Graph, RowKey};
 use std::alloc::Allocator;
 
-/// How many objects are marked, and their bytes together: the sums over all rows.
+/// Returns the number of marked objects and the sum of their bytes, from the tallies of all rows.
 pub(crate) fn reachable<A: Allocator, B: Allocator>(
     graph: &Graph<'_, A>,
     marks: &Marked<B>,

@@ -11,26 +11,26 @@ use std::io;
 use std::io::Read;
 use thiserror::Error;
 
-/// Why the bytes of a reader could not be had.
+/// Why the bytes of a reader could not be read.
 #[derive(Clone, Copy, PartialEq, Eq, Debug, Error)]
 pub enum ReaderRefusal {
     /// A read failed. It was not tried again, whatever its kind.
     #[error("a read failed")]
     ReadFault,
-    /// The memory for the bytes was refused.
+    /// An allocation for the bytes failed.
     #[error("out of memory")]
     OutOfMemory,
 }
 
-/// How many bytes one read asks for at most, and how much room is made where none is left.
+/// The number of bytes that one read asks for at most, and by which the room grows if none is left.
 const CHUNK: usize = 262_144;
 
 impl<R: Read> Counted<R> {
-    /// Reads until a read answers 0 or `limit` bytes are there, straight into the answer. The limit is an argument, so
+    /// Reads, straight into the result, until a read returns 0 or `limit` bytes were read. The limit is a parameter, so
     /// that a test can give a small one.
     ///
-    /// `ReadFault`: a read failed; it is not tried again. `OutOfMemory`: the memory for the bytes was refused. Of the
-    /// bytes read before a refusal it is said only how many there are at most.
+    /// `Err(ReadFault)` if a read fails; it is not tried again. `Err(OutOfMemory)` if an allocation for the bytes
+    /// fails. The clauses say of the bytes read before a refusal only how many there are at most.
     pub fn read_to_limit<A: Allocator>(
         &mut self,
         alloc: A,
@@ -42,11 +42,11 @@ impl<R: Read> Counted<R> {
             Consumes (R.remaining (inner_of self.old)) (R.remaining (inner_of self.new)) v.items) }
         ensures size { IfOk result (λ v. vec_len v ≤ limit) }
 
-        // The count rises where a read failed, and there alone.
+        // The count rises if a read failed, and only then.
         ensures fault { IsErrOf result ReaderRefusal.ReadFault ↔ (failures_of self.new ≡ failures_of self.old + 1) }
         ensures no_fault { result ≢ Err ReaderRefusal.ReadFault → failures_of self.new ≡ failures_of self.old }
 
-        // No read is made once the limit is reached: before the one that failed fewer bytes had come.
+        // No read is made after the limit is reached: fewer bytes had come before the one that failed.
         ensures below { result ≡ Err ReaderRefusal.ReadFault
             → ConsumesFewer limit (R.remaining (inner_of self.old)) (R.remaining (inner_of self.new)) }
         ensures within { result ≡ Err ReaderRefusal.OutOfMemory
@@ -70,7 +70,7 @@ impl<R: Read> Counted<R> {
         Ok(bytes)
     }
 
-    /// One read into what stands behind the first `filled` bytes.
+    /// Makes one read into `bytes`, after the first `filled` of them.
     fn read_behind(&mut self, bytes: &mut [u8], filled: usize) -> io::Result<usize>
         requires below { failures_of self.old < 2 ^ 64 - 1 }
         requires room { filled < length bytes.old }
@@ -88,7 +88,7 @@ impl<R: Read> Counted<R> {
     }
 }
 
-/// Makes room behind the first `filled` bytes: some of it is zeroed, and `limit` bytes are there at most.
+/// Makes room in `bytes` after the first `filled` of them. A part of it is zeroed, and the length stays within `limit`.
 fn make_room<A: Allocator>(
     bytes: &mut Vec<u8, A>,
     filled: usize,

@@ -5,14 +5,14 @@ use std::alloc::Allocator;
 /// The rows of a histogram in the order of the report, and its totals.
 #[derive(Drop)]
 pub struct Report<A: Allocator> {
-    /// One line for each row that has a reachable object: bytes falling, then count falling, then name and
-    /// class rising.
+    /// One line for each row that has a reachable object: the most bytes first, then the most objects, then the least
+    /// name, then the least class.
     pub rows: Vec<Line<A>, A>,
-    /// How many objects are reachable, and their bytes.
+    /// The number of reachable objects, and the sum of their bytes.
     pub reachable: (u64, u64),
-    /// How many objects are not reachable, and their bytes.
+    /// The number of unreachable objects, and the sum of their bytes.
     pub unreachable: (u64, u64),
-    /// How often an identifier other than 0 names no object, in the objects and in the roots.
+    /// The number of identifiers other than 0, in the objects and in the roots, that name no object.
     pub unresolved: u64,
 }
 
@@ -21,9 +21,9 @@ pub struct Report<A: Allocator> {
 pub struct Line<A: Allocator> {
     /// The name as the report shows it.
     pub name: Vec<u8, A>,
-    /// The identifier of the row's class, or 0 where the row is no class.
+    /// The identifier of the row's class, or 0 if the row is no class.
     pub class: u64,
-    /// How many reachable objects the row has.
+    /// The number of reachable objects of the row.
     pub count: u64,
     /// The sum of their bytes.
     pub bytes: u64,

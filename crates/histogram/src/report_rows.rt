@@ -19,10 +19,10 @@ use std::alloc::{AllocError, Allocator};
 use std::cmp::Ordering;
 use std::thread::Threads;
 
-/// Makes the histogram of a graph and of a marking of it: a line for each row that has a marked object, in the order of
-/// the report, and the three totals.
+/// Makes the histogram of `graph` and of its marking `marks`: a line for each row that has a marked object, in the
+/// order of the report, and the three totals.
 ///
-/// `OutOfMemory`: a request for memory was refused. It is the only error.
+/// `Err(OutOfMemory)` if an allocation fails. There is no other error.
 pub fn rows<T: Threads + Sync, A: Allocator + Copy, B: Allocator + Sync, C: Allocator>(
     team: &Team<'_, T>,
     alloc: A,
@@ -42,8 +42,8 @@ pub fn rows<T: Threads + Sync, A: Allocator + Copy, B: Allocator + Sync, C: Allo
     })
 }
 
-/// How many identifiers other than 0, in all objects and in roots, name no object, where the objects that are not
-/// marked hold so many of them.
+/// Returns the number of identifiers other than 0, in all objects and in the roots, that name no object. `unmarked` is
+/// the number of those in the objects that are not marked.
 fn all_unresolved<A: Allocator, B: Allocator>(
     graph: &Graph<'_, A>,
     marks: &Marked<B>,
@@ -58,7 +58,7 @@ fn all_unresolved<A: Allocator, B: Allocator>(
     marks.unresolved() + unmarked + graph.unresolved()
 }
 
-/// A line for each row that has a marked object, in the order of the report.
+/// Makes a line for each row that has a marked object, in the order of the report.
 fn lines_in_order<A: Allocator + Copy, B: Allocator, C: Allocator>(
     alloc: A,
     graph: &Graph<'_, B>,
@@ -74,8 +74,8 @@ fn lines_in_order<A: Allocator + Copy, B: Allocator, C: Allocator>(
     Ok(lines)
 }
 
-/// Which line stands first: that of more bytes, then of more objects, then of the lesser name, then of the
-/// lesser class.
+/// Compares two lines: the line of more bytes comes first, then that of more objects, then that of the lesser name,
+/// then that of the lesser class.
 fn compare_lines<A: Allocator>(a: &Line<A>, b: &Line<A>) -> Ordering
     ensures { result ≡ compare (entry_of a.now) (entry_of b.now) }
 {
@@ -89,7 +89,7 @@ fn compare_lines<A: Allocator>(a: &Line<A>, b: &Line<A>) -> Ordering
         .then(b.count.cmp(&a.count).then(by_name))
 }
 
-/// A line for each row that has a marked object, in the order of the rows' numbers.
+/// Makes a line for each row that has a marked object, in the order of the rows' numbers.
 fn lines_by_number<A: Allocator + Copy, B: Allocator, C: Allocator>(
     alloc: A,
     graph: &Graph<'_, B>,
@@ -110,7 +110,7 @@ fn lines_by_number<A: Allocator + Copy, B: Allocator, C: Allocator>(
     Ok(lines)
 }
 
-/// The line of a row with so many objects and bytes.
+/// Makes the line of `row`, which has `count` marked objects of `bytes` bytes in all.
 fn line_of_row<A: Allocator, B: Allocator>(
     alloc: A,
     graph: &Graph<'_, B>,

@@ -8,7 +8,7 @@ use crate::report::Report;
 use std::alloc::{AllocError, Allocator};
 use std::io::Write;
 
-/// The whole report: a line for each row, then the totals.
+/// Returns the whole text of `report`: a line for each row, then the totals.
 pub(crate) fn text_of<A: Allocator, B: Allocator>(
     alloc: B,
     report: &Report<A>,
@@ -27,7 +27,8 @@ pub(crate) fn text_of<A: Allocator, B: Allocator>(
     Ok(text)
 }
 
-/// One line: the count right in 10 places, two spaces, the bytes right in 14 places, two spaces, the name, a newline.
+/// Appends one line: `count` right-aligned in 10 places, two spaces, `bytes` right-aligned in 14 places, two spaces,
+/// `name`, a newline.
 fn append_line<A: Allocator>(
     out: &mut Vec<u8, A>,
     count: u64,

@@ -16,7 +16,7 @@ use thiserror::Error;
 /// Why a report was not written.
 #[derive(Clone, Copy, PartialEq, Eq, Debug, Error)]
 pub enum WriteRefusal {
-    /// The memory for the text was refused. Nothing was written.
+    /// An allocation for the text failed. Nothing was written.
     #[error("out of memory")]
     OutOfMemory,
     /// A write or the flush failed. It was not tried again, and a beginning of the text was written.
@@ -24,10 +24,10 @@ pub enum WriteRefusal {
     WriteFault,
 }
 
-/// Writes the text of a report, and flushes the writer. The whole text is made before the first write.
+/// Writes the text of `report`, and flushes `writer`. Makes the whole text before the first write.
 ///
-/// `OutOfMemory`: the memory for the text was refused, and nothing was written. `WriteFault`: a write or the flush
-/// failed; it is not tried again, and a beginning of the text was written.
+/// `Err(OutOfMemory)` if an allocation for the text fails: nothing was written. `Err(WriteFault)` if a write or the
+/// flush fails: it is not tried again, and a beginning of the text was written.
 pub fn write_report<A: Allocator, B: Allocator, W: Write>(
     alloc: B,
     report: &Report<A>,
@@ -42,10 +42,10 @@ pub fn write_report<A: Allocator, B: Allocator, W: Write>(
     ensures untouched { result ≡ Err WriteRefusal.OutOfMemory
         → Keeps (W.contents (inner_of writer.old)) (W.contents (inner_of writer.new)) }
 
-    // A flush came behind the last write that took something.
+    // A flush came after the last write that took something.
     ensures flushed { OnOk result (is_flushed writer.new ≡ true) }
 
-    // The count rises where a write or the flush failed, and there alone.
+    // The count rises if a write or the flush failed, and only then.
     ensures fault { IsErrOf result WriteRefusal.WriteFault ↔ (failures_of writer.new ≡ failures_of writer.old + 1) }
     ensures no_fault { result ≢ Err WriteRefusal.WriteFault → failures_of writer.new ≡ failures_of writer.old }
 {

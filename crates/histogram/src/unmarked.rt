@@ -1,4 +1,4 @@
-//! What is told of the objects that are not marked.
+//! The totals of the objects that are not marked.
 
 ghost use Rattle.std.specs.Prelude.{◌≡◌, ◌<◌, ◌+◌, ◌^◌, [], ◌∷◌, IfOk, length};
 ghost use Rattle.std.specs.Thread.{IsSync};
@@ -14,26 +14,26 @@ use hprof_grammar::Team;
 use std::alloc::{AllocError, Allocator};
 use std::thread::{Threads, join};
 
-/// What is counted of some objects.
+/// The totals of some objects.
 #[derive(Clone, Copy)]
 pub(crate) struct Unmarked {
-    /// How many objects there are.
+    /// The number of objects.
     pub(crate) count: u64,
-    /// How many bytes they have together.
+    /// The sum of their bytes.
     pub(crate) bytes: u64,
-    /// How many of the identifiers that they hold are other than 0 and name no object.
+    /// The number of identifiers other than 0 that they hold and that name no object.
     pub(crate) unresolved: u64,
 }
 
 impl Unmarked {
-    /// No object.
+    /// The totals of no object.
     const NONE: Unmarked = Unmarked {
         count: 0,
         bytes: 0,
         unresolved: 0,
     };
 
-    /// One object, by one walk over it.
+    /// Counts `object`, by one walk over it.
     fn of<A: Allocator>(graph: &Graph<'_, A>, object: u32) -> Unmarked
         requires { object < object_count graph.now }
         ensures { result ≡ counted graph.now (object ∷ []) }
@@ -47,7 +47,7 @@ impl Unmarked {
         }
     }
 
-    /// These objects and others.
+    /// Adds the totals of `others`.
     fn and(self, others: Unmarked) -> Unmarked
         requires { AddUp self others }
         ensures { result ≡ both self others }
@@ -60,8 +60,9 @@ impl Unmarked {
     }
 }
 
-/// Counts the objects that are not marked, each of which is walked once: where there are many, a batch after the other,
-/// in as many parts as the team has threads, and one after the other also where there is no memory for a batch.
+/// Counts the objects that are not marked, and walks over each of them once. If there are many, it takes them in
+/// batches and splits each into a part for each thread of `team`. If there are few, or if the allocation of a batch
+/// fails, it takes one object after the other.
 pub(crate) fn count_unmarked<
     T: Threads + Sync,
     A: Allocator + Copy,
@@ -81,7 +82,7 @@ pub(crate) fn count_unmarked<
     count_in_turn(graph, marks)
 }
 
-/// Counts the objects that are not marked, a batch after the other.
+/// Counts the objects that are not marked, one batch after the other. `Err(AllocError)` if there is no memory for one.
 fn count_in_batches<T: Threads + Sync, A: Allocator + Copy, B: Allocator + Sync, C: Allocator>(
     team: &Team<'_, T>,
     alloc: A,
@@ -103,7 +104,7 @@ fn count_in_batches<T: Threads + Sync, A: Allocator + Copy, B: Allocator + Sync,
     Ok(left)
 }
 
-/// Counts the objects that are not marked, one after the other.
+/// Counts the objects that are not marked, one object after the other.
 fn count_in_turn<A: Allocator, B: Allocator>(graph: &Graph<'_, A>, marks: &Marked<B>) -> Unmarked
     requires { length marks.now.marks ≡ object_count graph.now }
     ensures { result ≡ counted graph.now (unmarked_objects graph.now marks.now.marks) }
@@ -117,7 +118,8 @@ fn count_in_turn<A: Allocator, B: Allocator>(graph: &Graph<'_, A>, marks: &Marke
     left
 }
 
-/// Counts these objects in parts of that size: the first by a thread of its own, while this one sees to the others.
+/// Counts the objects `numbers` in parts of `size` objects: the first in a thread of its own, while this thread counts
+/// the others.
 fn count_in_parts<T: Threads + Sync, A: Allocator + Sync>(
     team: &Team<'_, T>,
     graph: &Graph<'_, A>,
@@ -146,7 +148,7 @@ fn count_in_parts<T: Threads + Sync, A: Allocator + Sync>(
     front.and(back)
 }
 
-/// Counts these objects.
+/// Counts the objects `numbers`.
 fn count<A: Allocator>(graph: &Graph<'_, A>, numbers: &[u32]) -> Unmarked
     requires { AreObjects graph.now numbers.now }
     ensures { result ≡ counted graph.now numbers.now }

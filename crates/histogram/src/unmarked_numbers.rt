@@ -6,14 +6,14 @@ use drain::Marked;
 use std::alloc::{AllocError, Allocator};
 use std::marker::Model;
 
-/// The most numbers that are taken at once: they take a megabyte.
+/// The most numbers in one batch: they take a megabyte.
 const MOST_AT_ONCE: usize = 262_144;
 
 /// An iterator over the numbers of the objects that are not marked.
 #[derive(Drop)]
 pub(crate) struct UnmarkedNumbers<'m, A: Allocator> {
     marks: &'m Marked<A>,
-    /// None before this one is still to come.
+    /// The least number that is still to be looked at.
     from: u32,
 }
 
@@ -31,7 +31,7 @@ impl<'m, A: Allocator> Model for UnmarkedNumbers<'m, A> {
 impl<'m, A: Allocator> UnmarkedNumbers<'m, A> {
     ghost use Rattle.histogram.specs.working.Unmarked.{unmarked_from};
 
-    /// All of them.
+    /// Creates an iterator over all of them.
     pub(crate) fn of(marks: &'m Marked<A>) -> Self
         requires { length marks.now.marks < 2 ^ 32 }
         ensures { result ≡ unmarked_from marks.now.marks 0 }
@@ -39,7 +39,7 @@ impl<'m, A: Allocator> UnmarkedNumbers<'m, A> {
         UnmarkedNumbers { marks, from: 0 }
     }
 
-    /// This number and those behind it, as many as are taken at once.
+    /// Takes a batch: `first`, and the numbers that follow, as many as fit.
     pub(crate) fn batch_from<B: Allocator>(
         &mut self,
         alloc: B,

@@ -14,9 +14,7 @@ use thiserror::Error;
 pub struct WriteFault;
 
 impl<W: Write> Counted<W> {
-    /// Writes all these bytes and flushes.
-    ///
-    /// `WriteFault`: a write or the flush failed; it is not tried again.
+    /// Writes all of `bytes` and flushes. `Err(WriteFault)` if a write or the flush fails; it is not tried again.
     pub fn write_whole(&mut self, bytes: &[u8]) -> Result<(), WriteFault>
         requires { failures_of self.old < 2 ^ 64 - 1 }
         ensures written { OnOk result

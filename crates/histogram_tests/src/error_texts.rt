@@ -1,9 +1,9 @@
-//! How errors are shown.
+//! The texts of the errors.
 
 use histogram::{ReaderRefusal, WriteFault, WriteRefusal};
 use std::alloc::Global;
 
-/// Whether the refusals of a reader have these texts.
+/// Tests whether the refusals of a reader have their texts.
 fn reader_refusals_are_shown(alloc: Global) -> bool {
     let (read, memory) = (ReaderRefusal::ReadFault, ReaderRefusal::OutOfMemory);
     match format!(in alloc; "{read}, {memory}") {
@@ -12,7 +12,7 @@ fn reader_refusals_are_shown(alloc: Global) -> bool {
     }
 }
 
-/// Whether the refusals of a writer have these texts.
+/// Tests whether the refusals of a writer have their texts.
 fn write_refusals_are_shown(alloc: Global) -> bool {
     let (write, memory, alone) = (
         WriteRefusal::WriteFault,

@@ -1,9 +1,9 @@
-//! Tests of `histogram`, in a crate of their own: so that crate is proved once, and not once more with its tests. They
-//! ask what callers may ask. The crate has nothing to hand out.
+//! Tests of `histogram`, in a crate of their own: so that crate is proved once, and not a second time with its tests.
+//! They use its public functions only. This crate exports nothing.
 //!
 //! `reading` has readers that end, fail or never end, `writing` the worked reports (`reports`) and writers that fail,
-//! `names` how names are shown, `error_texts` how errors are, `memory` want of memory at each request, and `parts` what
-//! is counted in parts.
+//! `names` the names in a report, `error_texts` the texts of the errors, `memory` each allocation that fails, and
+//! `parts` what is counted in parts.
 
 #![tactic(auto)]
 

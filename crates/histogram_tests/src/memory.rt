@@ -1,5 +1,6 @@
-//! Want of memory: of the requests of one call each is refused in turn, with all behind it and alone. Then the whole
-//! answer comes all the same, as where a list asks again for less, or want of memory is told and nothing was written.
+//! Allocations that fail: each allocation of a call fails in turn, together with all later ones and alone. Then the
+//! call either returns its whole result all the same, as if a list asks again for less, or it reports that memory was
+//! refused and has written nothing.
 
 ghost use Rattle.drain.specs.Marks.{IsMarkingOf};
 
@@ -14,9 +15,10 @@ use std::sync::Wait;
 use std::thread::Threads;
 use test_dumps::Bytes;
 
-/// More requests than any call here makes.
+/// More allocations than any call here makes.
 const MANY: u64 = 64;
 
+/// Returns a heap that fails the allocation `request`, `alone` or with all later ones.
 fn heap_of(alloc: Global, request: u64, alone: bool) -> LimitedHeap<Global> {
     match alone {
         true => LimitedHeap::refusing(alloc, request),
@@ -24,7 +26,7 @@ fn heap_of(alloc: Global, request: u64, alone: bool) -> LimitedHeap<Global> {
     }
 }
 
-/// Whether the rows are right over this heap.
+/// Tests whether the rows are right on `heap`.
 fn rows_over<T: Threads + Sync>(
     team: &Team<'_, T>,
     alloc: Global,
@@ -40,7 +42,7 @@ fn rows_over<T: Threads + Sync>(
     }
 }
 
-/// With how many requests the rows are there, where each of them was refused before and nothing else was answered.
+/// Returns how many allocations the rows take, after each of them has failed in turn with no wrong result.
 fn rows_with<T: Threads + Sync>(
     team: &Team<'_, T>,
     alloc: Global,
@@ -62,7 +64,7 @@ fn rows_with<T: Threads + Sync>(
     None
 }
 
-/// The requests of the rows of a graph: with all behind one of them refused, and one alone.
+/// Returns the number of allocations of the rows of `graph`: if all later ones fail too, and if one fails alone.
 fn rows_in_turn<T: Threads + Wait + Sync>(
     rt: &T,
     alloc: Global,
@@ -81,7 +83,7 @@ fn rows_in_turn<T: Threads + Wait + Sync>(
     }
 }
 
-/// The requests of the rows of a dump that is whole and linked: with all behind one of them refused, and one alone.
+/// Returns the same for the rows of a dump, its `bytes`, if it is accepted.
 fn rows_of_dump<T: Threads + Wait + Sync>(
     rt: &T,
     alloc: Global,
@@ -98,7 +100,7 @@ fn rows_of_dump<T: Threads + Wait + Sync>(
     }
 }
 
-/// The requests of the rows of the worked dump.
+/// Returns the same for the rows of the worked dump.
 fn rows_of_two_objects<T: Threads + Wait + Sync>(
     rt: &T,
     alloc: Global,
@@ -116,7 +118,7 @@ fn rows_or_want_of_memory(rt: HostRuntime) {
     assert_eq!(rt; requests, Some((Some(3), Some(3))));
 }
 
-/// Whether the report of two objects is written right over this heap.
+/// Tests whether the report of two objects is written right on `heap`.
 fn writes_over(alloc: Global, heap: &LimitedHeap<Global>, report: &Report<Global>) -> bool {
     let mut writer = Counted::new(Vec::new(alloc));
     let outcome = write_report(heap, report, &mut writer);
@@ -131,7 +133,7 @@ fn writes_over(alloc: Global, heap: &LimitedHeap<Global>, report: &Report<Global
     told_none && right
 }
 
-/// With how many requests it is written, where each of them was refused before and nothing else was answered.
+/// Returns how many allocations the report takes, after each of them has failed in turn with no wrong result.
 fn written_with(alloc: Global, report: &Report<Global>, alone: bool) -> Option<u64> {
     for request in 0..MANY {
         let heap = heap_of(alloc, request, alone);
@@ -145,7 +147,7 @@ fn written_with(alloc: Global, report: &Report<Global>, alone: bool) -> Option<u
     None
 }
 
-/// With how many requests the report of two objects is written: with all behind one of them refused, and one alone.
+/// Returns the number of allocations of the report of two objects: if all later ones fail too, and if one fails alone.
 fn written_in_turn(alloc: Global) -> (Option<u64>, Option<u64>) {
     match two_objects(alloc) {
         Ok(report) => (
@@ -163,7 +165,7 @@ fn want_of_memory_writes_nothing(rt: HostRuntime) {
     assert_eq!(rt; alone, requests, "one alone");
 }
 
-/// Whether these bytes are read right over this heap, where so many are expected.
+/// Tests whether `bytes` are read right on `heap`, if `expected` bytes are expected.
 fn reads_over(heap: &LimitedHeap<Global>, bytes: &[u8], expected: usize, limit: usize) -> bool {
     let mut reader = Counted::of_size(bytes, expected);
     let outcome = reader.read_to_limit(heap, limit);
@@ -174,7 +176,7 @@ fn reads_over(heap: &LimitedHeap<Global>, bytes: &[u8], expected: usize, limit: 
     reader.failures() == 0 && right
 }
 
-/// With how many requests they are read, where each of them was refused before and nothing else was answered.
+/// Returns how many allocations the reading takes, after each of them has failed in turn with no wrong result.
 fn read_with(
     alloc: Global,
     bytes: &[u8],
@@ -194,10 +196,10 @@ fn read_with(
     None
 }
 
-/// How many bytes are expected, the limit, and the requests.
+/// The number of bytes that are expected, the limit, and the number of allocations.
 type Case = (usize, usize, u64);
 
-/// Of four bytes.
+/// Readings of four bytes.
 const FEW: [Case; 3] = [
     (0, 9, 1),
     // No room to find the end.
@@ -205,17 +207,18 @@ const FEW: [Case; 3] = [
     (5, 9, 1),
 ];
 
-/// Of a block of 600,000 bytes.
+/// Readings of a block of 600,000 bytes.
 const BLOCK: [Case; 3] = [(0, 1_000_000, 3), (600_000, 1_000_000, 2), (0, 300_000, 2)];
 
-/// Whether that many requests are made for these bytes, with all behind one of them refused, and one alone.
+/// Tests whether the reading of `bytes` makes the allocations of `case`, if all later ones fail too, and if one fails
+/// alone.
 fn reads_in_turn(alloc: Global, bytes: &[u8], case: Case) -> bool {
     let (expected, limit, requests) = case;
     read_with(alloc, bytes, expected, limit, false) == Some(requests)
         && read_with(alloc, bytes, expected, limit, true) == Some(requests)
 }
 
-/// Whether that many are made for the block.
+/// Tests the same for the block.
 fn reads_block_in_turn(alloc: Global, case: Case) -> bool {
     match vec![in alloc; 7u8; 600_000] {
         Ok(block) => reads_in_turn(alloc, block.as_slice(), case),
@@ -233,7 +236,7 @@ fn want_of_memory_is_no_read_fault(rt: HostRuntime) {
     }
 }
 
-/// Whether a write over this heap, which grants nothing, fails and is counted once, and nothing else takes memory.
+/// Tests whether a write on `heap`, which grants nothing, fails and is counted once, and nothing else takes memory.
 fn counts_over(heap: &LimitedHeap<Global>) -> bool {
     let mut writer = Counted::new(Vec::<u8, _>::new(heap));
     let before = (writer.failures(), heap.refusals());

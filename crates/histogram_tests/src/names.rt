@@ -1,4 +1,4 @@
-//! How the names of classes are shown.
+//! The names of classes in a report.
 
 use drain::{NoGate, Options, mark};
 use heap_graph::{Graph, Skip};
@@ -16,7 +16,7 @@ const HEAP: Record = Record::Heap(&[
     Sub::Root(0x201),
 ]);
 
-/// Whether the row of the class shows this name.
+/// Tests whether the row of the class shows the name `want`.
 fn is_shown_in(report: &Report<Global>, want: &str) -> bool {
     for line in &report.rows {
         if line.class == 0x100 {
@@ -26,7 +26,7 @@ fn is_shown_in(report: &Report<Global>, want: &str) -> bool {
     false
 }
 
-/// Whether its row in the histogram of this graph does.
+/// Tests whether the row of the class in the histogram of `graph` shows the name `want`.
 fn is_shown_in_rows<T: Threads + Wait + Sync>(
     rt: &T,
     alloc: Global,
@@ -45,7 +45,7 @@ fn is_shown_in_rows<T: Threads + Wait + Sync>(
     }
 }
 
-/// Whether the row of the one class of this dump shows this name.
+/// Tests whether the row of the class of a dump, its `bytes`, shows the name `want`.
 fn is_shown_of<T: Threads + Wait + Sync>(rt: &T, alloc: Global, bytes: &[u8], want: &str) -> bool {
     let skip = Skip::none(alloc);
     let team = Team::new(rt, 4);
@@ -58,7 +58,7 @@ fn is_shown_of<T: Threads + Wait + Sync>(rt: &T, alloc: Global, bytes: &[u8], wa
     }
 }
 
-/// Whether the name of a class with this text is shown so.
+/// Tests whether the name `text` of a class is shown as `want`.
 fn is_shown<T: Threads + Wait + Sync>(
     rt: &T,
     alloc: Global,
@@ -72,7 +72,7 @@ fn is_shown<T: Threads + Wait + Sync>(
     }
 }
 
-/// Whether a class without a text is shown so.
+/// Tests whether a class without a name is shown as `want`.
 fn is_unnamed(alloc: Global, class: u64, want: &str) -> bool {
     let mut shown = Vec::new(alloc);
     append_unnamed(&mut shown, class).is_ok() && shown.as_slice() == want.as_bytes()

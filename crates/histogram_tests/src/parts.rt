@@ -1,5 +1,5 @@
-//! Objects that are not marked, counted by the threads of a team: whatever their number, and where there is no memory
-//! for the numbers of the objects, the report is the same.
+//! Objects that are not marked, counted by the threads of a team: the report is the same with any number of threads,
+//! and if there is no memory for the numbers of the objects.
 
 ghost use Rattle.drain.specs.Marks.{IsMarkingOf};
 
@@ -16,10 +16,10 @@ use std::thread::Threads;
 use test_dumps::Sub::{Class, Instance, Root};
 use test_dumps::{Bytes, Record};
 
-/// How many instances there are. The class is object 0, so the first of them is object 1.
+/// The number of instances. The class is object 0, so the first instance is object 1.
 const INSTANCES: u64 = 100;
 
-/// A team of so many threads shares out the work on so many objects, and on more.
+/// Teams: their number of threads, and the least number of objects on which they share the work.
 const TEAMS: [(u32, u32); 8] = [
     (1, 1),
     (2, 1),
@@ -31,7 +31,8 @@ const TEAMS: [(u32, u32); 8] = [
     (4, 37),
 ];
 
-/// 65 objects are marked, so 36 are not: 64 to 69, and 71 to 100. Of the instances the even ones miss an identifier.
+/// 65 objects are marked, so 36 are not: 64 to 69, and 71 to 100. The even instances hold an identifier that names
+/// nothing.
 const REPORT: &str = "        64             256  A
          1               0  <class>
         65             256  (reachable)
@@ -39,12 +40,12 @@ const REPORT: &str = "        64             256  A
         50               0  (unresolved)
 ";
 
-/// Whether an instance is a root: with the class these are all objects of two words of marks, and one of the fourth.
+/// Tests whether `instance` is a root: with the class these are all objects of two words of marks, and one more.
 fn is_root(instance: u64) -> bool {
     instance < 64 || instance == 70
 }
 
-/// The class, its instances and the roots.
+/// Returns the body of a heap dump: the class, its instances and the roots.
 fn instances(alloc: Global) -> Result<Bytes, AllocError> {
     let mut heap = Bytes::new(alloc, 4);
     heap.sub(Class(0x100, 0, &[2]))?;
@@ -63,7 +64,7 @@ fn instances(alloc: Global) -> Result<Bytes, AllocError> {
     Ok(heap)
 }
 
-/// A dump of these.
+/// Returns a dump of the class, its instances and the roots.
 fn dump(alloc: Global) -> Result<Bytes, AllocError> {
     let heap = instances(alloc)?;
     let mut file = Bytes::dump(alloc, 4, &[Record::Text(1, b"A"), Record::Load(0x100, 1)])?;
@@ -71,7 +72,7 @@ fn dump(alloc: Global) -> Result<Bytes, AllocError> {
     Ok(file)
 }
 
-/// Whether the rows are right with this team and over this heap.
+/// Tests whether the rows are right with `team` and on `heap`.
 fn rows_of_team<T: Threads + Sync, A: Allocator + Copy>(
     team: &Team<'_, T>,
     alloc: Global,
@@ -87,7 +88,7 @@ fn rows_of_team<T: Threads + Sync, A: Allocator + Copy>(
     }
 }
 
-/// How many requests beside those of the lines and of their names are refused to this team, with the right rows.
+/// Returns how many allocations of `team` fail, beside those of the lines and their names, if the rows are right.
 fn refused_to_team<T: Threads + Sync>(
     team: &Team<'_, T>,
     alloc: Global,
@@ -103,9 +104,10 @@ fn refused_to_team<T: Threads + Sync>(
     }
 }
 
-/// Of each team, whether the rows are right, and how many requests are refused to it.
+/// For each team, whether the rows are right, and how many of its allocations fail.
 type Answers = Vec<(bool, Option<u64>)>;
 
+/// Returns what the teams do on `graph`.
 fn answers_of_graph<T: Threads + Wait + Sync>(
     rt: &T,
     alloc: Global,
@@ -128,6 +130,7 @@ fn answers_of_graph<T: Threads + Wait + Sync>(
     Ok(answers)
 }
 
+/// Returns what the teams do on the dump.
 fn answers<T: Threads + Wait + Sync>(rt: &T, alloc: Global) -> Result<Answers, AllocError> {
     let file = dump(alloc)?;
     let bytes = file.bytes.as_slice();
@@ -145,7 +148,7 @@ fn answers<T: Threads + Wait + Sync>(rt: &T, alloc: Global) -> Result<Answers, A
 #[test]
 fn counts_in_parts(rt: HostRuntime) -> Result<(), Fail> {
     let answers = answers(&rt, rt.alloc())?;
-    // One thread takes no memory, nor do more where the objects are too few.
+    // One thread takes no memory, nor do several if there are too few objects.
     let wanted = [0, 1, 1, 1, 1, 1, 1, 0].map(|refused| (true, Some(refused)));
     assert_eq!(rt; answers.as_slice(), wanted.as_slice());
     Ok(())

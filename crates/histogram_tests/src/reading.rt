@@ -5,10 +5,10 @@ use std::alloc::Global;
 use std::io;
 use std::io::Read;
 
-/// The kinds of fault that a caller might be tempted to try again.
+/// The kinds of fault after which a caller might be tempted to try again.
 const KINDS: [io::ErrorKind; 2] = [io::ErrorKind::Interrupted, io::ErrorKind::WouldBlock];
 
-/// A reader that gives one byte a call, and fails at one call, with this kind.
+/// A reader that gives one byte a call, and fails at the call `fails_at` with the fault `kind`.
 #[derive(Drop)]
 struct Drip<'a> {
     bytes: &'a [u8],
@@ -31,7 +31,7 @@ impl Read for Drip<'_> {
     }
 }
 
-/// Never ends: each read gives as many bytes as it has room for, as they are there.
+/// A reader that never ends: each read fills the whole buffer, and leaves its bytes as they are.
 #[derive(Drop)]
 struct Endless {
     given: usize,
@@ -44,7 +44,7 @@ impl Read for Endless {
     }
 }
 
-/// How many bytes are read up to the limit, and how many were given.
+/// Returns how many bytes are read up to `limit`, and how many were given.
 fn read_endless(alloc: Global, limit: usize) -> Result<(usize, usize), ReaderRefusal> {
     let mut reader = Counted::new(Endless { given: 0 });
     let bytes = reader.read_to_limit(alloc, limit)?;
@@ -60,7 +60,7 @@ fn a_reader_without_an_end_is_read_up_to_the_limit(rt: HostRuntime) {
     }
 }
 
-/// A reader of four bytes that fails at one call.
+/// Returns a reader of four bytes that fails at the call `fails_at`.
 fn dripping(fails_at: u32, kind: io::ErrorKind) -> Drip<'static> {
     Drip {
         bytes: b"heap",
@@ -70,12 +70,50 @@ fn dripping(fails_at: u32, kind: io::ErrorKind) -> Drip<'static> {
     }
 }
 
-/// Whether these bytes are read up to the limit, and no call failed.
+/// Tests whether `want` is read up to `limit`, and no call failed.
 fn reads(alloc: Global, limit: usize, want: &str) -> bool {
     let mut reader = Counted::new(dripping(0, io::ErrorKind::Other));
     match reader.read_to_limit(alloc, limit) {
         Ok(bytes) => bytes.as_slice() == want.as_bytes() && reader.failures() == 0,
         Err(_) => false,
+    }
+}
+
+/// A reader of this number of bytes that fills the whole buffer, and counts its calls.
+#[derive(Drop)]
+struct Block {
+    left: usize,
+    calls: u32,
+}
+
+impl Read for Block {
+    fn read(&mut self, buf: &mut [u8]) -> io::Result<usize> {
+        self.calls = self.calls.saturating_add(1);
+        let count = self.left.min(buf.len());
+        self.left -= count;
+        Ok(count)
+    }
+}
+
+/// Returns how many of `length` bytes are read, and with how many calls, if `expected` bytes are expected.
+fn read_block(alloc: Global, length: usize, expected: usize) -> (Result<usize, ReaderRefusal>, u32) {
+    let block = Block {
+        left: length,
+        calls: 0,
+    };
+    let mut reader = Counted::of_size(block, expected);
+    let outcome = reader.read_to_limit(alloc, 10_000_000).map(|bytes| bytes.len());
+    (outcome, reader.into_inner().calls)
+}
+
+/// One read takes 262,144 bytes at most, and the last one finds the end.
+#[test]
+fn a_large_file_takes_few_reads(rt: HostRuntime) {
+    for (length, calls) in [(0, 1), (262_144, 2), (600_000, 4), (2_621_440, 11)] {
+        for expected in [0, length.saturating_add(1)] {
+            let told = read_block(rt.alloc(), length, expected);
+            assert_eq!(rt; told, (Ok(length), calls), "{expected} bytes are expected");
+        }
     }
 }
 
@@ -86,8 +124,8 @@ fn reads_to_the_end_or_the_limit(rt: HostRuntime) {
     }
 }
 
-/// What becomes of a read that fails at one call: how many bytes are read or why none are, how many calls failed, and
-/// how many there were.
+/// Returns the result of a read that fails at the call `fails_at`: how many bytes are read or why none are, how many
+/// calls failed, and how many there were.
 fn read_failing(
     alloc: Global,
     fails_at: u32,

@@ -3,11 +3,13 @@
 use histogram::{Counted, Line, Report, write_report};
 use std::alloc::{AllocError, Allocator, Global};
 
+/// The report of no object.
 pub const NO_OBJECT: &str = "         0               0  (reachable)
          0               0  (unreachable)
          0               0  (unresolved)
 ";
 
+/// The report of the two instances.
 pub const TWO_OBJECTS: &str = "         2               8  A
          1               0  <class>
          3               8  (reachable)
@@ -15,6 +17,7 @@ pub const TWO_OBJECTS: &str = "         2               8  A
          0               0  (unresolved)
 ";
 
+/// Returns the histogram of no object.
 pub fn no_object(alloc: Global) -> Report<Global> {
     Report {
         rows: Vec::new(alloc),
@@ -24,6 +27,7 @@ pub fn no_object(alloc: Global) -> Report<Global> {
     }
 }
 
+/// Returns the histogram of the two instances.
 pub fn two_objects(alloc: Global) -> Result<Report<Global>, AllocError> {
     let instances = Line {
         name: Vec::from_slice(alloc, b"A")?,
@@ -46,7 +50,7 @@ pub fn two_objects(alloc: Global) -> Result<Report<Global>, AllocError> {
     })
 }
 
-/// Whether a report is written as this text, with all the memory that it takes, and no call failed.
+/// Tests whether `report` is written as `text`, with all the memory that it takes, and no call failed.
 pub fn writes<A: Allocator>(alloc: Global, report: &Report<A>, text: &str) -> bool {
     let mut writer = Counted::new(Vec::new(alloc));
     let is_whole = write_report(alloc, report, &mut writer).is_ok() && writer.failures() == 0;

@@ -6,7 +6,8 @@ use std::alloc::Global;
 use std::io;
 use std::io::Write;
 
-/// A writer that takes ten bytes a call, and at one call fails with this kind, or takes nothing.
+/// A writer that takes ten bytes a call, and at the call `trouble_at` fails with `fault`, or takes nothing if there is
+/// none.
 #[derive(Drop)]
 struct Trickle {
     taken: Vec<u8>,
@@ -49,7 +50,7 @@ impl Write for Trickle {
     }
 }
 
-/// Whether the report of two objects is written as its text.
+/// Tests whether the report of two objects is written as its text.
 fn writes_two_objects(alloc: Global) -> bool {
     match two_objects(alloc) {
         Ok(report) => writes(alloc, &report, TWO_OBJECTS),
@@ -63,8 +64,8 @@ fn writes_the_worked_reports(rt: HostRuntime) {
     assert!(rt; writes_two_objects(rt.alloc()));
 }
 
-/// Whether the report of no object is refused where the writer has trouble at one call: it counts one failure, is
-/// called no more, and has taken the beginning of so many bytes.
+/// Tests whether the report of no object is refused if the writer fails at the call `trouble_at`: it counts one
+/// failure, is not called again, and has taken the first `length` bytes.
 fn leaves_beginning(
     alloc: Global,
     trouble_at: u32,
@@ -83,7 +84,7 @@ fn leaves_beginning(
 
 #[test]
 fn a_write_fault_leaves_a_beginning(rt: HostRuntime) {
-    // 123 bytes are thirteen writes, and behind them is the flush, which takes nothing.
+    // 123 bytes take thirteen writes; then comes the flush, which takes nothing.
     let troubles = [
         (None, 13u32),
         (Some(io::ErrorKind::Interrupted), 14),
@@ -94,7 +95,7 @@ fn a_write_fault_leaves_a_beginning(rt: HostRuntime) {
             let length = (10 * before as usize).min(123);
             assert!(rt;
                 leaves_beginning(rt.alloc(), before + 1, fault, length),
-                "behind {before} calls"
+                "after {before} calls"
             );
         }
     }

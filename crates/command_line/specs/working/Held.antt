@@ -4,14 +4,14 @@ use Rattle.std.specs.Str.Parse.{IsNumeral, digits_value, without_leading_plus}
 use Rattle.clap.specs.Words.{IsUnsignedIn, Text, first_value, one_text}
 use Rattle.clap.specs.declared.parser.matches.Found.{Found}
 
--- a number from `least` to `most` stands there
+-- a number from `least` to `most` is found
 pub record HoldsNumber (found : Found) (name : Text) (least most : ℕ) : Type 0 where
   pub text : Text
   pub first : first_value found name ≡ Some text
   pub read : one_text found name ≡ Some text
   pub within : IsUnsignedIn least most text
 
--- the file and the options stand there, each number in its range
+-- the file and the options are found, each number in its range
 pub record HoldsAll (found : Found) : Type 0 where
   pub file : IsSome (first_value found (codes "file"))
   pub workers : HoldsNumber found (codes "workers") 1 64
@@ -19,7 +19,7 @@ pub record HoldsAll (found : Found) : Type 0 where
   pub buffers : HoldsNumber found (codes "buffers") 4 65534
   pub first_tag : HoldsNumber found (codes "first-tag") 0 281474976710655
 
--- the number that the text there spells
+-- the number that the text found spells
 pub record ReadsNumber (found : Found) (name : Text) (number : ℕ) : Type 0 where
   pub text : Text
   pub first : first_value found name ≡ Some text

@@ -1,4 +1,4 @@
--- What a marking refuses beside want of memory.
+-- The refusals of a marking beside out of memory.
 use Rattle.std.specs.Prelude.{◌≡◌, ◌⊎◌}
 use Rattle.heapmark.specs.RefusalCodes.{tag_spent, worker_refused}
 use Rattle.heapmark.specs.declared.refusal.Refusal.{Refusal}

@@ -23,6 +23,6 @@ list_of a = option_map (λ text. text.now) a.skip
 abbrev pub bad_options : NoReport
 bad_options = no_report.Refused bad_options_refusal
 
--- memory is refused
+-- an allocation failed
 abbrev pub starved : NoReport
 starved = no_report.Refused out_of_memory

@@ -1,19 +1,19 @@
-//! What a file is that does not begin as a dump does.
+//! What the first bytes of a file say of it, if it does not begin as a dump does.
 
 ghost use Rattle.std.specs.Prelude.{◌↔◌, ◌≤◌, All, IsTrue};
 
 use std::fmt;
 
-/// What a dump begins with that is read.
+/// The first bytes of a dump of the version that is read.
 const HEADER: [u8; 19] = *b"JAVA PROFILE 1.0.2\0";
 
-/// What a dump of any version begins with.
+/// The first bytes of a dump of any version.
 const FORMAT: &[u8] = b"JAVA PROFILE ";
 
-/// How many bytes tell what a file is.
+/// The number of bytes that are enough to classify a file.
 pub(super) const LENGTH: usize = HEADER.len();
 
-/// What a file is that does not begin as a dump does, by its first bytes.
+/// What the first bytes of a file are, if they are not those of a dump.
 #[derive(Clone, Copy, Debug, PartialEq, Eq)]
 pub(super) enum Beginning {
     /// There are none.
@@ -22,13 +22,13 @@ pub(super) enum Beginning {
     Part,
     /// They are those of a dump of another version.
     Version(Version),
-    /// They are those of a file that this program made.
+    /// They are those of a file that this program has compressed.
     Packed(Packer),
-    /// They are any others.
+    /// They are none of these.
     Other,
 }
 
-/// A version of the format, by its three digits.
+/// A version of the format: its three digits.
 #[derive(Clone, Copy, Debug, PartialEq, Eq)]
 pub(crate) struct Version(u8, u8, u8);
 
@@ -42,7 +42,7 @@ pub(crate) enum Packer {
     Bzip2,
 }
 
-/// What the files of each begin with. A virtual machine that compresses its dumps does as gzip.
+/// The first bytes of the files of each program. A virtual machine that compresses its dumps writes those of gzip.
 const MARKS: [(&[u8], Packer); 5] = [
     (&[0x1f, 0x8b], Packer::Gzip),
     (b"PK\x03\x04", Packer::Zip),
@@ -52,7 +52,7 @@ const MARKS: [(&[u8], Packer); 5] = [
 ];
 
 impl Beginning {
-    /// What a file is, whose first bytes are these: as many as tell it, or all of them.
+    /// Classifies a file by `bytes`, its first [`LENGTH`] bytes, or all of them if it has fewer.
     pub(super) fn of(bytes: &[u8]) -> Beginning {
         if bytes.is_empty() {
             return Beginning::Empty;
@@ -71,7 +71,7 @@ impl Beginning {
 }
 
 impl Version {
-    /// The version that a dump of these first bytes names.
+    /// Returns the version that the header in `bytes` names, if `bytes` begin with a header.
     fn of(bytes: &[u8]) -> Option<Version> {
         match bytes.strip_prefix(FORMAT)? {
             [major, b'.', minor, b'.', patch, 0] if is_numeral(&[*major, *minor, *patch]) => {
@@ -82,7 +82,7 @@ impl Version {
     }
 }
 
-/// Whether these are decimal digits.
+/// Tests whether `bytes` are decimal digits.
 fn is_numeral(bytes: &[u8]) -> bool
     ensures { IsTrue result ↔ All (λ byte. (48 ≤ byte) × (byte ≤ 57)) bytes.now }
 {
@@ -98,7 +98,7 @@ impl fmt::Display for Version {
 }
 
 impl Packer {
-    /// The program that made a file of these first bytes.
+    /// Returns the program whose files begin as `bytes` do, if there is one.
     fn of(bytes: &[u8]) -> Option<Packer> {
         for (mark, packer) in MARKS {
             if bytes.starts_with(mark) {
@@ -108,7 +108,7 @@ impl Packer {
         None
     }
 
-    /// The command that unpacks its files.
+    /// Returns the command that unpacks its files.
     pub(super) fn unpacker(self) -> &'static str {
         match self {
             Packer::Gzip => "gunzip",

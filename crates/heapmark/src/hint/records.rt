@@ -1,34 +1,42 @@
 //! Where the records of a file end.
 
 ghost use Rattle.std.specs.Int.{from_be_bytes, w32};
-ghost use Rattle.std.specs.Prelude.{◌≡◌, ◌+◌, ◌<◌, IfSome, drop};
+ghost use Rattle.std.specs.Prelude.{◌≡◌, ◌<◌, IfSome, drop};
 
-use std::io::{Read, Seek, SeekFrom};
+use std::alloc::Global;
+use std::io::{BufReader, Read, Seek, SeekFrom};
 
-/// The place of the first record.
+/// The offset of the first record.
 const FIRST: u64 = 31;
 
-/// How many bytes of a record stand in front of its body.
+/// The number of bytes of a record before its body: the tag, a time and the length of the body.
 const FRONT: usize = 9;
 
-/// Where the record ends in which this place of a file stands, if the file has it.
-pub(super) fn record_end<F: Read + Seek>(file: &mut F, place: u64) -> Option<u64>
+/// Returns the end of the record of `file` in which the offset `place` lies. Returns `None` if the file has no such
+/// record, or if a read or an allocation fails.
+///
+/// A file may have a hundred million records. They are read through a buffer, so that a short one costs no call of the
+/// system.
+pub(crate) fn record_end<F: Read + Seek + Drop>(alloc: Global, file: F, place: u64) -> Option<u64>
     ensures { IfSome result (λ end. place < end) }
 {
+    let mut file = BufReader::new(alloc, file).ok()?;
+    file.seek(SeekFrom::Start(FIRST)).ok()?;
     let mut end = FIRST;
     while end <= place {
-        file.seek(SeekFrom::Start(end)).ok()?;
         let mut front = [0; FRONT];
         file.read_exact(&mut front).ok()?;
-        end = end.checked_add(length_of(&front))?;
+        let length = body_length(&front);
+        file.seek_relative(i64::from(length)).ok()?;
+        end = end.checked_add(FRONT as u64 + u64::from(length))?;
     }
     Some(end)
 }
 
-/// How many bytes a record has: its tag, a time, the length of its body and the body.
-fn length_of(front: &[u8; FRONT]) -> u64
-    ensures { result ≡ 9 + from_be_bytes w32 (drop 5 front.now) }
+/// Returns the length of the body of the record that begins with `front`.
+fn body_length(front: &[u8; FRONT]) -> u32
+    ensures { result ≡ from_be_bytes w32 (drop 5 front.now) }
 {
     let [_, _, _, _, _, a, b, c, d] = *front;
-    9 + u64::from(u32::from_be_bytes([a, b, c, d]))
+    u32::from_be_bytes([a, b, c, d])
 }

@@ -1,4 +1,4 @@
-//! The refusals that are no faults of the bytes, and the name of each code.
+//! The refusals that are not faults of the bytes, and the name of each code.
 
 use super::Refusal;
 
@@ -6,13 +6,13 @@ impl Refusal {
     ghost use Rattle.std.specs.Prelude.{◌≡◌};
     ghost use Rattle.heapmark.specs.RefusalText.{code_name};
 
-    /// A request for memory was refused.
+    /// An allocation failed.
     pub const OUT_OF_MEMORY: Refusal = Refusal {
         code: 15,
         offset: None,
     };
 
-    /// A stack's last tag was loaded where an exchange was due.
+    /// A stack's last tag was loaded before an exchange that needed one more.
     pub const TAG_SPENT: Refusal = Refusal {
         code: 16,
         offset: None,
@@ -36,13 +36,13 @@ impl Refusal {
         offset: None,
     };
 
-    /// There are too few buffers for the workers, or the text lists no fields.
+    /// There are too few buffers for the workers, or the text of `--skip` lists no fields.
     pub const BAD_OPTIONS: Refusal = Refusal {
         code: 21,
         offset: None,
     };
 
-    /// The name of the code.
+    /// Returns the name of the code.
     pub fn name(&self) -> &'static str
         ensures { result.now ≡ code_name self.now.code }
     {

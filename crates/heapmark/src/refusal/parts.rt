@@ -1,4 +1,4 @@
-//! The refusal of a run for that of each of its parts.
+//! Converts the refusal of each part of a run into that of the run.
 
 ghost use Rattle.std.specs.Prelude.{◌≡◌};
 ghost use Rattle.heapmark.specs.RefusalCodes.{form_refusal, link_refusal, reader_refusal, run_refusal, skip_refusal};

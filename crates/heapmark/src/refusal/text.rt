@@ -1,4 +1,4 @@
-//! How a refusal is shown.
+//! How a refusal is printed.
 
 use super::Refusal;
 use std::fmt;

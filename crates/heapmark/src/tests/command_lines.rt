@@ -1,4 +1,4 @@
-//! Lines of words that the program takes or refuses, and what it answers to each.
+//! Command lines that the program takes or refuses, and what it prints for each.
 
 use super::dumps::{
     NINE_ROOTS_REPORT, NOTHING_REPORT, SEVEN_ROOTS_REPORT, Sample, TWO_OBJECTS_REPORT,
@@ -7,7 +7,7 @@ use super::dumps::{
 use super::program::{Asked, Broken, answered, answered_on, answered_unheard};
 use super::texts::{
     ALMOST_AN_OPTION, ANOTHER_WORD, BUFFER_1, BUFFER_4097, BUFFERS_3, BUFFERS_65535, HELP,
-    HEXADECIMAL_TAG, NO_FILE, NO_FILE_BUT_WORKERS, NO_VALUE, SKIP_TWICE, TAG_BEHIND_THE_LAST,
+    HEXADECIMAL_TAG, NO_FILE, NO_FILE_BUT_WORKERS, NO_VALUE, SKIP_TWICE, TAG_AFTER_THE_LAST,
     UNKNOWN_OPTION, VERSION, WORKERS_0, WORKERS_65, WORKERS_TWICE,
 };
 use crate::{Counted, program};
@@ -17,14 +17,14 @@ use std::rt::Files;
 use std::sync::Wait;
 use std::thread::Threads;
 
-/// Words behind the program's name, with FILE for a dump, the status that they have, and all that standard error has.
+/// A command line without the program's name, with FILE for a dump; its status, and all that standard error gets.
 type Line = (&'static str, u8, &'static str);
 
 const BAD_OPTIONS: &str = "heapmark: refused 21 BadOptions\n";
 
 const TAG_SPENT: &str = "heapmark: refused 16 TagSpent\n";
 
-/// Options, of a dump without objects.
+/// Options for a dump without objects.
 const OPTIONS: &[Line] = &[
     ("--workers 64 --buffers 130 FILE", 0, ""),
     ("--workers 64 --buffers 129 FILE", 1, BAD_OPTIONS),
@@ -42,7 +42,7 @@ const OPTIONS: &[Line] = &[
     ("FILE --buffer 4097", 2, BUFFER_4097),
     ("FILE --buffers 3", 2, BUFFERS_3),
     ("FILE --buffers 65535", 2, BUFFERS_65535),
-    ("FILE --first-tag 281474976710656", 2, TAG_BEHIND_THE_LAST),
+    ("FILE --first-tag 281474976710656", 2, TAG_AFTER_THE_LAST),
     ("FILE --first-tag 0x10", 2, HEXADECIMAL_TAG),
     ("", 2, NO_FILE),
     ("--workers 2", 2, NO_FILE_BUT_WORKERS),
@@ -54,7 +54,7 @@ const OPTIONS: &[Line] = &[
     ("a --skip a.b --skip c.d", 2, SKIP_TWICE),
 ];
 
-/// The last tags that serve a dump without objects: the leader and each worker make four exchanges of one head.
+/// The last tags that are enough without objects: the leader and each worker make four exchanges of one head.
 const TAGS_OF_NOTHING: &[Line] = &[
     ("FILE --workers 1 --first-tag 281474976710647", 0, ""),
     ("FILE --workers 1 --first-tag 281474976710648", 1, TAG_SPENT),
@@ -78,10 +78,13 @@ const LAST_TAG: &[Line] = &[("FILE --first-tag 281474976710655", 1, TAG_SPENT)];
 /// The least buffers for one worker.
 const LEAST_BUFFERS: &[Line] = &[("FILE --workers 1 --buffer 2 --buffers 4", 0, "")];
 
-/// Few buffers or small ones for an array of 64 objects, and the last tags that serve one worker. The head of the empty
-/// stack changes 72 times in 128 buffers of 2, 20 times in 8 of 64, and 12 times in 4 of 2: so the numbers are those of
-/// the words.
+/// The default buffers, few or small ones for an array of 64 objects, and the last tags that are enough for one worker.
+/// The head of the empty stack changes 72 times with 128 buffers of 2, 20 times with 8 of 64, and 12 times with 4 of 2:
+/// so a run has the numbers of its command line.
 const BUFFERS_OF_AN_ARRAY: &[Line] = &[
+    ("FILE --workers 1", 0, ""),
+    ("FILE --workers 2", 0, ""),
+    ("FILE --workers 64", 0, ""),
     ("FILE --workers 1 --buffer 2 --buffers 4", 0, ""),
     ("FILE --workers 64 --buffer 2", 0, ""),
     (
@@ -116,7 +119,7 @@ const BUFFERS_OF_AN_ARRAY: &[Line] = &[
     ),
 ];
 
-/// The name of a file, the dump in it, its report, and the lines that are tried on it.
+/// The name of a file, the dump in it, its report, and the command lines that are tried on it.
 static LINES: [(&str, Sample, &str, &[Line]); 6] = [
     (
         "heapmark_nothing.hprof",
@@ -156,8 +159,8 @@ static LINES: [(&str, Sample, &str, &[Line]); 6] = [
     ),
 ];
 
-/// For this line the program has this status on a file of this dump, also where standard error fails: with this report
-/// at 0, and else with nothing on the output; and with all of this text on standard error.
+/// Checks that the program has the status of `line` on a file of `sample`, also if standard error fails. It prints
+/// `report` at 0 and else nothing on the output, and just the text of `line` on standard error.
 fn check_line<T: Abort + AllocGlobal + Env + Files + Threads + Wait + Sync>(
     rt: &T,
     name: &str,
@@ -182,14 +185,14 @@ fn lines_are_answered(rt: HostRuntime) {
     }
 }
 
-/// Not even the program's own name is there.
+/// Not even the program's own name is given.
 #[test]
 fn no_words_are_told(rt: HostRuntime) {
     assert_eq!(rt; answered(&rt, &[], "", NO_FILE), (2, true, true));
     assert_eq!(rt; answered_unheard(&rt, &[]), 2);
 }
 
-/// Words that ask for a text, and the text.
+/// Words that ask for a text, and that text.
 static TEXTS: [(&str, &str); 4] = [
     ("--help", HELP),
     ("-h", HELP),
@@ -197,7 +200,7 @@ static TEXTS: [(&str, &str); 4] = [
     ("-V", VERSION),
 ];
 
-/// The status for this word where both streams fail, and how often the output did.
+/// Returns the status for `word` if both streams fail, and how often the output did.
 fn asked_in_vain<T: Files + AllocGlobal + Threads + Wait + Sync>(rt: &T, word: &str) -> (u8, u64) {
     let mut out = Counted::new(Broken);
     let status = program(rt, &["heapmark", word], &mut out, &mut Broken);

@@ -7,7 +7,7 @@ use std::alloc::Global;
 use std::sync::Wait;
 use std::thread::Threads;
 
-/// The lengths from the first to the last, and the code and place of their refusal.
+/// The first and the last of some lengths, and the code and place of their refusal.
 type Cut = (usize, usize, u8, u64);
 
 /// The file cut to each length below 174.
@@ -22,7 +22,8 @@ static CUTS: [Cut; 8] = [
     (71, 173, 3, 70),
 ];
 
-/// The body of the heap record cut to each length that ends within a sub-record, and the record's length lowered to it.
+/// The body of the heap record cut to each length that ends within a sub-record, with the record's length lowered to
+/// it.
 static BODIES: [Cut; 4] = [
     (1, 47, 6, 79),
     (49, 68, 6, 127),
@@ -30,7 +31,7 @@ static BODIES: [Cut; 4] = [
     (91, 94, 6, 169),
 ];
 
-/// The body cut behind a sub-record, and its report.
+/// The body cut after a sub-record, and its report.
 static WHOLE_BODIES: [(usize, &str); 5] = [
     (0, NOTHING_REPORT),
     (
@@ -57,7 +58,7 @@ static WHOLE_BODIES: [(usize, &str); 5] = [
     (95, TWO_OBJECTS_REPORT),
 ];
 
-/// The first bytes, so many or all.
+/// Returns the first `length` of `bytes`, or all if there are fewer.
 pub fn front(bytes: &[u8], length: usize) -> &[u8] {
     &bytes[..length.min(bytes.len())]
 }
@@ -68,14 +69,14 @@ fn put(bytes: &mut Vec<u8>, place: usize, value: u8) {
     }
 }
 
-/// The dump with so much of its heap record's body, which that record says.
+/// Returns the dump with the first `length` bytes of its heap record's body, and that length in the record.
 fn with_body(dump: &mut Vec<u8>, length: usize) -> &[u8] {
     put(dump, 78, u8::try_from(length).unwrap_or(u8::MAX));
     front(dump.as_slice(), length.saturating_add(79))
 }
 
-/// Whether the runs on these bytes are answered so: of two workers with the least buffers, and of 1, 2 and 64 workers
-/// with the buffers of the program.
+/// Tests whether the runs on `bytes` have the result `want` and write `report`: with two workers and the least buffers,
+/// and with 1, 2 and 64 workers and the buffers of the program.
 fn runs_are_answered<T: Threads + Wait + Sync>(
     rt: &T,
     alloc: Global,
@@ -91,7 +92,7 @@ fn runs_are_answered<T: Threads + Wait + Sync>(
     true
 }
 
-/// Whether the runs on so much of the file are refused so.
+/// Tests whether the runs on the first `length` bytes of the file are refused by this code and place.
 fn file_is_refused<T: Threads + Wait + Sync>(
     rt: &T,
     alloc: Global,
@@ -106,7 +107,8 @@ fn file_is_refused<T: Threads + Wait + Sync>(
     }
 }
 
-/// Whether the runs on the dump with so much of its heap record's body are answered so.
+/// Tests whether the runs on the dump with `length` bytes of its heap record's body have the result `want` and write
+/// `report`.
 fn body_is_answered<T: Threads + Wait + Sync>(
     rt: &T,
     alloc: Global,
@@ -123,7 +125,7 @@ fn body_is_answered<T: Threads + Wait + Sync>(
     }
 }
 
-/// How many bytes the file has.
+/// Returns the number of bytes of the file.
 fn file_length(alloc: Global) -> Option<usize> {
     match two_objects(alloc) {
         Ok(dump) => Some(dump.bytes.len()),

@@ -13,12 +13,12 @@ use std::alloc::Global;
 use std::sync::Wait;
 use std::thread::Threads;
 
-/// A place, the first and the last of some values there, and the answer for each of them but the one that the dump has:
-/// the code and the place of a refusal, and 0; or 0, the length of a report, and these reports mixed, one behind the
+/// A place, the first and the last of some values there, and the result for each of them but the one that the dump has:
+/// the code and the place of a refusal, and 0; or 0, the length of a report, and these reports mixed, one after the
 /// other.
 pub type Answer = (usize, u8, u8, u8, u64, u32);
 
-/// For each code, or 0 for reports, how many files have it, and the sum of the places, or of the lengths.
+/// For each code, or 0 for reports, the number of files that have it, and the sum of the places, or of the lengths.
 static SUMS: [(u32, u64); 15] = [
     (26_261, 4_847_130),
     (4_845, 0),
@@ -37,7 +37,7 @@ static SUMS: [(u32, u64); 15] = [
     (0, 0),
 ];
 
-/// The report mixed in behind those that were mixed before.
+/// Mixes `report` into `before`, the mix of the reports before it.
 fn mixed(before: u32, report: &[u8]) -> u32 {
     let mut mix = before;
     for byte in report {
@@ -46,7 +46,7 @@ fn mixed(before: u32, report: &[u8]) -> u32 {
     mix
 }
 
-/// A code and a place, or 0 and the length of the report, and what is mixed then.
+/// Runs on `dump`. Returns the code and the place of its refusal, or 0 and the length of its report, and the new mix.
 fn told<T: Threads + Wait + Sync>(
     rt: &T,
     alloc: Global,
@@ -68,11 +68,11 @@ fn told<T: Threads + Wait + Sync>(
     }
 }
 
-/// The first file of a row that is answered otherwise than the row says: the value, and the code and the place.
+/// The first file of a row whose result is not the row's: the value, and the code and the place.
 type Other = Option<(u8, u8, u64)>;
 
-/// Runs on each file of a row, made of these bytes: how many there are, their reports mixed, and the first that is
-/// answered otherwise.
+/// Runs on each file of `row`, made of `dump`. Returns the number of files, their reports mixed, and the first with
+/// another result.
 fn run_row<T: Threads + Wait + Sync>(
     rt: &T,
     alloc: Global,
@@ -102,7 +102,7 @@ fn run_row<T: Threads + Wait + Sync>(
     (files, reports, other)
 }
 
-/// How many files a row has but the one that the dump is, where each of them is answered as the row says.
+/// Returns the number of files of `row`, without the dump itself, if each has the result that the row says.
 fn files_of<T: Threads + Wait + Sync>(
     rt: &T,
     alloc: Global,
@@ -118,8 +118,8 @@ fn files_of<T: Threads + Wait + Sync>(
     }
 }
 
-/// What the files of all rows together have, by codes; or the place and the values of the first row with a file that is
-/// answered otherwise, or that does not follow the rows before it.
+/// Returns what the files of all rows have together, by codes; or the place and the values of the first row that does
+/// not follow the rows before it, or has a file with another result.
 fn sums_of_rows<T: Threads + Wait + Sync>(
     rt: &T,
     alloc: Global,

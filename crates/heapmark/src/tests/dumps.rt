@@ -17,19 +17,19 @@ pub const TWO_OBJECTS_REPORT: &str = "         2               8  A
          0               0  (unresolved)
 ";
 
-/// Those 174 bytes.
+/// Returns the dump of the two instances, 174 bytes.
 pub fn two_objects(alloc: Global) -> Result<Bytes, AllocError> {
     Bytes::dump(alloc, 4, TWO_OBJECTS)
 }
 
-/// A dump of these names and of this heap.
+/// Returns a dump of the records `names` and of a heap dump with the body `heap`.
 fn with_heap(alloc: Global, names: &[Record], heap: &Bytes) -> Result<Bytes, AllocError> {
     let mut dump = Bytes::dump(alloc, 4, names)?;
     dump.record(0x0C, heap.bytes.as_slice())?;
     Ok(dump)
 }
 
-/// A class `A` without fields, and `count` instances of it from 0x201 on, each a root.
+/// Returns a dump of a class `A` without fields and `count` instances of it from 0x201 on, 64 at most, each a root.
 pub fn roots_alone(alloc: Global, count: u64) -> Result<Bytes, AllocError> {
     let mut heap = Bytes::new(alloc, 4);
     heap.sub(Sub::Class(0x100, 0, &[]))?;
@@ -64,7 +64,7 @@ pub const NINE_ROOTS_REPORT: &str = "         9               0  A
          0               0  (unresolved)
 ";
 
-/// An array of 64 instances, which is the root.
+/// Returns a dump of an array of 64 instances, which is the root.
 pub fn wide_array(alloc: Global) -> Result<Bytes, AllocError> {
     let elements: Vec<u64> = (0x301..0x341u64).collect(alloc)?;
     let mut heap = Bytes::new(alloc, 4);
@@ -92,7 +92,7 @@ pub const WIDE_ARRAY_REPORT: &str = "         1             256  [LL;
          0               0  (unresolved)
 ";
 
-/// The two instances, and an array that has the second of them as each of its 100,000 elements, which is a root too.
+/// Returns a dump of the two instances and of an array, a root too, whose 100,000 elements are all the second instance.
 pub fn long_array(alloc: Global) -> Result<Bytes, AllocError> {
     let elements = vec![in alloc; 0x202u64; 100_000]?;
     let mut heap = Bytes::new(alloc, 4);
@@ -106,7 +106,7 @@ pub fn long_array(alloc: Global) -> Result<Bytes, AllocError> {
     with_heap(alloc, &TWO_OBJECTS[..2], &heap)
 }
 
-/// The report of these.
+/// The report of these two instances and that array.
 pub const LONG_ARRAY_REPORT: &str = "         3          400008  A
          1               0  <class>
          4          400008  (reachable)
@@ -114,20 +114,21 @@ pub const LONG_ARRAY_REPORT: &str = "         3          400008  A
          0               0  (unresolved)
 ";
 
-/// A dump of these, as a row of a table names it.
+/// The dump that a row of a table names.
 #[derive(Clone, Copy)]
 pub enum Sample {
     Nothing,
     TwoObjects,
-    /// So many roots, 64 at most.
+    /// This number of instances that are roots, 64 at most.
     Roots(u64),
     WideArray,
     LongArray,
-    /// The size of identifiers, and the records.
+    /// A dump with identifiers of this size and these records.
     Records(u32, &'static [Record]),
 }
 
 impl Sample {
+    /// Returns the bytes of the dump.
     pub fn dump(self, alloc: Global) -> Result<Bytes, AllocError> {
         match self {
             Sample::Nothing => Bytes::dump(alloc, 4, NOTHING),

@@ -1,4 +1,4 @@
-//! What people are told to do about a refusal.
+//! The line about what to do that follows a refusal at a terminal.
 
 use super::cuts::front;
 use super::dumps::Record::{Heap, Text};
@@ -12,16 +12,16 @@ use std::rt::Files;
 use std::sync::Wait;
 use std::thread::Threads;
 
-/// Whether this is told of a refusal of a file that is not there, with so many workers and buffers.
-fn is_hint<T: Files + AllocGlobal>(
+/// Returns all that is printed about `refusal` of `file`, with these numbers of `workers` and `buffers`.
+pub fn advice<T: Files + AllocGlobal>(
     rt: &T,
+    file: &str,
     refusal: Refusal,
     workers: u32,
     buffers: u32,
-    want: &str,
-) -> bool {
+) -> Vec<u8> {
     let arguments = Arguments {
-        file: "/nowhere/a.hprof",
+        file,
         workers,
         buffer: 256,
         buffers,
@@ -30,10 +30,22 @@ fn is_hint<T: Files + AllocGlobal>(
     };
     let mut err = Vec::new(rt.alloc());
     advise(rt, &mut err, &arguments, &refusal, None);
-    err.as_slice() == want.as_bytes()
+    err
 }
 
-/// Of a file that is not there no place is known to be at its end.
+/// Tests whether just `want` is printed about `refusal` of a file that does not exist.
+fn is_hint<T: Files + AllocGlobal>(
+    rt: &T,
+    refusal: Refusal,
+    workers: u32,
+    buffers: u32,
+    want: &str,
+) -> bool {
+    let hint = advice(rt, "/nowhere/a.hprof", refusal, workers, buffers);
+    hint.as_slice() == want.as_bytes()
+}
+
+/// No offset is known to be the end of a file that does not exist.
 #[test]
 fn seven_codes_have_a_hint_wherever_they_are(rt: HostRuntime) {
     for code in 0..=255u8 {
@@ -60,23 +72,24 @@ more than 16,777,216 objects: dump a smaller heap, or live objects only (without
 ";
 
 const MEMORY: &str = "heapmark: /nowhere/a.hprof: \
-takes its own size in memory and about 24 bytes for each object: free as much
+takes its own size in memory and more for each object: free some memory
 ";
 
 const MEMORY_OR_WORKERS: &str = "heapmark: /nowhere/a.hprof: \
-takes its own size in memory and about 24 bytes for each object: free as much, \
+takes its own size in memory and more for each object: free some memory, \
 or try --workers 1, which takes the least
 ";
 
 const FIRST_TAG: &str = "heapmark: \
---first-tag 281474976710655: too few tags are left behind it: leave the option out
+--first-tag 281474976710655: too few tags are left after it: leave the option out
 ";
 
-const NO_THREAD: &str = "heapmark: --workers 1: the system starts no thread: see ulimit -u
+const NO_THREAD: &str = "heapmark: \
+--workers 1: the system starts no thread: see ulimit -u and ulimit -v
 ";
 
 const NO_MORE_THREADS: &str = "heapmark: \
---workers 64: the system starts no more threads: try fewer, 1 at least
+--workers 64: the system starts no more threads: try fewer, or see ulimit -u and ulimit -v
 ";
 
 const BUFFERS: &str = "heapmark: --buffers 129: too few for 64 workers: give 130 at least
@@ -110,7 +123,8 @@ fn each_hint_says_what_to_do(rt: HostRuntime) {
     }
 }
 
-/// Whether a file of these bytes has this refusal, and people are told something behind it that ends so, or nothing.
+/// Tests whether a file of `bytes` has this `refusal`, followed at a terminal by a line that ends with `want`, or by no
+/// line if `want` is empty.
 fn is_told<T: AllocGlobal + Env + Files + Threads + Wait + Sync>(
     rt: &T,
     bytes: &[u8],
@@ -144,7 +158,7 @@ const NEWER: &str = "heapmark_hints.hprof: \
 HPROF of version 1.0.3; only 1.0.2 is read, as `jcmd PID GC.heap_dump FILE` writes it
 ";
 
-/// The first bytes are those of the formats' own descriptions.
+/// The first bytes are taken from the descriptions of the formats.
 #[test]
 fn a_file_is_told_by_its_first_bytes(rt: HostRuntime) {
     let gzipped = "heapmark_hints.hprof: compressed: gunzip it first\n";
@@ -179,7 +193,8 @@ fn a_file_is_told_by_its_first_bytes(rt: HostRuntime) {
     }
 }
 
-/// Whether the worked dump of so many bytes has this refusal, and people are told that it ends too early.
+/// Tests whether the first `length` bytes of the worked dump have this `refusal`, followed at a terminal by the line
+/// that the file ends too early.
 fn cut_is_told<T: AllocGlobal + Env + Files + Threads + Wait + Sync>(
     rt: &T,
     length: usize,
@@ -205,8 +220,8 @@ fn a_cut_file_is_told(rt: HostRuntime) {
     }
 }
 
-/// Whether the dump of these records has this refusal, and people are told something behind it that ends so, or
-/// nothing.
+/// Tests whether the dump of `records` has this `refusal`, followed at a terminal by a line that ends with `want`, or
+/// by no line if `want` is empty.
 fn dump_is_told<T: AllocGlobal + Env + Files + Threads + Wait + Sync>(
     rt: &T,
     records: &[Record],
@@ -219,8 +234,8 @@ fn dump_is_told<T: AllocGlobal + Env + Files + Threads + Wait + Sync>(
     }
 }
 
-/// Records, their refusal, and what people are told behind it: a root that is cut in a heap dump at the end of the file
-/// or before, and two heap dumps.
+/// Records, their refusal, and the end of the line that follows it: a root that is cut in a heap dump at the end of the
+/// file or before, and two heap dumps.
 static FAULTS: [(&[Record], &str, &str); 4] = [
     (
         &[Heap(&[Raw(&[0xff, 0])])],

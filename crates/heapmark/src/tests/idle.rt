@@ -1,4 +1,4 @@
-//! Workers that stay until all are idle: one that finds nothing at first comes to work when there is some, and the
+//! Workers that stay until all are idle: one that finds nothing at first gets work as soon as there is some, and the
 //! report is the same in each run.
 
 use super::dumps::Sample::{Roots, WideArray};
@@ -15,14 +15,14 @@ use std::time::{Clock, Duration};
 /// How often two workers run on the array. A worker stays for some 0.4 s, so on a busy machine one may leave too soon.
 const RUNS: u32 = 10;
 
-/// How often the worker that has made work looks whether the other has come, 1 ms apart.
+/// How often the worker that has made work tests whether the other has come, 1 ms apart.
 const TURNS: u32 = 500;
 
-/// How often each dump is run on.
+/// The number of runs on each dump.
 const RUNS_OF_MANY: u32 = 200;
 
-/// Holds the worker that takes the root until the other has found nothing to do, and then, with all that the root
-/// refers to given away, until the other has come.
+/// Holds the worker that takes the root until the other has found nothing to do, and then, after it has given away all
+/// that the root refers to, until the other has come.
 #[derive(Drop)]
 struct Late<C: Clock> {
     clock: C,
@@ -58,7 +58,7 @@ impl<C: Clock + Sync> Gate for Late<C> {
     }
 }
 
-/// The answer of a run on these bytes, and whether the two workers have met.
+/// Returns the result of a run on `bytes`, and whether the two workers have met.
 fn run_late_on<T: Clock + Threads + Wait + Sync>(
     rt: &T,
     alloc: Global,
@@ -75,7 +75,7 @@ fn run_late_on<T: Clock + Threads + Wait + Sync>(
     ((outcome, length), gate.has_met())
 }
 
-/// That of a run on the array.
+/// Returns the same for a run on the array.
 fn run_late<T: Clock + Threads + Wait + Sync>(rt: &T, alloc: Global) -> Option<(Answered, bool)> {
     let Ok(options) = Options::new(2, 2, 1024, 0) else {
         return None;
@@ -86,7 +86,7 @@ fn run_late<T: Clock + Threads + Wait + Sync>(rt: &T, alloc: Global) -> Option<(
     }
 }
 
-/// In how many of the runs the two workers have met, where each run writes the report.
+/// Returns in how many of the runs the two workers have met, if each run writes the report.
 fn runs_that_met<T: Clock + Threads + Wait + Sync>(rt: &T, alloc: Global) -> Option<u32> {
     let mut met: u32 = 0;
     for _ in 0..RUNS {
@@ -117,7 +117,7 @@ static ROWS: [(Sample, u32, u32, u32, &str); 5] = [
     (Roots(7), 1, 2, 4, SEVEN_ROOTS_REPORT),
 ];
 
-/// Whether each run on these bytes writes this report.
+/// Tests whether each run on `bytes` writes `report`.
 fn runs_are_the_same<T: Threads + Wait + Sync>(
     rt: &T,
     alloc: Global,
@@ -133,7 +133,7 @@ fn runs_are_the_same<T: Threads + Wait + Sync>(
     true
 }
 
-/// Whether each run on a row writes its report.
+/// Tests whether each run on `row` writes its report.
 fn row_is_the_same<T: Threads + Wait + Sync>(
     rt: &T,
     alloc: Global,

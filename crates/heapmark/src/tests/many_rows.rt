@@ -20,7 +20,7 @@ fn put_class(heap: &mut Bytes, number: u32) -> Result<(), AllocError> {
     ])
 }
 
-/// A dump of so many classes.
+/// Returns a dump of all the classes.
 fn classes(alloc: Global) -> Result<Bytes, AllocError> {
     let mut heap = Bytes::new(alloc, 4);
     for number in 0..CLASSES {
@@ -31,7 +31,7 @@ fn classes(alloc: Global) -> Result<Bytes, AllocError> {
     Ok(dump)
 }
 
-/// Its report: rows of as many objects and bytes stand in the order of their names.
+/// Returns its report: rows with the same numbers of objects and bytes come in the order of their names.
 fn report(alloc: Global) -> Result<String, AllocError> {
     let mut report = String::new(alloc);
     write!(report, "{CLASSES:>10}  {:>14}  <class>\n", 0)?;
@@ -44,7 +44,7 @@ fn report(alloc: Global) -> Result<String, AllocError> {
     Ok(report)
 }
 
-/// Whether each run on these bytes writes this report.
+/// Tests whether each run on `bytes` writes `report`.
 fn runs_are_reported<T: Threads + Wait + Sync>(
     rt: &T,
     alloc: Global,
@@ -59,7 +59,7 @@ fn runs_are_reported<T: Threads + Wait + Sync>(
     true
 }
 
-/// Whether each run on the bytes of the classes writes their report.
+/// Tests whether each run on `bytes`, the dump of the classes, writes their report.
 fn is_reported<T: Threads + Wait + Sync>(rt: &T, alloc: Global, bytes: &[u8]) -> bool {
     match report(alloc) {
         Ok(report) => runs_are_reported(rt, alloc, bytes, report.as_str()),
@@ -67,7 +67,7 @@ fn is_reported<T: Threads + Wait + Sync>(rt: &T, alloc: Global, bytes: &[u8]) ->
     }
 }
 
-/// Whether each run on the classes does.
+/// Tests whether each run on the dump of the classes writes their report.
 fn classes_are_reported<T: Threads + Wait + Sync>(rt: &T, alloc: Global) -> bool {
     match classes(alloc) {
         Ok(dump) => is_reported(rt, alloc, dump.bytes.as_slice()),

@@ -1,4 +1,4 @@
-//! Runs at the ends of what a pool has: its last tags, and its least buffers.
+//! Runs at the limits of a pool: its last tags and its least buffers.
 
 use super::dumps::Sample::{LongArray, Nothing, Roots, TwoObjects, WideArray};
 use super::dumps::{
@@ -11,11 +11,11 @@ use std::alloc::Global;
 use std::sync::Wait;
 use std::thread::Threads;
 
-/// The last tag of a stack's head, and how many exchanges of a head all tags serve.
+/// The last tag of a stack's head, which is also the number of exchanges of a head for which there are tags.
 const LAST_TAG: u64 = 281_474_976_710_655;
 
-/// A dump; workers, objects in a buffer, buffers, and how many exchanges of a head the first tag serves; and what a run
-/// answers: a report, or the code of a refusal.
+/// A dump; workers, objects in a buffer, buffers, and the number of exchanges of a head that the first tag leaves; and
+/// the result of a run: a report, or the code of a refusal.
 type Row = (Sample, (u32, u32, u32, u64), Result<&'static str, u8>);
 
 static ROWS: [Row; 13] = [
@@ -28,7 +28,7 @@ static ROWS: [Row; 13] = [
     (Nothing, (2, 256, 1024, 11), Err(16)),
     (Nothing, (64, 256, 130, 260), Ok(NOTHING_REPORT)),
     (Nothing, (64, 256, 130, 259), Err(16)),
-    // 64 successors do not find room in four buffers of two
+    // four buffers of two have no room for 64 successors
     (WideArray, (1, 2, 4, LAST_TAG), Ok(WIDE_ARRAY_REPORT)),
     (LongArray, (1, 256, 1024, LAST_TAG), Ok(LONG_ARRAY_REPORT)),
     (LongArray, (2, 256, 1024, LAST_TAG), Ok(LONG_ARRAY_REPORT)),
@@ -39,7 +39,7 @@ static ROWS: [Row; 13] = [
     (Roots(9), (1, 2, 4, LAST_TAG), Ok(NINE_ROOTS_REPORT)),
 ];
 
-/// What a run on a row answers.
+/// Returns the result of a run on `row`.
 fn answer_of<T: Threads + Wait + Sync>(rt: &T, alloc: Global, row: &Row) -> Option<Answered> {
     let (sample, (workers, buffer, buffers, exchanges), want) = *row;
     let first_tag = LAST_TAG.saturating_sub(exchanges);
@@ -53,7 +53,7 @@ fn answer_of<T: Threads + Wait + Sync>(rt: &T, alloc: Global, row: &Row) -> Opti
     }
 }
 
-/// What it is to answer.
+/// Returns the result that `row` wants.
 fn wanted(row: &Row) -> Answered {
     match row.2 {
         Ok(report) => (Ok(()), Some(report.len())),

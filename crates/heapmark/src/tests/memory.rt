@@ -1,4 +1,4 @@
-//! Memory that is refused at each request of a run in turn, with all requests behind it and alone.
+//! Allocations that fail: each allocation of a run fails in turn, together with all later ones and alone.
 
 use super::dumps::Sample::{Records, TwoObjects, WideArray};
 use super::dumps::Sub::{Class, Objects, Root, Values};
@@ -27,7 +27,7 @@ const NAMED_ARRAYS: &[Record] = &[
     ARRAYS,
 ];
 
-/// The report of the first.
+/// The report of `ARRAYS`.
 const ARRAYS_REPORT: &str = "         1              24  ?0x100
          1               0  <class>
          1               0  long[]
@@ -36,7 +36,7 @@ const ARRAYS_REPORT: &str = "         1              24  ?0x100
          1               0  (unresolved)
 ";
 
-/// The report of the second.
+/// The report of `NAMED_ARRAYS`.
 const NAMED_ARRAYS_REPORT: &str = "         1              24  [Ljava/lang/Object;
          1               0  <class>
          1               0  long[]
@@ -45,7 +45,7 @@ const NAMED_ARRAYS_REPORT: &str = "         1              24  [Ljava/lang/Objec
          1               0  (unresolved)
 ";
 
-/// The report of `REFERENCES` where the fields of `java/lang/ref/Reference` are skipped.
+/// The report of `REFERENCES` if the fields of `java/lang/ref/Reference` are skipped.
 const SUPERCLASS_SKIPPED_REPORT: &str = "         2              16  T
          2               0  <class>
          4              16  (reachable)
@@ -56,7 +56,7 @@ const SUPERCLASS_SKIPPED_REPORT: &str = "         2              16  T
 /// A dump; workers, objects in a buffer, and buffers; the list of fields to be skipped, if there is one; the report.
 type Row = (Sample, (u32, u32, u32), Option<&'static str>, &'static str);
 
-/// With few buffers.
+/// Rows with few buffers.
 static FEW: [Row; 6] = [
     (TwoObjects, (2, 2, 6), None, TWO_OBJECTS_REPORT),
     (Records(8, &[ARRAYS]), (2, 2, 6), None, ARRAYS_REPORT),
@@ -67,12 +67,12 @@ static FEW: [Row; 6] = [
         NAMED_ARRAYS_REPORT,
     ),
     (WideArray, (2, 2, 6), None, WIDE_ARRAY_REPORT),
-    // the worker's own list grows to hold what four buffers of two do not
+    // the worker's own list grows, since four buffers of two do not hold all
     (WideArray, (1, 2, 4), None, WIDE_ARRAY_REPORT),
     (WideArray, (2, 64, 8), None, WIDE_ARRAY_REPORT),
 ];
 
-/// With the buffers of the program.
+/// Rows with the buffers of the program.
 static OF_THE_PROGRAM: [Row; 3] = [
     (TwoObjects, (2, 256, 1024), None, TWO_OBJECTS_REPORT),
     (
@@ -84,7 +84,7 @@ static OF_THE_PROGRAM: [Row; 3] = [
     (WideArray, (2, 256, 1024), None, WIDE_ARRAY_REPORT),
 ];
 
-/// With a list, so that the names of classes and fields are looked up.
+/// Rows with a list, so that the names of classes and fields are looked up.
 static WITH_A_LIST: [Row; 1] = [(
     Records(4, REFERENCES),
     (2, 2, 6),
@@ -92,8 +92,8 @@ static WITH_A_LIST: [Row; 1] = [(
     SUPERCLASS_SKIPPED_REPORT,
 )];
 
-/// The answer of a run where this request for memory is refused, alone or with all behind it; how much of the report it
-/// has written; and how many requests were refused.
+/// Returns the result of a run whose allocation `request` fails, `alone` or with all later ones; how much of the report
+/// it has written; and how many allocations failed.
 fn run_refusing<T: Threads + Wait + Sync>(
     rt: &T,
     alloc: Global,
@@ -118,8 +118,8 @@ fn run_refusing<T: Threads + Wait + Sync>(
     )
 }
 
-/// Refuses each request in turn until a run meets no refusal, and tells the first that is answered otherwise than by
-/// want of memory; or the last, where few or none were refused.
+/// Fails each allocation in turn until none fails in a run. Returns the first whose run has another result than out of
+/// memory; or the last, if few or none failed.
 fn first_other<T: Threads + Wait + Sync>(
     rt: &T,
     alloc: Global,
@@ -133,7 +133,7 @@ fn first_other<T: Threads + Wait + Sync>(
         let (outcome, written, refusals) = run_refusing(
             rt, alloc, dump, options, skip, report, request, alone,
         );
-        // a list that asks for less once it was refused more may be served then
+        // a list that asks for less after it was refused more may be served then
         let want = if refusals == 0 || alone && outcome.is_ok() {
             (Ok(()), Some(report.len()))
         } else {
@@ -149,7 +149,7 @@ fn first_other<T: Threads + Wait + Sync>(
     Some(4096)
 }
 
-/// The fields of this list, or none.
+/// Returns the fields of `list`, or none.
 fn skip_of(
     alloc: Global,
     list: Option<&'static str>,
@@ -160,7 +160,7 @@ fn skip_of(
     }
 }
 
-/// Whether each request of a row on these bytes is told, with all behind it and alone.
+/// Tests whether each allocation of `row` on `dump` is reported if it fails, with all later ones and alone.
 fn requests_are_told<T: Threads + Wait + Sync>(
     rt: &T,
     alloc: Global,
@@ -180,7 +180,7 @@ fn requests_are_told<T: Threads + Wait + Sync>(
     }
 }
 
-/// Whether each request of a row is told.
+/// Tests whether each allocation of `row` is reported if it fails.
 fn row_is_told<T: Threads + Wait + Sync>(rt: &T, alloc: Global, row: &Row) -> bool {
     match row.0.dump(alloc) {
         Ok(dump) => requests_are_told(rt, alloc, dump.bytes.as_slice(), row),

@@ -1,17 +1,15 @@
-//! The process: the words that it is given, whatever they are, and the status that it answers.
+//! The process: its exit status for the words of a command line, text or not.
 
 use super::dumps::{Sample, TWO_OBJECTS_REPORT};
 use super::program::{Asked, answered_on};
 use crate::{Counted, process};
 use std::alloc::{AllocError, Global};
 use std::env::{Env, FillError};
-use std::io;
-use std::io::{IsTerminal, Write};
 use std::rt::Files;
 use std::sync::Wait;
 use std::thread::Threads;
 
-/// The words of a command line, which may be no text.
+/// The words of a command line, text or not.
 #[derive(Drop)]
 struct Words<'a> {
     words: &'a [&'a [u8]],
@@ -38,45 +36,21 @@ impl Env for Words<'_> {
     }
 }
 
-/// A standard error that is read by people, or not.
-#[derive(Drop)]
-struct Screen {
-    shown: Vec<u8>,
-    is_terminal: bool,
-}
-
-impl Write for Screen {
-    fn write(&mut self, buf: &[u8]) -> io::Result<usize> {
-        self.shown.extend_from_slice(buf)?;
-        Ok(buf.len())
-    }
-
-    fn flush(&mut self) -> io::Result<()> {
-        Ok(())
-    }
-}
-
-impl IsTerminal for Screen {
-    fn is_terminal(&self) -> bool {
-        self.is_terminal
-    }
-}
-
-/// What a word that is no text is answered by.
+/// The message about a word that is not text.
 const NO_TEXT: &str = "error: a word of the command line is not UTF-8 text
 
 For more information, try '--help'.
 ";
 
-/// What is told of a file that is not there, and at a terminal behind it.
+/// The refusal of a file that does not exist, and with the line that follows it at a terminal.
 const NOT_READ: &str = "heapmark: refused 19 ReadFault\n";
 
 const NOT_THERE: &str = "heapmark: refused 19 ReadFault
 heapmark: /nowhere/heapmark.hprof: No such file or directory (os error 2)
 ";
 
-/// The status of the process for this line, whether it prints nothing on the output, and whether standard error has
-/// this.
+/// Returns the status of the process for `words`, whether it prints nothing on the output, and whether it prints `told`
+/// on standard error.
 fn answered<T: AllocGlobal + Files + Threads + Wait + Sync>(
     rt: &T,
     words: &[&[u8]],
@@ -84,12 +58,9 @@ fn answered<T: AllocGlobal + Files + Threads + Wait + Sync>(
     told: &str,
 ) -> (u8, bool, bool) {
     let mut out = Counted::new(Vec::new(rt.alloc()));
-    let mut err = Screen {
-        shown: Vec::new(rt.alloc()),
-        is_terminal,
-    };
-    let status = process(rt, &Words { words }, &mut out, &mut err);
-    let is_told = err.shown.as_slice() == told.as_bytes();
+    let mut err = Vec::new(rt.alloc());
+    let status = process(rt, &Words { words }, &mut out, &mut err, is_terminal);
+    let is_told = err.as_slice() == told.as_bytes();
     (status, out.into_inner().is_empty(), is_told)
 }
 
@@ -118,7 +89,7 @@ fn each_line_has_its_status(rt: HostRuntime) {
     }
 }
 
-/// The status of the process for a line of these words, and whether this is all that it prints on the output.
+/// Returns the status of the process for `words`, and whether `report` is all that it prints on the output.
 fn reported_of<T: AllocGlobal + Files + Threads + Wait + Sync>(
     rt: &T,
     words: &[&[u8]],
@@ -126,20 +97,17 @@ fn reported_of<T: AllocGlobal + Files + Threads + Wait + Sync>(
     report: &str,
 ) -> (u8, bool) {
     let mut out = Counted::new(Vec::new(rt.alloc()));
-    let mut err = Screen {
-        shown: Vec::new(rt.alloc()),
-        is_terminal,
-    };
-    let status = process(rt, &Words { words }, &mut out, &mut err);
+    let mut err = Vec::new(rt.alloc());
+    let status = process(rt, &Words { words }, &mut out, &mut err, is_terminal);
     (status, out.into_inner().as_slice() == report.as_bytes())
 }
 
-/// The bytes of these words.
+/// Returns the bytes of each of `words`.
 fn bytes_of<'a>(alloc: Global, words: &[&'a str]) -> Result<Vec<&'a [u8]>, AllocError> {
     words.iter().map(|word| word.as_bytes()).collect(alloc)
 }
 
-/// The same for words that are text.
+/// Like [`reported_of`], for words that are text.
 pub fn reported<T: AllocGlobal + Files + Threads + Wait + Sync>(
     rt: &T,
     words: &[&str],
@@ -152,8 +120,8 @@ pub fn reported<T: AllocGlobal + Files + Threads + Wait + Sync>(
     }
 }
 
-/// The status of the whole process for words that are text, and whether this is all that it prints on the output, and
-/// this on standard error.
+/// Returns the status of the process for `words`, and whether it prints just `report` on the output and just `told` on
+/// standard error.
 pub fn processed<T: AllocGlobal + Files + Threads + Wait + Sync>(
     rt: &T,
     words: &[&str],
@@ -162,22 +130,19 @@ pub fn processed<T: AllocGlobal + Files + Threads + Wait + Sync>(
     told: &str,
 ) -> (u8, bool, bool) {
     let mut out = Counted::new(Vec::new(rt.alloc()));
-    let mut err = Screen {
-        shown: Vec::new(rt.alloc()),
-        is_terminal,
-    };
+    let mut err = Vec::new(rt.alloc());
     let Ok(words) = bytes_of(rt.alloc(), words) else {
         return (u8::MAX, false, false);
     };
     let line = Words {
         words: words.as_slice(),
     };
-    let status = process(rt, &line, &mut out, &mut err);
+    let status = process(rt, &line, &mut out, &mut err, is_terminal);
     let is_reported = out.into_inner().as_slice() == report.as_bytes();
-    (status, is_reported, err.shown.as_slice() == told.as_bytes())
+    (status, is_reported, err.as_slice() == told.as_bytes())
 }
 
-/// A line behind the program's name, its status, and what is printed on the output.
+/// A command line without the program's name, its status, and what is printed on the output.
 static LINES: [(&str, u8, &str); 7] = [
     ("FILE", 0, TWO_OBJECTS_REPORT),
     ("FILE --workers 0", 2, ""),
@@ -192,10 +157,10 @@ static LINES: [(&str, u8, &str); 7] = [
     ),
 ];
 
-/// A file is reported, and each word behind it counts, whoever reads standard error.
+/// A file is reported, and each word after it counts, on a terminal and off it.
 #[test]
 fn a_line_is_answered_to_its_end(rt: HostRuntime) {
-    // The blanks are part of the name.
+    // The blanks, also the last one, are part of the name.
     let (name, sample) = ("heapmark process .hprof ", Sample::TwoObjects);
     for (line, want, report) in LINES {
         for is_terminal in [false, true] {

@@ -30,17 +30,21 @@ impl Write for Broken {
     }
 }
 
-/// A root, and behind it a tag that no table has.
+/// A root, and after it a tag that no table has.
 const BAD_TAG: &[Record] = &[Heap(&[Raw(&[0xff, 0, 0, 0, 0, 0x7a])])];
 
-/// A file of these bytes.
-fn file_of<T: AllocGlobal + Env + Files>(rt: &T, name: &str, bytes: &[u8]) -> io::Result<PathBuf> {
+/// Makes a file of `bytes` in the temporary folder.
+pub fn file_of<T: AllocGlobal + Env + Files>(
+    rt: &T,
+    name: &str,
+    bytes: &[u8],
+) -> io::Result<PathBuf> {
     let path = env::temp_dir(rt)?.join(rt.alloc(), name)?;
     fs::write(rt, path.as_path(), bytes)?;
     Ok(path)
 }
 
-/// The words of a line behind the program's name, with this file for the word FILE.
+/// Returns the program's name and the words of `line`, with `file` for the word FILE.
 fn words_of<'a>(alloc: Global, line: &'a str, file: &'a str) -> Result<Vec<&'a str>, AllocError> {
     let mut words = Vec::new(alloc);
     words.push("heapmark")?;
@@ -50,24 +54,25 @@ fn words_of<'a>(alloc: Global, line: &'a str, file: &'a str) -> Result<Vec<&'a s
     Ok(words)
 }
 
-/// Where the program prints, and what is asked of that.
+/// Where the program prints, and what is tested of that.
 #[derive(Clone, Copy)]
 pub enum Asked<'a> {
-    /// Whether the output is this, and standard error this.
+    /// Tests whether the output is the first text, and standard error the second.
     Both(&'a str, &'a str),
-    /// People read standard error: whether the output is empty, and standard error begins and ends so.
+    /// At a terminal: tests whether the output is empty, and standard error begins with the first text and ends with
+    /// the second.
     People(&'a str, &'a str),
-    /// The output fails: whether standard error is this.
+    /// The output fails: tests whether standard error is this.
     Unwritten(&'a str),
-    /// Standard error fails.
+    /// Standard error fails: tests nothing but the status.
     Unheard,
-    /// The process, whose standard error is a terminal or not: whether the output is this.
+    /// The process, at a terminal or not: tests whether the output is this.
     Process(bool, &'a str),
-    /// The process with what it tells behind a report: whether the output is this, and standard error this.
+    /// The process, at a terminal or not: tests whether the output is the first text, and standard error the second.
     Whole(bool, &'a str, &'a str),
 }
 
-/// What the program answers for these words: its status, and whether output and standard error are as it is asked.
+/// Returns the status of the program for `words`, and whether output and standard error are as `asked` says.
 fn told<T: Files + AllocGlobal + Threads + Wait + Sync>(
     rt: &T,
     words: &[&str],
@@ -98,7 +103,7 @@ fn told<T: Files + AllocGlobal + Threads + Wait + Sync>(
     }
 }
 
-/// What it answers for this line, with the name of a file for FILE.
+/// Like [`told`], for the words of `line`, with the file at `path` for FILE.
 fn told_at<T: Files + AllocGlobal + Threads + Wait + Sync>(
     rt: &T,
     path: Path<'_>,
@@ -112,7 +117,7 @@ fn told_at<T: Files + AllocGlobal + Threads + Wait + Sync>(
     }
 }
 
-/// What it answers for this line, with the name of a file of these bytes for FILE.
+/// Like [`told`], for the words of `line`, with a file of `bytes` for FILE.
 pub fn told_on<T: AllocGlobal + Env + Files + Threads + Wait + Sync>(
     rt: &T,
     name: &str,
@@ -130,7 +135,7 @@ pub fn told_on<T: AllocGlobal + Env + Files + Threads + Wait + Sync>(
     }
 }
 
-/// What it answers for this line, with the name of a file of this dump for FILE.
+/// Like [`told`], for the words of `line`, with a file of `sample` for FILE.
 pub fn answered_on<T: AllocGlobal + Env + Files + Threads + Wait + Sync>(
     rt: &T,
     name: &str,
@@ -144,7 +149,7 @@ pub fn answered_on<T: AllocGlobal + Env + Files + Threads + Wait + Sync>(
     }
 }
 
-/// What the program prints on both streams for these words, and its status.
+/// Returns the status of the program for `words`, and what it prints on both streams.
 fn printed<T: Files + AllocGlobal + Threads + Wait + Sync>(
     rt: &T,
     words: &[&str],
@@ -155,7 +160,8 @@ fn printed<T: Files + AllocGlobal + Threads + Wait + Sync>(
     (status, out.into_inner(), err)
 }
 
-/// What the program answers for these words: its status, and whether it prints this report, and this on standard error.
+/// Returns the status of the program for `words`, and whether it prints just `report` and just `refusal` on standard
+/// error.
 pub fn answered<T: Files + AllocGlobal + Threads + Wait + Sync>(
     rt: &T,
     words: &[&str],
@@ -167,8 +173,8 @@ pub fn answered<T: Files + AllocGlobal + Threads + Wait + Sync>(
     (status, is_reported, err.as_slice() == refusal.as_bytes())
 }
 
-/// What the program answers for these words where people read standard error: its status, whether it prints nothing on
-/// the output, and the length of what it prints on standard error, if that begins and ends so.
+/// Returns the status of the program for `words` at a terminal, whether it prints nothing on the output, and the length
+/// of what it prints on standard error, if that begins with `begins` and ends with `ends`.
 pub fn answered_to_people<T: Files + AllocGlobal + Threads + Wait + Sync>(
     rt: &T,
     words: &[&str],
@@ -198,7 +204,7 @@ fn a_file_is_reported_or_refused(rt: HostRuntime) {
     }
 }
 
-/// The status for these words where the output fails, and whether this is printed on standard error.
+/// Returns the status for `words` if the output fails, and whether just `refusal` is printed on standard error.
 fn answered_unwritten<T: Files + AllocGlobal + Threads + Wait + Sync>(
     rt: &T,
     words: &[&str],
@@ -210,7 +216,7 @@ fn answered_unwritten<T: Files + AllocGlobal + Threads + Wait + Sync>(
     (status, err.as_slice() == refusal.as_bytes())
 }
 
-/// The status for these words where standard error fails.
+/// Returns the status for `words` if standard error fails.
 pub fn answered_unheard<T: Files + AllocGlobal + Threads + Wait + Sync>(
     rt: &T,
     words: &[&str],
@@ -234,7 +240,7 @@ fn a_file_that_is_not_there_is_refused(rt: HostRuntime) {
     is_not_opened(&rt, "/", "heapmark: /: is a directory\n");
 }
 
-/// Such a file is refused in one line, and a second one tells people why.
+/// Checks that `file` is refused in one line, and that a second one says why at a terminal.
 fn is_not_opened<T: Abort + Files + AllocGlobal + Threads + Wait + Sync>(
     rt: &T,
     file: &str,

@@ -1,4 +1,4 @@
-//! How a refusal is printed.
+//! The line that a refusal prints.
 
 use crate::Refusal;
 use crate::command::refused;
@@ -36,14 +36,14 @@ fn each_code_has_its_name(rt: HostRuntime) {
     }
 }
 
-/// The status of a refusal, and whether this is what is printed of it.
+/// Returns the status of `refusal`, and whether just `want` is printed of it.
 fn told(alloc: Global, refusal: &Refusal, want: &str) -> (u8, bool) {
     let mut err = Vec::new(alloc);
     let status = refused(&mut err, refusal);
     (status, err.as_slice() == want.as_bytes())
 }
 
-/// Whether a refusal of this code, without a place, is printed by its code and this name, with status 1.
+/// Tests whether a refusal of `code`, without a place, is printed by its code and `name`, with status 1.
 fn is_printed(alloc: Global, code: u8, name: &str) -> bool {
     let refusal = Refusal { code, offset: None };
     match format!(in alloc; "heapmark: refused {code} {name}\n") {

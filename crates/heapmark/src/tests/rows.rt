@@ -25,7 +25,7 @@ pub type Reported = (&'static str, u32, &'static [Record], &'static [Line]);
 /// The name of a row, the size of its identifiers, its records, and the code and the place of its refusal.
 pub type Refused = (&'static str, u32, &'static [Record], u8, u64);
 
-/// What a report of these lines is.
+/// Returns the text of a report of `lines`.
 pub fn report_of(alloc: Global, lines: &[Line]) -> Result<String, AllocError> {
     let mut report = String::new(alloc);
     for (count, bytes, name) in lines {
@@ -34,16 +34,16 @@ pub fn report_of(alloc: Global, lines: &[Line]) -> Result<String, AllocError> {
     Ok(report)
 }
 
-/// How a dump is given to a run.
+/// How a run reads a dump.
 #[derive(Clone, Copy)]
 pub enum Reading {
-    /// All that a read has room for, to 1, 2 and 64 workers.
+    /// A read fills the whole buffer; with 1, 2 and 64 workers.
     Whole,
-    /// One byte a read, to two workers with the least buffers.
+    /// A read gives one byte; with two workers and the least buffers.
     ByteByByte,
 }
 
-/// Whether the runs on these bytes are answered so.
+/// Tests whether the runs on `dump` have the result `want` and write just `report`.
 fn runs_are_answered<T: Threads + Wait + Sync>(
     rt: &T,
     alloc: Global,
@@ -65,7 +65,7 @@ fn runs_are_answered<T: Threads + Wait + Sync>(
     }
 }
 
-/// Whether the runs on these bytes write the report of these lines.
+/// Tests whether the runs on `dump` write the report of `lines`.
 fn lines_are_written<T: Threads + Wait + Sync>(
     rt: &T,
     alloc: Global,
@@ -79,7 +79,7 @@ fn lines_are_written<T: Threads + Wait + Sync>(
     }
 }
 
-/// Whether the runs on a dump that has a report write it.
+/// Tests whether the runs on the dump of `row` write its report.
 fn is_reported<T: Threads + Wait + Sync>(
     rt: &T,
     alloc: Global,
@@ -93,7 +93,7 @@ fn is_reported<T: Threads + Wait + Sync>(
     }
 }
 
-/// Whether the runs on a dump with a fault find it.
+/// Tests whether the runs on the dump of `row` find its fault.
 fn is_refused<T: Threads + Wait + Sync>(
     rt: &T,
     alloc: Global,
@@ -108,7 +108,7 @@ fn is_refused<T: Threads + Wait + Sync>(
     }
 }
 
-/// Whether the runs on a sample write this report.
+/// Tests whether the runs on `sample` write `report`.
 fn sample_is_reported<T: Threads + Wait + Sync>(
     rt: &T,
     alloc: Global,
@@ -129,7 +129,7 @@ static SAMPLES: [(Sample, &str); 3] = [
     (Sample::WideArray, WIDE_ARRAY_REPORT),
 ];
 
-/// Checks each of these dumps.
+/// Checks the dump of each row.
 fn all_are_reported<T: Abort + Threads + Wait + Sync>(
     rt: &T,
     alloc: Global,
@@ -174,14 +174,14 @@ fn faults_are_refused(rt: HostRuntime) {
     faults_are_found(&rt, rt.alloc(), Reading::Whole);
 }
 
-/// The header, and a string of 2 ^ 32 - 1 bytes that begins at its end.
+/// Returns a header, and the beginning of a string of 2 ^ 32 - 1 bytes.
 fn long_string(alloc: Global) -> Result<Bytes, AllocError> {
     let mut dump = Bytes::header(alloc, 4)?;
     dump.raw(&[0x01, 0, 0, 0, 0, 0xff, 0xff, 0xff, 0xff])?;
     Ok(dump)
 }
 
-/// Whether the runs on it are refused so.
+/// Tests whether the runs on it are refused.
 fn long_string_is_refused<T: Threads + Wait + Sync>(rt: &T, alloc: Global) -> bool {
     let (reading, want) = (Reading::Whole, refused(3, Some(31)));
     match long_string(alloc) {

@@ -18,7 +18,7 @@ use std::rt::Files;
 use std::sync::Wait;
 use std::thread::Threads;
 
-/// What a case shows, its records with identifiers of 4 bytes, a list, or none, and the lines of the report.
+/// What a case shows, its records with identifiers of 4 bytes, its list if it has one, and the lines of the report.
 pub type Skipped = (
     &'static str,
     &'static [Record],
@@ -44,7 +44,7 @@ pub const REFERENCES: &[Record] = &[
     ]),
 ];
 
-/// The report of these where nothing is skipped.
+/// The report of `REFERENCES` if nothing is skipped.
 const ALL: &[Line] = &[
     (3, 24, "T"),
     (2, 0, "<class>"),
@@ -53,7 +53,7 @@ const ALL: &[Line] = &[
     (1, 0, "(unresolved)"),
 ];
 
-/// The report of these where the fields of `java/lang/ref/Reference` are skipped.
+/// The report of `REFERENCES` if the fields of `java/lang/ref/Reference` are skipped.
 const SUPERCLASS_SKIPPED: &[Line] = &[
     (2, 16, "T"),
     (2, 0, "<class>"),
@@ -65,13 +65,13 @@ const SUPERCLASS_SKIPPED: &[Line] = &[
 static LISTS: [Skipped; 6] = [
     ("no list", REFERENCES, None, ALL),
     (
-        "a field that is not there",
+        "a field that no class declares",
         REFERENCES,
         Some("T.other"),
         ALL,
     ),
     (
-        "a class that is not there",
+        "a class that the dump does not have",
         REFERENCES,
         Some("U.referent"),
         ALL,
@@ -83,7 +83,7 @@ static LISTS: [Skipped; 6] = [
         SUPERCLASS_SKIPPED,
     ),
     (
-        "a field of the subclass alone",
+        "a field of the subclass only",
         REFERENCES,
         Some("T.referent"),
         &[
@@ -108,7 +108,7 @@ static LISTS: [Skipped; 6] = [
     ),
 ];
 
-/// Whether runs with 1, 2 and 64 workers on these bytes write this report.
+/// Tests whether runs with 1, 2 and 64 workers on `dump` without the fields of `skip` write `report`.
 fn runs_are_reported<T: Threads + Wait + Sync>(
     rt: &T,
     alloc: Global,
@@ -125,7 +125,7 @@ fn runs_are_reported<T: Threads + Wait + Sync>(
     true
 }
 
-/// Whether they do where these fields are skipped, and the report is that of these lines.
+/// Tests whether these runs write the report of `lines`.
 fn lines_are_written<T: Threads + Wait + Sync>(
     rt: &T,
     alloc: Global,
@@ -139,7 +139,7 @@ fn lines_are_written<T: Threads + Wait + Sync>(
     }
 }
 
-/// Whether they do where the fields of this list are skipped.
+/// Tests whether these runs without the fields of `list` write the report of `lines`.
 fn list_is_skipped<T: Threads + Wait + Sync>(
     rt: &T,
     alloc: Global,
@@ -156,7 +156,7 @@ fn list_is_skipped<T: Threads + Wait + Sync>(
     }
 }
 
-/// Whether the runs of a case write its report.
+/// Tests whether the runs of `case` write its report.
 fn is_skipped<T: Threads + Wait + Sync>(rt: &T, alloc: Global, case: &Skipped) -> bool {
     let (_, records, list, lines) = *case;
     match Bytes::dump(alloc, 4, records) {
@@ -179,7 +179,7 @@ fn fields_are_skipped_by_both_names(rt: HostRuntime) {
     }
 }
 
-/// Whether the program answers this line by a report of these lines.
+/// Tests whether the program writes the report of `lines` for the command line `line`.
 fn is_reported<T: AllocGlobal + Env + Files + Threads + Wait + Sync>(
     rt: &T,
     line: &str,
@@ -195,7 +195,7 @@ fn is_reported<T: AllocGlobal + Env + Files + Threads + Wait + Sync>(
     }
 }
 
-/// Whether it does for a line with this list.
+/// Tests whether it does for a command line with `list`.
 fn list_is_reported<T: AllocGlobal + Env + Files + Threads + Wait + Sync>(
     rt: &T,
     list: Option<&'static str>,
@@ -218,7 +218,7 @@ fn the_words_list_the_fields(rt: HostRuntime) {
     assert!(rt; is_reported(&rt, "--skip=T.other FILE", ALL));
 }
 
-/// The program refuses these words so, with nothing written.
+/// Checks that the program refuses `words` by the line `refusal` and writes nothing.
 fn is_refused<T: Abort + Files + AllocGlobal + Threads + Wait + Sync>(
     rt: &T,
     words: &[&str],
@@ -240,7 +240,7 @@ const BAD_LISTS: [&str; 8] = [
     "a.b,c.d,.f",
 ];
 
-/// A file that is not there would be told as 19, had it been opened.
+/// The file does not exist: had it been opened, the refusal would be 19.
 #[test]
 fn bad_lists_are_refused(rt: HostRuntime) {
     let gone = "/nowhere/heapmark.hprof";

@@ -1,4 +1,4 @@
-//! Readers, writers and memory that fail, each at every call in turn.
+//! Readers and writers that fail, each at every call in turn.
 
 use super::dumps::Sample::{Nothing, TwoObjects};
 use super::dumps::{NOTHING_REPORT, Sample, TWO_OBJECTS_REPORT, two_objects};
@@ -10,7 +10,7 @@ use std::io::{ErrorKind, Read, Write};
 use std::sync::Wait;
 use std::thread::Threads;
 
-/// Gives its bytes one at a call, and fails at one call alone.
+/// A reader that gives one byte a call, and fails at one call only.
 #[derive(Drop)]
 pub struct Drip<'a> {
     bytes: &'a [u8],
@@ -19,7 +19,7 @@ pub struct Drip<'a> {
 }
 
 impl<'a> Drip<'a> {
-    /// No call fails that a test makes.
+    /// Creates a reader of `bytes` that fails at no call that a test makes.
     pub fn new(bytes: &'a [u8]) -> Self {
         Drip {
             bytes,
@@ -52,7 +52,7 @@ enum Failure {
     TakesNothing,
 }
 
-/// Takes some bytes at a call, and fails at one write alone, or at the first flush.
+/// A writer that takes `step` bytes a call, and fails at one write only, or at the first flush.
 #[derive(Drop)]
 struct Tray {
     taken: Vec<u8>,
@@ -63,6 +63,7 @@ struct Tray {
 }
 
 impl Tray {
+    /// Creates a writer that fails after `writes_left` writes.
     fn new(alloc: Global, step: usize, writes_left: usize, failure: Failure) -> Self {
         Tray {
             taken: Vec::new(alloc),
@@ -73,7 +74,7 @@ impl Tray {
         }
     }
 
-    /// Takes all, and fails at the first flush.
+    /// Creates a writer that takes all, and fails at the first flush.
     fn that_does_not_flush(alloc: Global) -> Self {
         let mut tray = Tray::new(alloc, 1000, 1000, Failure::TakesNothing);
         tray.flushes = false;
@@ -107,7 +108,7 @@ impl Write for Tray {
     }
 }
 
-/// The answer of a run on the two objects whose reader fails so at this call.
+/// Returns the result of a run on the two objects whose reader fails after `calls_left` calls, with `kind`.
 fn read_failing<T: Threads + Wait + Sync>(
     rt: &T,
     alloc: Global,
@@ -137,7 +138,7 @@ fn a_read_fault_is_told_and_not_tried_again(rt: HostRuntime) {
     ] {
         for calls_left in 0..176usize {
             let told = read_failing(&rt, rt.alloc(), calls_left, kind);
-            // 174 reads give a byte, and one more finds the end
+            // 174 reads give a byte each, and one more finds the end
             let want = if calls_left < 175 {
                 (refused(19, None), Some(0))
             } else {
@@ -148,7 +149,7 @@ fn a_read_fault_is_told_and_not_tried_again(rt: HostRuntime) {
     }
 }
 
-/// The answer of a run with these options on these bytes whose report goes to this tray.
+/// Returns the result of a run on `bytes` whose report goes to `tray`.
 fn written_of<T: Threads + Wait + Sync>(
     rt: &T,
     alloc: Global,
@@ -162,7 +163,7 @@ fn written_of<T: Threads + Wait + Sync>(
     (outcome, length_of(tray.taken.as_slice(), report))
 }
 
-/// That of a run on this dump.
+/// Returns the result of a run on `sample` whose report goes to `tray`.
 fn written_to<T: Threads + Wait + Sync>(
     rt: &T,
     alloc: Global,
@@ -216,7 +217,7 @@ fn a_fault_of_the_flush_is_told(rt: HostRuntime) {
     );
 }
 
-/// The first of the lines that end each report, with nothing before them, is cut behind its count.
+/// In a report without rows the first of the last three lines is cut after its count.
 #[test]
 fn a_write_fault_leaves_a_beginning_of_the_last_lines(rt: HostRuntime) {
     for options in [least(2), usual(1), usual(2), usual(64)] {

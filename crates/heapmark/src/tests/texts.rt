@@ -1,4 +1,4 @@
-//! What the program prints for words that ask about it or are wrong, each text whole, as clap words it.
+//! The whole texts that the program prints for words that ask about it or are wrong, as clap words them.
 
 /// The help.
 pub const HELP: &str = "\
@@ -32,11 +32,12 @@ reachable objects, the unreachable ones, and the references to objects that are
 not in the dump. --skip changes it, and no other option.
 
 Bytes are those that the dump writes: no headers and padding, but 8 for each
-reference of a 64-bit machine. Unreachable objects of a dump without -all are no
-garbage: only the machine itself or fields of class objects hold them.
+reference of a 64-bit machine. Unreachable objects are mostly garbage in a dump
+of all objects: jcmd with -all, jmap without live, some at an OutOfMemoryError.
+In others only the machine itself or fields of class objects hold them.
 
 Exit status:
-  0  the report was written, or this help, or the version
+  0  the report was written, or this help or the version was asked for
   1  refused, as `heapmark: refused 5 BadSubTag at 49` on standard error tells:
      the code, its name, and for a fault of the dump its place in the file;
      nothing was written on standard output, but for a beginning of the report
@@ -55,7 +56,7 @@ pub const VERSION: &str = "heapmark 0.1.0
 rattle logic dac8208d650f15bf
 ";
 
-/// What is told of no words, or of a line without FILE.
+/// The message about no words, or about a line without FILE.
 pub const NO_FILE: &str = "error: the following required arguments were not provided:
   <FILE>
 
@@ -64,7 +65,7 @@ Usage: heapmark <FILE>
 For more information, try '--help'.
 ";
 
-/// A line with an option and without FILE.
+/// The message about a line with an option and without FILE.
 pub const NO_FILE_BUT_WORKERS: &str = "error: the following required arguments were not provided:
   <FILE>
 
@@ -73,7 +74,7 @@ Usage: heapmark --workers <N> <FILE>
 For more information, try '--help'.
 ";
 
-/// A second word that is no option.
+/// The message about a second word that is no option.
 pub const ANOTHER_WORD: &str = "error: unexpected argument 'b' found
 
 Usage: heapmark [OPTIONS] <FILE>
@@ -81,7 +82,7 @@ Usage: heapmark [OPTIONS] <FILE>
 For more information, try '--help'.
 ";
 
-/// An option that is not there.
+/// The message about an option that does not exist.
 pub const UNKNOWN_OPTION: &str = "error: unexpected argument '--treads' found
 
   tip: to pass '--treads' as a value, use '-- --treads'
@@ -91,7 +92,7 @@ Usage: heapmark [OPTIONS] <FILE>
 For more information, try '--help'.
 ";
 
-/// An option that is not there, and is like one that is.
+/// The message about an option that does not exist and is like one that does.
 pub const ALMOST_AN_OPTION: &str = "error: unexpected argument '--worker' found
 
   tip: a similar argument exists: '--workers'
@@ -101,13 +102,13 @@ Usage: heapmark --workers <N> <FILE>
 For more information, try '--help'.
 ";
 
-/// An option without a value.
+/// The message about an option without a value.
 pub const NO_VALUE: &str = "error: a value is required for '--workers <N>' but none was supplied
 
 For more information, try '--help'.
 ";
 
-/// Options that stand twice.
+/// The messages about options that are given twice.
 pub const WORKERS_TWICE: &str = "error: the argument '--workers <N>' cannot be used multiple times
 
 Usage: heapmark [OPTIONS] <FILE>
@@ -122,7 +123,7 @@ Usage: heapmark [OPTIONS] <FILE>
 For more information, try '--help'.
 ";
 
-/// Values that are out of their ranges, or no numbers.
+/// The messages about values that are out of their ranges, or no numbers.
 pub const WORKERS_0: &str = "error: invalid value '0' for '--workers <N>': 0 is not in 1..=64
 
 For more information, try '--help'.
@@ -155,7 +156,7 @@ pub const BUFFERS_65535: &str =
 For more information, try '--help'.
 ";
 
-pub const TAG_BEHIND_THE_LAST: &str =
+pub const TAG_AFTER_THE_LAST: &str =
     "error: invalid value '281474976710656' for '--first-tag <N>': 281474976710656 is not in 0..=281474976710655
 
 For more information, try '--help'.

@@ -10,7 +10,7 @@ use std::thread;
 use std::thread::Threads;
 use std::time::{Clock, Duration};
 
-/// As many as eight workers with buffers of two objects share.
+/// The report of 60 roots, enough for eight workers with buffers of two objects.
 const MANY_ROOTS: &str = "        60               0  A
          1               0  <class>
         61               0  (reachable)
@@ -18,7 +18,7 @@ const MANY_ROOTS: &str = "        60               0  A
          0               0  (unresolved)
 ";
 
-/// How often a worker that waits looks whether the others have come, 1 ms apart.
+/// How often a worker that waits tests whether the others have come, 1 ms apart.
 const TURNS: u32 = 2_000;
 
 /// Holds each worker at its first scan until all have come to one, and notes each call.
@@ -28,7 +28,7 @@ struct Meeting<C: Clock> {
     workers: u32,
     /// A bit for each worker that came.
     come: AtomicU64,
-    /// How many workers waited in vain.
+    /// The number of workers that waited in vain.
     late: AtomicU64,
     calls: AtomicU64,
     /// A bit for each object.
@@ -75,8 +75,8 @@ impl<C: Clock + Sync> Gate for Meeting<C> {
     }
 }
 
-/// The answer of a run on these bytes, whose workers meet at the gate; and how many of them waited in vain, the calls
-/// of the gate, a bit for each object, and how many calls no worker made.
+/// Returns the result of a run on `bytes` whose workers meet at the gate; and how many of them waited in vain, the
+/// number of calls of the gate, a bit for each object, and how many calls no worker made.
 fn run_meeting_on<T: Clock + Threads + Wait + Sync>(
     rt: &T,
     alloc: Global,
@@ -97,7 +97,7 @@ fn run_meeting_on<T: Clock + Threads + Wait + Sync>(
     ((outcome, length_of(written.as_slice(), report)), counts)
 }
 
-/// Those of a run on so many roots.
+/// Returns the same for a run on `roots` roots.
 fn run_meeting<T: Clock + Threads + Wait + Sync>(
     rt: &T,
     alloc: Global,

@@ -1,4 +1,4 @@
--- What is shown of the rows up to a number.
+-- The entries of the rows up to a number.
 use Rattle.std.specs.Prelude.{List, filter, map, nat_lt, ℕ}
 use Rattle.std.specs.List.{range_with_len}
 use Rattle.histogram.specs.Histogram.{Entry, entry}
@@ -7,7 +7,7 @@ use Rattle.heap_graph.specs.ObjectGraph.{ObjectGraph, row_at}
 use Rattle.heap_graph.specs.RowNumbers.{numbered_row, row_number}
 use Rattle.heap_graph.specs.declared.row.RowKey.{RowKey}
 
--- what a row with so many objects and bytes shows
+-- the entry of a row with the tally `told`: its number of objects and their bytes
 abbrev pub row_entry : ObjectGraph → RowKey → ℕ × ℕ → Entry
 row_entry g row told = record { name = shown_row g row; class = row_id g row; count = told.0; bytes = told.1 }
 

@@ -1,4 +1,4 @@
--- Objects that are not marked, and what is counted of some objects.
+-- Objects that are not marked, and the totals of some objects.
 use Rattle.std.specs.Prelude.{All, Bool, List, false, filter, length, not, slice_index_or, sum_by, ℕ}
 use Rattle.std.specs.Prelude.{◌+◌, ◌-◌, ◌<◌, ◌^◌, ◌≤◌}
 use Rattle.std.specs.List.{range_with_len}
@@ -10,7 +10,7 @@ use Rattle.histogram.specs.declared.unmarked.Unmarked.{Unmarked}
 abbrev pub unmarked_from : List Bool → ℕ → List ℕ
 unmarked_from marks from = filter (λ o. not (slice_index_or marks o false)) (range_with_len from (length marks - from))
 
--- what is counted of these objects
+-- the totals of these objects
 abbrev pub counted : ObjectGraph → List ℕ → Unmarked
 counted g numbers = record {
   count = length numbers;
@@ -18,7 +18,7 @@ counted g numbers = record {
   unresolved = unresolved_among g numbers;
 }
 
--- what is counted of some objects and of others
+-- the totals of two lists of objects together
 abbrev pub both : Unmarked → Unmarked → Unmarked
 both a b = record {
   count = a.count + b.count;

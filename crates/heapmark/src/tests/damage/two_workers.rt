@@ -10,11 +10,11 @@ use std::process::Abort;
 use std::sync::Wait;
 use std::thread::Threads;
 
-/// How many places of the dump a test changes.
+/// The number of places of the dump that a test changes.
 const PLACES: usize = 8;
 
-/// Two workers, and two buffers of two objects more than the least. With the least one of them may find no pair: it is
-/// never idle, so the other waits for it in all its turns, some 0.4 s.
+/// Returns options with two workers, and two buffers of two objects more than the least. With the least one of them may
+/// find no pair: it is never idle, so the other waits for it in all its turns, some 0.4 s.
 fn two_workers() -> Options {
     let Ok(options) = Options::new(2, 2, 8, 0) else {
         unreachable!();
@@ -22,7 +22,7 @@ fn two_workers() -> Options {
     options
 }
 
-/// Checks the rows of so many places from this one on.
+/// Checks the rows of `PLACES` places from `from` on.
 fn check_from<T: Abort + AllocGlobal + Threads + Wait + Sync>(rt: &T, from: usize) {
     for row in &ANSWERS {
         if from <= row.0 && row.0 - from < PLACES {

@@ -15,7 +15,7 @@ pub static REFUSED: [Refused; 27] = [
         49,
     ),
     (
-        "a segment behind the end",
+        "a segment after the end",
         4,
         &[Segment(&[]), Other(0x2C, &[]), Segment(&[])],
         8,
@@ -23,7 +23,7 @@ pub static REFUSED: [Refused; 27] = [
     ),
     ("two heap dumps", 4, &[Heap(&[]), Heap(&[])], 8, 40),
     (
-        "a segment behind a heap dump",
+        "a segment after a heap dump",
         4,
         &[Heap(&[]), Segment(&[])],
         8,

@@ -42,7 +42,7 @@ const SKIPPED: &[Line] = &[
     (0, 0, "(unresolved)"),
 ];
 
-/// The lines where the class has no name.
+/// The lines if the class has no name.
 const OF_NO_NAME: &[Line] = &[
     (1, 4, "?0x110"),
     (1, 4, "int[]"),

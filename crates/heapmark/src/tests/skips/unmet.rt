@@ -1,4 +1,4 @@
-//! Entries that name no field of the dump, as people are told of them behind the report.
+//! The lines about entries that name no field of the dump, which follow the report at a terminal.
 
 use super::{ALL, REFERENCES, SUPERCLASS_SKIPPED};
 use crate::tests::dumps::Record::{Heap, Load, Text};
@@ -13,12 +13,12 @@ use std::rt::Files;
 use std::sync::Wait;
 use std::thread::Threads;
 
-/// Records, a list, the lines of the report, and what people are told behind it.
+/// Records, a list, the lines of the report, and the entries about which a line follows it at a terminal.
 type Unmet = (
     &'static [Record],
     &'static str,
     &'static [Line],
-    &'static str,
+    &'static [&'static str],
 );
 
 /// A class `T` whose static field `referent` names the class itself.
@@ -41,58 +41,45 @@ static UNMET: [Unmet; 9] = [
         REFERENCES,
         "java/lang/ref/Reference.referent",
         SUPERCLASS_SKIPPED,
-        "",
+        &[],
     ),
     (
         REFERENCES,
         "java/lang/ref/Reference.referent,T.other",
         SUPERCLASS_SKIPPED,
-        "heapmark: --skip T.other: no class of the dump declares this field\n",
+        &["T.other"],
     ),
     (
         REFERENCES,
         "T.other,java/lang/ref/Reference.referent",
         SUPERCLASS_SKIPPED,
-        "heapmark: --skip T.other: no class of the dump declares this field\n",
+        &["T.other"],
     ),
     (
         REFERENCES,
         "java.lang.ref.Reference.referent,U.referent",
         ALL,
-        "heapmark: --skip java.lang.ref.Reference.referent: no class of the dump declares this field
-heapmark: --skip U.referent: no class of the dump declares this field
-",
+        &["java.lang.ref.Reference.referent", "U.referent"],
     ),
     (
         REFERENCES,
         "T.referen,T.referents",
         ALL,
-        "heapmark: --skip T.referen: no class of the dump declares this field
-heapmark: --skip T.referents: no class of the dump declares this field
-",
+        &["T.referen", "T.referents"],
     ),
     (
         REFERENCES,
         "referent.T,T.java/lang/ref/Reference",
         ALL,
-        "heapmark: --skip referent.T: no class of the dump declares this field
-heapmark: --skip T.java/lang/ref/Reference: no class of the dump declares this field
-",
+        &["referent.T", "T.java/lang/ref/Reference"],
     ),
     (
         REFERENCES,
         "T.a\x1bb,T.a\x1bb",
         ALL,
-        "heapmark: --skip T.a\\x1bb: no class of the dump declares this field
-heapmark: --skip T.a\\x1bb: no class of the dump declares this field
-",
+        &["T.a\\x1bb", "T.a\\x1bb"],
     ),
-    (
-        STATIC,
-        "T.referent",
-        STATIC_ALONE,
-        "heapmark: --skip T.referent: no class of the dump declares this field\n",
-    ),
+    (STATIC, "T.referent", STATIC_ALONE, &["T.referent"]),
     (
         &[Heap(&[])],
         "T.referent",
@@ -101,12 +88,25 @@ heapmark: --skip T.a\\x1bb: no class of the dump declares this field
             (0, 0, "(unreachable)"),
             (0, 0, "(unresolved)"),
         ],
-        "heapmark: --skip T.referent: no class of the dump declares this field\n",
+        &["T.referent"],
     ),
 ];
 
-/// Whether the process answers this line by a report of these lines and tells this.
-fn is_told<T: AllocGlobal + Env + Files + Threads + Wait + Sync>(
+/// Returns the lines about these entries.
+fn lines_about(alloc: Global, entries: &[&str]) -> Result<String, AllocError> {
+    let mut lines = String::new(alloc);
+    for entry in entries {
+        write!(
+            lines,
+            "heapmark: --skip {entry}: no class of the dump declares this field of its instances \
+            (static fields are always followed)\n"
+        )?;
+    }
+    Ok(lines)
+}
+
+/// Tests whether the process writes the report of `case` and just `told` on standard error.
+fn is_printed<T: AllocGlobal + Env + Files + Threads + Wait + Sync>(
     rt: &T,
     case: &Unmet,
     is_terminal: bool,
@@ -124,17 +124,30 @@ fn is_told<T: AllocGlobal + Env + Files + Threads + Wait + Sync>(
     answered_on(rt, name, sample, line.as_str(), asked) == Some((0, true, true))
 }
 
-/// Where standard error is a terminal, and nothing where it is none.
-#[test]
-fn entries_that_name_no_field_are_told(rt: HostRuntime) {
-    for case in &UNMET {
-        let (_, list, _, told) = *case;
-        assert!(rt; is_told(&rt, case, true, told), "{list}");
-        assert!(rt; is_told(&rt, case, false, ""), "{list}, no terminal");
+/// Tests whether the process writes the report of `case` and just the lines about `entries` on standard error.
+fn is_told<T: AllocGlobal + Env + Files + Threads + Wait + Sync>(
+    rt: &T,
+    case: &Unmet,
+    is_terminal: bool,
+    entries: &[&str],
+) -> bool {
+    match lines_about(rt.alloc(), entries) {
+        Ok(told) => is_printed(rt, case, is_terminal, told.as_str()),
+        Err(_) => false,
     }
 }
 
-/// A line with a list of 25,000 bytes, of which the last entry is the one that counts.
+/// They are printed only if standard error is a terminal.
+#[test]
+fn entries_that_name_no_field_are_told(rt: HostRuntime) {
+    for case in &UNMET {
+        let (_, list, _, entries) = *case;
+        assert!(rt; is_told(&rt, case, true, entries), "{list}");
+        assert!(rt; is_told(&rt, case, false, &[]), "{list}, no terminal");
+    }
+}
+
+/// Returns a command line with a list of 25,000 bytes, whose last entry alone names a field.
 fn long_line(alloc: Global) -> Result<String, AllocError> {
     let mut line = String::new(alloc);
     line.push_str("FILE --skip ")?;
@@ -145,7 +158,7 @@ fn long_line(alloc: Global) -> Result<String, AllocError> {
     Ok(line)
 }
 
-/// Whether the process answers that line by the report without the fields of the last entry.
+/// Tests whether the process writes the report without the field of the last entry for that line.
 fn long_line_is_read<T: AllocGlobal + Env + Files + Threads + Wait + Sync>(
     rt: &T,
     is_terminal: bool,
@@ -167,7 +180,7 @@ fn a_long_word_is_read_to_its_end(rt: HostRuntime) {
     assert!(rt; long_line_is_read(&rt, true), "a terminal");
 }
 
-/// A list that is refused has its own second line, and nothing is read where the version is asked for.
+/// A list that is refused has its own second line, and nothing is read if the version is asked for.
 #[test]
 fn other_lines_are_told_nothing_of_entries(rt: HostRuntime) {
     let (name, sample) = ("heapmark_unmet_else.hprof", Sample::Records(4, REFERENCES));

@@ -1,0 +1,107 @@
+//! Files as the program opens them: the room that it takes for one, and those that it does not open a second time.
+
+use super::hints::advice;
+use super::program::{answered_to_people, file_of};
+use crate::Refusal;
+use crate::command::open;
+use crate::pipeline::read_bytes;
+use std::alloc::{AllocError, Global};
+use std::env::Env;
+use std::fs::OpenFile;
+use std::path::{Path, PathBuf};
+use std::rt::Files;
+use std::{env, fs, io};
+
+/// Returns the capacity and the length of the bytes that are read of the file `name`.
+fn room_of<T: AllocGlobal + Files>(rt: &T, name: &str) -> Option<(usize, usize)> {
+    let Ok(mut reader) = open(rt, name) else {
+        return None;
+    };
+    match read_bytes(rt.alloc(), &mut reader) {
+        Ok(bytes) => Some((bytes.capacity(), bytes.len())),
+        Err(_) => None,
+    }
+}
+
+/// Returns the capacity and the length of what is read of a file of `bytes`.
+fn room_of_bytes<T: AllocGlobal + Env + Files>(rt: &T, bytes: &[u8]) -> Option<(usize, usize)> {
+    let Ok(path) = file_of(rt, "heapmark_room.hprof", bytes) else {
+        return None;
+    };
+    let room = room_of_path(rt, path.as_path());
+    match fs::remove_file(rt, path.as_path()) {
+        Ok(()) => room,
+        Err(_) => None,
+    }
+}
+
+/// Returns the capacity and the length of what is read of the file at `path`.
+fn room_of_path<T: AllocGlobal + Files>(rt: &T, path: Path<'_>) -> Option<(usize, usize)> {
+    room_of(rt, path.to_str()?)
+}
+
+/// Returns `size` bytes, none of them a header.
+fn zeros(alloc: Global, size: usize) -> Result<Vec<u8>, AllocError> {
+    vec![in alloc; 0u8; size]
+}
+
+/// A file gets room for its bytes and one more, so that the last read finds the end.
+#[test]
+fn a_file_gets_the_room_of_its_size(rt: HostRuntime) {
+    for size in [0, 1, 174, 1_000_000] {
+        let room = match zeros(rt.alloc(), size) {
+            Ok(bytes) => room_of_bytes(&rt, bytes.as_slice()),
+            Err(_) => None,
+        };
+        assert_eq!(rt; room, Some((size + 1, size)), "{size} bytes");
+    }
+}
+
+/// A device is no plain file, nor is a pipe, which would be waited for. So nothing is known of its first bytes.
+#[test]
+fn only_a_plain_file_is_opened_again(rt: HostRuntime) {
+    let refusal = "heapmark: refused 1 BadHeader at 0\n";
+    let hint = "heapmark: /dev/null: \
+        no HPROF binary dump of version 1.0.2, as `jcmd PID GC.heap_dump FILE` writes it\n";
+    let told = answered_to_people(&rt, &["heapmark", "/dev/null"], refusal, hint);
+    assert_eq!(rt; told, (1, true, Some(refusal.len() + hint.len())));
+}
+
+/// Makes a file of `size` bytes without content, which takes no room on the disk.
+fn hollow_file<T: AllocGlobal + Env + Files>(rt: &T, size: u64) -> io::Result<PathBuf> {
+    let path = env::temp_dir(rt)?.join(rt.alloc(), "heapmark_hollow.hprof")?;
+    fs::create(rt, path.as_path())?.set_len(size)?;
+    Ok(path)
+}
+
+/// Tests whether `want` ends the hint about refused memory for the file at `path`.
+fn is_hint_at<T: AllocGlobal + Files>(rt: &T, path: Path<'_>, want: &str) -> bool {
+    match path.to_str() {
+        Some(file) => {
+            let hint = advice(rt, file, Refusal::OUT_OF_MEMORY, 4, 1024);
+            hint.as_slice().ends_with(want.as_bytes())
+        }
+        None => false,
+    }
+}
+
+/// Tests whether `want` ends the hint about refused memory for a file of `size` bytes.
+fn is_hint_of_size<T: AllocGlobal + Env + Files>(rt: &T, size: u64, want: &str) -> bool {
+    let Ok(path) = hollow_file(rt, size) else {
+        return false;
+    };
+    let is_told = is_hint_at(rt, path.as_path(), want);
+    is_told && fs::remove_file(rt, path.as_path()).is_ok()
+}
+
+/// No memory is enough for a file that has more bytes than a dump may have.
+#[test]
+fn a_file_that_is_too_large_wants_no_memory(rt: HostRuntime) {
+    let memory = ": takes its own size in memory and more for each object: free some memory, \
+        or try --workers 1, which takes the least\n";
+    let bytes = ": more than 1,073,741,824 bytes: \
+        dump a smaller heap, or live objects only (without -all)\n";
+    for (size, want) in [(1_073_741_824, memory), (1_073_741_825, bytes)] {
+        assert!(rt; is_hint_of_size(&rt, size, want), "{size} bytes");
+    }
+}

@@ -1,0 +1,137 @@
+//! Trees of many objects: runs with 1 and 4 workers count each of them, and share the work on them.
+//!
+//! `rt try --test` takes some minutes for it: `--seconds 300` lets it end.
+
+use super::dumps::{Bytes, TWO_OBJECTS};
+use super::{is_answered, run_with, usual};
+use crate::{NoGate, Skip};
+use limited_heap::LimitedHeap;
+use std::alloc::{AllocError, Global};
+use std::sync::Wait;
+use std::thread::{Threads, available_parallelism};
+
+/// The nodes of a tree of 20 levels: with their class 2^20 objects.
+const MANY: u32 = 1_048_575;
+
+/// The fewest objects on which threads share the work.
+const SHARED: u32 = 65_536;
+
+/// The report of the tree of 20 levels.
+const REPORT: &str = "   1048575         8388600  A
+         1               0  <class>
+   1048576         8388600  (reachable)
+         0               0  (unreachable)
+         0               0  (unresolved)
+";
+
+/// Returns the identifier of the node `number` of a tree of `nodes` nodes, or 0 if it has none of this number.
+fn id_of(number: u32, nodes: u32) -> u32 {
+    if number <= nodes {
+        number.wrapping_mul(8).wrapping_add(4096)
+    } else {
+        0
+    }
+}
+
+/// Puts the node `number`, whose two fields refer to the nodes of twice its number and of one more.
+fn put_node(heap: &mut Bytes, number: u32, nodes: u32) -> Result<(), AllocError> {
+    let left = number.wrapping_mul(2);
+    heap.raw(&[0x21])?;
+    heap.number(id_of(number, nodes))?;
+    heap.raw(&[0, 0, 0, 0, 0, 0, 1, 0, 0, 0, 0, 8])?;
+    heap.number(id_of(left, nodes))?;
+    heap.number(id_of(left.wrapping_add(1), nodes))
+}
+
+/// Returns the body of a heap dump: the class, the nodes of a tree, and its first node as the one root.
+fn nodes_of(alloc: Global, nodes: u32) -> Result<Bytes, AllocError> {
+    let mut heap = Bytes::new(alloc, 4);
+    heap.sub(super::dumps::Sub::Class(0x100, 0, &[2, 2]))?;
+    for number in 1..=nodes {
+        put_node(&mut heap, number, nodes)?;
+    }
+    heap.raw(&[0xff])?;
+    heap.number(id_of(1, nodes))?;
+    Ok(heap)
+}
+
+/// Returns a dump of a tree of `nodes` nodes.
+fn tree(alloc: Global, nodes: u32) -> Result<Bytes, AllocError> {
+    let heap = nodes_of(alloc, nodes)?;
+    let mut dump = Bytes::dump(alloc, 4, &TWO_OBJECTS[..2])?;
+    dump.record(0x0C, heap.bytes.as_slice())?;
+    Ok(dump)
+}
+
+/// Tests whether runs with 1 and 4 workers on `bytes` write the report of the tree of 20 levels.
+fn runs_are_reported<T: Threads + Wait + Sync>(rt: &T, alloc: Global, bytes: &[u8]) -> bool {
+    for workers in [1, 4] {
+        if !is_answered(rt, alloc, &usual(workers), bytes, Ok(()), REPORT) {
+            return false;
+        }
+    }
+    true
+}
+
+/// Tests whether runs on the tree of 20 levels write its report.
+fn tree_is_reported<T: Threads + Wait + Sync>(rt: &T, alloc: Global) -> bool {
+    match tree(alloc, MANY) {
+        Ok(dump) => runs_are_reported(rt, alloc, dump.bytes.as_slice()),
+        Err(_) => false,
+    }
+}
+
+#[test]
+fn a_million_objects_are_counted(rt: HostRuntime) {
+    assert!(rt; tree_is_reported(&rt, rt.alloc()));
+}
+
+/// Returns how many allocations a run with this number of `workers` on `bytes` makes, if it is not refused.
+fn requests_on<T: Threads + Wait + Sync>(
+    rt: &T,
+    alloc: Global,
+    workers: u32,
+    bytes: &[u8],
+) -> Option<u64>
+    requires some { 1 ≤ workers }
+    requires most { workers ≤ 64 }
+{
+    let heap = LimitedHeap::new(alloc, u64::MAX);
+    let (skip, written) = (Skip::none(alloc), Vec::new(alloc));
+    let options = usual(workers);
+    let (outcome, _) = run_with(rt, &heap, &options, &skip, &NoGate, bytes, written);
+    match outcome {
+        Ok(()) => Some(u64::MAX.wrapping_sub(heap.requests_left())),
+        Err(_) => None,
+    }
+}
+
+/// Returns how many more allocations a run on the tree of `SHARED` nodes makes than one on a tree of a single node.
+fn requests_of_size<T: Threads + Wait + Sync>(
+    rt: &T,
+    alloc: Global,
+    workers: u32,
+) -> Result<Option<u64>, AllocError>
+    requires some { 1 ≤ workers }
+    requires most { workers ≤ 64 }
+{
+    let (large, small) = (tree(alloc, SHARED)?, tree(alloc, 1)?);
+    let large = requests_on(rt, alloc, workers, large.bytes.as_slice());
+    let small = requests_on(rt, alloc, workers, small.bytes.as_slice());
+    match (large, small) {
+        (Some(large), Some(small)) => Ok(large.checked_sub(small)),
+        _ => Ok(None),
+    }
+}
+
+/// Each part of the work has lists of its own. A single processor shares nothing.
+#[test]
+fn workers_share_the_work_before_the_marking(rt: HostRuntime) {
+    let alone = requests_of_size(&rt, rt.alloc(), 1).unwrap_or(None);
+    let shared = requests_of_size(&rt, rt.alloc(), 4).unwrap_or(None);
+    let is_single = available_parallelism(&rt).is_ok_and(|processors| processors.get() == 1);
+    assert!(rt;
+        alone.is_some() && shared.is_some() && (shared > alone || is_single),
+        "{alone:?} with 1 worker, {shared:?} with 4"
+    );
+}
