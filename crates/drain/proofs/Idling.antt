@@ -1,10 +1,27 @@
--- A worker that goes idle, looks at the idle word and at the full stack, and comes back.
+-- A worker that goes idle, looks at the idle word and at the full stack, and comes back: each of these steps leaves it
+-- what it had.
 use Rattle.drain.proofs.Words.{AreOfSize, Book, Bool, CameFrom, CanIdle, Contains, HasAtHand, HasNoneLeft, Holder}
-use Rattle.drain.proofs.Words.{IsAtWork, IsAwake, IsIdling, IsStill, List, PairState, Sees, Setup, [], ap, arith, false}
+use Rattle.drain.proofs.Words.{IsAtWork, IsAwake, List, PairState, Sees, Setup, [], ap, arith, false, false≢true}
 use Rattle.drain.proofs.Words.{idle_loaded, idled, inr, is_none, is_some, loaded, pair_items, refl, subst, sym, times}
-use Rattle.drain.proofs.Words.{true, woken, ℕ, ◌&&◌, ◌*◌, ◌+◌, ◌||◌, ◌∙◌, ◌≡◌}
+use Rattle.drain.proofs.Words.{true, woken, ℕ, ◌&&◌, ◌+◌, ◌||◌, ◌↔◌, ◌∙◌, ◌≡◌, ◌≢◌}
 use Rattle.mark_core.specs.declared.which.Which.TheVariants.{Full}
+use Rattle.drain.specs.working.Idle.{TurnsInVain, WaitsInVain}
+use Rattle.drain.specs.working.Idle.WaitsInVain.{more as one_more_vain, none as none_vain}
 use Rattle.drain.proofs.AtHand.{came_again, came_at_all, nothing}
+
+-- it has what it had, nothing was pushed on the full stack, and that was found empty
+pub record IsStill (begun w : Holder) : Type 0 where
+  pub came : CameFrom begun w
+  pub held : w.book.account.held ≡ begun.book.account.held
+  pub charge : w.book.account.charge ≡ begun.book.account.charge
+  pub finished : w.book.account.finished ≡ begun.book.account.finished
+  pub open_push : w.book.account.open_push ≡ false
+  pub found : w.book.account.found ≡ true
+
+-- it went idle, and has what it had
+pub record IsIdling (begun w : Holder) : Type 0 where
+  pub still : IsStill begun w
+  pub idle : w.book.account.idle ≡ 1
 
 -- a worker without items may go idle
 pub may_idle : {p : PairState} {w : Holder} → IsAwake w → HasAtHand p [] w → HasNoneLeft p w → CanIdle w.book.account
@@ -55,19 +72,18 @@ module _ {old : Holder} (new : Holder) (pool : new.pool ≡ old.pool) where
       found = ap (λ (c : Book). c.account.found) is ∙ found;
     }
 
-  module _ {begun : Holder} {made : ℕ} (was : IsIdling begun made old) where
+  module _ {begun : Holder} (was : IsIdling begun old) where
     -- it loads the idle word
-    pub sees_idle : (word : ℕ) → new.book ≡ idle_loaded word old.book → IsIdling begun (made + 1) new
+    pub sees_idle : (word : ℕ) → new.book ≡ idle_loaded word old.book → IsIdling begun new
     sees_idle word is =
         let b = idle_loaded word old.book in
         record {
           still = still_after b is refl refl refl refl refl refl was.still was.still.open_push was.still.found;
           idle = ap (λ (c : Book). c.account.idle) is ∙ was.idle;
-          loads = omega (arith, ap (λ (c : Book). c.loads) is, was.loads);
         }
 
     -- it loads the head of the full stack
-    pub sees_full : (answer : Bool) → Sees Full old.book new.book answer → IsIdling begun (made + 1) new
+    pub sees_full : (answer : Bool) → Sees Full old.book new.book answer → IsIdling begun new
     sees_full answer sees =
         let b = loaded Full sees.head old.book in
         let closed = ap (λ (was_open : Bool). was_open && is_some sees.head.index) was.still.open_push in
@@ -75,7 +91,6 @@ module _ {old : Holder} (new : Holder) (pool : new.pool ≡ old.pool) where
         record {
           still = still_after b sees.book refl refl refl refl refl refl was.still closed found;
           idle = ap (λ (c : Book). c.account.idle) sees.book ∙ was.idle;
-          loads = omega (arith, ap (λ (c : Book). c.loads) sees.book, was.loads);
         }
 
     -- it comes back
@@ -91,7 +106,7 @@ module _ {old : Holder} (new : Holder) (pool : new.pool ≡ old.pool) where
 
 -- it goes idle
 pub goes_idle : (p : PairState) {old : Holder} (new : Holder) → new.pool ≡ old.pool → new.book ≡ idled old.book
-    → IsAwake old → HasNoneLeft p old → IsIdling old 0 new
+    → IsAwake old → HasNoneLeft p old → IsIdling old new
 goes_idle p {old} new pool is awake none =
     let still : IsStill old old =
     record {
@@ -106,11 +121,24 @@ goes_idle p {old} new pool is awake none =
     record {
       still = still_after new pool (idled old.book) is refl refl refl refl refl refl still none.1 none.2;
       idle = omega (arith, ap (λ (c : Book). c.account.idle) is, awake.idle);
-      loads = omega (arith, ap (λ (c : Book). c.loads) is);
     }
 
--- a turn is two loads
-pub next_turn : {begun w : Holder} (turn : ℕ) → IsIdling begun (2 * turn + 1 + 1) w → IsIdling begun (2 * (turn + 1)) w
-next_turn {begun} {w} turn idling =
-    let two : 2 * turn + 1 + 1 ≡ 2 * (turn + 1) = omega arith in
-    subst (λ (made : ℕ). IsIdling begun made w) two idling
+-- it has made no turn yet
+pub no_turn : (workers : ℕ) (begun : Book) {now : Book} → now ≡ idled begun → WaitsInVain workers 0 (idled begun) now
+no_turn workers begun is = subst (WaitsInVain workers 0 (idled begun)) (sym is) (none_vain (idled begun))
+
+-- a look at the idle word that did not show all workers idle
+pub not_all_idle : {all : Bool} {word workers : ℕ} → all ≡ false → (all ≡ true ↔ (word ≡ workers)) → word ≢ workers
+not_all_idle other shows same = false≢true (sym other ∙ shows.1 same)
+
+-- and then a look at the full stack, told of the book before both
+pub sees_after : {answer other : Bool} (word : ℕ) (old : Book) {mid new : Book} → mid ≡ idle_loaded word old
+    → answer ≡ other → Sees Full mid new answer → Sees Full (idle_loaded word old) new other
+sees_after {other = other} word old {mid} {new} is same sees =
+    subst (λ (b : Book). Sees Full b new other) is (subst (λ (a : Bool). Sees Full mid new a) same sees)
+
+-- one more turn in vain
+pub one_more_turn : {workers turn : ℕ} {begun old new : Book} → WaitsInVain workers turn begun old
+    → TurnsInVain workers old new → WaitsInVain workers (turn + 1) begun new
+one_more_turn {turn = turn} {begun = begun} {old = old} {new = new} so_far vain =
+    one_more_vain turn begun old new so_far vain

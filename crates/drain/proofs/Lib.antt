@@ -17,6 +17,5 @@ pub mod Scanning
 pub mod Sharing
 pub mod Starting
 pub mod Tallies
-pub mod Turns
 pub mod Visits
 pub mod Words

@@ -1,12 +1,35 @@
 -- A worker that got an object, claimed what it refers to and finished it: its tally had room, and takes the object in.
-use Rattle.drain.proofs.Words.{IsMeasureOf, IsSetupOf, IsSmall, IsTallyOf, List, Measure, Setup, Sum, [], ap, arith}
-use Rattle.drain.proofs.Words.{length, length_push, subst, sym, ℕ, ◌++◌, ◌∷◌, ◌≡◌, ◌≤◌}
+use Rattle.drain.proofs.Words.{CameFrom, HasTallied, Holder, IsAtWork, IsAwake, IsMeasureOf, IsSetupOf, IsSmall}
+use Rattle.drain.proofs.Words.{IsTallyOf, List, Measure, Setup, Sum, WorksOn, [], ap, arith, length, length_push, subst}
+use Rattle.drain.proofs.Words.{sym, ℕ, ◌++◌, ◌∙◌, ◌∷◌, ◌≡◌, ◌≤◌}
+use Rattle.drain.specs.declared.job.Job.{Job}
+use Rattle.drain.specs.declared.paired_worker.PairedWorker.{PairedWorker}
+use Rattle.drain.specs.declared.tally.Tally.{Tally}
+use Rattle.drain.specs.working.Jobs.{IsOnJob}
 use Rattle.drain.proofs.Tallies.{tally_is_small}
 
 -- of the same setup
 pub same_setup : {count : ℕ} {roots : List ℕ} {pairs : List (ℕ × ℕ)} {old new : Setup} → new ≡ old
     → IsSetupOf count roots pairs old → IsSetupOf count roots pairs new
 same_setup same was = subst (IsSetupOf _ _ _) (sym same) was
+
+-- a worker that came from one on a job is on it still
+pub still_on_job :
+    {A V G S : Type 0} {count : V → ℕ} {roots : V → List ℕ} {pairs : V → List (ℕ × ℕ)} {measure : V → Measure}
+    {job : Job A V G S} {old new : PairedWorker A} {before after : Tally A}
+    → IsOnJob count roots pairs measure job [] old before → CameFrom old.worker new.worker
+    → IsAtWork new.pair [] new.worker → HasTallied (measure job.graph.now) new.worker after
+    → IsOnJob count roots pairs measure job [] new after
+still_on_job was came at_work tally = record {
+  pool = came.pool ∙ was.pool;
+  setup = same_setup came.setup was.setup;
+  at_work = at_work;
+  tally = tally;
+}
+
+-- one that has its unit still is awake if it is as idle as before
+pub still_awake : {old new : Holder} → IsAwake old → WorksOn old new → IsAwake new
+still_awake was on = record { share = on.came.share ∙ was.share; idle = on.idle ∙ was.idle }
 
 -- the tally of a worker is that of one that finished the same
 pub same_tally : {m : Measure} {old new : List ℕ} {rows : List Sum} {unresolved : ℕ} → new ≡ old

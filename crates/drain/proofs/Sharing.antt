@@ -1,6 +1,6 @@
 -- The object that is got from a pair with a spill list is the last of that list, and it is put again.
-use Rattle.drain.proofs.Words.{Book, Err, List, None, Ok, Option, PairState, Puts, PutsAgain, Result, [], ap, arith}
-use Rattle.drain.proofs.Words.{buffered_items, length, none_first, pair_items, refl, subst, ℕ, ◌++◌, ◌<◌, ◌∷◌, ◌≡◌, ◌≢◌}
+use Rattle.drain.proofs.Words.{Book, Err, List, None, Ok, Option, PairState, Puts, PutsAgain, Result, Some, [], ap}
+use Rattle.drain.proofs.Words.{arith, buffered_items, length, none_first, pair_items, refl, subst, ℕ, ◌++◌, ◌<◌, ◌∷◌, ◌≡◌, ◌≢◌}
 use Rattle.drain.proofs.Words.{◌≤◌}
 use Rattle.work_pair.specs.declared.stop.Stop.{Stop}
 
@@ -28,6 +28,19 @@ answer_of (Err stop) = None
 -- what a get answers where one of its clauses says that it answers this
 pub same_answer : (got other : Option ℕ) → ◌≡◌ {A = Result (Option ℕ) Stop} (Ok got) (Ok other) → got ≡ other
 same_answer got other told = ap answer_of told
+
+-- an answer that is no object is none
+pub none_got : (got : Option ℕ) → ((o : ℕ) → got ≡ Some o → ⊥) → got ≡ None
+none_got None other = refl
+none_got (Some o) other = absurd (other o refl)
+
+-- a list of which the last object would have been got has none
+pub none_to_get : (xs : List ℕ) (got : Option ℕ) → ((o : ℕ) → got ≡ Some o → ⊥)
+    → ((o : ℕ) (rest : List ℕ) → xs ≡ rest ++ o ∷ [] → got ≡ Some o) → xs ≡ []
+none_to_get [] got other last = refl
+none_to_get (x ∷ xs) got other last =
+    let end = last_of (x ∷ xs) (omega arith) in
+    absurd (other end.1 (last end.1 end.0 end.2))
 
 -- where it was got, and put again, that is what is said of it
 pub puts_again : (old middle new : PairState) (before between after : Book) (object : ℕ) → 0 < length old.spill

@@ -45,7 +45,7 @@ pub use Rattle.drain.specs.declared.worker_threads.Duty.{Duty}
 pub use Rattle.drain.specs.working.AtWork.{AreClaimed, CameFrom, GoesOn, HasAtHand, HasNoneLeft, IsAtWork, IsFree}
 pub use Rattle.drain.specs.working.AtWork.{IsSetupOf, IsThrough, Leads, MayClaim, SawRoots, WorksOn}
 pub use Rattle.drain.specs.working.Duties.{AreBackUnder, HasStarted, IsBackUnder, IsDutyUnder}
-pub use Rattle.drain.specs.working.Idle.{IsAwake, IsIdling, IsStill}
+pub use Rattle.drain.specs.working.Idle.{IsAwake}
 pub use Rattle.drain.specs.working.Jobs.{HasScanned, MayWork}
 pub use Rattle.drain.specs.working.Measures.{measure_of, scanned_in}
 pub use Rattle.drain.specs.working.Pairs.{pairs_from, pairs_of}

@@ -33,11 +33,13 @@ impl<A: Allocator> PairedWorker<A> {
     ghost use Rattle.std.specs.Prelude.{IfSome, IsTrue, List, OnOk, length};
     ghost use Rattle.mark_core.specs.Events.{IsBusy};
     ghost use Rattle.mark_core.specs.declared.which.Which.TheVariants.{Empty};
+    ghost use Rattle.work_pair.specs.Deals.{ShelvesAll};
     ghost use Rattle.work_pair.specs.Moves.{WasSeenEmpty};
     ghost use Rattle.work_pair.specs.PairState.{buffered_items};
     ghost use Rattle.std.specs.Iterator.{AlwaysYields, IsFinite};
     ghost use Rattle.drain.specs.working.AtWork.{AreClaimed, GoesOn, HasAtHand, HasNoneLeft, HasOpened, IsAtWork};
     ghost use Rattle.drain.specs.working.AtWork.{IsFree, IsThrough, MayClaim};
+    ghost use Rattle.drain.specs.working.Jobs.{FindsNone};
     ghost use Rattle.drain.specs.working.RecentlySeen.{HasSeenAll, IsNoted};
     ghost use Rattle.drain.specs.working.Sharing.{GivesSome, PutsAgain, SharesWork, Unspills};
     ghost use Rattle.drain.specs.working.Walk.{HasEnded};
@@ -261,6 +263,7 @@ impl<A: Allocator> PairedWorker<A> {
             × (o < self.new.worker.book.setup.objects))) }
         ensures none { IfOk result (λ r. IfNone r (IsAtWork self.new.pair [] self.new.worker
             × HasNoneLeft self.new.pair self.new.worker)) }
+        ensures finds_none { IfOk result (λ r. IfNone r (FindsNone self.old self.new)) }
     {
         let Some(object) = self.pair.get(rt, pool, &mut self.worker)? else {
             return Ok(None);
@@ -277,6 +280,7 @@ impl<A: Allocator> PairedWorker<A> {
         ensures through { IfOk result (IsThrough self.worker) }
         ensures finished { IfOk result (λ w. w.book.account.finished ≡ self.worker.book.account.finished) }
         ensures idle { IfOk result (λ w. w.book.account.idle ≡ self.worker.book.account.idle) }
+        ensures shelved { IfOk result (λ w. ShelvesAll self.pair self.worker.book w.book) }
     {
         let PairedWorker { mut worker, pair } = self;
         match pair.dispose(rt, pool, &mut worker) {

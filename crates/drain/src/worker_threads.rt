@@ -3,10 +3,9 @@
 ghost use Rattle.std.specs.Prelude.{◌≡◌, ◌<◌, ◌≤◌, ◌+◌, ◌⊎◌, ℕ, IfErr, IfOk, get_or, vec_capacity, vec_len};
 ghost use Rattle.drain.specs.declared.marked.RunFault.TheVariants as fault;
 ghost use Rattle.buffer_pool.specs.Calls.{Holder};
-ghost use Rattle.work_pair.specs.Deals.{OpensNone};
 ghost use Rattle.drain.specs.working.AtWork.{HasGiven, IsSetupOf, IsThrough, Leads};
 ghost use Rattle.drain.specs.working.Duties.{AreBackUnder, HasStarted, IsDutyUnder};
-ghost use Rattle.drain.specs.working.Jobs.{MayRun, MayWork};
+ghost use Rattle.drain.specs.working.Jobs.{HasWorked, MayRun, MayWork};
 ghost use Rattle.drain.specs.working.Tallying.{AreTalliesOfNone, HasTallied, Tallies};
 
 use crate::gate::Gate;
@@ -61,7 +60,7 @@ fn work<T: Wait, A: Allocator + Copy, V: Walk, G: Gate, S>(
     requires may { MayWork V.count V.roots V.pairs V.measure job.now begun.worker begun.tally }
     ensures through { IfOk result (λ t. IsThrough begun.worker t.worker) }
     ensures tally { IfOk result (λ t. HasTallied (V.measure job.now.graph.now) t.worker t.tally) }
-    ensures worked { IfOk result (λ t. (t.worker.book.account.idle ≡ 1) ⊎ OpensNone begun.worker.book t.worker.book) }
+    ensures worked { IfOk result (HasWorked job.now.workers begun.worker) }
 {
     let Tallied { worker, mut tally } = begun;
     let mut paired = match PairedWorker::open(rt, job.alloc, job.pool, worker)? {

@@ -8,7 +8,7 @@ use Rattle.buffer_pool.specs.Book.{empties_of}
 use Rattle.buffer_pool.specs.Calls.{Holder}
 use Rattle.drain.specs.declared.paired_worker.Opened.{Opened}
 use Rattle.drain.specs.declared.paired_worker.Opened.TheVariants as opened
-use Rattle.work_pair.specs.Deals.{OpensNone}
+use Rattle.work_pair.specs.Deals.{OpensNone, OpensTwo}
 use Rattle.work_pair.specs.PairState.{AreOfSize, IsOpen, PairState, buffered_items, pair_items, numbers_of}
 
 -- These are the objects, the roots and the references of a graph.
@@ -83,10 +83,11 @@ IsThrough begun w = CameFrom begun w × IsFree w
 abbrev pub HasGiven : PairState → Holder → Type 0
 HasGiven p w = (buffered_items p ≡ []) ⊎ (0 < empties_of w.book Empty)
 
--- The opening of a pair: the worker went on from there, and is at work with nothing at hand beside the pair's items, or
--- as free as it was, and then there were not two empty buffers.
+-- The opening of a pair: the worker went on from there. It is at work with two buffers and nothing at hand beside the
+-- pair's items; or it is as free as it was, and there were not two empty buffers.
 abbrev pub HasOpened : {A : Type 0} → Holder → Opened A → Type 0
-HasOpened w (opened.Paired p) = GoesOn w p.worker × IsAtWork p.pair [] p.worker
+HasOpened w (opened.Paired p) =
+    GoesOn w p.worker × IsAtWork p.pair [] p.worker × OpensTwo w.book p.pair p.worker.book
 HasOpened w (opened.Unpaired v) = GoesOn w v × IsFree v × OpensNone w.book v.book
 
 -- It saw each root marked.

@@ -1,11 +1,13 @@
 -- What is asked where a worker begins with its job, while it scans, and where a leader runs its workers.
-use Rattle.std.specs.Prelude.{Bool, List, [], false, true, ℕ, ◌++◌, ◌<◌, ◌≡◌, ◌≤◌, ◌⊎◌, ◌∷◌}
+use Rattle.std.specs.Prelude.{Bool, List, None, [], false, true, ℕ, ◌++◌, ◌<◌, ◌≡◌, ◌≤◌, ◌⊎◌, ◌∷◌}
 use Rattle.buffer_pool.specs.Calls.{Holder}
+use Rattle.work_pair.specs.Deals.{Gets, OpensNone, OpensTwo, ShelvesAll}
 use Rattle.drain.specs.declared.job.Job.{Job}
 use Rattle.drain.specs.declared.paired_worker.PairedWorker.{PairedWorker}
 use Rattle.drain.specs.declared.recently_seen.RecentlySeen.{RecentlySeen}
+use Rattle.drain.specs.declared.tallied.Tallied.{Tallied}
 use Rattle.drain.specs.declared.tally.Tally.{Tally}
-use Rattle.drain.specs.working.AtWork.{CameFrom, IsAtWork, IsFree, IsSetupOf, WorksOn}
+use Rattle.drain.specs.working.AtWork.{IsAtWork, IsFree, IsSetupOf, WorksOn}
 use Rattle.drain.specs.working.Idle.{HasFoundMore, HasWaited, IsAwake}
 use Rattle.drain.specs.working.RecentlySeen.{HasSeenAll}
 use Rattle.drain.specs.working.Sharing.{SharesWork}
@@ -40,26 +42,51 @@ pub record HasScanned {A : Type 0} (m : Measure) (old new : PairedWorker A) (tab
   pub tally : HasTallied m new.worker t
   pub seen : HasSeenAll table new.worker
 
--- the worker finished one object where there was one, and else none
-abbrev pub FinishesNext : Bool → Holder → Holder → Type 0
-FinishesNext true old new = (o : ℕ) × (new.book.account.finished ≡ old.book.account.finished ++ o ∷ [])
-FinishesNext false old new = new.book.account.finished ≡ old.book.account.finished
+-- the worker got no object: neither its pair nor the full stack had one
+abbrev pub FindsNone : {A : Type 0} → PairedWorker A → PairedWorker A → Type 0
+FindsNone old new = Gets old.pair old.worker.book None new.pair new.worker.book
 
--- a turn: the worker finished an object and then shared; or there was none, and it waited for more, found or not. It
--- waits 1,024 turns at most (`TURNS` of `idle_turns.rt`).
-abbrev pub TakesTurn : {A : Type 0} → ℕ → PairedWorker A → PairedWorker A → Bool → Type 0
-TakesTurn {A} workers old new true =
-    (mid : PairedWorker A)
-    × ((FinishesNext true old.worker mid.worker × SharesWork mid.pair mid.worker.book new.pair new.worker.book)
-    ⊎ (FinishesNext false old.worker mid.worker × HasFoundMore mid.worker new.worker))
-TakesTurn {A} workers old new false =
-    (mid : PairedWorker A)
-    × FinishesNext false old.worker mid.worker × HasWaited workers 1024 mid.worker new.worker
+-- the worker finished one object, and is at its pair as before
+pub record FinishesOne {A : Type 0} (old new : PairedWorker A) : Type 0 where
+  pub works_on : WorksOn old.worker new.worker
+  pub at_work : IsAtWork new.pair [] new.worker
+  pub object : ℕ
+  pub finished : new.worker.book.account.finished ≡ old.worker.book.account.finished ++ object ∷ []
 
--- the last turn was one in which it waited and found no more
+-- the worker finished an object if it got one
+abbrev pub ScansNext : {A : Type 0} → PairedWorker A → PairedWorker A → Bool → Type 0
+ScansNext old new true = FinishesOne old new
+ScansNext old new false = FindsNone old new
+
+-- a turn after which the worker goes on: it finished an object and then shared; or it got none, and waited until there
+-- was more, 1,024 turns at most (`TURNS` of `idle_turns.rt`)
+abbrev pub TakesTurn : {A : Type 0} → ℕ → PairedWorker A → PairedWorker A → Type 0
+TakesTurn {A} workers old new =
+    (mid : PairedWorker A)
+    × ((FinishesOne old mid × SharesWork mid.pair mid.worker.book new.pair new.worker.book)
+    ⊎ (FindsNone old mid × (new.pair ≡ mid.pair) × HasFoundMore workers 1024 mid.worker.book new.worker.book))
+
+-- such turns, one after the other
+pub data TakesTurns {A : Type 0} (workers : ℕ) : PairedWorker A → PairedWorker A → Type 0 where
+  none : (p : PairedWorker A) → TakesTurns workers p p
+  more : (old mid new : PairedWorker A) → TakesTurns workers old mid → TakesTurn workers mid new
+      → TakesTurns workers old new
+
+-- the worker shared and took turns; at last it got no object, and waited until all were idle or for 1,024 turns
 abbrev pub HasWorkedOff : {A : Type 0} → ℕ → PairedWorker A → PairedWorker A → Type 0
 HasWorkedOff {A} workers old new =
-    (last : PairedWorker A) × CameFrom old.worker last.worker × TakesTurn workers last new false
+    (begun : PairedWorker A) × (last : PairedWorker A) × (mid : PairedWorker A)
+    × SharesWork old.pair old.worker.book begun.pair begun.worker.book
+    × TakesTurns workers begun last
+    × FindsNone last mid × (new.pair ≡ mid.pair) × HasWaited workers 1024 mid.worker.book new.worker.book
+
+-- the worker opened a pair of two buffers, worked off what it found, and gave the buffers back; or there were not two
+abbrev pub HasWorked : {A : Type 0} → ℕ → Holder → Tallied A → Type 0
+HasWorked {A} workers begun t =
+    ((opened : PairedWorker A) × (last : PairedWorker A)
+    × OpensTwo begun.book opened.pair opened.worker.book × HasWorkedOff workers opened last
+    × ShelvesAll last.pair last.worker.book t.worker.book)
+    ⊎ OpensNone begun.book t.worker.book
 
 -- a leader of the job's pool and graph with more units than there are workers, room for so many threads and for so many
 -- workers that come back, of which none is there, and so many tallies of no object

@@ -7,8 +7,8 @@ use crossbeam_utils::Backoff;
 use std::alloc::Allocator;
 use std::sync::Wait;
 
-/// How many turns in a row a worker waits. Then it leaves, all idle or not, since a worker that was refused never goes
-/// idle.
+/// The most turns in a row that a worker waits. After them it leaves even if not all are idle, since a worker that was
+/// refused never goes idle.
 const TURNS: u32 = 1024;
 
 impl<A: Allocator> PairedWorker<A> {
@@ -18,7 +18,7 @@ impl<A: Allocator> PairedWorker<A> {
     ghost use Rattle.drain.specs.working.AtWork.{CameFrom, HasAtHand, HasNoneLeft};
     ghost use Rattle.drain.specs.working.Idle.{HasFoundMore, HasWaited, IsAwake};
 
-    /// Looks at the idle word: whether so many workers are idle.
+    /// Tests whether the idle word is `workers`: then all workers are idle.
     fn sees_all_idle(&mut self, pool: &Pool<A>, workers: u32) -> bool
         requires { self.old.worker.pool ≡ pool.now }
         ensures pool { self.new.worker.pool ≡ self.old.worker.pool }
@@ -40,20 +40,22 @@ impl<A: Allocator> PairedWorker<A> {
         pool.idle_down(&mut self.worker);
     }
 
-    /// Goes idle, and waits until the full stack has a buffer again: true, and it is no longer idle. False where all
-    /// workers are idle, or after so many turns: it is idle still.
+    /// Goes idle and waits until the full stack has a buffer again. Returns true if it has one: then the worker is no
+    /// longer idle. Returns false if all `workers` are idle, or after [`TURNS`] turns: then it is idle still.
     pub(crate) fn finds_more<R: Wait>(&mut self, rt: &R, pool: &Pool<A>, workers: u32) -> bool
         requires pool { self.old.worker.pool ≡ pool.now }
         requires awake { IsAwake self.old.worker }
         requires hand { HasAtHand self.old.pair [] self.old.worker }
         requires none { HasNoneLeft self.old.pair self.old.worker }
         ensures came { CameFrom self.old.worker self.new.worker }
+        ensures pair { self.new.pair ≡ self.old.pair }
         ensures finished { self.new.worker.book.account.finished ≡ self.old.worker.book.account.finished }
         ensures hand { HasAtHand self.new.pair [] self.new.worker }
         ensures none { HasNoneLeft self.new.pair self.new.worker }
         ensures awake { IsTrue result → IsAwake self.new.worker }
-        ensures found { IsTrue result → HasFoundMore self.old.worker self.new.worker }
-        ensures waited { result ≡ false → HasWaited workers TURNS self.old.worker self.new.worker }
+        ensures idle { result ≡ false → self.new.worker.book.account.idle ≡ 1 }
+        ensures found { IsTrue result → HasFoundMore workers TURNS self.old.worker.book self.new.worker.book }
+        ensures waited { result ≡ false → HasWaited workers TURNS self.old.worker.book self.new.worker.book }
     {
         pool.idle_up(&mut self.worker);
         let backoff = Backoff::new();

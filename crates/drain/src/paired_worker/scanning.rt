@@ -17,7 +17,7 @@ impl<A: Allocator> PairedWorker<A> {
     ghost use Rattle.std.specs.Prelude.{option_to_list};
     ghost use Rattle.std.specs.Iterator.{AlwaysYields, IsFinite};
     ghost use Rattle.drain.specs.working.AtWork.{AreClaimed, HasNoneLeft, IsAtWork, MayClaim, WorksOn};
-    ghost use Rattle.drain.specs.working.Jobs.{FinishesNext, HasScanned, IsOnJob};
+    ghost use Rattle.drain.specs.working.Jobs.{HasScanned, IsOnJob, ScansNext};
     ghost use Rattle.drain.specs.working.RecentlySeen.{HasSeenAll};
     ghost use Rattle.drain.specs.working.Walk.{HasEnded, IsGiven};
 
@@ -171,7 +171,7 @@ impl<A: Allocator> PairedWorker<A> {
         requires on_job { IsOnJob V.count V.roots V.pairs V.measure job.now [] self.old tally.old }
         requires seen { HasSeenAll seen.old self.old.worker }
         ensures scanned { OnOk result (HasScanned (V.measure job.now.graph.now) self.old self.new seen.new tally.new) }
-        ensures finished { IfOk result (λ more. FinishesNext more self.old.worker self.new.worker) }
+        ensures scans { IfOk result (ScansNext self.old self.new) }
         ensures none { IfOk result (λ more. more ≡ false → HasNoneLeft self.new.pair self.new.worker) }
     {
         let Some(object) = self.next_object(rt, job.pool)? else {

@@ -39,4 +39,12 @@ pub returns-clause-tally : goal.returns-clause-tally
 returns-clause-tally g c = same_tally c.in_ok-worker.ensures.finished c.in_ok-work_off.ensures.tally
 
 pub returns-clause-worked : goal.returns-clause-worked
-returns-clause-worked g c = inl (c.in_ok-worker.ensures.idle ∙ c.in_ok-work_off.ensures.waited.2.2.0)
+returns-clause-worked g c =
+    let opened = rw c.in-Paired.is at c.in_ok-paired.ensures in
+    inl (
+      c.in-Paired.paired,
+      c.work_off.new.self,
+      opened.2,
+      c.in_ok-work_off.ensures.worked,
+      c.in_ok-worker.ensures.shelved,
+    )

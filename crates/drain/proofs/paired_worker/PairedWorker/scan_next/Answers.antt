@@ -33,7 +33,14 @@ returns-clause-scanned g c =
       seen = scanned.seen;
     }
 
-pub returns-clause-finished : goal.returns-clause-finished
-returns-clause-finished g c =
+pub returns-clause-scans : goal.returns-clause-scans
+returns-clause-scans g c =
     let o = c.in-Some.object in
-    (o, c.in_ok-scan_one.ensures.finished ∙ ap (λ (xs : List ℕ). xs ++ o ∷ []) c.in_ok-object.ensures.goes_on.finished)
+    let got = c.in_ok-object.ensures in
+    let scan = c.in_ok-scan_one.ensures in
+    record {
+      works_on = works_on_again (works got.goes_on) scan.scanned.goes_on;
+      at_work = scan.scanned.at_work;
+      object = o;
+      finished = scan.finished ∙ ap (λ (xs : List ℕ). xs ++ o ∷ []) got.goes_on.finished;
+    }

@@ -1,22 +1,79 @@
--- Each turn comes from the one before, and where it goes on the worker is awake.
-use Rattle.drain.proofs.Words.{Bool, subst}
-use Rattle.drain.specs.working.Jobs.{TakesTurn}
-use Rattle.drain.proofs.AtHand.{came_again}
+-- Each turn comes from the one before, and after each the worker is awake.
+use Rattle.drain.proofs.Words.{inl, inr, rules, subst}
+use Rattle.drain.specs.working.Jobs.{ScansNext}
+use Rattle.drain.specs.working.Jobs.TakesTurns.{more, none}
+use Rattle.drain.proofs.AtHand.{came_again, came_at_all, works}
+use Rattle.drain.proofs.Idling.{awake_at_work}
+use Rattle.drain.proofs.Scanning.{same_tally, still_awake, still_on_job}
 use Rattle.drain.proofs.paired_worker.PairedWorker.work_off.Goals as goal
 
+-- it finished an object, and shared
+pub loop-preserved-in-Continue-branch-3 : goal.loop-preserved-in-Continue-branch-3
+loop-preserved-in-Continue-branch-3 g c =
+    let (on_job, awake, came, _, turns) = c.loop.invariant in
+    let scan = c.in_ok-scan_next.ensures in
+    let share = c.in_ok-share-2.ensures in
+    let old = c.loop.self in
+    let mid = c.scan_next.new.self in
+    let now = c.share-then-branch.new.self in
+    let one = subst (ScansNext old mid) c.if-branch.true scan.scans in (
+      still_on_job on_job (came_again scan.scanned.goes_on.came share.goes_on.came) share.at_work
+          (same_tally share.goes_on.finished scan.scanned.tally),
+      still_awake (still_awake awake scan.scanned.goes_on) (works share.goes_on),
+      came_again came (came_again scan.scanned.goes_on.came share.goes_on.came),
+      λ o noted. share.goes_on.came.seen o (scan.scanned.seen o noted),
+      more _ old now turns (mid, inl (one, share.shares)),
+    )
+
+-- it waited, and there was more
 pub loop-preserved : goal.loop-preserved
 loop-preserved g c =
-    let turn = c.in_ok-turn.ensures in
-    (came_again c.loop.invariant.0 turn.came, turn.hand, turn.awake c.if-not-branch.false, turn.seen, turn.tally)
+    let (on_job, awake, came, _, turns) = c.loop.invariant in
+    let scan = c.in_ok-scan_next.ensures in
+    let back = c.finds_more.ensures in
+    let old = c.loop.self in
+    let mid = c.scan_next.new.self in
+    let now = c.finds_more.new.self in
+    let none = subst (ScansNext old mid) c.if-branch.false scan.scans in
+    let found = c.if-not-finds_more.false in
+    let on = came_again scan.scanned.goes_on.came back.came in (
+      still_on_job on_job on (awake_at_work (back.awake found) back.hand) (same_tally back.finished scan.scanned.tally),
+      back.awake found,
+      came_again came on,
+      λ o noted. back.came.seen o (scan.scanned.seen o noted),
+      more _ old now turns (mid, inr (none, back.pair, back.found found)),
+    )
 
-pub returns-then-not-branch-clause-came : goal.returns-then-not-branch-clause-came
-returns-then-not-branch-clause-came g c =
-    came_again c.in_ok-share.ensures.goes_on.came (came_again c.loop.invariant.0 c.in_ok-turn.ensures.came)
+pub returns-then-not-finds_more-clause-came : goal.returns-then-not-finds_more-clause-came
+returns-then-not-finds_more-clause-came g c =
+    came_again c.in_ok-share.ensures.goes_on.came
+    (came_again c.loop.invariant.2
+    (came_again c.in_ok-scan_next.ensures.scanned.goes_on.came c.if-not-finds_more.ensures.came))
 
-pub returns-then-not-branch-clause-waited : goal.returns-then-not-branch-clause-waited
-returns-then-not-branch-clause-waited g c = (
-  c.loop.self,
-  came_again c.in_ok-share.ensures.goes_on.came c.loop.invariant.0,
-  subst (λ (more : Bool). TakesTurn c.args.job.now.workers c.loop.self c.turn.new.self more) c.if-not-branch.true
-      c.in_ok-turn.ensures.took,
-)
+pub returns-then-not-finds_more-clause-worked : goal.returns-then-not-finds_more-clause-worked
+returns-then-not-finds_more-clause-worked g c =
+    let old = c.loop.self in
+    let mid = c.scan_next.new.self in
+    let end = c.finds_more.ensures in (
+      c.share.new.self,
+      old,
+      mid,
+      c.in_ok-share.ensures.shares,
+      c.loop.invariant.4,
+      subst (ScansNext old mid) c.if-branch.false c.in_ok-scan_next.ensures.scans,
+      end.pair,
+      end.waited c.if-not-finds_more.true,
+    )
+
+-- before the first turn
+pub loop-init : goal.loop-init
+loop-init g c =
+    let share = c.in_ok-share.ensures in
+    let on_job = c.requires.on_job in
+    let now = c.share.new.self in (
+      still_on_job on_job share.goes_on.came share.at_work (same_tally share.goes_on.finished on_job.tally),
+      still_awake c.requires.awake (works share.goes_on),
+      came_at_all now.worker,
+      search rules,
+      none now,
+    )
