@@ -145,3 +145,10 @@ pub nowhere : (ids : List ℕ) (id number : ℕ) → None ≡ position (λ x. x 
 nowhere ids id number e has =
     let (k, below, is) = before_in ids number id has in
     absent ids id k e (slice_get_within ids k id is) (get_or_from_slice_get ids k id 0 is)
+
+-- what is found is there
+pub bears : (ids : List ℕ) (id n : ℕ) → Some n ≡ position (λ x. x == id) ids → Contains ids id
+bears ids id n e =
+    let it = position-Some (λ x. x == id) ids n 0 (sym e) in
+    let here : get_or ids n 0 ≡ id = eqb-true (get_or ids n 0) id it.1 in
+    (n, it.0, get_or_from_slice_get ids n id id (slice_get-get_or ids n 0 it.0 ∙ ap Some here))

@@ -1,4 +1,4 @@
-//! Where the pages of ascending runs begin, by their leading bits.
+//! The table of where pages begin among ascending runs, by the leading bits of pages.
 
 ghost use Rattle.std.specs.Prelude.{IfOk, MatchOption, length, ◌+◌, ◌-◌, ◌/◌, ◌<◌, ◌≤◌, ◌^◌, ◌≡◌, ℕ};
 ghost use Rattle.id_index.specs.Beginnings.{AreBeginnings, IsAround, IsBeginning, bucket_of};
@@ -7,25 +7,27 @@ ghost use Rattle.id_index.specs.Runs.{DoPagesRise, IsNoPage, page_in};
 use crate::runs::Run;
 use std::alloc::{AllocError, Allocator};
 
-/// Where in ascending runs those of each bucket begin. The bucket of a page is its distance from the least one without
-/// the lowest `shift` bits.
+/// The beginnings of buckets in ascending runs. The bucket of a page is its distance from the least page without the
+/// lowest `shift` bits.
 #[derive(Drop)]
 pub(crate) struct Beginnings<A: Allocator> {
     pub(crate) least: u64,
-    /// How far the greatest page is from the least one.
+    /// The distance of the greatest page from the least one.
     pub(crate) span: u64,
     pub(crate) shift: u32,
-    /// The lowest `shift` bits, set: what a guess keeps of a distance.
+    /// The lowest `shift` bits, set: a guess keeps these of a distance.
     pub(crate) mask: u64,
-    /// Where the runs of each bucket begin, and behind the last one how many runs there are.
+    /// The index of the first run of each bucket, and after the last one the number of runs.
     pub(crate) starts: Vec<u32, A>,
 }
 
-/// How many of the lowest bits of numbers up to `span` to leave out, so that fewer than `buckets` numbers are left.
+/// Returns how many of their lowest bits numbers up to `span` have to lose for fewer than `buckets` to be left: no more
+/// than needed.
 fn shift_for(span: u64, buckets: u64) -> u32
     requires { 2 ≤ buckets }
     ensures within { result < 64 }
     ensures few { span / 2 ^ result < buckets }
+    ensures least { 0 < result → buckets ≤ span / 2 ^ (result - 1) }
 {
     for shift in 0..63 {
         if span >> shift < buckets {
@@ -35,7 +37,7 @@ fn shift_for(span: u64, buckets: u64) -> u32
     63
 }
 
-/// The least and the greatest page of ascending runs, 0 where there is none.
+/// Returns the least and the greatest page of ascending runs, 0 if there is no run.
 fn ends_of(runs: &[Run]) -> (u64, u64)
     requires { DoPagesRise runs.now }
     ensures order { result.0 ≤ result.1 }
@@ -48,7 +50,7 @@ fn ends_of(runs: &[Run]) -> (u64, u64)
     }
 }
 
-/// The first run from that one on which is not in a bucket before this one.
+/// Returns the index of the first run from `from` on that is not in a bucket before `bucket`.
 fn start_of(runs: &[Run], least: u64, shift: u32, from: usize, bucket: u64) -> usize
     requires rise { DoPagesRise runs.now }
     requires low { (k : ℕ) → k < length runs.now → least ≤ page_in runs.now k }
@@ -66,7 +68,7 @@ fn start_of(runs: &[Run], least: u64, shift: u32, from: usize, bucket: u64) -> u
 }
 
 impl<A: Allocator> Beginnings<A> {
-    /// Where these runs begin.
+    /// Creates the table of `runs`. `AllocError` if an allocation fails.
     pub(crate) fn of(alloc: A, runs: &[Run]) -> Result<Self, AllocError>
         requires rise { DoPagesRise runs.now }
         requires few { length runs.now < 2 ^ 32 }
@@ -91,8 +93,8 @@ impl<A: Allocator> Beginnings<A> {
         })
     }
 
-    /// Where the runs of a page's bucket begin and end, if there can be one of that page.
-    // Inlined, as `guess` is: two numbers that a call answers go through memory, and each look-up asks for them.
+    /// Returns where the runs of the bucket of `page` begin and end. Returns `None` if no run is of that page.
+    // Inlined, as `guess` is: two numbers that a call returns go through memory, and each look-up takes them.
     #[inline(always)]
     pub(crate) fn around(&self, runs: &[Run], page: u64) -> Option<(usize, usize)>
         requires rise { DoPagesRise runs.now }
@@ -111,9 +113,9 @@ impl<A: Allocator> Beginnings<A> {
         ))
     }
 
-    /// About where the first run of a page stands among those of its bucket, from `begin` up to `end`: there it would
-    /// be if their pages were as far from one another as they can be. It may be anywhere, where the product wraps:
-    /// nothing rests on it but time.
+    /// Guesses the index of the first run of `page` among those of its bucket, from `begin` up to `end`, as if their
+    /// pages were evenly spread over the bucket. It may be any index if the product wraps: nothing but time rests on
+    /// it.
     // Inlined, as `around` is.
     #[inline(always)]
     pub(crate) fn guess(&self, page: u64, begin: usize, end: usize) -> usize

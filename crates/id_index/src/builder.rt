@@ -1,4 +1,4 @@
-//! Runs are made one object after the other, and an index of them.
+//! The builder of runs, to which objects are added one after the other, and which makes an index of them.
 
 ghost use Rattle.std.specs.Prelude.{IfOk, OnErr, [], length, map, ◌++◌, ◌+◌, ◌<◌, ◌∷◌, ◌^◌, ◌≡◌, ℕ};
 ghost use Rattle.id_index.specs.Building.{raised_by, with_last};
@@ -13,15 +13,15 @@ use crate::sorting::sort_runs;
 use std::alloc::{AllocError, Allocator};
 use std::marker::Model;
 
-/// The identifiers of objects in the order of the file, of which an index is made.
+/// The identifiers of objects in the order of the file: an index is made of them.
 #[derive(Drop)]
 pub(crate) struct RunIndexBuilder<A: Allocator> {
     /// The runs but for the last one, in the order of the file.
     runs: Vec<Run, A>,
-    /// The last run, which the next object may join. There is none before the first object, and none behind a list that
-    /// was appended.
+    /// The last run, which the next object may join. There is none before the first object, and none after a list was
+    /// appended.
     last: Option<Run>,
-    /// How many objects there are.
+    /// The number of objects.
     count: u32,
 }
 
@@ -36,7 +36,7 @@ impl<A: Allocator> Model for RunIndexBuilder<A> {
     ghost invariant = { λ b. AreFewBuilt b.runs.items b.last (ids_built b.runs.items b.last b.count) b.count };
 }
 
-/// Puts the last run, if there is one, behind the others.
+/// Pushes the last run, if there is one. `AllocError` if the allocation fails.
 fn close<A: Allocator>(runs: &mut Vec<Run, A>, last: Option<Run>) -> Result<(), AllocError>
     ensures runs { IfOk result (λ _. runs.new.items ≡ with_last runs.old.items last) }
     ensures err { OnErr result (runs.new.items ≡ runs.old.items) }
@@ -47,7 +47,7 @@ fn close<A: Allocator>(runs: &mut Vec<Run, A>, last: Option<Run>) -> Result<(), 
     Ok(())
 }
 
-/// Puts runs behind the others, with the numbers of their objects raised by so many.
+/// Pushes the runs of `more` with the numbers of their objects raised by `by`. `AllocError` if the allocation fails.
 fn push_raised<A: Allocator>(
     runs: &mut Vec<Run, A>,
     more: &[Run],
@@ -69,7 +69,7 @@ fn push_raised<A: Allocator>(
 }
 
 impl<A: Allocator> RunIndexBuilder<A> {
-    /// No object.
+    /// Creates a builder without an object.
     pub(crate) fn new(alloc: A) -> Self
         ensures { result ≡ [] }
     {
@@ -80,7 +80,7 @@ impl<A: Allocator> RunIndexBuilder<A> {
         }
     }
 
-    /// Adds the next object.
+    /// Adds the next object. `AllocError` if an allocation fails.
     pub(crate) fn push(&mut self, id: u64) -> Result<(), AllocError>
         requires { length self.old + 1 < 2 ^ 32 }
         ensures { IfOk result (λ _. self.new ≡ self.old ++ id ∷ []) }
@@ -107,7 +107,8 @@ impl<A: Allocator> RunIndexBuilder<A> {
         Ok(())
     }
 
-    /// Adds the objects of another list behind these. A run that the border of the two lists cuts is left as two.
+    /// Adds the objects of `other` after these. A run that the border of the two lists cuts is left as two.
+    /// `AllocError` if an allocation fails.
     pub(crate) fn append(&mut self, other: Self) -> Result<(), AllocError>
         requires { length self.old + length other < 2 ^ 32 }
         ensures { IfOk result (λ _. self.new ≡ self.old ++ other) }
@@ -121,7 +122,7 @@ impl<A: Allocator> RunIndexBuilder<A> {
         Ok(())
     }
 
-    /// The index of these objects.
+    /// Returns the index of these objects. `AllocError` if an allocation fails.
     pub(crate) fn finish(self, alloc: A) -> Result<RunIndex<A>, AllocError>
         ensures { IfOk result (λ index. index ≡ self) }
     {

@@ -88,6 +88,21 @@ impl<A: Allocator> IdIndex<A> {
         }
     }
 
+    /// Tests whether an object bears `id` and is found by a guess, without a search. For tests: only time rests on
+    /// guesses.
+    pub fn is_guessed(&self, id: u64) -> bool
+        ensures { IsTrue result → Contains self.now id }
+    {
+        let guessed = match &self.form {
+            Form::Runs(runs) => runs.is_guessed(id >> self.bits.shift),
+            Form::Pairs(pairs) => pairs.is_guessed(id >> self.bits.shift),
+        };
+        match self.find(id) {
+            Some(_) => return guessed,
+            None => return false,
+        }
+    }
+
     /// Tests whether an object before number `number` bears `id`.
     pub fn is_repeated(&self, id: u64, number: usize) -> bool
         ensures { IsTrue result ↔ Contains (take number self.now) id }

@@ -3,7 +3,7 @@
 //! A page is 64 identifiers, those with one quotient by 64, and each of them has its place in it, from 0 to 63. A run
 //! is a stretch of neighbouring objects of one page whose numbers follow one another: its page, the number of its first
 //! object, and a word with a bit for each place where it has an object. So an object's number is that of the run's
-//! first one and how many bits are set below its place.
+//! first one plus the number of bits that are set below its place.
 //!
 //! Objects that are in no order are given apart: their index is a vector of pairs of identifier and number, ordered by
 //! identifier and searched by halving. Words with a bit for each place of a page guess where a pair is.

@@ -11,10 +11,10 @@ use crate::pages::first_from;
 use crate::runs::{PLACES, Run};
 use std::alloc::Allocator;
 
-/// How many runs a page has at most: each has a place that none before it has.
+/// The most runs of one page: each has a place that none before it has.
 const MANY_RUNS: usize = 64;
 
-/// The number of the object at a place of a run, if the run has one there.
+/// Returns the number of the object at place `place` of `run`, if the run has one there.
 // Inlined, as the look-up is.
 #[inline(always)]
 fn number_at_place(run: Run, place: u32) -> Option<u32>
@@ -30,7 +30,7 @@ fn number_at_place(run: Run, place: u32) -> Option<u32>
     Some(run.first + (up_to.count_ones() - 1))
 }
 
-/// The number of the object with that identifier, if the run at an index has it and is the first one of its page.
+/// Returns the number of the object that bears `id`, if the run at index `at` has it and is the first of its page.
 // Inlined, as the look-up is.
 #[inline(always)]
 fn number_at(runs: &[Run], at: usize, id: u64) -> Option<u32>
@@ -48,8 +48,8 @@ fn number_at(runs: &[Run], at: usize, id: u64) -> Option<u32>
     number_at_place(runs[at], (id % PLACES) as u32)
 }
 
-/// The number of the object with that identifier in the first run that has it, of the runs from the first one of its
-/// page on.
+/// Returns the number of the object that bears `id` in the first run that has it. `from` is the index of the first run
+/// of its page.
 fn number_from(runs: &[Run], from: usize, id: u64) -> Option<u32>
     requires runs { AreAscending runs.now }
     requires few { AreFewAPage runs.now }
@@ -70,8 +70,8 @@ fn number_from(runs: &[Run], from: usize, id: u64) -> Option<u32>
     None
 }
 
-/// The number of the object with that identifier in the first run that has it, where that run is not at the guess. It
-/// stands between two ends.
+/// Like [`first_bearer`], if the run at the guess `near` is not the one. The first run of its page is between `begin`
+/// and `end`.
 // Not inlined, so that nearly all look-ups are one straight line.
 #[inline(never)]
 fn searched(runs: &[Run], begin: usize, end: usize, near: usize, id: u64) -> Option<u32>
@@ -84,8 +84,8 @@ fn searched(runs: &[Run], begin: usize, end: usize, near: usize, id: u64) -> Opt
     number_from(runs, from, id)
 }
 
-/// The number of the object with that identifier in the first run that has it.
-// Inlined, as the `find` of an index is, which hands it on.
+/// Returns the number of the object that bears `id` in the first run that has it.
+// Inlined, as the `find` of an index is, which forwards it.
 #[inline(always)]
 pub(crate) fn first_bearer<A: Allocator>(
     runs: &[Run],
@@ -106,5 +106,20 @@ pub(crate) fn first_bearer<A: Allocator>(
     match number_at(runs, near, id) {
         Some(number) => Some(number),
         None => searched(runs, begin, end, near, id),
+    }
+}
+
+/// Tests whether the run that is guessed for `id` has it, so that [`first_bearer`] searches nothing.
+pub(crate) fn is_guessed<A: Allocator>(runs: &[Run], beginnings: &Beginnings<A>, id: u64) -> bool
+    requires runs { AreAscending runs.now }
+    requires begun { AreBeginnings runs.now beginnings.now }
+{
+    let page = id / PLACES;
+    match beginnings.around(runs, page) {
+        Some((begin, end)) => {
+            let near = beginnings.guess(page, begin, end);
+            return number_at(runs, near, id).is_some();
+        }
+        None => return false,
     }
 }

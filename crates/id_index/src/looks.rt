@@ -1,18 +1,19 @@
-//! Looks at runs. A search has so many of them, and is not proved where it could take one more.
+//! Looks at runs, which a search counts. It begins with a number of them, and is not proved if it could take one more.
+//! No contract of a search has that number: a search that reads a run otherwise is not refused.
 
 ghost use Rattle.std.specs.Prelude.{length, ◌+◌, ◌<◌, ◌≡◌};
 ghost use Rattle.id_index.specs.Runs.{page_in};
 
 use crate::runs::Run;
 
-/// So many looks at runs that are left. The number is for clauses: no code asks for it, so that a build leaves it out.
+/// The number of looks at runs that are left. It is for clauses: no code reads it, so that a build leaves it out.
 #[derive(Drop)]
 pub(crate) struct Looks {
     left: usize,
 }
 
 impl Looks {
-    /// At most so many looks.
+    /// Creates `left` looks.
     // Inlined, as `page` is: a number that stays in a function is left out.
     #[inline(always)]
     pub(crate) fn at_most(left: usize) -> Self
@@ -21,7 +22,7 @@ impl Looks {
         Looks { left }
     }
 
-    /// The page of the run at an index, which takes a look.
+    /// Returns the page of the run at index `at`, which takes a look.
     #[inline(always)]
     pub(crate) fn page(&mut self, runs: &[Run], at: usize) -> u64
         requires left { 0 < self.old.left }

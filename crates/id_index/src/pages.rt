@@ -1,4 +1,4 @@
-//! The first run of a page among ascending runs, looked for from a guess on.
+//! The search of the first run of a page among ascending runs, from a guess on.
 
 ghost use Rattle.std.specs.Prelude.{◌+◌, ◌<◌, ◌≤◌, ◌⊎◌};
 ghost use Rattle.id_index.specs.Beginnings.{IsAround};
@@ -7,20 +7,20 @@ ghost use Rattle.id_index.specs.Runs.{DoPagesRise, IsFirstFrom};
 use crate::looks::Looks;
 use crate::runs::Run;
 
-/// Of at most so many runs the first one is looked for from a guess on, one run after the other.
+/// The most runs that are gone through from the guess on, one after the other.
 const MANY_RUNS: usize = 64;
 
-/// So far on either side of a guess a run is looked at where there are more runs.
+/// The distance from the guess at which a run on either side is looked at, if there are more.
 const REACH: usize = 32;
 
-/// So many looks leave at most `MANY_RUNS` runs of however many: two around a guess, and 58 that halve up to 2^64.
+/// The looks that leave at most `MANY_RUNS` runs of up to 2^64: two around a guess, and 58 that halve.
 const NARROWING: usize = 60;
 
-/// So many looks go over `MANY_RUNS` runs, down and up.
+/// The looks that go through `MANY_RUNS` runs, down and up.
 const WALKING: usize = 2 * MANY_RUNS;
 
-/// One look at a run: where it is between two others, the first run whose page is not below that one is behind it, or
-/// it is not.
+/// Looks at the run at index `at`, if it is between `low` and `high`, and returns the narrower ends of where the first
+/// run whose page is not below `page` is.
 fn after_look(
     looks: &mut Looks,
     runs: &[Run],
@@ -47,8 +47,8 @@ fn after_look(
     }
 }
 
-/// Two ends that have at most `MANY_RUNS` runs between them, where there may be more between these: those around a
-/// guess if it is a good one, else what is left after halving. It takes `NARROWING` looks at most.
+/// Returns ends with at most `MANY_RUNS` runs between them, of the many between `begin` and `end`: those around the
+/// guess `near` if it is a good one, else what is left after halving. It takes at most `NARROWING` looks.
 // A call, so that what searches a few runs has no locals for halving many.
 #[inline(never)]
 fn narrowed(runs: &[Run], begin: usize, end: usize, near: usize, page: u64) -> (usize, usize)
@@ -69,9 +69,9 @@ fn narrowed(runs: &[Run], begin: usize, end: usize, near: usize, page: u64) -> (
     (low, high)
 }
 
-/// Where the first of ascending runs stands whose page is not below that one, if it stands between two ends or at the
-/// second. It is looked for from a guess on: any guess gives the same run, a good one gives it sooner. That takes at
-/// most `WALKING` looks where there are few runs, and `NARROWING` more where there are many.
+/// Returns the index of the first of ascending runs whose page is not below `page`. It is between `begin` and `end`, or
+/// `end`. Any guess `near` gives the same run, a good one gives it sooner: it takes at most `WALKING` looks among few
+/// runs, and `NARROWING` more among many.
 pub(crate) fn first_from(runs: &[Run], begin: usize, end: usize, near: usize, page: u64) -> usize
     requires rise { DoPagesRise runs.now }
     requires around { IsAround runs.now page begin end }

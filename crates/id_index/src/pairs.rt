@@ -92,6 +92,13 @@ impl<A: Allocator> PairIndex<A> {
         searched(&self.pairs, self.lowest, id)
     }
 
+    /// Tests whether `find` searches nothing for `id`, since the guessed pair has it.
+    pub(crate) fn is_guessed(&self, id: u64) -> bool {
+        let at = id.wrapping_sub(self.lowest);
+        let near = self.words.guess(at);
+        near < self.pairs.len() && self.pairs[near].at as u64 == at
+    }
+
     /// Returns the number of objects, since no object bears the identifier of another.
     pub(crate) fn first_repeat(&self) -> usize
         ensures { IsFirstRepeat self.now result }

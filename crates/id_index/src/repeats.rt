@@ -8,7 +8,7 @@ ghost use Rattle.id_index.specs.Settling.{AreSorted};
 use crate::runs::{Run, rank_in};
 use crate::settling::seen_of;
 
-/// The least of a number and those of a run's objects in places that were seen before.
+/// Returns the least of `least` and the numbers of the objects of `run` in the places `before`.
 fn lowered(least: u32, run: Run, before: u64) -> u32
     requires { end_of run < 2 ^ 32 }
     ensures { IsLowered run before least result }
@@ -20,8 +20,8 @@ fn lowered(least: u32, run: Run, before: u64) -> u32
     least.min(run.first + rank_in(run.places, again.trailing_zeros()))
 }
 
-/// The least number of an object whose identifier an earlier one bears, and how many objects there are where no object
-/// bears such a one.
+/// Returns the least number of an object whose identifier an earlier one bears, or `count`, the number of objects, if
+/// there is no such object.
 pub(crate) fn least_repeat(runs: &[Run], count: u32) -> u32
     requires { AreSorted runs.now }
     ensures { IsLeastRepeat runs.now (length runs.now) count result }

@@ -1,10 +1,10 @@
-//! The index of objects by all bits of their identifiers.
+//! The index of objects by runs.
 
 ghost use Rattle.std.specs.Prelude.{position, ◌==◌, ◌≡◌};
 ghost use Rattle.id_index.specs.Repeats.{IsFirstRepeat};
 
 use crate::beginnings::Beginnings;
-use crate::look_up::first_bearer;
+use crate::look_up::{first_bearer, is_guessed};
 use crate::runs::Run;
 use std::alloc::Allocator;
 use std::marker::Model;
@@ -12,15 +12,15 @@ use std::marker::Model;
 /// The objects by all bits of their identifiers.
 #[derive(Drop)]
 pub(crate) struct RunIndex<A: Allocator> {
-    /// The runs that say something new, in ascending order, and behind them those that do not, since earlier runs of
+    /// The runs that say something new, in ascending order, and after them those that do not, since earlier runs of
     /// their pages have all their places.
     pub(crate) runs: Vec<Run, A>,
-    /// How many runs say something new.
+    /// The number of runs that say something new.
     pub(crate) kept: usize,
     pub(crate) beginnings: Beginnings<A>,
-    /// How many objects there are.
+    /// The number of objects.
     pub(crate) count: u32,
-    /// The number of the first object whose identifier an earlier one bears, and `count` where there is none.
+    /// The number of the first object whose identifier an earlier one bears, or `count` if there is none.
     pub(crate) repeat: u32,
 }
 
@@ -45,8 +45,8 @@ impl<A: Allocator> Model for RunIndex<A> {
 }
 
 impl<A: Allocator> RunIndex<A> {
-    /// The number of the object that an identifier names.
-    // Inlined, as the `find` of an index is, which hands it on.
+    /// Returns the number of the object that `id` names, if an object bears it.
+    // Inlined, as the `find` of an index is, which forwards it.
     #[inline(always)]
     pub(crate) fn find(&self, id: u64) -> Option<u32>
         ensures { result ≡ position (λ x. x == id) self.now }
@@ -54,8 +54,13 @@ impl<A: Allocator> RunIndex<A> {
         first_bearer(&self.runs[..self.kept], &self.beginnings, id)
     }
 
-    /// The number of the first object whose identifier an earlier one bears, and how many objects there are where no
-    /// object bears such a one.
+    /// Tests whether `find` searches nothing for `id`, since the guessed run has it.
+    pub(crate) fn is_guessed(&self, id: u64) -> bool {
+        is_guessed(&self.runs[..self.kept], &self.beginnings, id)
+    }
+
+    /// Returns the number of the first object whose identifier an earlier one bears, or the number of objects if there
+    /// is no such object.
     pub(crate) fn first_repeat(&self) -> usize
         ensures { IsFirstRepeat self.now result }
     {

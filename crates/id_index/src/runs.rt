@@ -1,9 +1,9 @@
-//! Runs, of which an index is made, and the bits of their words.
+//! Runs of neighbouring objects, and the bits of their words.
 
 ghost use Rattle.std.specs.Prelude.{◌<◌, ◌≡◌};
 ghost use Rattle.id_index.specs.Runs.{rank};
 
-/// How many places a page has.
+/// The number of places of a page.
 pub(crate) const PLACES: u64 = 64;
 
 /// Neighbouring objects of one page whose numbers follow one another. Runs are ordered by page, and those of one page
@@ -18,7 +18,7 @@ pub(crate) struct Run {
     pub(crate) places: u64,
 }
 
-/// How many places of a word are set below that one.
+/// Returns how many bits of `places` are set below place `place`.
 #[tactic(auto, using(crate::proofs::Ones::rank_masked))]
 pub(crate) fn rank_in(places: u64, place: u32) -> u32
     requires { place < 64 }

@@ -1,4 +1,4 @@
-//! Ascending runs are settled: those that say something new are told from the others.
+//! Sorted runs are settled: those that say something new are parted from the others.
 
 ghost use Rattle.std.specs.Prelude.{bit_or, length, take, ◌<◌, ◌^◌, ◌≡◌, ◌≤◌};
 ghost use Rattle.id_index.specs.Runs.{AreFewAPage};
@@ -7,7 +7,7 @@ ghost use Rattle.id_index.specs.Settling.{AreSettled, AreSorted, IsTaken};
 use crate::runs::Run;
 use std::alloc::Allocator;
 
-/// The places that were seen of that page, where those of another page may have been seen.
+/// Returns `seen`, the places that were seen of page `page`, if that is the page `own`, and else no place.
 pub(crate) fn seen_of(own: u64, page: u64, seen: u64) -> u64
     ensures same { own ≡ page → result ≡ seen }
     ensures other { (own ≡ page → ⊥) → result ≡ 0 }
@@ -18,8 +18,8 @@ pub(crate) fn seen_of(own: u64, page: u64, seen: u64) -> u64
     0
 }
 
-/// Moves the run at an index, with those places, behind the kept ones, which are the first so many, unless all its
-/// places were seen. How many are kept then.
+/// Moves the run at index `at`, which has the places `places`, after the first `kept`, unless all its places were seen.
+/// Returns how many are kept then.
 fn take_run<A: Allocator>(
     runs: &mut Vec<Run, A>,
     kept: usize,
@@ -39,8 +39,8 @@ fn take_run<A: Allocator>(
     kept + 1
 }
 
-/// Moves the runs to the back all of whose places earlier runs of the page have. How many are kept in front: these are
-/// ascending still, and no page has more of them than places.
+/// Moves runs to the back if earlier runs of their page have all their places. Returns how many are kept in front:
+/// these still ascend, and no page has more of them than places.
 pub(crate) fn settle<A: Allocator>(runs: &mut Vec<Run, A>) -> usize
     requires { AreSorted runs.old.items }
     ensures settled { AreSettled runs.old.items runs.new.items (length runs.old.items) result }

@@ -1,4 +1,4 @@
-//! Runs are sorted, by one of two ways.
+//! Runs are sorted, in one of two ways.
 
 ghost use Rattle.std.specs.Prelude.{IfOk, IsPermutation, IsSorted};
 ghost use Rattle.id_index.specs.Building.{run_cmp};
@@ -6,10 +6,10 @@ ghost use Rattle.id_index.specs.Building.{run_cmp};
 use crate::runs::Run;
 use std::alloc::{AllocError, Allocator};
 
-/// Stretches of so many ascending runs, on the average, are worth merging. A guess, which was never measured on runs.
+/// The average length of ascending stretches that are worth merging. A guess, which was never measured on runs.
 const LONG_STRETCH: usize = 16;
 
-/// Whether runs descend so often that the stretches which ascend are short.
+/// Tests whether runs descend so often that ascending stretches are short.
 fn descends_often(runs: &[Run]) -> bool {
     let mut descents = 0usize;
     for at in 1..runs.len() {
@@ -20,9 +20,10 @@ fn descends_often(runs: &[Run]) -> bool {
     descents > runs.len() / LONG_STRETCH
 }
 
-/// Sorts runs. G1 and the other collectors that move objects in regions leave long stretches that ascend, and the
-/// stable sort merges those in a few passes. In dumps of ZGC and Shenandoah about every second run descends: there the
-/// other sort is faster, and needs no memory beside. Runs of one page differ in their numbers, so both give the same.
+/// Sorts runs. `AllocError` if the allocation of the stable sort fails.
+// G1 and the other collectors that move objects in regions leave long ascending stretches, which the stable sort merges
+// in a few passes. If about every second run descends, the other sort is faster and needs no memory. Runs of one page
+// differ in their numbers, so both give the same.
 pub(crate) fn sort_runs<A: Allocator>(runs: &mut Vec<Run, A>) -> Result<(), AllocError>
     ensures permutation { IsPermutation runs.old.items runs.new.items }
     ensures sorted { IfOk result (λ _. IsSorted run_cmp runs.new.items) }
