@@ -1,4 +1,4 @@
-"""The table of docs/EDITS.md: what refuses each must-fail edit, as the prover says it."""
+"""The table of docs/EDITS.md: what refuses each must-fail edit, in the prover's words."""
 
 import re
 
@@ -26,20 +26,20 @@ def refused_by(said):
 
 
 def row(edit, found):
-    """The line of the table for an edit that is refused so."""
+    """Returns the line of the table for `edit`. `found` is what refuses it, as `refused_by` returns it."""
     functions = ", ".join(f"`{it}`" for it in found if it)
     goals = [goal for function in found for goal in sorted(set(found[function]))]
     return f"| `{edit}` | {functions} | {', '.join(dict.fromkeys(goals))} |"
 
 
 def told_by(line):
-    """What a line of the table tells, without its order and without the remark behind the last goal."""
+    """Returns what a line of the table says, without its order and without the remark after a goal."""
     cells = [re.sub(r"(?<=`): .*", "", cell) for cell in line.strip("| ").split(" | ")]
     return [set(re.findall(r"`([^`]+)`", cell)) for cell in cells]
 
 
 def read(page):
-    """The lines of the table, by crate and edit."""
+    """Returns the lines of the table, by crate and edit."""
     crate, lines = "", {}
     for line in page.splitlines():
         if heading := re.match(r"## `(\w+)`$", line):
@@ -50,14 +50,15 @@ def read(page):
 
 
 def compared(lines, crate, edit, found):
-    """Whether the table's line of an edit tells what the prover said; a line that does not say more than how a proof
-    ended tells nothing, and is not compared."""
+    """Tests whether the table's line of an edit says what the prover said. If `found` only says how a proof ended, the
+    line is not compared."""
     line = lines.get((crate, edit), "")
     return bool(line) and ("" in found or told_by(line) == told_by(row(edit, found)))
 
 
 def written(page, crate, edit, found):
-    """The page with what the prover said of an edit in its line, or with a new line at the end of the crate's table."""
+    """Returns the page with what the prover said of an edit in its line, or in a new one at the end of the crate's
+    table."""
     lines, at = page.split("\n"), None
     heading = lines.index(f"## `{crate}`")
     for number in range(heading + 1, len(lines)):
