@@ -9,7 +9,7 @@ mod tests;
 
 use beginnings::Beginnings;
 use pairs::Pairs;
-use runs::{PLACES, Run, descend_often, gather, settle, sort};
+use runs::{PLACES, Run, gather, settle, sort};
 
 /// The lowest bits that all IDs have in common, and how many those are: pages are told without them.
 #[derive(Clone, Copy)]
@@ -35,7 +35,7 @@ impl LowBits {
 /// Objects by their IDs. Where an ID comes again, the first object has it.
 pub struct Index {
     low: LowBits,
-    /// In place of the runs, where they would descend often.
+    /// In place of the runs, for objects in no order.
     pairs: Option<Pairs>,
     /// In order, at most 64 of each page.
     runs: Vec<Run>,
@@ -44,15 +44,20 @@ pub struct Index {
 }
 
 impl Index {
-    /// The index of objects with these IDs, if all of them have these lowest bits.
-    pub fn new(ids: impl Iterator<Item = u64>, low: LowBits) -> Option<Index> {
-        let mut runs = gather(ids.map(|id| low.page_and_place(id)))?;
-        let often = descend_often(&runs);
-        let pairs = if often { Pairs::of(&runs) } else { None };
-        if pairs.is_some() {
-            runs = vec![];
-        }
-        sort(&mut runs, often);
+    /// The index of `count` objects, if all of their IDs have these lowest bits. `id` reads the ID of a number, as often
+    /// as wanted; `ids` reads all of them in order, once at most.
+    pub fn new(
+        count: usize,
+        id: impl Fn(usize) -> u64,
+        mut ids: impl Iterator<Item = u64>,
+        low: LowBits,
+    ) -> Option<Index> {
+        let pairs = Pairs::of(count, id, ids.by_ref(), low);
+        let mut runs = match pairs {
+            Some(_) => vec![],
+            None => gather(ids.map(|id| low.page_and_place(id)))?,
+        };
+        sort(&mut runs);
         let repeat = settle(&mut runs);
         let beginnings = Beginnings::of(&runs);
         Some(Index { low, pairs, runs, beginnings, repeat })

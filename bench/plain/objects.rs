@@ -19,6 +19,7 @@ impl Objects {
     /// If all their IDs have these lowest bits.
     fn with<const ID: usize>(text: Text<ID>, dump: &Dump, low: LowBits) -> Option<Objects> {
         let mut classes = vec![];
+        let id = |number: usize| text.id(dump.objects[number] as usize + 1);
         let ids = (0..).zip(&dump.objects).map(|(number, at)| {
             let at = *at as usize;
             if text.bytes[at] == 0x20 {
@@ -26,7 +27,7 @@ impl Objects {
             }
             text.id(at + 1)
         });
-        let index = Index::new(ids, low)?;
+        let index = Index::new(dump.objects.len(), id, ids, low)?;
         Some(Objects { index, classes })
     }
 }

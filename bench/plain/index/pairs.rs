@@ -1,9 +1,14 @@
 //! Pairs of ID and number, ordered by ID, for objects in no order. A word of bits for each page guesses the pair.
 
-use super::runs::{PLACES, Run};
+use super::LowBits;
+use super::runs::PLACES;
 
 /// The most pages that pairs may span: their places are 2^32.
-const NEAR: u64 = 1 << 26;
+const MOST_PAGES: u64 = 1 << 26;
+
+/// The number of stretches that are sampled, and of neighbours in each.
+const STRETCHES: usize = 64;
+const NEIGHBOURS: usize = 1024;
 
 /// An object's number, and its ID without the low bits and less the first one of the least page.
 #[derive(Clone, Copy, Default)]
@@ -34,25 +39,32 @@ pub struct Pairs {
 }
 
 impl Pairs {
-    /// Returns the pairs of the objects of `runs`, if their pages are close together and all IDs differ.
-    pub fn of(runs: &[Run]) -> Option<Pairs> {
-        // The first run may be empty, on a page that no object has.
-        let runs = if runs.first()?.places == 0 { &runs[1..] } else { runs };
-        let least = runs.iter().map(|run| run.page).min()?;
-        let span = runs.iter().map(|run| run.page).max()? - least;
-        if span >= NEAR || span >= runs.len() as u64 / 2 {
+    /// Returns the pairs of `count` objects with these low bits, if the objects are in no order, their pages are close
+    /// together and all IDs differ. `id` reads the ID of a number. `ids` reads all once more, in order, if pairs are made.
+    pub fn of(
+        count: usize,
+        id: impl Fn(usize) -> u64,
+        ids: impl Iterator<Item = u64>,
+        low: LowBits,
+    ) -> Option<Pairs> {
+        if !are_scattered(count, &id, low) {
             return None;
         }
-        let pages = paged(runs, least, span as usize + 1)?;
-        let mut pairs = vec![Pair::default(); runs.iter().map(Run::len).sum()];
-        for run in runs {
-            let within = run.page - least;
-            for (place, number) in run.objects() {
-                let at = (within * PLACES) as u32 + place;
-                pairs[pages[within as usize].pair_of(place)] = Pair { at, number };
-            }
+        let (least, greatest) = ends(count, &id, low)?;
+        if greatest - least >= MOST_PAGES.min(count as u64 / 2) {
+            return None;
         }
-        Some(Pairs { least, pages, pairs })
+        let mut pages = vec![Page::default(); (greatest - least) as usize + 1];
+        for number in 0..count {
+            let (page, place) = low.page_and_place(id(number))?;
+            pages[(page - least) as usize].places |= 1 << place;
+        }
+        let mut begin = 0;
+        for page in &mut pages {
+            page.begin = begin;
+            begin += page.places.count_ones();
+        }
+        (begin as usize == count).then(|| Pairs { least, pairs: placed(least, &pages, count, ids, low), pages })
     }
 
     pub fn find(&self, page: u64, place: u32) -> Option<u32> {
@@ -72,20 +84,38 @@ impl Pairs {
     }
 }
 
-/// Returns `count` pages from `least` on with the places of `runs`, if no two objects have one place.
-fn paged(runs: &[Run], least: u64, count: usize) -> Option<Vec<Page>> {
-    let mut pages = vec![Page::default(); count];
-    for run in runs {
-        let page = &mut pages[(run.page - least) as usize];
-        if page.places & run.places != 0 {
-            return None;
+/// Tests whether more than half of the objects that are sampled begin a run.
+fn are_scattered(count: usize, id: impl Fn(usize) -> u64, low: LowBits) -> bool {
+    let step = (count / STRETCHES).max(NEIGHBOURS);
+    let (mut runs, mut seen) = (0, 0);
+    for start in (0..STRETCHES).map(|stretch| stretch * step) {
+        let mut last = None;
+        for number in start..count.min(start + NEIGHBOURS) {
+            let at = low.page_and_place(id(number));
+            let goes_on = matches!((last, at), (Some((page, place)), Some(next)) if next.0 == page && next.1 > place);
+            runs += usize::from(!goes_on);
+            seen += 1;
+            last = at;
         }
-        page.places |= run.places;
     }
-    let mut begin = 0;
-    for page in &mut pages {
-        page.begin = begin;
-        begin += page.places.count_ones();
+    runs > seen / 2
+}
+
+/// Returns the least and the greatest page of the objects, if all have these low bits.
+fn ends(count: usize, id: impl Fn(usize) -> u64, low: LowBits) -> Option<(u64, u64)> {
+    (0..count).try_fold((u64::MAX, 0), |(least, greatest), number| {
+        let (page, _) = low.page_and_place(id(number))?;
+        Some((page.min(least), page.max(greatest)))
+    })
+}
+
+/// Returns a pair for each of the `count` objects with the IDs `ids`, where `pages` guess it.
+fn placed(least: u64, pages: &[Page], count: usize, ids: impl Iterator<Item = u64>, low: LowBits) -> Vec<Pair> {
+    let mut pairs = vec![Pair::default(); count];
+    for (number, id) in (0..).zip(ids) {
+        let Some((page, place)) = low.page_and_place(id) else { continue };
+        let within = page - least;
+        pairs[pages[within as usize].pair_of(place)] = Pair { at: (within * PLACES) as u32 + place, number };
     }
-    Some(pages)
+    pairs
 }

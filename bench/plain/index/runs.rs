@@ -20,21 +20,6 @@ impl Run {
     pub fn number_at(&self, place: u32) -> u32 {
         self.first + (self.places & ((1 << place) - 1)).count_ones()
     }
-
-    /// Returns the number of its objects.
-    pub fn len(&self) -> usize {
-        self.places.count_ones() as usize
-    }
-
-    /// Returns the place and the number of each of its objects.
-    pub fn objects(&self) -> impl Iterator<Item = (u32, u32)> {
-        let mut left = self.places;
-        (self.first..).map_while(move |number| {
-            let place = left.trailing_zeros();
-            left &= left.wrapping_sub(1);
-            (place < 64).then_some((place, number))
-        })
-    }
 }
 
 /// The runs of objects on these pages and places, in their order, if all are told: a run ends where the page changes,
@@ -65,9 +50,9 @@ pub fn descend_often(runs: &[Run]) -> bool {
     descents > runs.len() / FEW_DESCENTS
 }
 
-/// Sorts by page, then by number. `often` says whether they descend often.
-pub fn sort(runs: &mut [Run], often: bool) {
-    if often {
+/// Sorts by page, then by number.
+pub fn sort(runs: &mut [Run]) {
+    if descend_often(runs) {
         runs.sort_unstable_by_key(|run| (run.page, run.first));
     } else {
         runs.sort_by_key(|run| (run.page, run.first));

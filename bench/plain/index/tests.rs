@@ -6,7 +6,8 @@ use super::{Index, LowBits};
 
 fn index_of(ids: &[u64]) -> Index {
     let first = ids.first().copied().unwrap_or(0);
-    LowBits::to_try(first).into_iter().find_map(|low| Index::new(ids.iter().copied(), low)).unwrap()
+    let index = |low| Index::new(ids.len(), |number| ids[number], ids.iter().copied(), low);
+    LowBits::to_try(first).into_iter().find_map(index).unwrap()
 }
 
 /// Sees that the index answers as a search does, for each of these IDs and its neighbours, for both ends and for some
@@ -54,8 +55,8 @@ fn lists() {
         ("64 neighbours on two pages", neighbours(0x1008, 64), 2, 0, 3),
         ("ascending", neighbours(0, 1000), 16, 0, 3),
         ("ascending with gaps", (0..100).map(|number| 72 * number).collect(), 14, 0, 3),
-        ("descending", falling(0x1000, 200), 200, 0, 3),
-        ("all places of a page, descending", falling(0x1000, 64), 64, 0, 3),
+        ("descending", falling(0x1000, 200), 0, 200, 3),
+        ("all places of a page, descending", falling(0x1000, 64), 0, 64, 3),
         ("not on places that eight divides, but alike", (0..64).map(|number| 0x1005 + 8 * number).collect(), 1, 0, 3),
         ("not on such places", (0..128).map(|number| 0x1000 + number).collect(), 2, 0, 0),
         ("the last one alone is not", [neighbours(0x1000, 64), vec![0x1201]].concat(), 9, 0, 0),
@@ -147,7 +148,7 @@ fn order_of_runs() {
     for (descents, count, often) in rows {
         let mut runs = zigzag(descents, count);
         assert_eq!(descend_often(&runs), often, "{descents} of {count}");
-        sort(&mut runs, often);
+        sort(&mut runs);
         assert!(runs.windows(2).all(|pair| (pair[0].page, pair[0].first) < (pair[1].page, pair[1].first)));
     }
     assert!(size_of::<Run>() <= 24);

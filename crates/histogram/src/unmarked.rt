@@ -4,6 +4,7 @@ ghost use Rattle.std.specs.Prelude.{◌≡◌, ◌<◌, ◌+◌, ◌^◌, [], �
 ghost use Rattle.std.specs.Thread.{IsSync};
 ghost use Rattle.heap_graph.specs.ObjectGraph.{object_count};
 ghost use Rattle.heap_graph.specs.Whole.{unresolved_among};
+ghost use Rattle.hprof_grammar.specs.TeamLimits.{HasFewParts};
 ghost use Rattle.histogram.specs.Histogram.{total, unmarked_objects};
 ghost use Rattle.histogram.specs.working.Unmarked.{AddUp, AreObjects, both, counted};
 
@@ -127,6 +128,7 @@ fn count_in_parts<T: Threads + Sync, A: Allocator + Sync>(
     size: usize,
 ) -> Unmarked
     requires size { 0 < size }
+    requires few { HasFewParts team.now.threads (length numbers.now) size }
     requires objects { AreObjects graph.now numbers.now }
     ensures { result ≡ counted graph.now numbers.now }
 {
@@ -141,7 +143,8 @@ fn count_in_parts<T: Threads + Sync, A: Allocator + Sync>(
         ensures { result ≡ counted graph.entry.now first.entry.now }
     { count(graph, first) };
     let back = move || -> Unmarked
-        requires { IsSync T.row × IsSync A.row × (0 < size) × AreObjects graph.now others.now }
+        requires { IsSync T.row × IsSync A.row × (0 < size)
+            × HasFewParts team.now.threads (length others.now) size × AreObjects graph.now others.now }
         ensures { result ≡ counted graph.entry.now others.entry.now }
     { count_in_parts(team, graph, others, size) };
     let (front, back) = join(team, front, back);

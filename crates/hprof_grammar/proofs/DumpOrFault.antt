@@ -1,8 +1,8 @@
 -- A text spells a dump or has a first fault: the parser's steps on lists, told for every text of bytes.
 use Rattle.hprof_grammar.proofs.Words.{AddsAll, AddsRecord, AddsRecords, AddsSubs, AreBytes, Before, Bool, Ended, Err}
 use Rattle.hprof_grammar.proofs.Words.{Flaw, FormatFault, FrameFault, HasFirstFault, HasHeader, HasRecordFault}
-use Rattle.hprof_grammar.proofs.Words.{HasSubFault, List, None, Ok, Option, SnapshotState, Places, Result, Segments, Some}
-use Rattle.hprof_grammar.proofs.Words.{SpellsDump, StepsTo, Whole, [], ap, append-nil, arith, bad_header, behind}
+use Rattle.hprof_grammar.proofs.Words.{HasSubFault, List, None, Ok, Option, SnapshotState, Places, Result, Segments}
+use Rattle.hprof_grammar.proofs.Words.{Some, SpellsDump, StepsTo, Whole, [], ap, append-nil, arith, bad_header, behind}
 use Rattle.hprof_grammar.proofs.Words.{big_bytes, big_number, cases_eq, cases_lt, drop, false, flaw_code, frame_at}
 use Rattle.hprof_grammar.proofs.Words.{framed, inl, inr, is_done, is_heap_tag, is_id_size, is_length_of}
 use Rattle.hprof_grammar.proofs.Words.{is_snapshot_tag, length, length-append, limit, magic, nat_eq, nat_tests}
@@ -113,8 +113,8 @@ module _ (at tag time : ℕ) (body : List ℕ) (was : SnapshotState) (old : Plac
   frame_told : IsBytes body → FrameTold
   frame_told bytes = by_length (is_length_of old.id_size tag (length body)) refl
     where
-      by_order : is_length_of old.id_size tag (length body) ≡ true → (next : Option SnapshotState) → StepsTo was tag next
-          → FrameTold
+      by_order : is_length_of old.id_size tag (length body) ≡ true → (next : Option SnapshotState)
+          → StepsTo was tag next → FrameTold
       by_order allowed None breaks = inr (record { code = 8; offset = at }, wrong_order refl refl allowed breaks)
       by_order allowed (Some next) order =
           body_told (record { bytes = bytes; length_allowed = allowed; order = order })

@@ -1,8 +1,8 @@
 -- What stands in the frame of a record, by its tag.
 use Rattle.hprof_grammar.proofs.Words.{AddsRecord, AddsSubs, Bool, FormatFault, FrameFault, HasSubFault, IsAt, IsOther}
-use Rattle.hprof_grammar.proofs.Words.{List, SnapshotState, Places, [], ap, append-nil, arith, big_bytes, big_number, drop}
-use Rattle.hprof_grammar.proofs.Words.{drop_of_length-le, heap, is_heap_tag, is_length_of, length, load_class, other}
-use Rattle.hprof_grammar.proofs.Words.{refl, slice_index, string, subst, sym, true, w8, with_loaded, with_string}
+use Rattle.hprof_grammar.proofs.Words.{List, SnapshotState, Places, [], ap, append-nil, arith, big_bytes, big_number}
+use Rattle.hprof_grammar.proofs.Words.{drop, drop_of_length-le, heap, is_heap_tag, is_length_of, length, load_class}
+use Rattle.hprof_grammar.proofs.Words.{other, refl, slice_index, string, subst, sym, true, w8, with_loaded, with_string}
 use Rattle.hprof_grammar.proofs.Words.{wrong_heap, ℕ, ◌*◌, ◌++◌, ◌+◌, ◌∙◌, ◌∷◌, ◌≡◌, ◌≤◌}
 use Rattle.std.proofs.Common.{Fits}
 use Rattle.hprof_grammar.proofs.Bytes.{IsBytes, bytes-drop, in_bytes, number-lt, number_parts, number_stands}

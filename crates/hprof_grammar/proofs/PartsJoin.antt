@@ -1,9 +1,9 @@
 -- Parts that are joined one behind another.
-use Rattle.hprof_grammar.proofs.Words.{AddsAll, AddsRecords, AddsRecordsFrom, Before, Bool, IsPart, List, SnapshotState, Part}
-use Rattle.hprof_grammar.proofs.Words.{Places, Seam, [], ap, arith, drop, drop-drop, drop_of_length-le, eqb, eqb-true}
-use Rattle.hprof_grammar.proofs.Words.{false, is_done, length, length-drop, not, nothing_of, refl, same_true, sameb}
-use Rattle.hprof_grammar.proofs.Words.{subst, sym, take, take-append-drop, the_type, true, with_places, ℕ, ◌&&◌, ◌++◌}
-use Rattle.hprof_grammar.proofs.Words.{◌+◌, ◌-◌, ◌<◌, ◌^◌, ◌∙◌, ◌≡◌, ◌≤◌}
+use Rattle.hprof_grammar.proofs.Words.{AddsAll, AddsRecords, AddsRecordsFrom, Before, Bool, IsPart, List, SnapshotState}
+use Rattle.hprof_grammar.proofs.Words.{Part, Places, Seam, [], ap, arith, drop, drop-drop, drop_of_length-le, eqb}
+use Rattle.hprof_grammar.proofs.Words.{eqb-true, false, is_done, length, length-drop, not, nothing_of, refl, same_true}
+use Rattle.hprof_grammar.proofs.Words.{sameb, subst, sym, take, take-append-drop, the_type, true, with_places, ℕ, ◌&&◌}
+use Rattle.hprof_grammar.proofs.Words.{◌++◌, ◌+◌, ◌-◌, ◌<◌, ◌^◌, ◌∙◌, ◌≡◌, ◌≤◌}
 use Rattle.hprof_grammar.proofs.RecordSteps.{read_apart, records_begin, records_join}
 
 both_hold : (x y : Bool) → not (x && y) ≡ false → (x ≡ true) × (y ≡ true)

@@ -1,9 +1,9 @@
 -- The loop over the records: before it, and at each turn. Records that were read by themselves join those before them.
-use Rattle.hprof_grammar.proofs.Words.{AddsRecord, AddsRecordsFrom, AllByRecursion, IsAt, IsRecord, List, SnapshotState, Places}
-use Rattle.hprof_grammar.proofs.Words.{Record, [], ap, append-nil, append_assoc, arith, filter-append, flat_map-append}
-use Rattle.hprof_grammar.proofs.Words.{framed, length, length-append, map, map-append, nothing_of, placed, placed_subs}
-use Rattle.hprof_grammar.proofs.Words.{record_spelling, refl, spellings, subs_of, subst, sym, tag_of, with_places}
-use Rattle.hprof_grammar.proofs.Words.{with_record, with_records, ℕ, ◌++◌, ◌+◌, ◌-◌, ◌∙◌, ◌∷◌, ◌≡◌}
+use Rattle.hprof_grammar.proofs.Words.{AddsRecord, AddsRecordsFrom, AllByRecursion, IsAt, IsRecord, List, SnapshotState}
+use Rattle.hprof_grammar.proofs.Words.{Places, Record, [], ap, append-nil, append_assoc, arith, filter-append}
+use Rattle.hprof_grammar.proofs.Words.{flat_map-append, framed, length, length-append, map, map-append, nothing_of}
+use Rattle.hprof_grammar.proofs.Words.{placed, placed_subs, record_spelling, refl, spellings, subs_of, subst, sym}
+use Rattle.hprof_grammar.proofs.Words.{tag_of, with_places, with_record, with_records, ℕ, ◌++◌, ◌+◌, ◌-◌, ◌∙◌, ◌∷◌, ◌≡◌}
 use Rattle.hprof_grammar.proofs.Fields.{all_join}
 use Rattle.hprof_grammar.proofs.Frames.{FrameTaken}
 

@@ -1,6 +1,6 @@
 -- What the order of the snapshot's records says of the tags that have come.
-use Rattle.hprof_grammar.proofs.Words.{Before, Bool, CanGoOn, Ended, IsAt, IsOrderly, IsSnapshot, List, SnapshotState, Segments}
-use Rattle.hprof_grammar.proofs.Words.{Whole, [], add-one, ap, append-nil, append_assoc, arith, cond, false}
+use Rattle.hprof_grammar.proofs.Words.{Before, Bool, CanGoOn, Ended, IsAt, IsOrderly, IsSnapshot, List, SnapshotState}
+use Rattle.hprof_grammar.proofs.Words.{Segments, Whole, [], add-one, ap, append-nil, append_assoc, arith, cond, false}
 use Rattle.hprof_grammar.proofs.Words.{filter-append, inl, inr, is_done, is_snapshot_tag, refl, replicate}
 use Rattle.hprof_grammar.proofs.Words.{replicate_more, snapshot_tags, subst, suc, sym, true, zero, ℕ, ◌++◌, ◌∙◌, ◌∷◌}
 use Rattle.hprof_grammar.proofs.Words.{◌≡◌, ◌≢◌}
@@ -142,7 +142,8 @@ segments_are_none : (n : ℕ) → IsSnapshot (replicate (suc n) 0x1C) → ⊥
 segments_are_none n (inl e) = dump_is_no_segment (cc)
 segments_are_none n (inr (m, e)) = row_no_end 0x1C 0x2C (suc n) (suc m) [] end_is_no_segment e
 
-pub not_done_is_not : (order : SnapshotState) (tags : List ℕ) → is_done order ≡ false → IsAt order tags → IsOrderly tags → ⊥
+pub not_done_is_not : (order : SnapshotState) (tags : List ℕ) → is_done order ≡ false → IsAt order tags
+    → IsOrderly tags → ⊥
 not_done_is_not Before tags e h is = nothing_is_none (subst IsSnapshot h is)
 not_done_is_not Segments tags e h is = segments_are_none h.0 (subst IsSnapshot h.1 is)
 not_done_is_not order tags e h is = cc

@@ -96,8 +96,8 @@ heap_body s (heap tag time subs) is h = (subs, is.parts.1, refl)
 heap_body s (other tag time body) is h = absurd (let no_heap = is.parts.2 in cc)
 heap_body s z is h = absurd (cc)
 
-module _ {s at tag time : ℕ} {body after rest : List ℕ} {fault : FormatFault} (records : List Record) (was : SnapshotState)
-    (frame : FrameTaken rest tag time body after) (comes : IsAt was (map tag_of records)) where
+module _ {s at tag time : ℕ} {body after rest : List ℕ} {fault : FormatFault} (records : List Record)
+    (was : SnapshotState) (frame : FrameTaken rest tag time body after) (comes : IsAt was (map tag_of records)) where
   -- a fault in a frame leaves no whole record there with which the list can go on
   stuck_in_frame : FrameFault s at tag body was fault → IsStuck s records rest
   stuck_in_frame wrong z left is e go =
@@ -135,7 +135,8 @@ module _ {s at tag time : ℕ} {body after rest : List ℕ} {fault : FormatFault
 -- ---- the loop over the records: its faults
 
 -- records have come up to this place
-module _ {bytes rest : List ℕ} {was : SnapshotState} {old new : Places} (adds : AddsRecords bytes rest was old new) where
+module _ {bytes rest : List ℕ} {was : SnapshotState} {old new : Places}
+    (adds : AddsRecords bytes rest was old new) where
   come : IsAt was (map tag_of adds.records)
   come = adds.order [] refl
 

@@ -115,8 +115,8 @@ with_places p more = record {
 
 -- the bytes at the place `at` are records and the rest, the places of these are added, and the snapshot state goes from
 -- `before` to `reached`
-pub record AddsRecordsFrom (at : ℕ) (before : SnapshotState) (bytes rest : List ℕ) (reached : SnapshotState) (old new : Places)
-    : Type 0 where
+pub record AddsRecordsFrom (at : ℕ) (before : SnapshotState) (bytes rest : List ℕ) (reached : SnapshotState)
+    (old new : Places) : Type 0 where
   pub records : List Record
   pub parts : bytes ≡ spellings old.id_size records ++ rest
   pub each : AllByRecursion (IsRecord old.id_size) records

@@ -1,6 +1,6 @@
 -- Each turn takes a frame off the rest and joins its record. What stops it lies behind the longest list of records.
-use Rattle.hprof_grammar.proofs.Words.{Before, FrameFault, HasRecordFault, SnapshotState, ap, arith, length, nat_tests, refl, ℕ}
-use Rattle.hprof_grammar.proofs.Words.{◌+◌, ◌-◌, ◌<◌, ◌≡◌}
+use Rattle.hprof_grammar.proofs.Words.{Before, FrameFault, HasRecordFault, SnapshotState, ap, arith, length, nat_tests}
+use Rattle.hprof_grammar.proofs.Words.{refl, ℕ, ◌+◌, ◌-◌, ◌<◌, ◌≡◌}
 use Rattle.std.proofs.lemmas.Result.{err_from_is_err_and}
 use Rattle.hprof_grammar.proofs.Refusals.{fault_passes}
 use Rattle.hprof_grammar.proofs.Bytes.{in_bytes}
