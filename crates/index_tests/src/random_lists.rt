@@ -4,6 +4,7 @@ ghost use Rattle.std.specs.Prelude.{◌<◌};
 
 use crate::beside::answers_all;
 use crate::making::index_of;
+use crate::pairing::paired_index;
 use std::alloc::{AllocError, Global};
 use std::test::Fail;
 
@@ -72,6 +73,57 @@ fn random_lists(rt: HostRuntime) -> Result<(), Fail> {
     for list in 0..LISTS {
         let ids = numbers.list(rt.alloc())?;
         let right = is_right(rt.alloc(), &ids);
+        assert_eq!(rt; right, Ok(true), "list {list}");
+    }
+    Ok(())
+}
+
+/// How many lists of identifiers in no order are tried.
+const SCATTERED: usize = 2_000;
+
+impl Numbers {
+    /// Returns 4 to 43 identifiers in no order on one page or two. None is repeated.
+    fn scattered(&mut self, alloc: Global) -> Result<Vec<u64>, AllocError> {
+        let base = BASES[self.below(3) as usize];
+        let (first, step) = (self.below(64), self.below(32) * 2 + 1);
+        let mut ids = Vec::new(alloc);
+        for number in 0..self.below(40) + 4 {
+            let place = first.wrapping_add(number.wrapping_mul(step)) % 64;
+            ids.push(base.wrapping_add(place * 8))?;
+        }
+        Ok(ids)
+    }
+
+    /// Replaces one of `ids`, if there is one, by any of them. Returns whether it is another now.
+    fn repeat_one(&mut self, ids: &mut [u64]) -> bool {
+        if ids.is_empty() || ids.len() > 1000 {
+            return false;
+        }
+        let (to, from) = (self.below(ids.len() as u64), self.below(ids.len() as u64));
+        ids[to as usize] = ids[from as usize];
+        to != from
+    }
+}
+
+/// Tests whether there is an index of `ids` by pairs exactly if none is repeated, and it is as a search one by one.
+fn is_paired(alloc: Global, ids: &[u64], repeats: bool) -> Result<bool, AllocError> {
+    if ids.len() > 1000 {
+        return Ok(false);
+    }
+    match paired_index(alloc, ids, ids.first().copied().unwrap_or(0) % 8)? {
+        Some(index) => Ok(!repeats && answers_all(&index, ids)),
+        None => Ok(repeats),
+    }
+}
+
+/// Each second list has an identifier that is put over another, or over itself.
+#[test]
+fn scattered_lists(rt: HostRuntime) -> Result<(), Fail> {
+    let mut numbers = Numbers { state: 1 };
+    for list in 0..SCATTERED {
+        let mut ids = numbers.scattered(rt.alloc())?;
+        let repeats = list % 2 == 1 && numbers.repeat_one(&mut ids);
+        let right = is_paired(rt.alloc(), &ids, repeats);
         assert_eq!(rt; right, Ok(true), "list {list}");
     }
     Ok(())
