@@ -12,6 +12,8 @@ use std::sync::Wait;
 
 mod spill_list;
 
+use spill_list::SpillList;
+
 /// Two buffers of a worker. Objects are put into and got from the first, and the two change places; full buffers go to
 /// the pool's full stack and come from there, empty ones to and from the empty stack. An object for which there is no
 /// empty buffer goes to the pair's spill list, which grows by 4 bytes an object and doubles where it has to.
@@ -22,7 +24,7 @@ mod spill_list;
 pub struct Pair<A: Allocator> {
     buffers: Buffers<A>,
     /// Objects for which there was no buffer, the last put at the end.
-    spill: Vec<u32, A>,
+    spill: SpillList<A>,
     /// A call answered `TagSpent`. Contracts ask for it.
     stopped: bool,
     /// A call answered `OutOfMemory`. Contracts ask for it.
@@ -38,7 +40,7 @@ impl<A: Allocator> Model for Pair<A> {
       first = p.buffers.first;
       second = p.buffers.second;
       third = p.buffers.third;
-      spill = p.spill.items;
+      spill = p.spill;
       stopped = p.stopped;
       starved = p.starved;
     } };
@@ -67,7 +69,7 @@ impl<A: Allocator> Pair<A> {
         };
         Pair {
             buffers,
-            spill: Vec::new(alloc),
+            spill: SpillList::new(alloc),
             stopped: false,
             starved: false,
         }

@@ -1,10 +1,69 @@
-//! The list of objects for which a pair found no buffer.
-ghost use Rattle.std.specs.Prelude.{◌≡◌, ◌∷◌, ◌++◌, IfErr, OnOk, [], length, true};
+//! The spill list of a pair: the objects for which it found no buffer.
+ghost use Rattle.std.specs.Prelude.{◌≡◌, ◌∷◌, ◌++◌, IfErr, IfNone, OnErr, OnOk, [], length, option_to_list, true};
 ghost use Rattle.work_pair.specs.declared.stop.Stop.TheVariants.{OutOfMemory};
 
 use crate::pair::Pair;
 use crate::stop::Stop;
-use std::alloc::Allocator;
+use std::alloc::{AllocError, Allocator};
+use std::marker::Model;
+
+/// Objects for which there was no buffer, the last put at the end.
+#[derive(Drop)]
+pub(super) struct SpillList<A: Allocator> {
+    objects: Vec<u32, A>,
+}
+
+impl<A: Allocator> Model for SpillList<A> {
+    ghost use Rattle.std.specs.Prelude.{List, ℕ};
+
+    ghost Value = { List ℕ };
+
+    ghost view = { λ l. l.objects.items };
+}
+
+impl<A: Allocator> SpillList<A> {
+    /// Creates an empty list, which allocates nothing yet.
+    pub(super) fn new(alloc: A) -> Self
+        ensures { result ≡ [] }
+    {
+        SpillList {
+            objects: Vec::new(alloc),
+        }
+    }
+
+    /// Appends `object`. The list stays as it was if it cannot grow.
+    pub(super) fn push(&mut self, object: u32) -> Result<(), AllocError>
+        ensures pushed { OnOk result (self.new ≡ self.old ++ object ∷ []) }
+        ensures same { OnErr result (self.new ≡ self.old) }
+    {
+        self.objects.push(object)?;
+        Ok(())
+    }
+
+    /// Removes the last object and returns it. Returns `None` if there is none.
+    // For each object that a pair gets, which nearly always finds the list empty: so it is no call.
+    #[inline]
+    pub(super) fn pop(&mut self) -> Option<u32>
+        ensures items { self.old ≡ self.new ++ option_to_list result }
+        ensures none { IfNone result (length self.new ≡ 0) }
+    {
+        self.objects.pop()
+    }
+
+    /// Drops all objects.
+    pub(super) fn clear(&mut self)
+        ensures items { self.new ≡ [] }
+    {
+        self.objects.clear();
+    }
+
+    /// Returns how many objects the list has.
+    pub(super) fn len(&self) -> usize
+        ensures { result ≡ length self.now }
+    {
+        self.objects.len()
+    }
+}
 
 impl<A: Allocator> Pair<A> {
     /// Puts an object at the end of the spill list. It comes back where the list could not grow.
