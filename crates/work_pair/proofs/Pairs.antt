@@ -1,4 +1,4 @@
--- From what was done with the three places to what a call of a pair tells.
+-- From the effect on the three places to the effect of a call of a pair.
 use Rattle.std.proofs.Common.{◌≡◌, ℕ, Bool, true, false, List, [], ◌∷◌, ◌++◌, Option, Some, None, IfSome, IfNone}
 use Rattle.std.proofs.Common.{IfErr, OnOk, Result, Ok, Err, refl, sym, ap, subst, ◌∙◌, inl, inr, ⊎_elim, arith}
 use Rattle.std.proofs.lemmas.Bool.{false≢true}

@@ -1,4 +1,6 @@
 //! The spill list of a pair: the objects for which it found no buffer.
+//!
+//! A spilled object is got again by `Pair::get`, and given up by `Pair::dispose` after a stop.
 ghost use Rattle.std.specs.Prelude.{◌≡◌, ◌∷◌, ◌++◌, IfErr, IfNone, OnErr, OnOk, [], length, option_to_list, true};
 ghost use Rattle.work_pair.specs.declared.stop.Stop.TheVariants.{OutOfMemory};
 
@@ -41,7 +43,7 @@ impl<A: Allocator> SpillList<A> {
     }
 
     /// Removes the last object and returns it. Returns `None` if there is none.
-    // For each object that a pair gets, which nearly always finds the list empty: so it is no call.
+    // Inlined, because each get of a pair asks it first and nearly always finds the list empty.
     #[inline]
     pub(super) fn pop(&mut self) -> Option<u32>
         ensures items { self.old ≡ self.new ++ option_to_list result }
@@ -66,8 +68,8 @@ impl<A: Allocator> SpillList<A> {
 }
 
 impl<A: Allocator> Pair<A> {
-    /// Puts an object at the end of the spill list. It comes back where the list could not grow.
-    // A call: how a list grows is not to stand at each caller of `put`.
+    /// Puts `object` at the end of the spill list. Returns it if the list could not grow.
+    // A call, so that the growth of a list is not inlined into each caller of `put`.
     #[inline(never)]
     pub(super) fn spill_over(&mut self, object: u32) -> Result<(), (u32, Stop)>
         ensures spilled { OnOk result (self.new ≡ record self.old { spill = self.old.spill ++ object ∷ [] }) }
@@ -83,7 +85,7 @@ impl<A: Allocator> Pair<A> {
         }
     }
 
-    /// How many objects the spill list has.
+    /// Returns how many objects the spill list has.
     pub fn spilled(&self) -> usize
         ensures { result ≡ length self.now.spill }
     {

@@ -1,4 +1,4 @@
--- What the buffers tell of a balance, told of the pair; its list stays.
+-- The effect of a balance on the buffers, as one on the pair, whose list stays.
 use Rattle.std.proofs.Common.{◌∙◌, ap, refl, subst}
 use Rattle.work_pair.specs.Deals.{HasMore}
 use Rattle.work_pair.specs.PairState.{PairState}

@@ -1,4 +1,4 @@
--- What the buffers tell of a clearing, told of the pair, whose list was given up.
+-- The effect of a clearing on the buffers, as one on the pair, whose list was given up.
 use Rattle.std.proofs.Common.{◌∙◌, true, ap, refl, false, []}
 use Rattle.std.proofs.lemmas.Bool.{false≢true}
 use Rattle.work_pair.specs.PairState.{pair_items, empty_pair}

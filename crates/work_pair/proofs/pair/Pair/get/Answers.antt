@@ -1,5 +1,5 @@
--- The last object of the list, or one of the first buffer, which is got without a trade; where that has none all is as
--- it was for the call behind, and what that tells is told of the pair.
+-- The last object of the list, or one of the first buffer, is got without a trade. If there is none, everything is as
+-- it was when the other call begins, whose effect on the buffers becomes one on the pair.
 use Rattle.std.proofs.Common.{◌∙◌, [], ◌∷◌, Err, Ok, Some, length, ap, refl, sym, arith}
 use Rattle.std.proofs.lemmas.List.{append-nil}
 use Rattle.work_pair.specs.PairState.{PairState}

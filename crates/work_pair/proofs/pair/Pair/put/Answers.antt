@@ -1,5 +1,5 @@
--- The first buffer has room and takes the object in. Where it has none all is as it was for the call behind: what that
--- tells of the object, and where there was no buffer for it, it went to the list.
+-- The first buffer takes the object if it has room. If not, everything is as it was when the other call begins, whose
+-- effect on the buffers becomes one on the pair. If there was no buffer for the object, it went to the list.
 use Rattle.std.proofs.Common.{◌≡◌, ℕ, true, [], ◌∷◌, ◌++◌, Err, Ok, ap, inl, refl}
 use Rattle.mark_core.specs.declared.which.Which.TheVariants.{Empty}
 use Rattle.work_pair.specs.Deals.{Deals, DealsOut, Puts}
