@@ -14,9 +14,10 @@ mod spill_list;
 
 use spill_list::SpillList;
 
-/// Two buffers of a worker. Objects are put into and got from the first, and the two exchange places. Full buffers go
-/// to the pool's full stack and come from there, empty ones go to and come from the empty stack. An object for which
-/// there is no empty buffer goes to the pair's spill list, which takes 4 bytes an object and doubles when it is full.
+/// Two buffers of a worker. Objects are put into and got from the first, which exchanges places with the second if it
+/// cannot serve. Full buffers go to the pool's full stack and come from there, empty ones go to and come from the empty
+/// stack. An object for which there is no empty buffer goes to the pair's spill list, which takes 4 bytes an object and
+/// doubles when it is full.
 ///
 /// A call that returns [`Stop::TagSpent`] stops the pair: it holds each buffer that it had or took and did not push,
 /// and can only be disposed of. After [`Stop::OutOfMemory`] the pair stays usable.
