@@ -1,4 +1,4 @@
--- What the calls of a pair tell, from what their parts tell.
+-- The effect of the calls of a pair, from the effect of their parts.
 use Rattle.std.proofs.Common.{◌≡◌, ◌≢◌, ◌⊎◌, ℕ, ◌<◌, ◌≤◌, Bool, true, false, List, [], ◌∷◌, ◌++◌, length, Option, Some}
 use Rattle.std.proofs.Common.{None, Result, Ok, Err, refl, sym, ap, subst, ◌∙◌, inl, inr, ⊎_elim, arith}
 use Rattle.mark_core.specs.declared.which.Which.{Which}

@@ -1,4 +1,4 @@
--- What it tells that all buffers of a pair were given back.
+-- What follows when all buffers of a pair were pushed back.
 use Rattle.std.proofs.Common.{◌≡◌, ◌≢◌, List, [], ◌++◌, Option, None, Result, Ok, Err, refl, subst}
 use Rattle.std.proofs.Common.{⊎_elim}
 use Rattle.mark_core.specs.declared.which.Which.{Which}

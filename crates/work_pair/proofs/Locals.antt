@@ -1,4 +1,4 @@
--- Changes of a pair that its worker's stacks do not see.
+-- Changes of a pair that do not touch the stacks.
 use Rattle.std.proofs.Common.{◌≡◌, ℕ, ◌+◌, List, [], ◌∷◌, ◌++◌, Option, Some, None, MatchOption, refl, sym, ap}
 use Rattle.std.proofs.Common.{◌∙◌, inl, inr, arith}
 use Rattle.mark_core.specs.Lists.{times, only}

@@ -1,4 +1,4 @@
--- What loads and failed exchanges leave as it was.
+-- What loads and failed exchanges do not change.
 use Rattle.std.proofs.Common.{◌≡◌, ℕ, ◌≤◌, false, Option, arith}
 use Rattle.tagged_index.specs.Head.{Head}
 use Rattle.mark_core.specs.declared.which.Which.{Which}

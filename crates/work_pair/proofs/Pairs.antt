@@ -1,4 +1,4 @@
--- From what was done with the three places to what a call of a pair tells.
+-- From the effect on the three places to the effect of a call of a pair.
 use Rattle.std.proofs.Common.{◌≡◌, ℕ, Bool, true, false, List, [], ◌∷◌, ◌++◌, Option, Some, None, IfSome, IfNone}
 use Rattle.std.proofs.Common.{IfErr, OnOk, Result, Ok, Err, refl, sym, ap, subst, ◌∙◌, inl, inr, ⊎_elim, arith}
 use Rattle.std.proofs.lemmas.Bool.{false≢true}
@@ -26,7 +26,7 @@ use Rattle.work_pair.proofs.Trading.{backed_less, untouched}
 
 -- a pair as a contract sees it
 abbrev pub seen_as : {A : Type 0} → Inside A → PairState
-seen_as i = listed (places_of i.buffers) i.spill.items i.stopped i.starved
+seen_as i = listed (places_of i.buffers) i.spill i.stopped i.starved
 
 -- what was popped from full does not depend on the list
 refills_of : (p q : PairState) → p.first ≡ q.first → p.second ≡ q.second → (popped : List HeldBuffer)
@@ -87,7 +87,7 @@ module _ {A : Type 0} {v : PairState} (i : Inside A) (is : seen_as i ≡ v) wher
   not_ended going ms stopped = absurd (false≢true (sym (still_going going) ∙ stopped))
 
   -- the last object of the list was got
-  pub takes_last : (m : List ℕ) (o : ℕ) → i.spill.items ≡ m ++ o ∷ [] → IsOpen v → (b : Book) → IsBacked v [] b
+  pub takes_last : (m : List ℕ) (o : ℕ) → i.spill ≡ m ++ o ∷ [] → IsOpen v → (b : Book) → IsBacked v [] b
       → Deals v b [] (o ∷ []) (listed (places_of i.buffers) m i.stopped i.starved) b
   takes_last m o l_is going b backed =
       let u : Trades (places_of i.buffers) b [] [] (places_of i.buffers) b = untouched (inner backed).sized in
@@ -96,7 +96,7 @@ module _ {A : Type 0} {v : PairState} (i : Inside A) (is : seen_as i ≡ v) wher
 
   module _ (b : Book) (q : Buffers A) (c : Book) where
     -- the buffers were traded, and the list stayed
-    abbrev trades : {m put got : List ℕ} {now starving : Bool} → m ≡ i.spill.items → IsBacked v put b
+    abbrev trades : {m put got : List ℕ} {now starving : Bool} → m ≡ i.spill → IsBacked v put b
         → (u : Trades (places_of i.buffers) b put got (places_of q) c) → (now ≡ true → EndAtLastTag u.moves)
         → Deals (seen_as i) b put got (listed (places_of q) m now starving) c
     trades m_is backed = dealt_listed refl refl (λ o. omega (arith, ap (times o) m_is)) (seen backed)
@@ -108,7 +108,7 @@ module _ {A : Type 0} {v : PairState} (i : Inside A) (is : seen_as i ≡ v) wher
       answered which done_is =
           subst (λ (d : Bool). PutAnswers object (places_of i.buffers) b (places_of q) c (Ok d)) done_is answer
 
-      pub puts : done ≡ true → Puts v b object (listed (places_of q) i.spill.items i.stopped i.starved) c
+      pub puts : done ≡ true → Puts v b object (listed (places_of q) i.spill i.stopped i.starved) c
       puts done_is =
           let a = answered true done_is in
           rw (← is) (
@@ -123,17 +123,17 @@ module _ {A : Type 0} {v : PairState} (i : Inside A) (is : seen_as i ≡ v) wher
         abbrev none : FindsNone (places_of i.buffers) b (places_of q) c
         none = answered false done_is
 
-        pub spills : m ≡ i.spill.items ++ object ∷ [] → Puts v b object (listed (places_of q) m i.stopped i.starved) c
+        pub spills : m ≡ i.spill ++ object ∷ [] → Puts v b object (listed (places_of q) m i.stopped i.starved) c
         spills m_is =
             rw (← is) (
-              dealt_listed refl refl (λ o. omega (arith, spilled i.spill.items object o, ap (times o) m_is))
+              dealt_listed refl refl (λ o. omega (arith, spilled i.spill object o, ap (times o) m_is))
                   (seen backed) none.0 (not_ended going none.0.moves),
               inr (m_is, none.2),
               out_alone none.0.moves none.2,
               inr (inl none.2),
             )
 
-        pub starves : m ≡ i.spill.items → (deals : Deals v b [] [] (listed (places_of q) m i.stopped true) c)
+        pub starves : m ≡ i.spill → (deals : Deals v b [] [] (listed (places_of q) m i.stopped true) c)
             × (deals.moves ≡ FoundNone Empty ∷ [])
         starves m_is =
             rw (← is) (
@@ -144,14 +144,14 @@ module _ {A : Type 0} {v : PairState} (i : Inside A) (is : seen_as i ≡ v) wher
         pub still_open : IsOpen (listed (places_of q) m i.stopped true)
         still_open = record { going = still_going going; third = none.1 }
 
-        pub as_before : m ≡ i.spill.items → AreAlike v (listed (places_of q) m i.stopped true)
+        pub as_before : m ≡ i.spill → AreAlike v (listed (places_of q) m i.stopped true)
         as_before m_is =
             rw (← is) (record {
               items = λ o. omega (
                 arith,
                 none.3.items o,
                 ap (times o) m_is,
-                listed_sum o (places_of i.buffers) i.spill.items i.stopped i.starved refl,
+                listed_sum o (places_of i.buffers) i.spill i.stopped i.starved refl,
                 listed_sum o (places_of q) m i.stopped true refl,
               );
               buffers = none.3.buffers;
@@ -161,7 +161,7 @@ module _ {A : Type 0} {v : PairState} (i : Inside A) (is : seen_as i ≡ v) wher
       -- the buffers were balanced, or published
       module _ (going : IsOpen v) (done : Unit) where
         pub balances : BalanceAnswers (places_of i.buffers) b (places_of q) c (Ok done)
-            → Balances v b (listed (places_of q) i.spill.items i.stopped i.starved) c
+            → Balances v b (listed (places_of q) i.spill i.stopped i.starved) c
         balances told =
             rw (← is) (
               trades refl backed told.0 (not_ended going told.0.moves),
@@ -171,13 +171,13 @@ module _ {A : Type 0} {v : PairState} (i : Inside A) (is : seen_as i ≡ v) wher
             )
 
         pub publishes : PublishAnswers (places_of i.buffers) b (places_of q) c (Ok done)
-            → PublishesBoth v b (listed (places_of q) i.spill.items i.stopped i.starved) c
+            → PublishesBoth v b (listed (places_of q) i.spill i.stopped i.starved) c
         publishes told =
             rw (← is) (trades refl backed told.0 (not_ended going told.0.moves), told.4)
 
       -- a call was stopped that popped nothing from full
       pub stops : (stop : Stop) → EndsOut (places_of i.buffers) b (places_of q) c stop
-          → (stop ≡ TagSpent) × (true ≡ true) × DealsOut v b (listed (places_of q) i.spill.items true i.starved) c
+          → (stop ≡ TagSpent) × (true ≡ true) × DealsOut v b (listed (places_of q) i.spill true i.starved) c
       stops TagSpent told = (
         refl,
         refl,
@@ -186,7 +186,7 @@ module _ {A : Type 0} {v : PairState} (i : Inside A) (is : seen_as i ≡ v) wher
       stops OutOfMemory none = absurd none
 
       -- an object was to be got from the buffers, and the list stayed
-      module _ (m : List ℕ) (m_is : m ≡ i.spill.items) where
+      module _ (m : List ℕ) (m_is : m ≡ i.spill) where
         gets : {now : Bool} {got : List ℕ} (u : Trades (places_of i.buffers) b [] got (places_of q) c)
             → (now ≡ true → EndAtLastTag u.moves) → Deals v b [] got (listed (places_of q) m now i.starved) c
         gets u ends = rw (← is) (trades m_is backed u ends)

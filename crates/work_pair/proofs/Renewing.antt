@@ -1,4 +1,4 @@
--- What was done with one place.
+-- The effect on one place.
 use Rattle.std.proofs.Common.{◌≡◌, ◌≢◌, ℕ, ◌+◌, Bool, true, false, Contains, List, [], ◌∷◌, ◌++◌, Option, Some, None}
 use Rattle.std.proofs.Common.{Ok, Err, refl, sym, ap, subst, ◌∙◌, inl, inr, ⊎_elim, arith, length, ◌-◌, ◌/◌}
 use Rattle.std.proofs.lemmas.List.{append-nil, length-take, take-append-drop}

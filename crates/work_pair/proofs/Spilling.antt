@@ -1,4 +1,4 @@
--- Pairs with a spill list, from what was done with their buffers.
+-- Pairs with a spill list, from the effect on their buffers.
 use Rattle.std.proofs.Common.{◌≡◌, ℕ, ◌+◌, Bool, true, List, [], ◌∷◌, ◌++◌, ap, arith}
 use Rattle.mark_core.specs.Lists.{times, only}
 use Rattle.mark_core.proofs.Sums.{sum_of-append}

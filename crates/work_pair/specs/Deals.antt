@@ -1,4 +1,4 @@
--- What a call of a pair does to the pair and to the book of its worker.
+-- The effect of each call of a pair on the pair and on the book of its worker.
 use Rattle.std.specs.Prelude.{◌≡◌, ◌≢◌, ◌⊎◌, ℕ, ◌-◌, ◌/◌, ◌<◌, true, false, List, [], ◌∷◌, ◌++◌, length}
 use Rattle.std.specs.Prelude.{take, drop, Option, Some, None}
 use Rattle.mark_core.specs.declared.which.Which.TheVariants.{Full, Empty}
@@ -10,8 +10,8 @@ use Rattle.work_pair.specs.PairState.{PairState, buffered_items, pair_items, ite
 use Rattle.work_pair.specs.PairState.{without_spill}
 use Rattle.work_pair.specs.PairState.{HasRoom, IsBacked, SameNumbers}
 
--- the worker has the same share and the same idle number, saw the same objects and finished the same, and its pool was
--- made for the same
+-- the worker has the same share, the same idle number, the same objects seen and finished, and the same setup of its
+-- pool
 pub record Keeps (old new : Book) : Type 0 where
   pub setup : new.setup ≡ old.setup
   pub share : new.account.share ≡ old.account.share
@@ -24,24 +24,25 @@ pub record Deals (old : PairState) (before : Book) (put got : List ℕ) (new : P
   -- what was popped and pushed, in order
   pub moves : List Move
   pub books : Moves before moves after
-  -- the items after: those before, those of buffers popped and those put, without those of buffers pushed and those got
+  -- the items after: those before, plus those of buffers popped and those put, minus those of buffers pushed and those
+  -- got
   pub items : SameNumbers (pair_items new ∷ got ∷ pushed_items moves ∷ [])
       (pair_items old ∷ put ∷ popped_items moves ∷ [])
-  -- the buffers after: those before and those popped, without those pushed
+  -- the buffers after: those before, plus those popped, minus those pushed
   pub buffers : SameNumbers (numbers_of new ∷ pushed_numbers moves ∷ []) (numbers_of old ∷ popped_numbers moves ∷ [])
   -- only a buffer with items is pushed on full
   pub filled : AreFilled moves
-  -- the charge and the held buffers change by the buffers popped and pushed, and all else stays
+  -- the charge and the held buffers change by the buffers popped and pushed, and everything else stays
   pub charge : SameNumbers (after.account.charge ∷ pushed_items moves ∷ [])
       (before.account.charge ∷ popped_items moves ∷ [])
   pub held : SameNumbers (after.account.held ∷ pushed_numbers moves ∷ [])
       (before.account.held ∷ popped_numbers moves ∷ [])
   pub kept : Keeps before after
-  -- the worker still holds the pair's buffers and answers for its items, and for those got
+  -- the worker still holds the pair's buffers, and has its items and those got in its charge
   pub backed : IsBacked new got after
   -- a call that pushes nothing on full opens no push
   pub closed : (HasPushOnFull moves → ⊥) → before.account.open_push ≡ false → after.account.open_push ≡ false
-  -- a pair is stopped only where a last tag was loaded and an exchange was due
+  -- a pair is stopped only if a last tag was loaded when an exchange was due
   pub last_tag : new.stopped ≡ true → EndAtLastTag moves
 
 -- the second buffer has items, or the first more than four
@@ -59,15 +60,15 @@ DealsQuietly old before new after =
     × (HasPushOnFull deals.moves → ⊥)
     × (HasPopFromFull deals.moves → ⊥)
 
--- no pair was opened: the first look for an empty buffer found none, or the second did, and then the one that was
--- popped was given back
+-- no pair was opened: the first look for an empty buffer found none, or the second did, and then the one popped was
+-- pushed back
 abbrev pub OpensNone : Book → Book → Type 0
 OpensNone before after =
     (deals : Deals empty_pair before [] [] empty_pair after)
     × ((deals.moves ≡ FoundNone Empty ∷ [])
     ⊎ ((h : HeldBuffer) × (deals.moves ≡ Took Empty h ∷ FoundNone Empty ∷ Gave Empty h ∷ [])))
 
--- a pair was opened: of two buffers that were popped from empty, the one that was popped first in its first place
+-- a pair was opened: two buffers were popped from empty, and the one popped first is at its first place
 abbrev pub OpensTwo : Book → PairState → Book → Type 0
 OpensTwo before opened after =
     (deals : Deals empty_pair before [] [] opened after) × (h : HeldBuffer) × (k : HeldBuffer)
@@ -85,28 +86,28 @@ upper_half xs = drop (length xs - length xs / 2) xs
 abbrev pub lower_part : List ℕ → List ℕ
 lower_part xs = take (length xs - length xs / 2) xs
 
--- the second buffer had items, and all of it was pushed; an empty one is in its place, and the first is as before
+-- the second buffer had items and was pushed whole; an empty one is at its place, and the first is as before
 abbrev pub GivesSecond : PairState → List Move → PairState → Type 0
 GivesSecond old moves new =
     (h : HeldBuffer) × (h.items ≡ []) × (items_at old.second ≢ [])
     × (moves ≡ Took Empty h ∷ push_of old.second) × (new.first ≡ old.first) × (new.second ≡ Some h)
 
--- the second had none, and stays; the first kept its upper half, now in the buffer that was popped, and the part below
--- it was pushed
+-- the second had none, and stays; the first kept its upper half, now in the popped buffer, and the lower part was
+-- pushed
 abbrev pub GivesLowerPart : PairState → List Move → PairState → Type 0
 GivesLowerPart old moves new =
     (h : HeldBuffer) × (k : HeldBuffer) × (items_at old.second ≡ []) × (old.first ≡ Some k)
     × (moves ≡ Took Empty h ∷ Gave Full (record k { items = lower_part k.items }) ∷ [])
     × (new.first ≡ Some (record h { items = upper_half k.items })) × (new.second ≡ old.second)
 
--- which buffer a balance gave, and how much of it; or it pushed none, and both are as before
+-- the buffer that a balance gave, and how much of it; or it pushed none, and both are as before
 abbrev pub Gives : PairState → List Move → PairState → Type 0
 Gives old moves new =
     ((HasPushOnFull moves → ⊥) × (new.first ≡ old.first) × (new.second ≡ old.second))
     ⊎ (GivesSecond old moves new ⊎ GivesLowerPart old moves new)
 
--- a balance that pushed a buffer with items on full where there was more than a few, or else did nothing with the
--- stacks but look for an empty buffer, and found none; it popped nothing from full
+-- a balance: if there were more than a few, it pushed a buffer with items on full, or it did nothing with the stacks
+-- except a look for an empty buffer that found none. It popped nothing from full
 abbrev pub Balances : PairState → Book → PairState → Book → Type 0
 Balances old before new after =
     (deals : Deals old before [] [] new after)
@@ -114,14 +115,14 @@ Balances old before new after =
     × (HasPopFromFull deals.moves → ⊥)
     × Gives old deals.moves new
 
--- the second buffer was pushed, the first is the second now, and an empty one that was popped has just the object
+-- the second buffer was pushed, the first is the second now, and the popped one has only the object
 abbrev pub FillsNext : PairState → ℕ → List Move → PairState → Type 0
 FillsNext old object moves new =
     (h : HeldBuffer) × (moves ≡ Took Empty h ∷ push_of old.second)
     × (new.first ≡ Some (record h { items = object ∷ [] })) × (new.second ≡ old.first)
 
--- what a publishing does with one place: it has no items, and stays; or no empty buffer was found, and it stays; or its
--- buffer is pushed on full, and the one that was popped is in its place
+-- the effect of a publishing on one place: it has no items, and stays; or no empty buffer was found, and it stays; or
+-- its buffer was pushed on full, and the popped one is at its place
 abbrev pub PublishesPlace : Option HeldBuffer → List Move → Option HeldBuffer → Type 0
 PublishesPlace old moves new =
     ((moves ≡ []) × (items_at old ≡ []) × (new ≡ old))
@@ -135,14 +136,14 @@ Publishes old moves new =
     (first : List Move) × (second : List Move) × (moves ≡ first ++ second)
     × PublishesPlace old.first first new.first × PublishesPlace old.second second new.second
 
--- a publishing did just this
+-- the effect of a publishing as a whole
 abbrev pub PublishesBoth : PairState → Book → PairState → Book → Type 0
 PublishesBoth old before new after =
     (deals : Deals old before [] [] new after) × Publishes old deals.moves new
 
--- an object was put: into a buffer, or at the end of the spill list; then all that the call did with the stacks was to
--- look for an empty buffer, and it found none; it popped nothing from full; where a buffer had room it did nothing with
--- the stacks, and else it pushed the one that was filled first
+-- an object was put into a buffer, or at the end of the spill list. In the second case all that the call did with the
+-- stacks was a look for an empty buffer that found none. It popped nothing from full. If a buffer had room it did
+-- nothing with the stacks, and otherwise it pushed the one that was filled first
 abbrev pub Puts : PairState → Book → ℕ → PairState → Book → Type 0
 Puts old before object new after =
     (deals : Deals old before (object ∷ []) [] new after)
@@ -151,25 +152,25 @@ Puts old before object new after =
     × ((HasRoom old × (deals.moves ≡ []))
     ⊎ ((deals.moves ≡ FoundNone Empty ∷ []) ⊎ FillsNext old object deals.moves new))
 
--- the last item of the buffer at a place was taken out of it
+-- the last item of the buffer at a place was taken
 abbrev pub TakesLast : Option HeldBuffer → ℕ → Option HeldBuffer → Type 0
 TakesLast old object new =
     (h : HeldBuffer) × (rest : List ℕ) × (old ≡ Some h) × (h.items ≡ rest ++ object ∷ [])
     × (new ≡ Some (record h { items = rest }))
 
--- it was the first buffer; or that had none, and it was the second, and then the two have changed places
+-- it was taken from the first buffer; or that had none, and it was taken from the second, and the two exchanged places
 abbrev pub TakesOwn : PairState → ℕ → PairState → Type 0
 TakesOwn old object new =
     (TakesLast old.first object new.first × (new.second ≡ old.second))
     ⊎ ((items_at old.first ≡ []) × TakesLast old.second object new.first × (new.second ≡ old.first))
 
--- neither buffer had an item, and the two have changed places
+-- neither buffer had an item, and the two exchanged places
 abbrev pub FindsNoOwn : PairState → PairState → Type 0
 FindsNoOwn old new =
     (items_at old.first ≡ []) × (items_at old.second ≡ [])
     × (new.first ≡ old.second) × (new.second ≡ old.first)
 
--- these buffers were popped from full, in the list the last one first. Each was popped where neither of the pair's two
+-- the buffers in the list, the last one first, were popped from full. Each was popped when neither of the pair's two
 -- had an item: it takes the first place, the buffer there goes to the second, and the one there is pushed on empty
 abbrev pub Refills : List HeldBuffer → PairState → List Move → PairState → Type 0
 Refills [] old moves new = (moves ≡ []) × (new.first ≡ old.first) × (new.second ≡ old.second)
@@ -179,12 +180,12 @@ Refills (h ∷ popped) old moves new =
     × (moves ≡ before ++ Took Full h ∷ shelving_of mid.second)
     × (new.first ≡ Some h) × (new.second ≡ mid.first)
 
--- how a get ends: with an object of the pair's own, or where it has none with a look that found none on full
+-- the end of a get: an object of the pair's own, or if it has none, a look that found no buffer on full
 abbrev pub EndsGet : PairState → List Move → Option ℕ → PairState → Type 0
 EndsGet old moves (Some object) new = (moves ≡ []) × TakesOwn old object new
 EndsGet old moves None new = (moves ≡ FoundNone Full ∷ []) × FindsNoOwn old new
 
--- the whole of it; of the buffers that were popped all but the last had no item
+-- a whole get; all popped buffers except the last had no item
 abbrev pub GetsBy : PairState → List Move → Option ℕ → PairState → Type 0
 GetsBy old moves got new =
     (popped : List HeldBuffer) × (mid : PairState) × (refilling : List Move) × (last : List Move)
@@ -200,15 +201,15 @@ abbrev pub Gets : PairState → Book → Option ℕ → PairState → Book → T
 Gets old before got new after =
     (deals : Deals old before [] (got_of got) new after) × GetsBy old deals.moves got new
 
--- a call that gave buffers back, none of them on full where there were no items in them, and popped nothing from full;
--- a spill list was given up before
+-- a call that pushed buffers back, none on full if there were no items in them, and popped nothing from full; a spill
+-- list was given up before
 abbrev pub Disposes : PairState → Book → PairState → Book → Type 0
 Disposes old before new after =
     (deals : Deals (without_spill old) before [] [] new after)
     × (buffered_items old ≡ [] → HasPushOnFull deals.moves → ⊥)
     × (HasPopFromFull deals.moves → ⊥)
 
--- all were given back, one after the other, each on full if it has items, and else on empty
+-- all buffers were pushed back, one after the other, each on full if it has items and on empty otherwise
 abbrev pub ShelvesAll : PairState → Book → Book → Type 0
 ShelvesAll old before after =
     (deals : Deals (without_spill old) before [] [] empty_pair after)

@@ -1,4 +1,4 @@
--- What a call of a pair does with the stacks of its pool.
+-- The moves of a call of a pair: its steps on the stacks of its pool.
 use Rattle.std.specs.Prelude.{◌≡◌, ◌≢◌, ◌⊎◌, ℕ, ◌<◌, List, [], ◌∷◌, ◌++◌, Option, Some, None}
 use Rattle.mark_core.specs.declared.which.Which.{Which}
 use Rattle.mark_core.specs.declared.which.Which.TheVariants.{Full, Empty}
@@ -8,16 +8,16 @@ use Rattle.buffer_pool.specs.declared.answers.Popped.TheVariants as pop
 use Rattle.buffer_pool.specs.declared.answers.TryPushed.TheVariants as try_push
 
 pub data Move : Type 0 where
-  -- this buffer was popped from the stack
+  -- a buffer was popped from the stack
   Took : Which → HeldBuffer → Move
-  -- this buffer was pushed on the stack
+  -- a buffer was pushed on the stack
   Gave : Which → HeldBuffer → Move
   -- a pop saw the stack empty
   FoundNone : Which → Move
   -- a pop or a push loaded the stack's last tag
   Ended : Which → Move
 
--- what a move does to the book of the worker that makes it
+-- the effect of a move on the book of the worker that makes it
 abbrev pub Moved : Move → Book → Book → Type 0
 Moved (Took q h) old new = Pops q old new (pop.Took h)
 Moved (Gave q h) old new = MayPush q h old × Pushes q h old new try_push.Done
@@ -30,12 +30,12 @@ abbrev pub Moves : Book → List Move → Book → Type 0
 Moves old [] new = new ≡ old
 Moves old (move ∷ moves) new = (mid : Book) × Moved move old mid × Moves mid moves new
 
--- the stack for a buffer with these items: full where there are some, and else empty
+-- the stack for a buffer with the given items: full if there are some, and empty otherwise
 abbrev pub shelf_of : List ℕ → Which
 shelf_of [] = Empty
 shelf_of (o ∷ os) = Full
 
--- the push of the buffer at a place, if there is one, to the stack that it belongs on
+-- the push of the buffer at a place, if there is one, on the stack that it belongs to
 abbrev pub shelving_of : Option HeldBuffer → List Move
 shelving_of None = []
 shelving_of (Some h) = Gave (shelf_of h.items) h ∷ []

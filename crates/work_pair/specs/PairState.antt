@@ -1,4 +1,4 @@
--- A pair of buffers as a contract sees it.
+-- A pair of buffers, as a contract sees it.
 use Rattle.std.specs.Prelude.{◌≡◌, ◌⊎◌, ℕ, ◌+◌, ◌<◌, Bool, true, false, List, [], ◌∷◌, ◌++◌, length, Option, Some, None}
 use Rattle.mark_core.specs.Lists.{times, IsPart}
 use Rattle.buffer_pool.specs.Book.{Book}
@@ -11,7 +11,7 @@ pub record PairState : Type 0 where
   pub third : Option HeldBuffer
   -- the objects for which there was no buffer, the last put at the end
   pub spill : List ℕ
-  -- a call was stopped by a last tag, and one by want of memory
+  -- a call was stopped by a last tag; a call ran out of memory
   pub stopped : Bool
   pub starved : Bool
 
@@ -24,12 +24,12 @@ abbrev pub buffer_number : Option HeldBuffer → List ℕ
 buffer_number None = []
 buffer_number (Some h) = h.index ∷ []
 
--- how many items the buffer at a place has, if there is one
+-- the number of items of the buffer at a place, if there is one
 abbrev pub count_at : Option HeldBuffer → Option ℕ
 count_at None = None
 count_at (Some h) = Some (length h.items)
 
--- the items of a pair's buffers; with those of its spill list; and the numbers of the buffers, without order
+-- the items of a pair's buffers; those with its spill list; and the numbers of the buffers, regardless of order
 abbrev pub buffered_items : PairState → List ℕ
 buffered_items p = items_at p.first ++ items_at p.second ++ items_at p.third
 
@@ -47,7 +47,7 @@ empty_pair = record { first = None; second = None; third = None; spill = []; sto
 abbrev pub without_spill : PairState → PairState
 without_spill p = record p { spill = [] }
 
--- a call of the pair answered a stop
+-- a call of the pair returned a stop
 abbrev pub HasStopped : PairState → Type 0
 HasStopped p = (p.stopped ≡ true) ⊎ (p.starved ≡ true)
 
@@ -56,22 +56,22 @@ pub record IsOpen (p : PairState) : Type 0 where
   pub going : p.stopped ≡ false
   pub third : p.third ≡ None
 
--- there is a buffer at a place that takes a further item
+-- the place has a buffer that takes one more item
 abbrev pub HasRoomAt : Option HeldBuffer → Type 0
 HasRoomAt None = ⊥
 HasRoomAt (Some h) = length h.items < h.size
 
--- one of a pair's two buffers does
+-- one of a pair's two buffers takes one more item
 abbrev pub HasRoom : PairState → Type 0
 HasRoom p = HasRoomAt p.first ⊎ HasRoomAt p.second
 
--- how often a number stands in these lists together
+-- how often a number is in the lists together
 abbrev pub times_in_all : ℕ → List (List ℕ) → ℕ
 times_in_all x [] = 0
 times_in_all x (xs ∷ []) = times x xs
 times_in_all x (xs ∷ rest) = times x xs + times_in_all x rest
 
--- the same numbers stand in both, each as often, in whatever order
+-- both have the same numbers, each equally often, in any order
 abbrev pub SameNumbers : List (List ℕ) → List (List ℕ) → Type 0
 SameNumbers new old = (x : ℕ) → times_in_all x new ≡ times_in_all x old
 
@@ -88,19 +88,19 @@ pub record IsNew (p : PairState) : Type 0 where
   pub first : (h : HeldBuffer) × (p.first ≡ Some h) × (h.items ≡ [])
   pub second : (h : HeldBuffer) × (p.second ≡ Some h) × (h.items ≡ [])
 
--- the buffer at a place takes as many items as those of a pool
+-- the buffer at a place has the given size, which is that of the pool's buffers
 abbrev pub IsOfSize : ℕ → Option HeldBuffer → Type 0
 IsOfSize size None = Unit {0}
 IsOfSize size (Some h) = h.size ≡ size
 
--- the buffers of a pair do
+-- the buffers of a pair have that size
 pub record AreOfSize (size : ℕ) (p : PairState) : Type 0 where
   pub first : IsOfSize size p.first
   pub second : IsOfSize size p.second
   pub third : IsOfSize size p.third
 
--- the worker of this book holds the buffers of the pair, which are of its pool, and answers for its items and for
--- these besides
+-- the worker of the book holds the buffers of the pair, which are of its pool's size, and has the pair's items and the
+-- objects besides in its charge
 pub record IsBacked (p : PairState) (besides : List ℕ) (b : Book) : Type 0 where
   pub held : IsPart (numbers_of p) b.account.held
   pub charged : IsPart (pair_items p ++ besides) b.account.charge

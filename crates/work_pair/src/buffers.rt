@@ -1,4 +1,4 @@
-//! The buffers of a pair, and what its calls do with them.
+//! The buffers of a pair, and the part of its calls that concerns them.
 ghost use Rattle.std.specs.Prelude.{◌≡◌, None};
 
 use crate::place::{clear_at, put_at, put_out, renew, take_at};
@@ -11,8 +11,9 @@ use std::sync::Wait;
 
 mod giving;
 
-/// Two buffers, and one that a stopped call left over. The calls of [`Pair`](crate::Pair) hand on to these, which know
-/// of no spill list and of no stops told apart: what is shown of buffers and stacks is shown here without them.
+/// Two buffers, and one that a stopped call left over. The calls of [`Pair`](crate::Pair) forward to the calls of this
+/// type, which knows neither the spill list nor which stop ended a call. So buffers and stacks are proved without
+/// these.
 #[derive(Drop)]
 pub(crate) struct Buffers<A: Allocator> {
     pub(crate) first: Option<Held<A>>,
@@ -28,9 +29,9 @@ impl<A: Allocator> Buffers<A> {
     ghost use Rattle.work_pair.specs.working.Buffers.{places_of};
     ghost use Rattle.work_pair.specs.working.Steps.{ClearAnswers, GetsObject, PutsObject, Takes};
 
-    /// Puts an object into the second buffer, which is the first then, or into an empty one, where the first has no
-    /// room. False where there is none: then nothing changes but the places of the two.
-    // A call, so that the many that find room neither save registers for it nor clear its locals.
+    /// Puts `object` into the second buffer, which becomes the first, or into an empty one. The first buffer has no
+    /// room. Returns `false` if there is no empty one. Then nothing changes except the places of the two.
+    // A call, so that the many puts that find room neither save registers for it nor clear its locals.
     #[inline(never)]
     pub(crate) fn put_elsewhere<R: Wait>(
         &mut self,
@@ -54,7 +55,7 @@ impl<A: Allocator> Buffers<A> {
         Ok(put_at(&mut self.first, object))
     }
 
-    /// Takes an object from the first buffer, or from the second, which is the first then.
+    /// Takes an object from the first buffer, or from the second, which becomes the first.
     fn take(&mut self) -> Option<u32>
         ensures { Takes (places_of self.old) (places_of self.new) result }
     {
@@ -65,9 +66,9 @@ impl<A: Allocator> Buffers<A> {
         take_at(&mut self.first)
     }
 
-    /// Takes an object from these buffers, or from those of the full stack. A buffer that was pushed there without
-    /// items is passed over.
-    // A call, so that the many that find an object neither save registers for it nor clear its locals.
+    /// Takes an object from the pair's buffers, or from those of the full stack. Skips a buffer that was pushed there
+    /// without items.
+    // A call, so that the many gets that find an object neither save registers for it nor clear its locals.
     #[inline(never)]
     pub(crate) fn get_elsewhere<R: Wait>(
         &mut self,
@@ -90,8 +91,7 @@ impl<A: Allocator> Buffers<A> {
         unreachable!()
     }
 
-    /// Pushes all buffers, those with items on full and the others on empty. Where a last tag was loaded the rest
-    /// stays.
+    /// Pushes all buffers, those with items on full and the others on empty. The rest stays if a last tag was loaded.
     pub(crate) fn clear<R: Wait>(
         &mut self,
         rt: &R,

@@ -12,20 +12,23 @@ use std::sync::Wait;
 
 mod spill_list;
 
-/// Two buffers of a worker. Objects are put into and got from the first, and the two change places; full buffers go to
-/// the pool's full stack and come from there, empty ones to and from the empty stack. An object for which there is no
-/// empty buffer goes to the pair's spill list, which grows by 4 bytes an object and doubles where it has to.
+use spill_list::SpillList;
+
+/// Two buffers of a worker. Objects are put into and got from the first, which exchanges places with the second if it
+/// cannot serve. Full buffers go to the pool's full stack and come from there, empty ones go to and come from the empty
+/// stack. An object for which there is no empty buffer goes to the pair's spill list, which takes 4 bytes an object and
+/// doubles when it is full.
 ///
-/// A call that answers [`Stop::TagSpent`] stops the pair: it holds each buffer that it had or took and did not push,
-/// and can only be disposed of. One that answers [`Stop::OutOfMemory`] leaves it whole.
+/// A call that returns [`Stop::TagSpent`] stops the pair: it holds each buffer that it had or took and did not push,
+/// and can only be disposed of. After [`Stop::OutOfMemory`] the pair stays usable.
 #[derive(Drop)]
 pub struct Pair<A: Allocator> {
     buffers: Buffers<A>,
-    /// Objects for which there was no buffer, the last put at the end.
-    spill: Vec<u32, A>,
-    /// A call answered `TagSpent`. Contracts ask for it.
+    /// The objects for which there was no buffer.
+    spill: SpillList<A>,
+    /// A call returned `TagSpent`. Only contracts read it.
     stopped: bool,
-    /// A call answered `OutOfMemory`. Contracts ask for it.
+    /// A call returned `OutOfMemory`. Only contracts read it.
     starved: bool,
 }
 
@@ -38,7 +41,7 @@ impl<A: Allocator> Model for Pair<A> {
       first = p.buffers.first;
       second = p.buffers.second;
       third = p.buffers.third;
-      spill = p.spill.items;
+      spill = p.spill;
       stopped = p.stopped;
       starved = p.starved;
     } };
@@ -56,7 +59,7 @@ impl<A: Allocator> Pair<A> {
     ghost use Rattle.work_pair.specs.PairState.{buffered_items, count_at, pair_items, empty_pair};
     ghost use Rattle.work_pair.specs.declared.stop.Stop.TheVariants.{OutOfMemory, TagSpent};
 
-    /// A pair with these buffers, and nothing spilled.
+    /// Creates a pair with the buffers `first` and `second`, and nothing spilled.
     fn of(alloc: A, first: Option<Held<A>>, second: Option<Held<A>>) -> Self
         ensures { result ≡ record empty_pair { first = first; second = second } }
     {
@@ -67,22 +70,23 @@ impl<A: Allocator> Pair<A> {
         };
         Pair {
             buffers,
-            spill: Vec::new(alloc),
+            spill: SpillList::new(alloc),
             stopped: false,
             starved: false,
         }
     }
 
-    /// A pair with two vacant places, which count as full when an object is put and as without objects when one is
-    /// got. It takes no memory.
+    /// Creates a pair with two vacant places, which count as full when an object is put and as empty when one is got.
+    /// Makes no allocation.
     pub fn bare(alloc: A) -> Self
         ensures { result ≡ empty_pair }
     {
         Pair::of(alloc, None, None)
     }
 
-    /// A pair of two empty buffers. `None` where there were not two: then none is kept. Where a last tag was loaded the
-    /// buffers that were popped stay with the worker. Its spill list takes memory from `alloc`, and none yet.
+    /// Opens a pair of two empty buffers, which are popped from the empty stack. Returns `None` if there are not two;
+    /// then the pair keeps none. If a last tag was loaded, the popped buffers stay with the worker. The spill list will
+    /// allocate from `alloc`, and has not yet.
     pub fn open<R: Wait>(
         rt: &R,
         alloc: A,
@@ -112,11 +116,11 @@ impl<A: Allocator> Pair<A> {
         Ok(None)
     }
 
-    /// Puts an object into the pair: into one of its buffers where that has room, and then the stacks are left alone,
-    /// or into an empty one, or where none was found on the spill list. The object comes back where a last tag was
-    /// loaded, or the list could not grow.
-    // For each white object, which nearly always goes into the first buffer: so that much stands at the caller, and is
-    // no call that may wait, behind which a byte is tested.
+    /// Puts `object` into the pair: into one of its buffers if that has room, without a step on the stacks, or else
+    /// into an empty buffer, or else on the spill list. Returns the object if a last tag was loaded, or if the list
+    /// could not grow.
+    // For each white object, which nearly always goes into the first buffer. So that much is inlined, and is no call
+    // that may wait, after which a byte is tested.
     #[inline]
     pub fn put<R: Wait>(
         &mut self,
@@ -155,9 +159,9 @@ impl<A: Allocator> Pair<A> {
         }
     }
 
-    /// Gets the last object of the spill list, or one from the buffers, or where the pair has none from a buffer of the
-    /// full stack. `None` where none is left and that stack was seen empty.
-    // For each object, which nearly always comes from the first buffer: so that much stands at the caller, as in `put`.
+    /// Gets the last object of the spill list, or else one from the buffers, or else one from a buffer of the full
+    /// stack. Returns `None` if the pair has none left and that stack was seen empty.
+    // For each object, which nearly always comes from the first buffer. So that much is inlined, as in `put`.
     #[inline]
     pub fn get<R: Wait>(
         &mut self,
@@ -203,8 +207,7 @@ impl<A: Allocator> Pair<A> {
     }
 
     /// Gives work to others: pushes the second buffer on full if it has items, or else the lower part of the first if
-    /// that has more than four. Nothing is done where neither is so, or no empty buffer was found. What is spilled
-    /// stays.
+    /// it has more than four. Does nothing if neither is so, or if no empty buffer was found. The spill list stays.
     pub fn balance<R: Wait>(
         &mut self,
         rt: &R,
@@ -232,8 +235,8 @@ impl<A: Allocator> Pair<A> {
         }
     }
 
-    /// Gives the work of its buffers to others: pushes each that has items on full. A buffer stays where no empty one
-    /// was found for it, and what is spilled stays.
+    /// Gives the work of its buffers to others: pushes each that has items on full. A buffer stays if no empty one was
+    /// found for it. The spill list stays.
     pub fn publish<R: Wait>(
         &mut self,
         rt: &R,
@@ -265,9 +268,9 @@ impl<A: Allocator> Pair<A> {
         }
     }
 
-    /// Gives the buffers back: those with items to the full stack, the others to the empty one. What could not be
-    /// pushed, since a last tag was loaded, comes back. A spill list is given up, which is lawful only after a stop:
-    /// its objects stay in the worker's charge, and that pool cannot be closed.
+    /// Disposes of the pair: pushes the buffers with items on the full stack and the others on the empty one. Returns
+    /// what could not be pushed because a last tag was loaded. A spill list with objects is given up, which is allowed
+    /// only after a stop: its objects stay in the worker's charge, and the pool cannot be closed.
     pub fn dispose<R: Wait>(
         self,
         rt: &R,
@@ -305,8 +308,8 @@ impl<A: Allocator> Pair<A> {
         }
     }
 
-    /// How many objects each place of the pair has, and `None` for a place without a buffer: the first, the second, and
-    /// the one for what a stopped call left over.
+    /// Returns how many objects each place of the pair has, and `None` for a place without a buffer. The places are the
+    /// first, the second, and the one for what a stopped call left over.
     pub fn lens(&self) -> [Option<u32>; 3]
         ensures { result ≡ count_at self.now.first ∷ count_at self.now.second ∷ count_at self.now.third ∷ [] }
     {
@@ -317,8 +320,8 @@ impl<A: Allocator> Pair<A> {
         ]
     }
 
-    /// The buffers of the pair in the order of [`lens`](Self::lens). The pair ends with that, and what is spilled is
-    /// given up: its objects stay in the worker's charge.
+    /// Returns the buffers of the pair in the order of [`lens`](Self::lens). Gives up what is spilled: its objects stay
+    /// in the worker's charge.
     pub fn into_buffers(self) -> (Option<Held<A>>, Option<Held<A>>, Option<Held<A>>)
         ensures { result ≡ (self.first, self.second, self.third) }
     {

@@ -1,4 +1,4 @@
-//! A place for a buffer in a pair. It is vacant in a bare pair, and once a call was stopped.
+//! A place for a buffer in a pair. It is vacant in a bare pair, and may be vacant after a stop.
 ghost use Rattle.std.specs.Prelude.{◌≡◌, ◌≢◌, ◌↔◌, ◌<◌, ℕ, [], ◌∷◌, ◌++◌, Some, None, IsTrue, length};
 ghost use Rattle.std.specs.Prelude.{true, false, IsOk, MatchOption};
 ghost use Rattle.std.specs.Bool.{OnTrue, OnFalse};
@@ -16,7 +16,7 @@ use buffer_pool::{Held, Pool, Which, Worker};
 use std::alloc::Allocator;
 use std::sync::Wait;
 
-/// How many objects the buffer has.
+/// Returns how many objects the buffer at `place` has, 0 if there is none.
 pub(crate) fn len_at<A: Allocator>(place: &Option<Held<A>>) -> u32
     ensures { result ≡ length (items_at place.now) }
 {
@@ -26,7 +26,7 @@ pub(crate) fn len_at<A: Allocator>(place: &Option<Held<A>>) -> u32
     }
 }
 
-/// How many objects the buffer has, if there is one.
+/// Returns how many objects the buffer at `place` has, or `None` if there is none.
 pub(crate) fn count_at<A: Allocator>(place: &Option<Held<A>>) -> Option<u32>
     ensures { result ≡ count_at place.now }
 {
@@ -36,7 +36,7 @@ pub(crate) fn count_at<A: Allocator>(place: &Option<Held<A>>) -> Option<u32>
     }
 }
 
-/// Puts an object into the buffer. False where it is full.
+/// Puts `object` into the buffer at `place`. Returns `false` if it is full or there is none.
 pub(crate) fn put_at<A: Allocator>(place: &mut Option<Held<A>>, object: u32) -> bool
     ensures put { OnTrue result ((h : HeldBuffer) × (place.old ≡ Some h) × (place.new
         ≡ Some (record h { items = h.items ++ object ∷ [] }))) }
@@ -51,7 +51,7 @@ pub(crate) fn put_at<A: Allocator>(place: &mut Option<Held<A>>, object: u32) -> 
     }
 }
 
-/// Takes the object that was put last.
+/// Takes the object that was put last into the buffer at `place`. Returns `None` if there is none.
 pub(crate) fn take_at<A: Allocator>(place: &mut Option<Held<A>>) -> Option<u32>
     ensures { MatchOption result ((items_at place.old ≡ []) × (place.new ≡ place.old)) (λ o. (h : HeldBuffer)
         × (k : HeldBuffer) × (place.old ≡ Some h) × (place.new ≡ Some k) × (h.items ≡ k.items ++ o ∷ []) × (k
@@ -63,7 +63,7 @@ pub(crate) fn take_at<A: Allocator>(place: &mut Option<Held<A>>) -> Option<u32>
     }
 }
 
-/// Moves the upper half of the objects, rounded down, into an empty buffer.
+/// Moves the upper half of the objects at `place`, rounded down, into `upper`, an empty buffer.
 fn split_at<A: Allocator>(place: &mut Option<Held<A>>, upper: &mut Held<A>)
     requires empty { upper.old.items ≡ [] }
     requires room { IsOfSize upper.old.size place.old }
@@ -75,8 +75,7 @@ fn split_at<A: Allocator>(place: &mut Option<Held<A>>, upper: &mut Held<A>)
     }
 }
 
-/// Pushes the buffer at a place, and puts the next one there. Where a last tag was loaded the next one goes to the
-/// third place.
+/// Pushes the buffer at `place`, and puts `next` there. If a last tag was loaded, `next` goes to the third place.
 pub(crate) fn put_out<R: Wait, A: Allocator>(
     rt: &R,
     pool: &Pool<A>,
@@ -101,7 +100,7 @@ pub(crate) fn put_out<R: Wait, A: Allocator>(
     }
 }
 
-/// Pushes the buffer at a place. Where a last tag was loaded it stays.
+/// Pushes the buffer at `place`. It stays if a last tag was loaded.
 pub(crate) fn clear_at<R: Wait, A: Allocator>(
     rt: &R,
     pool: &Pool<A>,
@@ -126,8 +125,8 @@ pub(crate) fn clear_at<R: Wait, A: Allocator>(
     }
 }
 
-/// Pops an empty buffer, pushes the one at a place, and puts the popped one there. False where the stack of empty
-/// buffers was seen empty: then nothing changes.
+/// Pops an empty buffer, pushes the one at `place`, and puts the popped one there. Returns `false` if the empty stack
+/// was seen empty. Then nothing changes.
 pub(crate) fn renew<R: Wait, A: Allocator>(
     rt: &R,
     pool: &Pool<A>,
@@ -146,8 +145,8 @@ pub(crate) fn renew<R: Wait, A: Allocator>(
     Ok(true)
 }
 
-/// Pops an empty buffer, moves the upper half of the objects at a place into it, pushes the lower part, and puts the
-/// popped one there. False where the stack of empty buffers was seen empty: then nothing changes.
+/// Pops an empty buffer, moves the upper half of the objects at `place` into it, pushes the lower part, and puts the
+/// popped one there. Returns `false` if the empty stack was seen empty. Then nothing changes.
 pub(crate) fn halve<R: Wait, A: Allocator>(
     rt: &R,
     pool: &Pool<A>,
@@ -167,7 +166,7 @@ pub(crate) fn halve<R: Wait, A: Allocator>(
     Ok(true)
 }
 
-/// Renews a place whose buffer has items, as [`renew`] does, and does nothing where it has none.
+/// Renews `place`, as [`renew`] does, if its buffer has items, and does nothing otherwise.
 pub(crate) fn publish_at<R: Wait, A: Allocator>(
     rt: &R,
     pool: &Pool<A>,

@@ -1,4 +1,4 @@
-//! One pop, and one push to the stack that a buffer belongs on.
+//! One pop, and one push on the stack that a buffer belongs to.
 ghost use Rattle.std.specs.Prelude.{◌≡◌, ◌≢◌, [], Contains};
 ghost use Rattle.mark_core.specs.Events.{IsBusy};
 ghost use Rattle.mark_core.specs.Lists.{IsPart};
@@ -9,8 +9,8 @@ use buffer_pool::{Held, Pool, Popped, Which, Worker};
 use std::alloc::Allocator;
 use std::sync::Wait;
 
-/// Pops a buffer. `None` where the stack was seen empty. To `Pool::pop` it adds that a last tag is an error, so that
-/// `?` ends a call there.
+/// Pops a buffer. Returns `None` if the stack was seen empty. Unlike `Pool::pop`, it returns an error for a last tag,
+/// so that `?` ends a call there.
 pub(crate) fn pop_one<R: Wait, A: Allocator>(
     rt: &R,
     pool: &Pool<A>,
@@ -29,7 +29,7 @@ pub(crate) fn pop_one<R: Wait, A: Allocator>(
     }
 }
 
-/// Pushes a buffer on full if it has items, else on empty. It comes back where that stack's last tag was loaded.
+/// Pushes a buffer on full if it has items, and on empty otherwise. Returns it if that stack's last tag was loaded.
 pub(crate) fn shelve<R: Wait, A: Allocator>(
     rt: &R,
     pool: &Pool<A>,

@@ -1,4 +1,4 @@
--- What the parts of a call of a pair ask of a worker, and of the places.
+-- What the parts of a call of a pair require of a worker, and of the places.
 use Rattle.std.specs.Prelude.{◌≡◌, ℕ, List, Option, None}
 use Rattle.atomic_table.specs.Seated.{TableId}
 use Rattle.mark_core.specs.Events.{IsBusy}
@@ -7,20 +7,20 @@ use Rattle.buffer_pool.specs.Book.{Book}
 use Rattle.buffer_pool.specs.Calls.{HeldBuffer, Holder}
 use Rattle.work_pair.specs.PairState.{PairState, items_at, buffer_number, IsOfSize, IsBacked}
 
--- the worker of this book holds the buffer at a place, which is of its pool, and answers for its items
+-- the worker of the book holds the buffer at a place, which is of its pool's size, and has its items in its charge
 pub record IsBackedAt (place : Option HeldBuffer) (b : Book) : Type 0 where
   pub held : IsPart (buffer_number place) b.account.held
   pub charged : IsPart (items_at place) b.account.charge
   pub sized : IsOfSize b.setup.size place
 
--- a worker of this pool may push the buffer at a place, and one that is left over may go to the third
+-- a worker of the pool may push the buffer at a place, and one that is left over may go to the third place
 pub record MayRenew (w : Holder) (pool : TableId) (place third : Option HeldBuffer) : Type 0 where
   pub same : w.pool ≡ pool
   pub vacant : third ≡ None
   pub backed : IsBackedAt place w.book
   pub busy : IsBusy w.book.account
 
--- it may do so with each buffer of a pair, and answers for these objects besides
+-- it may do so with each buffer of a pair, and has the objects besides in its charge
 pub record MayTrade (w : Holder) (pool : TableId) (p : PairState) (besides : List ℕ) : Type 0 where
   pub same : w.pool ≡ pool
   pub third : p.third ≡ None

@@ -1,4 +1,4 @@
--- What the parts of a call of a pair tell.
+-- The effect of each part of a call of a pair.
 use Rattle.std.specs.Prelude.{◌≡◌, ◌≢◌, ◌⊎◌, ℕ, ◌+◌, false, Bool, true, List, [], ◌∷◌, ◌++◌, Option, Some, None, Result}
 use Rattle.std.specs.Prelude.{IsOk, Ok, Err}
 use Rattle.mark_core.specs.declared.which.Which.{Which}
@@ -16,7 +16,7 @@ use Rattle.work_pair.specs.PairState.{AreAlike, AreOfSize, HasRoom}
 use Rattle.work_pair.specs.declared.stop.Stop.{Stop}
 use Rattle.work_pair.specs.declared.stop.Stop.TheVariants.{TagSpent, OutOfMemory}
 
--- a pair with these three places
+-- a pair with three places, and nothing else
 abbrev pub places : Option HeldBuffer → Option HeldBuffer → Option HeldBuffer → PairState
 places first second third =
     record { first = first; second = second; third = third; spill = []; stopped = false; starved = false }
@@ -64,7 +64,7 @@ Takes old new (Some object) =
     IsLocal old new [] (object ∷ []) × (new.third ≡ old.third) × TakesOwn old object new
 Takes old new None = IsLocal old new [] [] × (new.third ≡ old.third) × FindsNoOwn old new
 
--- what was done with one place: its buffer before, the buffer there after, and the one left over
+-- the effect on one place: its buffer before, the buffer there after, and the one left over
 pub record Renews (old : Option HeldBuffer) (before : Book) (new third : Option HeldBuffer) (after : Book)
     : Type 0 where
   pub moves : List Move
@@ -82,8 +82,8 @@ abbrev pub IsFull : Which → Type 0
 IsFull Full = Unit {0}
 IsFull Empty = ⊥
 
--- what is pushed of the buffer at a place, and what the next one is: all of it and the one that was popped, or where it
--- is halved its lower part and the one popped with the upper half
+-- what is pushed of the buffer at a place, and what the next one is: all of it and the popped one, or if it is halved,
+-- its lower part and the popped one with the upper half
 abbrev pub pushed_part : Bool → Option HeldBuffer → Option HeldBuffer
 pushed_part false old = old
 pushed_part true None = None
@@ -119,7 +119,7 @@ PublishesAt old before new third after (Err TagSpent) = (r : Renews old before n
     × EndAtLastTag r.moves × (HasPopFromFull r.moves → ⊥)
 PublishesAt old before new third after (Err OutOfMemory) = ⊥
 
--- what was done with all three places
+-- the effect on all three places
 pub record Trades (old : PairState) (before : Book) (put got : List ℕ) (new : PairState) (after : Book) : Type 0 where
   pub moves : List Move
   pub books : Moves before moves after
@@ -130,7 +130,7 @@ pub record Trades (old : PairState) (before : Book) (put got : List ℕ) (new : 
   pub filled : AreFilled moves
   pub sized : AreOfSize before.setup.size new
 
--- a call did nothing but look for an empty buffer, and found none
+-- a call did nothing except a look for an empty buffer that found none
 abbrev pub FindsNone : PairState → Book → PairState → Book → Type 0
 FindsNone old before new after = (t : Trades old before [] [] new after) × (new.third ≡ None)
     × (t.moves ≡ FoundNone Empty ∷ []) × AreAlike old new
@@ -140,7 +140,7 @@ abbrev pub Ends : PairState → Book → PairState → Book → Stop → Type 0
 Ends old before new after TagSpent = (t : Trades old before [] [] new after) × EndAtLastTag t.moves
 Ends old before new after OutOfMemory = ⊥
 
--- and nothing was popped from full
+-- a call was stopped by a last tag, and nothing was popped from full
 abbrev pub EndsOut : PairState → Book → PairState → Book → Stop → Type 0
 EndsOut old before new after TagSpent = (t : Trades old before [] [] new after) × EndAtLastTag t.moves
     × (HasPopFromFull t.moves → ⊥)
@@ -162,14 +162,14 @@ GetAnswers old before new after (Ok None) =
     × GetsBy old t.moves None new
 GetAnswers old before new after (Err stop) = Ends old before new after stop
 
--- a put into the buffers, told with the worker, which did nothing where there was room
+-- a put into the buffers, with the effect on the worker, which did nothing if there was room
 pub record PutsObject (there_is_room : Type 0) (object : ℕ) (old : PairState) (before : Holder) (new : PairState)
     (after : Holder) (result : Result Bool Stop) : Type 0 where
   pub pool : after.pool ≡ before.pool
   pub puts : PutAnswers object old before.book new after.book result
   pub room : there_is_room → (after ≡ before) × (result ≡ Ok true)
 
--- a get from them; where they had an object the worker did nothing
+-- a get from the buffers; if they had an object the worker did nothing
 pub record GetsObject (old : PairState) (before : Holder) (new : PairState) (after : Holder)
     (result : Result (Option ℕ) Stop) : Type 0 where
   pub pool : after.pool ≡ before.pool
@@ -188,7 +188,7 @@ PublishAnswers old before new after (Ok done) = (t : Trades old before [] [] new
     × Publishes old t.moves new
 PublishAnswers old before new after (Err stop) = EndsOut old before new after stop
 
--- buffers were put back, and these are left
+-- buffers were pushed back, and `new` has those that are left
 pub record Clears (old : PairState) (before : Book) (new : PairState) (after : Book) : Type 0 where
   pub trades : Trades old before [] [] new after
   pub quiet : pair_items old ≡ [] → HasPushOnFull trades.moves → ⊥

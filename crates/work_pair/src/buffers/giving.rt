@@ -1,4 +1,4 @@
-//! What a pair's buffers give to other workers, and how many objects are too few to give.
+//! How a pair's buffers give objects to other workers, and how many objects are too few to give.
 
 use crate::buffers::Buffers;
 use crate::place::{halve, len_at, publish_at, renew};
@@ -7,7 +7,7 @@ use buffer_pool::{Pool, Worker};
 use std::alloc::Allocator;
 use std::sync::Wait;
 
-/// How many objects are few: the first buffer is halved where it has more.
+/// The most objects that are few: the first buffer is halved if it has more.
 const FEW: u32 = 4;
 
 impl<A: Allocator> Buffers<A> {
@@ -18,7 +18,7 @@ impl<A: Allocator> Buffers<A> {
     ghost use Rattle.work_pair.specs.working.Buffers.{places_of};
     ghost use Rattle.work_pair.specs.working.Steps.{BalanceAnswers, PublishAnswers};
 
-    /// Pushes the second buffer if it has items, or else the lower part of the first if that has more than a few.
+    /// Pushes the second buffer if it has items, or else the lower part of the first if it has more than [`FEW`].
     pub(crate) fn balance<R: Wait>(
         &mut self,
         rt: &R,

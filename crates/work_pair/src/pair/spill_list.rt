@@ -1,14 +1,75 @@
-//! The list of objects for which a pair found no buffer.
-ghost use Rattle.std.specs.Prelude.{◌≡◌, ◌∷◌, ◌++◌, IfErr, OnOk, [], length, true};
+//! The spill list of a pair: the objects for which it found no buffer.
+//!
+//! A spilled object is got again by `Pair::get`, and given up by `Pair::dispose` after a stop.
+ghost use Rattle.std.specs.Prelude.{◌≡◌, ◌∷◌, ◌++◌, IfErr, IfNone, OnErr, OnOk, [], length, option_to_list, true};
 ghost use Rattle.work_pair.specs.declared.stop.Stop.TheVariants.{OutOfMemory};
 
 use crate::pair::Pair;
 use crate::stop::Stop;
-use std::alloc::Allocator;
+use std::alloc::{AllocError, Allocator};
+use std::marker::Model;
+
+/// Objects for which there was no buffer, the last put at the end.
+#[derive(Drop)]
+pub(super) struct SpillList<A: Allocator> {
+    objects: Vec<u32, A>,
+}
+
+impl<A: Allocator> Model for SpillList<A> {
+    ghost use Rattle.std.specs.Prelude.{List, ℕ};
+
+    ghost Value = { List ℕ };
+
+    ghost view = { λ l. l.objects.items };
+}
+
+impl<A: Allocator> SpillList<A> {
+    /// Creates an empty list, which allocates nothing yet.
+    pub(super) fn new(alloc: A) -> Self
+        ensures { result ≡ [] }
+    {
+        SpillList {
+            objects: Vec::new(alloc),
+        }
+    }
+
+    /// Appends `object`. The list stays as it was if it cannot grow.
+    pub(super) fn push(&mut self, object: u32) -> Result<(), AllocError>
+        ensures pushed { OnOk result (self.new ≡ self.old ++ object ∷ []) }
+        ensures same { OnErr result (self.new ≡ self.old) }
+    {
+        self.objects.push(object)?;
+        Ok(())
+    }
+
+    /// Removes the last object and returns it. Returns `None` if there is none.
+    // Inlined, because each get of a pair asks it first and nearly always finds the list empty.
+    #[inline]
+    pub(super) fn pop(&mut self) -> Option<u32>
+        ensures items { self.old ≡ self.new ++ option_to_list result }
+        ensures none { IfNone result (length self.new ≡ 0) }
+    {
+        self.objects.pop()
+    }
+
+    /// Drops all objects.
+    pub(super) fn clear(&mut self)
+        ensures items { self.new ≡ [] }
+    {
+        self.objects.clear();
+    }
+
+    /// Returns how many objects the list has.
+    pub(super) fn len(&self) -> usize
+        ensures { result ≡ length self.now }
+    {
+        self.objects.len()
+    }
+}
 
 impl<A: Allocator> Pair<A> {
-    /// Puts an object at the end of the spill list. It comes back where the list could not grow.
-    // A call: how a list grows is not to stand at each caller of `put`.
+    /// Puts `object` at the end of the spill list. Returns it if the list could not grow.
+    // A call, so that the growth of a list is not inlined into each caller of `put`.
     #[inline(never)]
     pub(super) fn spill_over(&mut self, object: u32) -> Result<(), (u32, Stop)>
         ensures spilled { OnOk result (self.new ≡ record self.old { spill = self.old.spill ++ object ∷ [] }) }
@@ -24,7 +85,7 @@ impl<A: Allocator> Pair<A> {
         }
     }
 
-    /// How many objects the spill list has.
+    /// Returns how many objects the spill list has.
     pub fn spilled(&self) -> usize
         ensures { result ≡ length self.now.spill }
     {

@@ -1,4 +1,5 @@
--- A turn that finds no object puts a buffer of the full stack into a bare pair: one more trade behind the others.
+-- A turn that finds no object puts a buffer of the full stack into a pair without objects: one more trade after the
+-- others.
 use Rattle.std.proofs.Common.{◌≡◌, ◌≢◌, [], Ok, Some, refl, ◌∙◌}
 use Rattle.std.proofs.lemmas.Result.{err_from_is_err_and}
 use Rattle.mark_core.specs.declared.which.Which.TheVariants.{Full}

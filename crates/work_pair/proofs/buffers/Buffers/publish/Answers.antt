@@ -1,4 +1,4 @@
--- The first place is renewed where it has objects, then the second, which the book still backs.
+-- The first place is renewed if it has objects, and then the second, which the book still backs.
 use Rattle.std.proofs.Common.{refl, ◌∙◌}
 use Rattle.std.proofs.lemmas.Result.{err_from_is_err_and}
 use Rattle.work_pair.specs.working.Steps.{places}

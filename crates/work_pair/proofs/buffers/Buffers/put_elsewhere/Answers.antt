@@ -1,4 +1,4 @@
--- The two changed places: the object goes into what was the second, or into the empty one that was popped.
+-- The two exchanged places: the object goes into what was the second, or into the empty one that was popped.
 use Rattle.std.proofs.Common.{refl, inl, inr, sym, ◌∙◌}
 use Rattle.std.proofs.lemmas.Bool.{false≢true}
 use Rattle.std.proofs.lemmas.Result.{err_from_is_err_and}

@@ -1,4 +1,4 @@
--- What the buffers tell of a balance, told of the pair; its list stays.
+-- The effect of a balance on the buffers, as one on the pair, whose list stays.
 use Rattle.std.proofs.Common.{◌∙◌, ap, refl, subst}
 use Rattle.work_pair.specs.Deals.{HasMore}
 use Rattle.work_pair.specs.PairState.{PairState}
@@ -24,4 +24,4 @@ pub returns-in-Ok-clause-few : goal.returns-in-Ok-clause-few
 returns-in-Ok-clause-few g c few =
     let i = c.self.inside in
     let same = c.in-Ok.ensures.few (λ more. few (subst HasMore c.self.view_is more)) in
-    (ap (λ (w : PairState). listed w i.spill.items i.stopped i.starved) same.0 ∙ c.self.view_is, same.1, refl)
+    (ap (λ (w : PairState). listed w i.spill i.stopped i.starved) same.0 ∙ c.self.view_is, same.1, refl)

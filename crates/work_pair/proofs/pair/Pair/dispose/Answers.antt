@@ -1,4 +1,4 @@
--- What the buffers tell of a clearing, told of the pair, whose list was given up.
+-- The effect of a clearing on the buffers, as one on the pair, whose list was given up.
 use Rattle.std.proofs.Common.{◌∙◌, true, ap, refl, false, []}
 use Rattle.std.proofs.lemmas.Bool.{false≢true}
 use Rattle.work_pair.specs.PairState.{pair_items, empty_pair}
@@ -14,7 +14,7 @@ clear-requires-clause-backed g c =
 pub clear-requires-clause-busy : goal.clear-requires-clause-busy
 clear-requires-clause-busy g c some =
     let i = c.self.inside in
-    c.requires.busy (λ none. some (none_last i.spill.items (pair_items (places_of i.buffers))
+    c.requires.busy (λ none. some (none_last i.spill (pair_items (places_of i.buffers))
     (ap pair_items c.self.view_is ∙ none)))
 
 pub returns-in-Ok-clause-gone : goal.returns-in-Ok-clause-gone
@@ -39,5 +39,5 @@ returns-in-Err-clause-spent g c =
       refl,
       empty,
       disposes c.self.inside c.self.view_is b c.requires.backed q after refl true i.starved
-          c.clear-in-Err.new.self.items empty told.1.0 (λ stopped. told.1.1),
+          c.clear-in-Err.new.self empty told.1.0 (λ stopped. told.1.1),
     )

@@ -1,5 +1,5 @@
--- The last object of the list, or one of the first buffer, which is got without a trade; where that has none all is as
--- it was for the call behind, and what that tells is told of the pair.
+-- The last object of the list, or one of the first buffer, is got without a trade. If there is none, everything is as
+-- it was when the other call begins, whose effect on the buffers becomes one on the pair.
 use Rattle.std.proofs.Common.{◌∙◌, [], ◌∷◌, Err, Ok, Some, length, ap, refl, sym, arith}
 use Rattle.std.proofs.lemmas.List.{append-nil}
 use Rattle.work_pair.specs.PairState.{PairState}
@@ -19,13 +19,13 @@ get_elsewhere-requires g c =
 
 pub returns-in-Some-clause-got : goal.returns-in-Some-clause-got
 returns-in-Some-clause-got g c =
-    takes_last c.self.inside c.self.view_is c.pop.new.self.items c.in-Some.object c.in-Some.ensures.items
+    takes_last c.self.inside c.self.view_is c.pop.new.self c.in-Some.object c.in-Some.ensures.items
     c.requires.going c.args.worker.now.book c.requires.backed
 
 pub returns-in-Some-take_at-clause-got : goal.returns-in-Some-take_at-clause-got
 returns-in-Some-take_at-clause-got g c =
     let i = c.self.inside in
-    let n = c.pop.new.self.items in
+    let n = c.pop.new.self in
     let b = c.args.worker.now.book in
     let m = i.buffers in
     let place = c.take_at.new.place in
@@ -41,7 +41,7 @@ returns-in-Some-take_at-clause-got g c =
 pub returns-in-Some-take_at-clause-gets : goal.returns-in-Some-take_at-clause-gets
 returns-in-Some-take_at-clause-gets g c none =
     let i = c.self.inside in
-    let n = c.pop.new.self.items in
+    let n = c.pop.new.self in
     let b = c.args.worker.now.book in
     let m = i.buffers in
     let place = c.take_at.new.place in
@@ -58,14 +58,14 @@ pub returns-in-Ok-clause-got : goal.returns-in-Ok-clause-got
 returns-in-Ok-clause-got g c =
     let told = got_from c.self.inside.buffers c.in_default-take_at.ensures.1 c.args.worker.now.book
     (places_of c.get_elsewhere.new.self) c.get_elsewhere.new.worker.book (Ok _) c.in-Ok.ensures.gets in
-    let m = c.pop.new.self.items in
+    let m = c.pop.new.self in
     got_told c.self.inside c.self.view_is c.args.worker.now.book c.get_elsewhere.new.self
     c.get_elsewhere.new.worker.book c.requires.backed m (sym (c.in_default.ensures.items ∙ append-nil m))
     c.requires.going c.in-Ok.got told
 
 pub returns-in-Some-clause-gets : goal.returns-in-Some-clause-gets
 returns-in-Some-clause-gets g c none =
-    let m = c.pop.new.self.items in
+    let m = c.pop.new.self in
     let empty = sym c.in-Some.ensures.items ∙ ap (λ (w : PairState). w.spill) c.self.view_is ∙ none in
     absurd (omega (arith, ap length (none_last m (c.in-Some.object ∷ []) empty)))
 
@@ -73,7 +73,7 @@ pub returns-in-Ok-clause-gets : goal.returns-in-Ok-clause-gets
 returns-in-Ok-clause-gets g c none =
     let told = got_from c.self.inside.buffers c.in_default-take_at.ensures.1 c.args.worker.now.book
     (places_of c.get_elsewhere.new.self) c.get_elsewhere.new.worker.book (Ok _) c.in-Ok.ensures.gets in
-    let m = c.pop.new.self.items in
+    let m = c.pop.new.self in
     gets_told c.self.inside c.self.view_is c.args.worker.now.book c.get_elsewhere.new.self
     c.get_elsewhere.new.worker.book c.requires.backed m (sym (c.in_default.ensures.items ∙ append-nil m))
     c.requires.going c.in-Ok.got told
@@ -82,16 +82,16 @@ pub returns-in-Ok-clause-none : goal.returns-in-Ok-clause-none
 returns-in-Ok-clause-none g c =
     let told = got_from c.self.inside.buffers c.in_default-take_at.ensures.1 c.args.worker.now.book
     (places_of c.get_elsewhere.new.self) c.get_elsewhere.new.worker.book (Ok _) c.in-Ok.ensures.gets in
-    let m = c.pop.new.self.items in
+    let m = c.pop.new.self in
     none_told c.self.inside c.self.view_is c.args.worker.now.book c.get_elsewhere.new.self
     c.get_elsewhere.new.worker.book c.requires.backed m (sym (c.in_default.ensures.items ∙ append-nil m))
-    c.requires.going (none_in m (omega (arith, c.in_default.ensures.cases.1))) c.in-Ok.got told
+    c.requires.going (none_in m (omega (arith, c.in_default.ensures.none))) c.in-Ok.got told
 
 pub returns-in-Err-clause-spent : goal.returns-in-Err-clause-spent
 returns-in-Err-clause-spent g c =
     let told = got_from c.self.inside.buffers c.in_default-take_at.ensures.1 c.args.worker.now.book
     (places_of c.get_elsewhere.new.self) c.get_elsewhere.new.worker.book (Err _) c.in-Err.ensures.gets in
-    let m = c.pop.new.self.items in
+    let m = c.pop.new.self in
     get_stops c.self.inside c.self.view_is c.args.worker.now.book c.get_elsewhere.new.self
     c.get_elsewhere.new.worker.book c.requires.backed m (sym (c.in_default.ensures.items ∙ append-nil m))
     c.in-Err.stop told

@@ -1,4 +1,4 @@
--- Two buffers that were popped are the pair. A single one is pushed back, and then the worker has what it had.
+-- Two popped buffers are the pair. A single one is pushed back, and then the worker has what it had.
 use Rattle.std.proofs.Common.{Ok, None, Some, ◌∙◌}
 use Rattle.std.proofs.lemmas.Result.{err_from_is_err_and}
 use Rattle.mark_core.specs.declared.which.Which.TheVariants.{Empty}

@@ -1,4 +1,4 @@
--- What the buffers tell of a publishing, told of the pair; its list stays.
+-- The effect of a publishing on the buffers, as one on the pair, whose list stays.
 use Rattle.work_pair.proofs.Pairs.{may_trade, publishes, stops}
 use Rattle.work_pair.proofs.pair.Pair.publish.Goals as goal
 

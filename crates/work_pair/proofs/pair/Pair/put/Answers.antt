@@ -1,5 +1,5 @@
--- The first buffer has room and takes the object in. Where it has none all is as it was for the call behind: what that
--- tells of the object, and where there was no buffer for it, it went to the list.
+-- The first buffer takes the object if it has room. If not, everything is as it was when the other call begins, whose
+-- effect on the buffers becomes one on the pair. If there was no buffer for the object, it went to the list.
 use Rattle.std.proofs.Common.{◌≡◌, ℕ, true, [], ◌∷◌, ◌++◌, Err, Ok, ap, inl, refl}
 use Rattle.mark_core.specs.declared.which.Which.TheVariants.{Empty}
 use Rattle.work_pair.specs.Deals.{Deals, DealsOut, Puts}
@@ -52,7 +52,7 @@ returns-in-Ok-false-clause-put g c =
     let b = c.args.worker.now.book in
     let after = c.put_elsewhere.new.worker.book in
     let object = c.args.object in
-    let items = i.spill.items ++ object ∷ [] in
+    let items = i.spill ++ object ∷ [] in
     if_spilled c.spill_over.result c.spill_over.new.self
     (listed (places_of c.put_elsewhere.new.self) items i.stopped i.starved)
     (λ (w : PairState). Puts c.args.self.now b object w after) c.spill_over.ensures.spilled
@@ -67,9 +67,9 @@ returns-in-Ok-false-clause-back g c =
     let b = c.args.worker.now.book in
     let after = c.put_elsewhere.new.worker.book in
     let told = starves i c.self.view_is b c.put_elsewhere.new.self after c.requires.going c.args.object
-    c.requires.backed answer c.in-Ok-false.field-0-test i.spill.items refl in
+    c.requires.backed answer c.in-Ok-false.field-0-test i.spill refl in
     if_starved c.spill_over.result c.spill_over.new.self
-    (listed (places_of c.put_elsewhere.new.self) i.spill.items i.stopped true) (c.args.object, OutOfMemory)
+    (listed (places_of c.put_elsewhere.new.self) i.spill i.stopped true) (c.args.object, OutOfMemory)
     (λ (e : ℕ × Stop) (w : PairState). (e.0 ≡ c.args.object) × (w.spill ≡ c.args.self.now.spill)
     × DealsOut c.args.self.now b w after) c.spill_over.ensures.starved
     (refl, ap (λ (w : PairState). w.spill) c.self.view_is, (told.0, out_alone told.0.moves told.1))
@@ -82,7 +82,7 @@ returns-in-Ok-false-clause-no_memory g c =
     let b = c.args.worker.now.book in
     let q = c.put_elsewhere.new.self in
     let after = c.put_elsewhere.new.worker.book in
-    let items = i.spill.items in
+    let items = i.spill in
     if_starved c.spill_over.result c.spill_over.new.self (listed (places_of q) items i.stopped true)
     (c.args.object, OutOfMemory)
     (λ (e : ℕ × Stop) (w : PairState). e.1 ≡ OutOfMemory → IsOpen w × AreAlike c.args.self.now w × (w.starved ≡ true)
