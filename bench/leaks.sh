@@ -1,14 +1,15 @@
 #!/usr/bin/env bash
 # Tries on programs that leak what the README tells to look for a leak: takes two dumps of each, and sees that the class
-# that leaks is among the lines of the recipe, whose text is taken as it stands in README.md, or of the tools.
+# that leaks is among the lines of the recipe, whose text is taken as it is in docs/RECIPES.md, or of the tools, and that
+# the first line of tools/holders is what holds it.
 #
 # usage: bench/leaks.sh
 #
-# The programs are those of bench/java whose names end in Leak. Of three the recipe finds the class that leaks, and
-# tools/held finds it by the field that keeps it. Of ThreadLocalLeak no class of the program grows, and tools/held finds
-# what the values of thread locals keep. What ClassValueLeak keeps is in no row, and tools/grown tells that more is
-# unreachable. Between two runs of one program nothing of its own grew, though its lambdas have other names. A recipe
-# for a dump that is cut has to end with a status other than 0 and to print nothing. heapmark is the binary of
+# The programs are those of bench/java whose names end in Leak. The recipe and tools/grown find the class that leaks, and
+# tools/holders finds what holds it, with that class and without. Of ThreadLocalLeak no class of the program grows, and
+# tools/held finds what the values of thread locals keep. What ClassValueLeak keeps is in no row, and tools/grown says
+# that more is unreachable. Between two runs of one program nothing of its own grew, though its lambdas have other names.
+# A recipe for a dump that is cut has to end with a status other than 0 and to print nothing. heapmark is the binary of
 # crates/heapmark/out, or what the variable HEAPMARK names.
 set -euo pipefail
 
@@ -20,11 +21,11 @@ room=$(mktemp -d)
 trap 'rm -rf "$room"' EXIT
 failed=0
 
-# recipe: the first indented lines of the README's section "Find a leak".
+# recipe: the first indented lines of the section "Which classes grew".
 recipe() {
-    awk '/^## Find a leak/ { found = 1 }
+    awk '/^## Which classes grew/ { found = 1 }
         found && /^    / { begun = 1; print substr($0, 5); next }
-        begun { exit }' "$top/README.md"
+        begun { exit }' "$top/docs/RECIPES.md"
 }
 
 # pasted: runs the recipe where the dumps are, as a shell does that knows the program by its name.
@@ -71,12 +72,25 @@ hanging() {
     among "$1, by $2" "$3"
 }
 
-# leaking PROGRAM CLASS FIELD: this program leaks this class, which it keeps by this field.
+# holding PROGRAM HOLDER [CLASS]: the first line on the second dump is this holder.
+holding() {
+    local program=$1 holder=$2 first
+    shift 2
+    HEAPMARK=$heapmark "$top/tools/holders" "$room/friday.hprof" "$@" > "$room/lines" 2> "$room/told" || true
+    first=$(sed -n '1s/^ *[0-9]* *[0-9]* *[0-9]*% *[0-9]*  //p' "$room/lines")
+    cat "$room/told" >> "$room/lines"
+    judge "$program${1:+, $1}: the first holder is $holder" "$([ "$first" = "$holder" ]; echo $?)"
+}
+
+# leaking PROGRAM CLASS HOLDER: this program leaks this class, which this field holds.
 leaking() {
     dumped_twice "$1"
     pasted > "$room/lines" || true
-    among "$1" "$2"
-    hanging "$1" "$3" "$2"
+    among "$1, by the recipe" "$2"
+    HEAPMARK=$heapmark "$top/tools/grown" "$room/monday.hprof" "$room/friday.hprof" > "$room/lines" 2> "$room/told"
+    among "$1, by tools/grown" "$2"
+    holding "$1" "$3" "$2"
+    holding "$1" "$3"
 }
 
 # leaking_by_thread PROGRAM CLASS: of this program no class grows, and its thread locals keep this one.
@@ -129,13 +143,21 @@ ln -s "$(realpath "$heapmark")" "$room/bin/heapmark"
 recipe > "$room/recipe"
 "${java}javac" -d "$room/classes" "$top"/bench/java/*Leak.java
 # shellcheck disable=SC2016 # names of Java have dollars
-leaking CacheLeak 'CacheLeak$Order' 'java/util/HashMap$Node.value'
-# shellcheck disable=SC2016
-leaking ListenerLeak 'ListenerLeak$View' java/util/ArrayList.elementData
-# shellcheck disable=SC2016
-leaking LoaderLeak 'LoaderLeak$PluginLoader' java/util/ArrayList.elementData
+while read -r program class holder; do
+    leaking "$program" "$class" "$holder"
+done << 'PROGRAMS'
+CacheLeak CacheLeak$Order static CacheLeak.CACHE
+ListenerLeak ListenerLeak$View static ListenerLeak.PRICES
+LoaderLeak LoaderLeak$PluginLoader static LoaderLeak.STARTED
+BusLeak BusLeak$$Lambda static BusLeak.CONFIG
+SessionLeak SessionLeak$Session static SessionLeak$Sessions.BY_KEY
+QueueLeak QueueLeak$Letter QueueLeak$Mailer.waiting
+RedeployLeak RedeployLeak$ApplicationLoader static java/lang/ApplicationShutdownHooks.hooks
+TwoStaticsLeak TwoStaticsLeak$Event together static TwoStaticsLeak$Journal.EVENTS, static TwoStaticsLeak$Screen.SHOWN
+PROGRAMS
 # shellcheck disable=SC2016
 leaking_by_thread ThreadLocalLeak 'ThreadLocalLeak$Scratch'
+holding ThreadLocalLeak 'java/lang/ThreadLocal$ThreadLocalMap.table' java.lang.String
 leaking_by_class ClassValueLeak 10000
 run_twice ListenerLeak
 cut_short friday.hprof
