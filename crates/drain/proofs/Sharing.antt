@@ -1,7 +1,7 @@
 -- The object that is got from a pair with a spill list is the last of that list, and it is put again.
 use Rattle.drain.proofs.Words.{Book, Err, List, None, Ok, Option, PairState, Puts, PutsAgain, Result, Some, [], ap}
-use Rattle.drain.proofs.Words.{arith, buffered_items, length, none_first, pair_items, refl, subst, ℕ, ◌++◌, ◌<◌, ◌∷◌, ◌≡◌, ◌≢◌}
-use Rattle.drain.proofs.Words.{◌≤◌}
+use Rattle.drain.proofs.Words.{arith, buffered_items, length, none_first, pair_items, refl, subst, ℕ, ◌++◌, ◌<◌, ◌∷◌}
+use Rattle.drain.proofs.Words.{◌≡◌, ◌≢◌, ◌≤◌}
 use Rattle.work_pair.specs.declared.stop.Stop.{Stop}
 
 -- a list that has something has a last object

@@ -39,10 +39,13 @@ impl<A: Allocator> PairedWorker<A> {
             self.new.pair self.new.worker) }
         ensures seen { OnOk result (HasSeenAll seen.new self.new.worker) }
     {
-        match known {
-            Some(object) => self.claim_unless_seen(rt, pool, seen, object),
-            None => Ok(()),
+        let Some(object) = known else {
+            return Ok(());
+        };
+        if self.claim_unless_seen(pool, seen, object) {
+            self.put(rt, pool, object)?;
         }
+        Ok(())
     }
 
     /// Claims what the object at hand refers to, its class first where that is known, and then finishes it.
