@@ -281,7 +281,7 @@ module _ {o : ℕ} {p : PairState} {mid : Holder} (at_work : IsAtWork p (o ∷ [
       → CanFinish mid.book.setup o mid.book.account
   may_finish saw = (times_stands mid.book.account.charge o charged, saw)
 
-  pub scanned : (new : Holder) → new.pool ≡ mid.pool → new.book ≡ finished o mid.book
+  scanned : (new : Holder) → new.pool ≡ mid.pool → new.book ≡ finished o mid.book
       → WorksOn mid new × IsAtWork p [] new
   scanned new pool is =
       let setup = ap (λ (c : Book). c.setup) is in
@@ -308,6 +308,24 @@ module _ {o : ℕ} {p : PairState} {mid : Holder} (at_work : IsAtWork p (o ∷ [
           busy = busy_on mid.book.account new.book.account share idle at_work.busy;
         },
       )
+
+-- an object that was at hand was finished, and the worker is at its pair
+pub record IsScanned (o : ℕ) (old : Holder) (p : PairState) (new : Holder) : Type 0 where
+  pub works_on : WorksOn old new
+  pub at_work : IsAtWork p [] new
+  pub finished : new.book.account.finished ≡ old.book.account.finished ++ o ∷ []
+
+-- what it refers to was claimed before
+pub claimed_and_finished : {o : ℕ} {xs : List ℕ} {p q : PairState} {a b : Holder} (c : Holder) → IsAtWork p (o ∷ []) a
+    → AreClaimed xs p a q b → c.pool ≡ b.pool → c.book ≡ finished o b.book → IsScanned o a q c
+claimed_and_finished {o} c was are pool is =
+    let done = scanned (are.at_work (o ∷ []) was) c pool is in
+    let last = ap (λ (k : Book). k.account.finished) is in
+    record {
+      works_on = works_on_again (works are.goes_on) done.0;
+      at_work = done.1;
+      finished = last ∙ ap (λ (ys : List ℕ). ys ++ o ∷ []) are.goes_on.finished;
+    }
 
 -- all that the scanned object refers to may be claimed
 pub all_claimable : (o : ℕ) (nexts : List ℕ) (e : Setup) → ((s : ℕ) → Contains nexts s → Contains e.pairs (o, s))

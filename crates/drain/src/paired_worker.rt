@@ -32,14 +32,14 @@ impl<A: Allocator> PairedWorker<A> {
     ghost use Rattle.std.specs.Prelude.{◌≡◌, ◌<◌, ◌↔◌, ◌⊎◌, ◌∷◌, [], ℕ, All, IfErr, IfNone, IfOk};
     ghost use Rattle.std.specs.Prelude.{IfSome, IsTrue, List, OnOk, length};
     ghost use Rattle.mark_core.specs.Events.{IsBusy};
-    ghost use Rattle.mark_core.specs.declared.which.Which.TheVariants.{Empty};
+    ghost use Rattle.mark_core.specs.declared.which.Which.TheVariants.{Empty, Full};
+    ghost use Rattle.buffer_pool.specs.Calls.{Sees};
     ghost use Rattle.work_pair.specs.Deals.{ShelvesAll};
     ghost use Rattle.work_pair.specs.Moves.{WasSeenEmpty};
     ghost use Rattle.work_pair.specs.PairState.{buffered_items};
     ghost use Rattle.std.specs.Iterator.{AlwaysYields, IsFinite};
     ghost use Rattle.drain.specs.working.AtWork.{AreClaimed, GoesOn, HasAtHand, HasNoneLeft, HasOpened, IsAtWork};
     ghost use Rattle.drain.specs.working.AtWork.{IsClaimed, IsFree, IsPut, IsThrough, MayClaim};
-    ghost use Rattle.drain.specs.working.Jobs.{FindsNone};
     ghost use Rattle.drain.specs.working.RecentlySeen.{HasSeenAll, IsNoted};
     ghost use Rattle.drain.specs.working.Sharing.{GivesSome, PutsAgain, SharesWork, Unspills};
     ghost use Rattle.drain.specs.working.Walk.{HasEnded};
@@ -241,9 +241,21 @@ impl<A: Allocator> PairedWorker<A> {
         self.pair.balance(rt, pool, &mut self.worker)
     }
 
-    /// Gives some of what is in the pair to others, if the full stack is seen empty.
-    // Inlined: only the look is made in each turn of the worker's loop.
+    /// Tests whether others may have nothing to scan: the full stack is seen empty.
+    // Inlined: this look alone is made in each turn of the worker's loop. It does not wait, so that no byte is tested
+    // after it.
     #[inline(always)]
+    fn others_want(&mut self, pool: &Pool<A>) -> bool
+        requires { self.old.worker.pool ≡ pool.now }
+        ensures goes_on { GoesOn self.old.worker self.new.worker }
+        ensures pair { self.new.pair ≡ self.old.pair }
+        ensures at_work { IsAtWork self.old.pair [] self.old.worker → IsAtWork self.new.pair [] self.new.worker }
+        ensures sees { Sees Full self.old.worker.book self.new.worker.book result }
+    {
+        pool.sees_empty(&mut self.worker, Which::Full)
+    }
+
+    /// Gives some of what is in the pair to others if the full stack is seen empty.
     fn share<R: Wait>(&mut self, rt: &R, pool: &Pool<A>) -> Result<(), Stop>
         requires pool { self.old.worker.pool ≡ pool.now }
         requires at_work { IsAtWork self.old.pair [] self.old.worker }
@@ -252,30 +264,10 @@ impl<A: Allocator> PairedWorker<A> {
         ensures shares { OnOk result (SharesWork self.old.pair self.old.worker.book
             self.new.pair self.new.worker.book) }
     {
-        if !pool.sees_empty(&mut self.worker, Which::Full) {
+        if !self.others_want(pool) {
             return Ok(());
         }
         self.give(rt, pool)
-    }
-
-    /// Gets an object of the pair, or of the full stack: the worker has it at hand besides. `None` where none is left.
-    // Inlined, as the common case of `Pair::get` is, which it hands on.
-    #[inline(always)]
-    fn next_object<R: Wait>(&mut self, rt: &R, pool: &Pool<A>) -> Result<Option<u32>, Stop>
-        requires pool { self.old.worker.pool ≡ pool.now }
-        requires at_work { IsAtWork self.old.pair [] self.old.worker }
-        ensures goes_on { OnOk result (GoesOn self.old.worker self.new.worker) }
-        ensures some { IfOk result (λ r. IfSome r (λ o. IsAtWork self.new.pair (o ∷ []) self.new.worker
-            × (o < self.new.worker.book.setup.objects))) }
-        ensures none { IfOk result (λ r. IfNone r (IsAtWork self.new.pair [] self.new.worker
-            × HasNoneLeft self.new.pair self.new.worker)) }
-        ensures finds_none { IfOk result (λ r. IfNone r (FindsNone self.old self.new)) }
-    {
-        let Some(object) = self.pair.get(rt, pool, &mut self.worker)? else {
-            return Ok(None);
-        };
-        self.worker.recall_within();
-        Ok(Some(object))
     }
 
     /// Gives the buffers of a pair without items back, and answers its worker.
