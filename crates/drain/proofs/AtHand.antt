@@ -1,12 +1,12 @@
 -- What a worker with its pair has after each call.
-use Rattle.drain.proofs.Words.{All, All-from_get_or, AreClaimed, AreOfSize, Book, CameFrom, CanClaim, CanFinish}
+use Rattle.drain.proofs.Words.{All, All-from_get_or, AreClaimed, AreOfSize, Book, Bool, CameFrom, CanClaim, CanFinish}
 use Rattle.drain.proofs.Words.{Contains, Contains-append_cases, Contains-append_left, Contains-get_or, Contains-push}
 use Rattle.drain.proofs.Words.{Contains-push_cases, Deals, GoesOn, HasAtHand, Holder, IsAtWork, IsBacked, IsBusy}
-use Rattle.drain.proofs.Words.{IsFree, IsOpen, List, MayClaim, PairState, Setup, WorksOn, [], ap, arith, buffered_items}
-use Rattle.drain.proofs.Words.{claimed, cond, empty_pair, eq-eqb, false, finished, get_or, if◌then◌else◌, inl, inr}
-use Rattle.drain.proofs.Words.{ne_eqb, none_last, only, only-same, pair_items, refl, stands_times, subst, sum_of-append}
-use Rattle.drain.proofs.Words.{sym, times, times-remove_one, times_stands, without_spill, ℕ, ⊎_elim, ◌++◌, ◌<◌, ◌==◌}
-use Rattle.drain.proofs.Words.{◌∙◌, ◌∷◌, ◌≡◌, ◌≢◌}
+use Rattle.drain.proofs.Words.{IsClaimed, IsFree, IsOpen, IsPut, List, MayClaim, PairState, Setup, WorksOn, [], ap}
+use Rattle.drain.proofs.Words.{arith, buffered_items, claimed, cond, empty_pair, eq-eqb, false, false≢true, finished}
+use Rattle.drain.proofs.Words.{get_or, if◌then◌else◌, inl, inr, ne_eqb, none_last, only, only-same, pair_items, refl}
+use Rattle.drain.proofs.Words.{stands_times, subst, sum_of-append, sym, times, times-remove_one, times_stands, true}
+use Rattle.drain.proofs.Words.{without_spill, ℕ, ⊎_elim, ◌++◌, ◌<◌, ◌==◌, ◌↔◌, ◌∙◌, ◌∷◌, ◌≡◌, ◌≢◌}
 use Rattle.mark_core.specs.Account.{Account}
 
 pub came_at_all : (w : Holder) → CameFrom w w
@@ -148,7 +148,7 @@ module _ (old new : Holder) (pool : new.pool ≡ old.pool) (o found : ℕ) (is :
   idle_is : new.book.account.idle ≡ old.book.account.idle
   idle_is = ap (λ (c : Book). c.account.idle) is
 
-  pub claimed_goes_on : GoesOn old new
+  claimed_goes_on : GoesOn old new
   claimed_goes_on = record {
     came = record {
       pool = pool;
@@ -161,15 +161,14 @@ module _ (old new : Holder) (pool : new.pool ≡ old.pool) (o found : ℕ) (is :
     finished = ap (λ (c : Book). c.account.finished) is;
   }
 
-  pub claimed_busy : IsBusy old.book.account → IsBusy new.book.account
+  claimed_busy : IsBusy old.book.account → IsBusy new.book.account
   claimed_busy = busy_on old.book.account new.book.account share_is idle_is
 
-  pub saw_it : (x : ℕ) → Contains (o ∷ []) x → Contains new.book.account.seen x
-  saw_it x h = subst (λ xs. Contains xs x) (sym seen_is)
-      (subst (Contains (old.book.account.seen ++ o ∷ [])) (only_member o x h) (Contains-push old.book.account.seen o))
+  saw_it : Contains new.book.account.seen o
+  saw_it = subst (λ xs. Contains xs o) (sym seen_is) (Contains-push old.book.account.seen o)
 
   -- a white object is answered for
-  pub white_at_hand : found ≡ 0 → (p : PairState) (besides : List ℕ) → HasAtHand p besides old
+  white_at_hand : found ≡ 0 → (p : PairState) (besides : List ℕ) → HasAtHand p besides old
       → HasAtHand p (o ∷ besides) new
   white_at_hand white p besides was =
       let charge : new.book.account.charge ≡ old.book.account.charge ++ o ∷ [] =
@@ -189,7 +188,7 @@ module _ (old new : Holder) (pool : new.pool ≡ old.pool) (o found : ℕ) (is :
       }
 
   -- a marked one is not
-  pub marked_at_hand : found ≢ 0 → (p : PairState) (besides : List ℕ) → HasAtHand p besides old
+  marked_at_hand : found ≢ 0 → (p : PairState) (besides : List ℕ) → HasAtHand p besides old
       → HasAtHand p besides new
   marked_at_hand marked p besides was =
       let charge : new.book.account.charge ≡ old.book.account.charge =
@@ -202,27 +201,59 @@ module _ (old new : Holder) (pool : new.pool ≡ old.pool) (o found : ℕ) (is :
         charge = λ x. ap (times x) charge ∙ was.charge x;
       }
 
-  pub marked_claimed : found ≢ 0 → (p : PairState) → AreClaimed (o ∷ []) p old p new
-  marked_claimed marked p = record {
+  pub is_claimed : (p : PairState) (white : Bool) → (white ≡ true ↔ (found ≡ 0)) → IsClaimed o p old p new white
+  is_claimed p true shows = record {
     goes_on = claimed_goes_on;
     saw = saw_it;
     at_work = λ besides was.
-        record { hand = marked_at_hand marked p besides was.hand; busy = claimed_busy was.busy };
+        record { hand = white_at_hand (shows.0 refl) p besides was.hand; busy = claimed_busy was.busy };
   }
-
-  pub white_claimed : found ≡ 0 → (p q : PairState) (end : Holder) → end.pool ≡ new.pool
-      → Deals p new.book (o ∷ []) [] q end.book → IsOpen q → AreClaimed (o ∷ []) p old q end
-  white_claimed white p q end same deals going =
-      let on = dealt_goes_on new end deals same in
+  is_claimed p false shows =
+      let marked = λ (white : found ≡ 0). false≢true (shows.1 white) in
       record {
-        goes_on = goes_on_again claimed_goes_on on;
-        saw = λ x h. on.came.seen x (saw_it x h);
+        goes_on = claimed_goes_on;
+        saw = saw_it;
         at_work = λ besides was.
-            let claimed : IsAtWork p (o ∷ besides) new =
-            record { hand = white_at_hand white p besides was.hand; busy = claimed_busy was.busy }
-            in
-            dealt new end deals besides going claimed;
+            record { hand = marked_at_hand marked p besides was.hand; busy = claimed_busy was.busy };
       }
+
+-- an object that the worker saw is claimed by doing nothing
+pub seen_claimed : (o : ℕ) (p : PairState) (w : Holder) → Contains w.book.account.seen o → IsClaimed o p w p w false
+seen_claimed o p w seen = record { goes_on = goes_on_at_all w; saw = seen; at_work = λ besides was. was }
+
+-- what is seen of one object is seen of a list of it
+sees_one : (o : ℕ) (w : Holder) → Contains w.book.account.seen o → (x : ℕ) → Contains (o ∷ []) x
+    → Contains w.book.account.seen x
+sees_one o w saw x h = subst (Contains w.book.account.seen) (only_member o x h) saw
+
+-- what was marked was claimed, and changes nothing
+pub marked_claimed : {o : ℕ} {p q : PairState} {a b : Holder} {white : Bool} → white ≡ false
+    → IsClaimed o p a q b white → AreClaimed (o ∷ []) p a q b
+marked_claimed {o} {p} {q} {a} {b} marked claim =
+    let none = subst (IsClaimed o p a q b) marked claim in
+    record { goes_on = none.goes_on; saw = sees_one o b none.saw; at_work = none.at_work }
+
+-- what was white is at hand, beside what the worker had
+pub white_at_work : {o : ℕ} {p q : PairState} {a b : Holder} {white : Bool} (besides : List ℕ) → white ≡ true
+    → IsClaimed o p a q b white → IsAtWork p besides a → IsAtWork q (o ∷ besides) b
+white_at_work {o} {p} {q} {a} {b} besides is claim = (subst (IsClaimed o p a q b) is claim).at_work besides
+
+-- and was claimed once it is put
+pub white_claimed : {o : ℕ} {p q r : PairState} {a b c : Holder} {white : Bool} → white ≡ true
+    → IsClaimed o p a q b white → IsPut o q b r c → AreClaimed (o ∷ []) p a r c
+white_claimed {o} {c = c} is claim puts = record {
+  goes_on = goes_on_again claim.goes_on puts.goes_on;
+  saw = sees_one o c (puts.goes_on.came.seen o claim.saw);
+  at_work = λ besides was. puts.at_work besides (white_at_work besides is claim was);
+}
+
+-- what the pair took in was put
+pub is_put : {o : ℕ} {p q : PairState} (a b : Holder) → b.pool ≡ a.pool → Deals p a.book (o ∷ []) [] q b.book → IsOpen q
+    → IsPut o p a q b
+is_put a b pool deals going = record {
+  goes_on = dealt_goes_on a b deals pool;
+  at_work = λ besides. dealt a b deals besides going;
+}
 
 pub none_claimed : (p : PairState) (w : Holder) → AreClaimed [] p w p w
 none_claimed p w = record {
@@ -250,7 +281,7 @@ module _ {o : ℕ} {p : PairState} {mid : Holder} (at_work : IsAtWork p (o ∷ [
       → CanFinish mid.book.setup o mid.book.account
   may_finish saw = (times_stands mid.book.account.charge o charged, saw)
 
-  pub scanned : (new : Holder) → new.pool ≡ mid.pool → new.book ≡ finished o mid.book
+  scanned : (new : Holder) → new.pool ≡ mid.pool → new.book ≡ finished o mid.book
       → WorksOn mid new × IsAtWork p [] new
   scanned new pool is =
       let setup = ap (λ (c : Book). c.setup) is in
@@ -277,6 +308,24 @@ module _ {o : ℕ} {p : PairState} {mid : Holder} (at_work : IsAtWork p (o ∷ [
           busy = busy_on mid.book.account new.book.account share idle at_work.busy;
         },
       )
+
+-- an object that was at hand was finished, and the worker is at its pair
+pub record IsScanned (o : ℕ) (old : Holder) (p : PairState) (new : Holder) : Type 0 where
+  pub works_on : WorksOn old new
+  pub at_work : IsAtWork p [] new
+  pub finished : new.book.account.finished ≡ old.book.account.finished ++ o ∷ []
+
+-- what it refers to was claimed before
+pub claimed_and_finished : {o : ℕ} {xs : List ℕ} {p q : PairState} {a b : Holder} (c : Holder) → IsAtWork p (o ∷ []) a
+    → AreClaimed xs p a q b → c.pool ≡ b.pool → c.book ≡ finished o b.book → IsScanned o a q c
+claimed_and_finished {o} c was are pool is =
+    let done = scanned (are.at_work (o ∷ []) was) c pool is in
+    let last = ap (λ (k : Book). k.account.finished) is in
+    record {
+      works_on = works_on_again (works are.goes_on) done.0;
+      at_work = done.1;
+      finished = last ∙ ap (λ (ys : List ℕ). ys ++ o ∷ []) are.goes_on.finished;
+    }
 
 -- all that the scanned object refers to may be claimed
 pub all_claimable : (o : ℕ) (nexts : List ℕ) (e : Setup) → ((s : ℕ) → Contains nexts s → Contains e.pairs (o, s))

@@ -1,8 +1,11 @@
--- What holds of a value where there is one.
-use Rattle.drain.proofs.Words.{Err, IfSome, Ok, OnOk, Option, Result, Some, subst, ◌≡◌}
+-- What holds of a value if there is one, or if there is none.
+use Rattle.drain.proofs.Words.{Err, IfNone, IfSome, None, Ok, OnOk, Option, Result, Some, subst, ◌≡◌}
 
 pub at_some : {X : Type 0} (P : X → Type 0) (r : Option X) (x : X) → IfSome r P → r ≡ Some x → P x
 at_some {X} P r x held is = subst (λ (s : Option X). IfSome s P) is held
+
+pub at_none : {X : Type 0} (P : Type 0) (r : Option X) → IfNone r P → r ≡ None → P
+at_none {X} P r held is = subst (λ (s : Option X). IfNone s P) is held
 
 pub on_ok : {X E : Type 0} {P Q : Type 0} (r : Result X E) → OnOk r P → (P → Q) → OnOk r Q
 on_ok (Ok x) held on = on held

@@ -1,7 +1,7 @@
 -- Two rows of a graph are the same where their numbers are, and a row that a graph does not have has no object.
 use Rattle.drain.proofs.Words.{Bool, IsRowIn, IsWhole, List, ObjectGraph, RowKey, [], ap, arith, cases_lt, class_count}
 use Rattle.drain.proofs.Words.{eq-eqb, eqb-true, false, filter, inl, inr, ne_eqb, numbered_row, of_row, refl, row_at}
-use Rattle.drain.proofs.Words.{row_number, row_of_its_number, row_there, same_row, subst, sym, true, ℕ, ⊎_elim, ◌-◌}
+use Rattle.drain.proofs.Words.{row_number, row_of_its_number, row_there, same_row, subst, sym, true, ℕ, ⊎_elim}
 use Rattle.drain.proofs.Words.{◌==◌, ◌∙◌, ◌∷◌, ◌≡◌, ◌⊎◌}
 use native.Mathlib.Decide.{ℕ_discrete}
 use Rattle.heap_graph.specs.declared.row.RowKey.TheVariants as keys

@@ -1,7 +1,7 @@
 -- A worker that got an object, claimed what it refers to and finished it: its tally had room, and takes the object in.
-use Rattle.drain.proofs.Words.{CameFrom, HasTallied, Holder, IsAtWork, IsAwake, IsMeasureOf, IsSetupOf, IsSmall}
-use Rattle.drain.proofs.Words.{IsTallyOf, List, Measure, Setup, Sum, WorksOn, [], ap, arith, length, length_push, subst}
-use Rattle.drain.proofs.Words.{sym, ℕ, ◌++◌, ◌∙◌, ◌∷◌, ◌≡◌, ◌≤◌}
+use Rattle.drain.proofs.Words.{CameFrom, Contains, HasTallied, Holder, IsAtWork, IsAwake, IsMeasureOf, IsSetupOf}
+use Rattle.drain.proofs.Words.{IsSmall, IsTallyOf, List, Measure, Setup, Sum, WorksOn, [], ap, arith, length}
+use Rattle.drain.proofs.Words.{length_push, subst, sym, ℕ, ◌++◌, ◌↔◌, ◌∙◌, ◌∷◌, ◌≡◌, ◌≤◌}
 use Rattle.drain.specs.declared.job.Job.{Job}
 use Rattle.drain.specs.declared.paired_worker.PairedWorker.{PairedWorker}
 use Rattle.drain.specs.declared.tally.Tally.{Tally}
@@ -35,6 +35,12 @@ still_awake was on = record { share = on.came.share ∙ was.share; idle = on.idl
 pub same_tally : {m : Measure} {old new : List ℕ} {rows : List Sum} {unresolved : ℕ} → new ≡ old
     → IsTallyOf m old rows unresolved → IsTallyOf m new rows unresolved
 same_tally {m} {old} {new} {rows} {unresolved} same was = subst (λ xs. IsTallyOf m xs rows unresolved) (sym same) was
+
+-- what a visit gives is exactly what the object refers to, by the pairs of the setup
+pub given_pairs : (o : ℕ) (given : List ℕ) {pairs own : List (ℕ × ℕ)} → own ≡ pairs
+    → ((x : ℕ) → Contains given x ↔ Contains pairs (o, x)) → (x : ℕ) → Contains given x ↔ Contains own (o, x)
+given_pairs o given same exact x =
+    subst (λ (ps : List (ℕ × ℕ)). Contains given x ↔ Contains ps (o, x)) (sym same) (exact x)
 
 -- a tally to which the object that was finished last is still to be added
 pub small_before : (o : ℕ) {m : Measure} {count : ℕ} {old end : List ℕ} {rows : List Sum} {unresolved : ℕ}

@@ -1,8 +1,10 @@
 -- The object that is got from a pair with a spill list is the last of that list, and it is put again.
-use Rattle.drain.proofs.Words.{Book, Err, List, None, Ok, Option, PairState, Puts, PutsAgain, Result, Some, [], ap}
-use Rattle.drain.proofs.Words.{arith, buffered_items, length, none_first, pair_items, refl, subst, ℕ, ◌++◌, ◌<◌, ◌∷◌, ◌≡◌, ◌≢◌}
-use Rattle.drain.proofs.Words.{◌≤◌}
+use Rattle.drain.proofs.Words.{Book, Bool, Err, List, None, Ok, Option, PairState, Puts, PutsAgain, Result, Sees, Some}
+use Rattle.drain.proofs.Words.{[], ap, arith, buffered_items, false, false≢true, length, none_first, pair_items, refl}
+use Rattle.drain.proofs.Words.{subst, sym, true, ℕ, ◌++◌, ◌<◌, ◌∙◌, ◌∷◌, ◌≡◌, ◌≢◌, ◌≤◌}
+use Rattle.mark_core.specs.declared.which.Which.TheVariants.{Full}
 use Rattle.work_pair.specs.declared.stop.Stop.{Stop}
+use Rattle.drain.specs.working.Sharing.{GivesSome, SharesWork}
 
 -- a list that has something has a last object
 pub last_of : (xs : List ℕ) → 0 < length xs → (rest : List ℕ) × (object : ℕ) × (xs ≡ rest ++ object ∷ [])
@@ -52,3 +54,20 @@ puts_again old middle new before between after object some got same puts =
     let its = subst (λ o. Puts middle between o new after) is.0 puts in
     let then = subst (λ (b : Book). Puts middle b last.1 new after) same its in
     (last.0, last.1, last.2, subst (λ (p : PairState). Puts p before last.1 new after) is.1 then)
+
+-- a look that found a buffer is all that a worker did to share
+pub needs_none : {p q : PairState} {before looked : Book} {none : Bool} → none ≡ false → q ≡ p
+    → Sees Full before looked none → SharesWork p before q looked
+needs_none {looked = looked} {none} some same sees =
+    (none, looked, sees, λ _. (same, refl), λ empty. absurd (false≢true (sym some ∙ empty)))
+
+-- after one that found none it gave some
+pub gives_some : {p q r : PairState} {before looked after : Book} {none : Bool} → none ≡ true → q ≡ p
+    → Sees Full before looked none → GivesSome q looked r after → SharesWork p before r after
+gives_some {p} {q} {r} {looked = looked} {after} {none} empty same sees gives = (
+  none,
+  looked,
+  sees,
+  λ some. absurd (false≢true (sym some ∙ empty)),
+  λ _. subst (λ (s : PairState). GivesSome s looked r after) same gives,
+)

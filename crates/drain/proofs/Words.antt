@@ -43,7 +43,7 @@ pub use Rattle.drain.specs.Totals.{marked_objects, of_row, same_row, total}
 pub use Rattle.drain.specs.declared.sum.Sum.{Sum}
 pub use Rattle.drain.specs.declared.worker_threads.Duty.{Duty}
 pub use Rattle.drain.specs.working.AtWork.{AreClaimed, CameFrom, GoesOn, HasAtHand, HasNoneLeft, IsAtWork, IsFree}
-pub use Rattle.drain.specs.working.AtWork.{IsSetupOf, IsThrough, Leads, MayClaim, SawRoots, WorksOn}
+pub use Rattle.drain.specs.working.AtWork.{IsClaimed, IsPut, IsSetupOf, IsThrough, Leads, MayClaim, SawRoots, WorksOn}
 pub use Rattle.drain.specs.working.Duties.{AreBackUnder, HasStarted, IsBackUnder, IsDutyUnder}
 pub use Rattle.drain.specs.working.Idle.{IsAwake}
 pub use Rattle.drain.specs.working.Jobs.{HasScanned, MayWork}

@@ -32,14 +32,14 @@ impl<A: Allocator> PairedWorker<A> {
     ghost use Rattle.std.specs.Prelude.{◌≡◌, ◌<◌, ◌↔◌, ◌⊎◌, ◌∷◌, [], ℕ, All, IfErr, IfNone, IfOk};
     ghost use Rattle.std.specs.Prelude.{IfSome, IsTrue, List, OnOk, length};
     ghost use Rattle.mark_core.specs.Events.{IsBusy};
-    ghost use Rattle.mark_core.specs.declared.which.Which.TheVariants.{Empty};
+    ghost use Rattle.mark_core.specs.declared.which.Which.TheVariants.{Empty, Full};
+    ghost use Rattle.buffer_pool.specs.Calls.{Sees};
     ghost use Rattle.work_pair.specs.Deals.{ShelvesAll};
     ghost use Rattle.work_pair.specs.Moves.{WasSeenEmpty};
     ghost use Rattle.work_pair.specs.PairState.{buffered_items};
     ghost use Rattle.std.specs.Iterator.{AlwaysYields, IsFinite};
     ghost use Rattle.drain.specs.working.AtWork.{AreClaimed, GoesOn, HasAtHand, HasNoneLeft, HasOpened, IsAtWork};
-    ghost use Rattle.drain.specs.working.AtWork.{IsFree, IsThrough, MayClaim};
-    ghost use Rattle.drain.specs.working.Jobs.{FindsNone};
+    ghost use Rattle.drain.specs.working.AtWork.{IsClaimed, IsFree, IsPut, IsThrough, MayClaim};
     ghost use Rattle.drain.specs.working.RecentlySeen.{HasSeenAll, IsNoted};
     ghost use Rattle.drain.specs.working.Sharing.{GivesSome, PutsAgain, SharesWork, Unspills};
     ghost use Rattle.drain.specs.working.Walk.{HasEnded};
@@ -95,55 +95,59 @@ impl<A: Allocator> PairedWorker<A> {
         }
     }
 
-    /// Claims an object, and puts it into the pair if it was white.
-    // Inlined with its callers into the loop over what an object refers to: as a call it would save registers and hand
+    /// Claims `object`. Returns whether it was white: then the worker has it at hand.
+    // Inlined with its callers into the loop over what an object refers to: as a call it would save registers and pass
     // its result on for each reference.
     #[inline(always)]
-    fn claim<R: Wait>(&mut self, rt: &R, pool: &Pool<A>, object: u32) -> Result<(), Stop>
+    fn claim(&mut self, pool: &Pool<A>, object: u32) -> bool
         requires pool { self.old.worker.pool ≡ pool.now }
         requires may { (besides : List ℕ) × IsAtWork self.old.pair besides self.old.worker
             × MayClaim self.old.worker.book.setup besides object }
-        ensures { OnOk result (AreClaimed (object ∷ []) self.old.pair self.old.worker self.new.pair self.new.worker) }
+        ensures claimed { IsClaimed object self.old.pair self.old.worker self.new.pair self.new.worker result }
+        ensures pair { self.new.pair ≡ self.old.pair }
     {
-        if !pool.claim(&mut self.worker, object) {
-            return Ok(());
+        pool.claim(&mut self.worker, object)
+    }
+
+    /// Claims `object` unless the worker recently saw it marked: then a claim would change nothing. Returns whether it
+    /// was white: then the worker has it at hand.
+    // Inlined, as `claim` is. It does not wait, so that no byte is tested after it: most claims are of marked objects.
+    #[inline(always)]
+    fn claim_unless_seen(&mut self, pool: &Pool<A>, seen: &mut RecentlySeen, object: u32) -> bool
+        requires pool { self.old.worker.pool ≡ pool.now }
+        requires may { (besides : List ℕ) × IsAtWork self.old.pair besides self.old.worker
+            × MayClaim self.old.worker.book.setup besides object }
+        requires seen { HasSeenAll seen.old self.old.worker }
+        ensures claimed { IsClaimed object self.old.pair self.old.worker self.new.pair self.new.worker result }
+        ensures pair { self.new.pair ≡ self.old.pair }
+        ensures seen { HasSeenAll seen.new self.new.worker }
+        ensures unless { IsNoted seen.old object → (self.new ≡ self.old) × (seen.new ≡ seen.old) }
+        ensures noted { IsNoted seen.new object }
+    {
+        if seen.has(object) {
+            return false;
         }
+        let white = self.claim(pool, object);
+        seen.note(object);
+        white
+    }
+
+    /// Puts `object`, which the worker has at hand, into the pair.
+    // Inlined, as `claim` is.
+    #[inline(always)]
+    fn put<R: Wait>(&mut self, rt: &R, pool: &Pool<A>, object: u32) -> Result<(), Stop>
+        requires pool { self.old.worker.pool ≡ pool.now }
+        requires at_hand { (besides : List ℕ) × IsAtWork self.old.pair (object ∷ besides) self.old.worker }
+        ensures { OnOk result (IsPut object self.old.pair self.old.worker self.new.pair self.new.worker) }
+    {
         match self.pair.put(rt, pool, &mut self.worker, object) {
             Ok(()) => Ok(()),
             Err((_, stop)) => Err(stop),
         }
     }
 
-    /// Claims an object, unless the worker lately saw it marked: then a claim would change nothing.
-    // Inlined, as `claim` is.
-    #[inline(always)]
-    fn claim_unless_seen<R: Wait>(
-        &mut self,
-        rt: &R,
-        pool: &Pool<A>,
-        seen: &mut RecentlySeen,
-        object: u32,
-    ) -> Result<(), Stop>
-        requires pool { self.old.worker.pool ≡ pool.now }
-        requires may { (besides : List ℕ) × IsAtWork self.old.pair besides self.old.worker
-            × MayClaim self.old.worker.book.setup besides object }
-        requires seen { HasSeenAll seen.old self.old.worker }
-        ensures claimed { OnOk result (AreClaimed (object ∷ []) self.old.pair self.old.worker
-            self.new.pair self.new.worker) }
-        ensures seen { OnOk result (HasSeenAll seen.new self.new.worker) }
-        ensures unless { IsNoted seen.old object → (self.new ≡ self.old) × (seen.new ≡ seen.old) }
-        ensures noted { OnOk result (IsNoted seen.new object) }
-    {
-        if seen.has(object) {
-            return Ok(());
-        }
-        self.claim(rt, pool, object)?;
-        seen.note(object);
-        Ok(())
-    }
-
-    /// Claims each object that the iterator gives until its end, unless it was lately seen, and puts those that were
-    /// white into the pair.
+    /// Claims each object of `objects` unless the worker recently saw it marked, and puts those that were white into
+    /// the pair.
     // Inlined, so that there is a loop of its own for references of each kind.
     #[inline(always)]
     fn claim_all<R: Wait, I: Iterator<Item = u32> + Drop>(
@@ -166,7 +170,9 @@ impl<A: Allocator> PairedWorker<A> {
         ensures seen { OnOk result (HasSeenAll seen.new self.new.worker) }
     {
         while let Some(object) = objects.next() {
-            self.claim_unless_seen(rt, pool, seen, object)?;
+            if self.claim_unless_seen(pool, seen, object) {
+                self.put(rt, pool, object)?;
+            }
         }
         Ok(())
     }
@@ -235,9 +241,21 @@ impl<A: Allocator> PairedWorker<A> {
         self.pair.balance(rt, pool, &mut self.worker)
     }
 
-    /// Gives some of what is in the pair to others, if the full stack is seen empty.
-    // Inlined: only the look is made in each turn of the worker's loop.
+    /// Tests whether others may have nothing to scan: the full stack is seen empty.
+    // Inlined: this look alone is made in each turn of the worker's loop. It does not wait, so that no byte is tested
+    // after it.
     #[inline(always)]
+    fn others_want(&mut self, pool: &Pool<A>) -> bool
+        requires { self.old.worker.pool ≡ pool.now }
+        ensures goes_on { GoesOn self.old.worker self.new.worker }
+        ensures pair { self.new.pair ≡ self.old.pair }
+        ensures at_work { IsAtWork self.old.pair [] self.old.worker → IsAtWork self.new.pair [] self.new.worker }
+        ensures sees { Sees Full self.old.worker.book self.new.worker.book result }
+    {
+        pool.sees_empty(&mut self.worker, Which::Full)
+    }
+
+    /// Gives some of what is in the pair to others if the full stack is seen empty.
     fn share<R: Wait>(&mut self, rt: &R, pool: &Pool<A>) -> Result<(), Stop>
         requires pool { self.old.worker.pool ≡ pool.now }
         requires at_work { IsAtWork self.old.pair [] self.old.worker }
@@ -246,30 +264,10 @@ impl<A: Allocator> PairedWorker<A> {
         ensures shares { OnOk result (SharesWork self.old.pair self.old.worker.book
             self.new.pair self.new.worker.book) }
     {
-        if !pool.sees_empty(&mut self.worker, Which::Full) {
+        if !self.others_want(pool) {
             return Ok(());
         }
         self.give(rt, pool)
-    }
-
-    /// Gets an object of the pair, or of the full stack: the worker has it at hand besides. `None` where none is left.
-    // Inlined, as the common case of `Pair::get` is, which it hands on.
-    #[inline(always)]
-    fn next_object<R: Wait>(&mut self, rt: &R, pool: &Pool<A>) -> Result<Option<u32>, Stop>
-        requires pool { self.old.worker.pool ≡ pool.now }
-        requires at_work { IsAtWork self.old.pair [] self.old.worker }
-        ensures goes_on { OnOk result (GoesOn self.old.worker self.new.worker) }
-        ensures some { IfOk result (λ r. IfSome r (λ o. IsAtWork self.new.pair (o ∷ []) self.new.worker
-            × (o < self.new.worker.book.setup.objects))) }
-        ensures none { IfOk result (λ r. IfNone r (IsAtWork self.new.pair [] self.new.worker
-            × HasNoneLeft self.new.pair self.new.worker)) }
-        ensures finds_none { IfOk result (λ r. IfNone r (FindsNone self.old self.new)) }
-    {
-        let Some(object) = self.pair.get(rt, pool, &mut self.worker)? else {
-            return Ok(None);
-        };
-        self.worker.recall_within();
-        Ok(Some(object))
     }
 
     /// Gives the buffers of a pair without items back, and answers its worker.

@@ -1,5 +1,5 @@
 -- What a worker has between its calls.
-use Rattle.std.specs.Prelude.{Contains, List, [], false, true, ℕ, ◌+◌, ◌<◌, ◌≡◌, ◌⊎◌}
+use Rattle.std.specs.Prelude.{Bool, Contains, List, [], false, if◌then◌else◌, true, ℕ, ◌+◌, ◌<◌, ◌∷◌, ◌≡◌, ◌⊎◌}
 use Rattle.mark_core.specs.Events.{IsBusy}
 use Rattle.mark_core.specs.Lists.{times}
 use Rattle.mark_core.specs.World.{Setup}
@@ -56,6 +56,21 @@ StaysAtWork old_pair old new_pair new =
 -- A worker that answers for these objects may claim this one: it is a root, or one of them refers to it.
 abbrev pub MayClaim : Setup → List ℕ → ℕ → Type 0
 MayClaim e besides o = Contains e.roots o ⊎ ((p : ℕ) × Contains besides p × Contains e.pairs (p, o))
+
+-- An object was claimed: it was seen. If it was white the worker has it at hand besides what it had, and is about to
+-- put it; else it answers for what it did before.
+pub record IsClaimed (object : ℕ) (old_pair : PairState) (old : Holder) (new_pair : PairState) (new : Holder)
+    (white : Bool) : Type 0 where
+  pub goes_on : GoesOn old new
+  pub saw : Contains new.book.account.seen object
+  pub at_work : (besides : List ℕ) → IsAtWork old_pair besides old
+      → IsAtWork new_pair (if white then object ∷ besides else besides) new
+
+-- An object at hand was put: it is in the pair, or went with a buffer of it.
+pub record IsPut (object : ℕ) (old_pair : PairState) (old : Holder) (new_pair : PairState) (new : Holder)
+    : Type 0 where
+  pub goes_on : GoesOn old new
+  pub at_work : (besides : List ℕ) → IsAtWork old_pair (object ∷ besides) old → IsAtWork new_pair besides new
 
 -- These objects were claimed: they were seen, and those that were white are in the pair, or went with a buffer of it.
 pub record AreClaimed (objects : List ℕ) (old_pair : PairState) (old : Holder) (new_pair : PairState) (new : Holder)

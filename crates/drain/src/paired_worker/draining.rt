@@ -42,7 +42,10 @@ impl<A: Allocator> PairedWorker<A> {
         self.share(rt, job.pool)?;
         for _ in rt.forever() {
             if self.scan_next(rt, job, number, &mut seen, tally)? {
-                self.share(rt, job.pool)?;
+                // As `share` does, but a turn in which nothing is given tests no byte after it.
+                if self.others_want(job.pool) {
+                    self.give(rt, job.pool)?;
+                }
             } else if !self.finds_more(rt, job.pool, job.workers) {
                 return Ok(());
             }

@@ -28,7 +28,9 @@ impl<A: Allocator> PairedWorker<A> {
         ensures saw { OnOk result (SawRoots self.new.worker) }
     {
         for root in roots {
-            self.claim(rt, pool, *root)?;
+            if self.claim(pool, *root) {
+                self.put(rt, pool, *root)?;
+            }
         }
         Ok(())
     }

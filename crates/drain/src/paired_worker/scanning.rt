@@ -39,42 +39,12 @@ impl<A: Allocator> PairedWorker<A> {
             self.new.pair self.new.worker) }
         ensures seen { OnOk result (HasSeenAll seen.new self.new.worker) }
     {
-        match known {
-            Some(object) => self.claim_unless_seen(rt, pool, seen, object),
-            None => Ok(()),
+        let Some(object) = known else {
+            return Ok(());
+        };
+        if self.claim_unless_seen(pool, seen, object) {
+            self.put(rt, pool, object)?;
         }
-    }
-
-    /// Claims what the object at hand refers to, its class first where that is known, and then finishes it.
-    // Inlined, as `scan` is.
-    #[inline(always)]
-    fn claim_and_finish<R: Wait, I: Iterator<Item = u32> + Drop>(
-        &mut self,
-        rt: &R,
-        pool: &Pool<A>,
-        seen: &mut RecentlySeen,
-        object: u32,
-        class: Option<u32>,
-        successors: &mut I,
-    ) -> Result<(), Stop>
-        requires pool { self.old.worker.pool ≡ pool.now }
-        requires at_work { IsAtWork self.old.pair (object ∷ []) self.old.worker }
-        requires can { I.can_next successors.old }
-        requires ends { IsFinite (I.remaining successors.old) }
-        requires exact { (given : List ℕ) × AlwaysYields I.next_gives (λ o. o) successors.old given
-            × ((o : ℕ) → Contains (option_to_list class ++ given) o
-            ↔ Contains self.old.worker.book.setup.pairs (object, o)) }
-        requires seen { HasSeenAll seen.old self.old.worker }
-        ensures goes_on { OnOk result (WorksOn self.old.worker self.new.worker) }
-        ensures at_work { OnOk result (IsAtWork self.new.pair [] self.new.worker) }
-        ensures finished { OnOk result (self.new.worker.book.account.finished
-            ≡ self.old.worker.book.account.finished ++ object ∷ []) }
-        ensures ended { OnOk result (HasEnded I.next_gives successors.old successors.new) }
-        ensures seen { OnOk result (HasSeenAll seen.new self.new.worker) }
-    {
-        self.claim_known(rt, pool, seen, class)?;
-        self.claim_all(rt, pool, seen, successors)?;
-        pool.finish(&mut self.worker, object);
         Ok(())
     }
 
@@ -101,7 +71,9 @@ impl<A: Allocator> PairedWorker<A> {
             ≡ self.old.worker.book.account.finished ++ object ∷ []) }
     {
         let (class, mut rest) = given;
-        self.claim_and_finish(rt, job.pool, seen, object, class, &mut rest)?;
+        self.claim_known(rt, job.pool, seen, class)?;
+        self.claim_all(rt, job.pool, seen, &mut rest)?;
+        job.pool.finish(&mut self.worker, object);
         self.worker.recall_few_finished();
         job.graph.recall_measure();
         tally.add(rest.read());
@@ -174,9 +146,10 @@ impl<A: Allocator> PairedWorker<A> {
         ensures scans { IfOk result (ScansNext self.old self.new) }
         ensures none { IfOk result (λ more. more ≡ false → HasNoneLeft self.new.pair self.new.worker) }
     {
-        let Some(object) = self.next_object(rt, job.pool)? else {
+        let Some(object) = self.pair.get(rt, job.pool, &mut self.worker)? else {
             return Ok(false);
         };
+        self.worker.recall_within();
         job.gate.before_scan(number, object);
         self.scan_one(rt, job, object, seen, tally)?;
         Ok(true)

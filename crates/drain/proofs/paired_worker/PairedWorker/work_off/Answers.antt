@@ -2,27 +2,51 @@
 use Rattle.drain.proofs.Words.{inl, inr, rules, subst}
 use Rattle.drain.specs.working.Jobs.{ScansNext}
 use Rattle.drain.specs.working.Jobs.TakesTurns.{more, none}
-use Rattle.drain.proofs.AtHand.{came_again, came_at_all, works}
+use Rattle.drain.proofs.AtHand.{came_again, came_at_all, goes_on_again, works}
 use Rattle.drain.proofs.Idling.{awake_at_work}
 use Rattle.drain.proofs.Scanning.{same_tally, still_awake, still_on_job}
+use Rattle.drain.proofs.Sharing.{gives_some, needs_none}
 use Rattle.drain.proofs.paired_worker.PairedWorker.work_off.Goals as goal
 
--- it finished an object, and shared
+-- it finished an object, and gave some of what it had
 pub loop-preserved-in-Continue-branch-3 : goal.loop-preserved-in-Continue-branch-3
 loop-preserved-in-Continue-branch-3 g c =
     let (on_job, awake, came, _, turns) = c.loop.invariant in
     let scan = c.in_ok-scan_next.ensures in
-    let share = c.in_ok-share-2.ensures in
+    let look = c.others_want.ensures in
+    let give = c.in_ok-give.ensures in
     let old = c.loop.self in
     let mid = c.scan_next.new.self in
-    let now = c.share-then-branch.new.self in
-    let one = subst (ScansNext old mid) c.if-branch.true scan.scans in (
-      still_on_job on_job (came_again scan.scanned.goes_on.came share.goes_on.came) share.at_work
-          (same_tally share.goes_on.finished scan.scanned.tally),
-      still_awake (still_awake awake scan.scanned.goes_on) (works share.goes_on),
-      came_again came (came_again scan.scanned.goes_on.came share.goes_on.came),
-      λ o noted. share.goes_on.came.seen o (scan.scanned.seen o noted),
-      more _ old now turns (mid, inl (one, share.shares)),
+    let now = c.give.new.self in
+    let on = goes_on_again look.goes_on give.goes_on in
+    let one = subst (ScansNext old mid) c.if-branch.true scan.scans in
+    let shares = gives_some c.if-others_want.true look.pair look.sees give.gives in (
+      still_on_job on_job (came_again scan.scanned.goes_on.came on.came) give.at_work
+          (same_tally on.finished scan.scanned.tally),
+      still_awake (still_awake awake scan.scanned.goes_on) (works on),
+      came_again came (came_again scan.scanned.goes_on.came on.came),
+      λ o noted. on.came.seen o (scan.scanned.seen o noted),
+      more _ old now turns (mid, inl (one, shares)),
+    )
+
+-- it finished an object, and the full stack had a buffer
+pub loop-preserved-else-others_want : goal.loop-preserved-else-others_want
+loop-preserved-else-others_want g c =
+    let (on_job, awake, came, _, turns) = c.loop.invariant in
+    let scan = c.in_ok-scan_next.ensures in
+    let look = c.others_want.ensures in
+    let on = look.goes_on in
+    let old = c.loop.self in
+    let mid = c.scan_next.new.self in
+    let now = c.others_want.new.self in
+    let one = subst (ScansNext old mid) c.if-branch.true scan.scans in
+    let shares = needs_none c.if-others_want.false look.pair look.sees in (
+      still_on_job on_job (came_again scan.scanned.goes_on.came on.came) (look.at_work scan.scanned.at_work)
+          (same_tally on.finished scan.scanned.tally),
+      still_awake (still_awake awake scan.scanned.goes_on) (works on),
+      came_again came (came_again scan.scanned.goes_on.came on.came),
+      λ o noted. on.came.seen o (scan.scanned.seen o noted),
+      more _ old now turns (mid, inl (one, shares)),
     )
 
 -- it waited, and there was more
