@@ -34,14 +34,14 @@ class WatchedPipe:
     def feed(self, process, limit):
         """Gives the process the content, in a thread, once the process has opened the pipe.
 
-        Returns whether it had opened it once in the time without a byte: an open that was closed again, or a second
-        one beside the first, was too many. Returns `False`, too, if the pipe was not opened in `limit` seconds.
+        Returns whether it opened it once in the time without a byte: it must neither close it and open it again, nor
+        hold it twice. Returns `False`, too, if the pipe is not opened in `limit` seconds.
         """
         opened = self.open_to_write(process, limit)
         if opened is None:
             return False
         time.sleep(HELD_BACK)
-        is_opened_once = self.times_held(process) == 1 and IN_CLOSE_NOWRITE not in self.masks()
+        is_opened_once = self.times_held(process) <= 1 and IN_CLOSE_NOWRITE not in self.masks()
         threading.Thread(target=self.write, args=[opened], daemon=True).start()
         return is_opened_once
 
