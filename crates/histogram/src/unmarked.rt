@@ -1,6 +1,6 @@
 //! The totals of the objects that are not marked.
 
-ghost use Rattle.std.specs.Prelude.{◌≡◌, ◌<◌, ◌+◌, ◌^◌, [], ◌∷◌, IfOk, length};
+ghost use Rattle.std.specs.Prelude.{◌≡◌, ◌<◌, ◌≤◌, ◌+◌, ◌*◌, ◌^◌, [], ◌∷◌, IfOk, length, max};
 ghost use Rattle.std.specs.Thread.{IsSync};
 ghost use Rattle.heap_graph.specs.ObjectGraph.{object_count};
 ghost use Rattle.heap_graph.specs.Whole.{unresolved_among};
@@ -119,7 +119,7 @@ fn count_in_turn<A: Allocator, B: Allocator>(graph: &Graph<'_, A>, marks: &Marke
 }
 
 /// Counts the objects `numbers` in parts of `size` objects: the first in a thread of its own, while this thread counts
-/// the others.
+/// the others. It calls itself once for each part, so there are no more parts than the team has threads.
 fn count_in_parts<T: Threads + Sync, A: Allocator + Sync>(
     team: &Team<'_, T>,
     graph: &Graph<'_, A>,
@@ -127,6 +127,7 @@ fn count_in_parts<T: Threads + Sync, A: Allocator + Sync>(
     size: usize,
 ) -> Unmarked
     requires size { 0 < size }
+    requires parts { length numbers.now ≤ max team.now.threads 1 * size }
     requires objects { AreObjects graph.now numbers.now }
     ensures { result ≡ counted graph.now numbers.now }
 {
@@ -141,7 +142,8 @@ fn count_in_parts<T: Threads + Sync, A: Allocator + Sync>(
         ensures { result ≡ counted graph.entry.now first.entry.now }
     { count(graph, first) };
     let back = move || -> Unmarked
-        requires { IsSync T.row × IsSync A.row × (0 < size) × AreObjects graph.now others.now }
+        requires { IsSync T.row × IsSync A.row × (0 < size)
+            × (length others.now ≤ max team.now.threads 1 * size) × AreObjects graph.now others.now }
         ensures { result ≡ counted graph.entry.now others.entry.now }
     { count_in_parts(team, graph, others, size) };
     let (front, back) = join(team, front, back);
