@@ -64,8 +64,7 @@ where
     requires { failures_of out.old < 2 ^ 64 - 1 }
     ensures status { IsStatusOfSome result W.contents out.old out.new }
 
-    // At 0 no refusal was printed, if standard error is no terminal: so the status is not 0 where that of `start` is
-    // not.
+    // At 0 no refusal was printed, if standard error is no terminal: so no other status of `start` becomes 0.
     ensures silent { result ≡ 0 → is_terminal ≡ false → Keeps (E.contents err.old) (E.contents err.new) }
 {
     let status = start(rt, line, out, err, is_terminal);

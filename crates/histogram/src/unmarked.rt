@@ -1,6 +1,6 @@
 //! The totals of the objects that are not marked.
 
-ghost use Rattle.std.specs.Prelude.{◌≡◌, ◌<◌, ◌+◌, ◌^◌, [], ◌∷◌, IfOk, length};
+ghost use Rattle.std.specs.Prelude.{◌≡◌, ◌<◌, ◌≤◌, ◌+◌, ◌*◌, ◌^◌, [], ◌∷◌, IfOk, length, max};
 ghost use Rattle.std.specs.Thread.{IsSync};
 ghost use Rattle.heap_graph.specs.ObjectGraph.{object_count};
 ghost use Rattle.heap_graph.specs.Whole.{unresolved_among};
@@ -120,7 +120,7 @@ fn count_in_turn<A: Allocator, B: Allocator>(graph: &Graph<'_, A>, marks: &Marke
 }
 
 /// Counts the objects `numbers` in parts of `size` objects: the first in a thread of its own, while this thread counts
-/// the others.
+/// the others. It calls itself once for each part, so there are no more parts than the team has threads.
 fn count_in_parts<T: Threads + Sync, A: Allocator + Sync>(
     team: &Team<'_, T>,
     graph: &Graph<'_, A>,
