@@ -12,9 +12,11 @@ pub(crate) fn put_class(heap: &mut Vec<u8>) -> Result<(), AllocError> {
     heap.extend_from_slice(&[0; 38])
 }
 
-/// Puts an instance of that class, whose identifier has these two bytes behind two of 0.
-pub(crate) fn put_instance(heap: &mut Vec<u8>, [high, low]: [u8; 2]) -> Result<(), AllocError> {
-    heap.extend_from_slice(&[0x21, 0, 0, high, low, 0, 0, 0, 0, 0, 0, 1, 0, 0, 0, 0, 0])
+/// Puts an instance of that class with the identifier `id`.
+pub(crate) fn put_instance(heap: &mut Vec<u8>, id: u32) -> Result<(), AllocError> {
+    heap.push(0x21)?;
+    heap.extend_from_slice(&id.to_be_bytes())?;
+    heap.extend_from_slice(&[0, 0, 0, 0, 0, 0, 1, 0, 0, 0, 0, 0])
 }
 
 /// Puts the header of a dump and the record of this heap.
@@ -43,7 +45,7 @@ fn put_wide_array(heap: &mut Vec<u8>) -> Result<(), AllocError> {
         heap.extend_from_slice(&[0, 0, 3, id])?;
     }
     for id in 0..60u8 {
-        put_instance(heap, [3, id])?;
+        put_instance(heap, 0x300 + u32::from(id))?;
     }
     heap.extend_from_slice(&[0xff, 0, 0, 2, 0])
 }

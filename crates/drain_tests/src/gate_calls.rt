@@ -84,20 +84,23 @@ impl<C: Clock + Sync> Gate for Meeting<C> {
     }
 }
 
-/// Puts so many instances of one class, each a root.
-fn put_roots(heap: &mut Vec<u8>, count: u16) -> Result<(), AllocError> {
+/// The identifier of the first root. The class has a lower one.
+const FIRST_ROOT: u32 = 0x1000;
+
+/// Puts `count` instances of one class, each a root.
+fn put_roots(heap: &mut Vec<u8>, count: u32) -> Result<(), AllocError> {
     put_class(heap)?;
     for number in 0..count {
-        let [high, low] = number.to_be_bytes();
-        // The class has 0x100, and of so many numbers none comes to 0x8000.
-        put_instance(heap, [high | 0x80, low])?;
-        heap.extend_from_slice(&[0xff, 0, 0, high | 0x80, low])?;
+        let id = FIRST_ROOT.saturating_add(number);
+        put_instance(heap, id)?;
+        heap.push(0xff)?;
+        heap.extend_from_slice(&id.to_be_bytes())?;
     }
     Ok(())
 }
 
-/// A dump with so many instances of one class, each a root.
-fn roots_alone(alloc: Global, count: u16) -> Result<Vec<u8>, AllocError> {
+/// Returns a dump of `count` instances of one class, each a root.
+fn roots_alone(alloc: Global, count: u32) -> Result<Vec<u8>, AllocError> {
     let mut heap = Vec::new(alloc);
     put_roots(&mut heap, count)?;
     dump_of(alloc, heap.as_slice())
@@ -128,41 +131,41 @@ fn marked<T: Threads + Wait + Sync, G: Gate>(
     Ok(marked_in(rt, alloc, &graph, options, gate)?)
 }
 
-/// What the gate notes where so many roots are marked by so many workers with so many buffers of two: the objects
-/// that are marked, the calls, the workers that came, and the calls of the leader.
+/// Marks `roots` roots with the options `workers`, `buffer` and `buffers`. Returns how many objects are marked and what
+/// the gate noted: the calls, the workers that came, and the calls of the leader.
 fn calls_of<T: Clock + Copy + Threads + Wait + Sync>(
     rt: T,
     alloc: Global,
-    roots: u16,
-    workers: u32,
-    buffers: u32,
+    roots: u32,
+    (workers, buffer, buffers): (u32, u32, u32),
 ) -> Result<(u64, (u64, u64, u64)), Fail> {
-    let options = Options::new(workers, 2, buffers, 0)?;
+    let options = Options::new(workers, buffer, buffers, 0)?;
     let gate = Meeting::new(rt, workers, 0);
     let dump = roots_alone(alloc, roots)?;
     let objects = marked(&rt, alloc, dump.as_slice(), &options, &gate)?;
     Ok((objects, gate.noted()))
 }
 
-/// Roots, workers, buffers; the workers that came, and the calls of the leader.
-static ROWS: [(u16, u32, u32, u64, u64); 3] = [
+/// Roots; workers, objects of a buffer and buffers; the workers that came, and the calls of the leader.
+static ROWS: [(u32, (u32, u32, u32), u64, u64); 4] = [
     // There is a buffer of two roots for each of 64 workers, and none scans before all have come.
-    (128, 64, 1024, u64::MAX, 0),
+    (128, (64, 2, 1024), u64::MAX, 0),
     // Of many objects as well each of four workers scans some, and none before all have come.
-    (3_000, 4, 4096, 0xf, 0),
+    (3_000, (4, 2, 4096), 0xf, 0),
+    (150_000, (4, 256, 1024), 0xf, 0),
     // Seven roots take all four buffers: the worker has no pair, and the leader scans all that there is.
-    (7, 1, 4, 0, 8),
+    (7, (1, 2, 4), 0, 8),
 ];
 
 #[test]
 fn workers_and_the_leader_have_their_numbers(rt: HostRuntime) -> Result<(), Fail> {
-    for (roots, workers, buffers, come, by_leader) in ROWS {
+    for (roots, options, come, by_leader) in ROWS {
         let objects = u64::from(roots) + 1;
-        let noted = calls_of(rt, rt.alloc(), roots, workers, buffers)?;
+        let noted = calls_of(rt, rt.alloc(), roots, options)?;
         assert_eq!(rt;
             noted,
             (objects, (objects, come, by_leader)),
-            "{workers} workers"
+            "{roots} roots"
         );
     }
     Ok(())

@@ -14,6 +14,7 @@ use std::sync::Wait;
 use std::sync::atomic::{AtomicU64, Ordering};
 use std::test::Fail;
 use std::thread::Threads;
+use std::time::{Duration, Instant};
 use work_pair::Pair;
 
 /// The graph of a dump with at most 64 objects, and for which of them the gate was called.
@@ -187,5 +188,20 @@ fn a_leader_without_buffers_drains(rt: HostRuntime) -> Result<(), Fail> {
     // Two others hold all four buffers, so that neither the worker nor the leader finds a pair.
     let seen = lead_over_array(&rt, rt.alloc(), 1, 4, 2)?;
     assert_eq!(rt; seen, (true, 62, 0));
+    Ok(())
+}
+
+/// The least time that a worker waits for another, in milliseconds. Its naps add up to 300; if all were as short as the
+/// first ones they would add up to 50, and to 130 with what the system adds to each.
+const LEAST_WAIT: u64 = 250;
+
+#[test]
+fn a_worker_waits_long_for_one_without_a_pair(rt: HostRuntime) -> Result<(), Fail> {
+    // Two of seven buffers are held by another, two by the leader, and one is full of what it gives: so one of the two
+    // workers has no pair, and never goes idle.
+    let start = Instant::now(&rt)?;
+    let seen = lead_over_array(&rt, rt.alloc(), 2, 7, 1)?;
+    let waits = start.elapsed(&rt)? >= Duration::from_millis(LEAST_WAIT);
+    assert_eq!(rt; (seen, waits), ((true, 62, 0), true));
     Ok(())
 }
