@@ -1,4 +1,4 @@
-//! What a graph keeps of a class.
+//! A class as a graph keeps it.
 
 /// A class's identifier, and the text that names it.
 #[derive(Clone, Copy)]

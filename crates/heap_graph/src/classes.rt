@@ -14,7 +14,7 @@ use hprof_grammar::View;
 use std::alloc::Allocator;
 use table::ClassTable;
 
-/// What is kept of a class: the place of its dump, and how many bytes the values of all fields have that it declares.
+/// The place of a class's dump, and the size in bytes of the values of all fields that the class declares.
 #[derive(Clone, Copy)]
 pub(crate) struct ClassPlace {
     pub(crate) place: u32,

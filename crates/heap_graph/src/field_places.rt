@@ -1,4 +1,4 @@
-//! Where the identifiers stand in the fields of instances, class by class.
+//! The places of the identifiers in the fields of instances, class by class.
 
 ghost use Rattle.std.specs.Prelude.{Bool, IfOk, OnOk, length, ◌++◌, ◌<◌, ◌^◌, ◌≡◌};
 ghost use Rattle.hprof_grammar.specs.SubRecord.{Member};
@@ -10,9 +10,10 @@ use crate::skip::ClassSkips;
 use hprof_grammar::{Members, View};
 use std::alloc::{AllocError, Allocator};
 
-/// What is planned for a class: where the places of its fields of type 2 begin and end among those of all classes, how
-/// many bytes the values of all fields have that it declares, and the object that its identifier names, the class
-/// itself. `ClassPlace` has the bytes too, for the tests of layouts: here a step up a chain has them beside the places.
+/// The plan of a class. `start` and `end` bound the places of its followed fields among those of all classes, `size` is
+/// the size in bytes of the values of all fields that it declares, and `object` is the object that its identifier
+/// names: the class itself. `ClassPlace` has the size too, for the tests of layouts; here a step up a chain has it
+/// beside the places.
 #[derive(Clone, Copy)]
 pub(crate) struct ClassPlan {
     pub(crate) start: usize,
@@ -21,17 +22,19 @@ pub(crate) struct ClassPlan {
     pub(crate) object: Option<u32>,
 }
 
-/// Of each class by its number: where the fields of type 2 that it declares stand among the values of its fields, how
-/// many bytes these have, and the number of the class among the objects. A step up a chain reads this and a fate.
+/// The plans of the classes, by class number: where the followed fields that a class declares are among the values of
+/// its fields, the size of these values in bytes, and the object that is the class. A step up a chain reads this and a
+/// fate.
 #[derive(Drop)]
 pub(crate) struct Plan<A: Allocator> {
     pub(crate) classes: Vec<ClassPlan, A>,
-    /// The places of the fields of type 2, one class after the other. A field's place is how many bytes the values of
-    /// the class's fields before it have.
+    /// The places of the followed fields, one class after the other. A field's place is the size in bytes of the values
+    /// of the class's fields before it.
     pub(crate) places: Vec<u32, A>,
 }
 
-/// Appends the places of the fields among these that are followed, and answers how many bytes the values of all have.
+/// Appends the places of the followed fields among `members` to `places`, and returns the size in bytes of the values
+/// of all `members`.
 fn push_id_places<A: Allocator, B: Allocator>(
     view: &View<'_>,
     members: Members<'_>,
@@ -58,7 +61,7 @@ impl<A: Allocator> Plan<A> {
     ghost use Rattle.heap_graph.specs.working.ClassPlans.{AddsPlan, HasIdPlaces, HasPlan, id_places_of, object_of_row};
     ghost use Rattle.heap_graph.specs.working.ClassPlans.{plan_at};
 
-    /// Adds a class with these fields, whose identifier names that object.
+    /// Adds the plan of the next class: it declares `members`, and its identifier names `object`.
     pub(crate) fn push<B: Allocator>(
         &mut self,
         view: &View<'_>,
@@ -84,7 +87,7 @@ impl<A: Allocator> Plan<A> {
         Ok(())
     }
 
-    /// How many bytes the values of all fields have that a class declares.
+    /// Returns the size in bytes of the values of all fields that class `number` declares.
     pub(crate) fn bytes_of(&self, number: u32) -> u64
         requires { number < length self.now.classes.items }
         ensures { result ≡ (plan_at self.now.classes.items number).size }
@@ -92,7 +95,7 @@ impl<A: Allocator> Plan<A> {
         self.classes[number as usize].size
     }
 
-    /// The places of the fields of type 2 that a class declares.
+    /// Returns the places of the followed fields that class `number` declares.
     pub(crate) fn id_places(&self, number: u32) -> &[u32]
         requires below { number < length self.now.classes.items }
         requires within { HasIdPlaces self.now.classes.items self.now.places.items number }
@@ -102,7 +105,7 @@ impl<A: Allocator> Plan<A> {
         &self.places[class.start..class.end]
     }
 
-    /// The object that is the class of a row's objects: none for a row that is of no class.
+    /// Returns the object that is the class of the objects in `row`, or `None` if `row` is not that of a class.
     pub(crate) fn object_of_row(&self, row: RowKey) -> Option<u32>
         requires { HasPlan self.now.classes.items row }
         ensures { result ≡ object_of_row self.now.classes.items row }

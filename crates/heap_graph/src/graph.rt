@@ -22,19 +22,19 @@ use std::alloc::Allocator;
 use std::marker::Model;
 use std::snapshot::Snapshot;
 
-/// The objects of a linked dump, numbered from 0 in the order of their sub-records. Of each object its place in the
-/// bytes is kept, and its number by its identifier.
+/// The objects of a linked dump, numbered from 0 in the order of their sub-records. It keeps the place of each object
+/// in the bytes, and its number by its identifier.
 #[derive(Drop)]
 pub struct Graph<'a, A: Allocator> {
     objects: Objects<'a, A>,
     plan: Plan<A>,
     roots: Vec<u32, A>,
     classes: Vec<ClassEntry<'a>, A>,
-    /// How many identifiers of roots name no object.
+    /// The number of root identifiers that are not 0 and name no object.
     unresolved: u64,
     /// The fields that are not followed, as clauses see them.
     skip: Snapshot<&'a [SkipPair<'a>]>,
-    /// The graph of the bytes and of that list, which there is once.
+    /// The graph of the bytes and of the list. There is at most one.
     ghost graph: { GraphOf objects.view.bytes skip.value.now } by { GraphOf-prop objects.view.bytes skip.value.now },
 }
 
@@ -51,7 +51,7 @@ impl<'a, A: Allocator> Model for Graph<'a, A> {
 }
 
 impl<'a, A: Allocator> Graph<'a, A> {
-    /// How many objects there are.
+    /// Returns the number of objects.
     pub fn len(&self) -> u32
         ensures value { result ≡ object_count self.now }
         ensures whole { IsWhole self.now }
@@ -59,7 +59,7 @@ impl<'a, A: Allocator> Graph<'a, A> {
         self.objects.places.len() as u32
     }
 
-    /// The objects that root sub-records name, in order, repeats kept.
+    /// Returns the objects that root sub-records name, in order, with repeats.
     pub fn roots(&self) -> &[u32]
         ensures value { result.now ≡ self.now.roots }
         ensures within { All (λ o. o < object_count self.now) result.now }
@@ -67,7 +67,8 @@ impl<'a, A: Allocator> Graph<'a, A> {
         &self.roots
     }
 
-    /// The objects that an object refers to, in order, repeats kept. They are found as they are asked for.
+    /// Returns an iterator over the objects that `object` refers to, in order, with repeats. It finds them one at a
+    /// time.
     pub fn successors(&self, object: u32) -> Successors<'_, A>
         requires { object < object_count self.now }
         ensures value { references_in result ≡ references_of self.now object }
@@ -78,9 +79,9 @@ impl<'a, A: Allocator> Graph<'a, A> {
         Successors::of(self.visit(object))
     }
 
-    /// The row and the bytes of an object, and the objects that it refers to, in order, repeats kept. They are found as
-    /// they are asked for, and the identifiers that name none are counted on the way. A marking and a report ask this
-    /// alone of an object; the calls that tell one thing of it are made of it.
+    /// Returns the row and the bytes of `object`, with an iterator over the objects that it refers to, in order, with
+    /// repeats. It finds them one at a time, and counts the identifiers that name no object on the way. Marking and
+    /// reports use only this call; the calls for a single property of an object are built on it.
     // Inlined into the loop of a worker, where its parts stay in registers.
     #[inline(always)]
     pub fn visit(&self, object: u32) -> Visit<'_, A>
@@ -98,7 +99,7 @@ impl<'a, A: Allocator> Graph<'a, A> {
         Visit::new(&self.objects.index, class, ids, row, bytes)
     }
 
-    /// The row of an object in the histogram.
+    /// Returns the row of `object` in the histogram.
     pub fn row_of(&self, object: u32) -> RowKey
         requires { object < object_count self.now }
         ensures value { result ≡ row_at self.now object }
@@ -107,7 +108,7 @@ impl<'a, A: Allocator> Graph<'a, A> {
         self.visit(object).row()
     }
 
-    /// The bytes of an object.
+    /// Returns the bytes of `object`.
     pub fn bytes_of(&self, object: u32) -> u64
         requires { object < object_count self.now }
         ensures value { result ≡ bytes_at self.now object }
@@ -116,7 +117,7 @@ impl<'a, A: Allocator> Graph<'a, A> {
         self.visit(object).bytes()
     }
 
-    /// How many of the identifiers that an object holds are other than 0 and name no object.
+    /// Returns the number of identifiers held by `object` that are not 0 and name no object.
     pub fn unresolved_of(&self, object: u32) -> u64
         requires { object < object_count self.now }
         ensures value { result ≡ unresolved_at self.now object }
@@ -129,7 +130,7 @@ impl<'a, A: Allocator> Graph<'a, A> {
         visit.unresolved()
     }
 
-    /// How many identifiers of roots are other than 0 and name no object.
+    /// Returns the number of root identifiers that are not 0 and name no object.
     pub fn unresolved(&self) -> u64
         ensures value { result ≡ unresolved_roots self.now }
         ensures within { result ≤ limit }
@@ -137,7 +138,7 @@ impl<'a, A: Allocator> Graph<'a, A> {
         self.unresolved
     }
 
-    /// How many classes there are. They are numbered from 0 in the order of their dumps.
+    /// Returns the number of classes. They are numbered from 0 in the order of their dumps.
     pub fn classes(&self) -> u32
         ensures value { result ≡ class_count self.now }
         ensures within { result ≤ object_count self.now }
@@ -145,7 +146,7 @@ impl<'a, A: Allocator> Graph<'a, A> {
         self.classes.len() as u32
     }
 
-    /// How many rows a histogram of the graph may have: those of every graph, and one for each class.
+    /// Returns the number of rows that a histogram of the graph may have: those of every graph, and one for each class.
     pub fn row_count(&self) -> usize
         ensures value { result ≡ row_count self.now }
         ensures within { result < 9 + 2 ^ 32 }
@@ -153,7 +154,7 @@ impl<'a, A: Allocator> Graph<'a, A> {
         FIXED_ROWS + self.classes() as usize
     }
 
-    /// The identifier of a class.
+    /// Returns the identifier of `class`.
     pub fn class_id(&self, class: u32) -> u64
         requires { class < class_count self.now }
         ensures { result ≡ (class_at self.now class).id }
@@ -161,7 +162,7 @@ impl<'a, A: Allocator> Graph<'a, A> {
         self.classes[class as usize].id
     }
 
-    /// The text that names a class, if the dump has one.
+    /// Returns the text that names `class`, if the dump has one.
     pub fn class_text(&self, class: u32) -> Option<&[u8]>
         requires { class < class_count self.now }
         ensures { option_copied result ≡ (class_at self.now class).text }

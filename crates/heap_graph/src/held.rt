@@ -10,25 +10,25 @@ use std::alloc::Allocator;
 use std::marker::Model;
 use std::mem;
 
-/// Where the identifiers that are left stand, by the kind of the object. The class that an instance or an array begins
-/// with is a variant and no field beside the others, so that a walk fits into 128 bytes.
+/// The source of the remaining identifiers, by the kind of the object. The class that an instance or an array begins
+/// with has variants of its own and is no field beside the others, so that a walk fits into 128 bytes.
 #[derive(Drop)]
 pub(crate) enum Rest<'g, A: Allocator> {
-    /// None: the object is a primitive array.
+    /// No identifiers: the object is a primitive array.
     Nothing,
     /// The object is a class.
     OfClass(ClassIds<'g>),
-    /// The class of an instance, and then its fields.
+    /// The class of an instance, followed by its fields.
     InstanceWithClass(u64, FieldIds<'g, A>),
     /// The fields of an instance.
     Fields(FieldIds<'g, A>),
-    /// The class of an array, and then its elements.
+    /// The class of an array, followed by its elements.
     ArrayWithClass(u64, Ids<'g>),
     /// The elements of an array.
     Elements(Ids<'g>),
 }
 
-/// The identifiers that are left of those that an object holds.
+/// The remaining identifiers of those that an object holds.
 #[derive(Drop)]
 pub struct HeldIds<'g, A: Allocator> {
     pub(crate) rest: Rest<'g, A>,
@@ -48,7 +48,7 @@ impl<'g, A: Allocator> Model for HeldIds<'g, A> {
 impl<'g, A: Allocator> HeldIds<'g, A> {
     ghost use Rattle.std.specs.Prelude.{length, ◌≡◌};
 
-    /// How many are left.
+    /// Returns the number of remaining identifiers.
     pub(crate) fn len(&self) -> u64
         ensures { result ≡ length self.now }
     {
@@ -72,8 +72,8 @@ impl<'g, A: Allocator> Iterator for HeldIds<'g, A> {
 
     ghost remaining = { item_count (λ h. h) };
 
-    // Inlined into the loop of a worker, where nearly all objects have fields, elements or nothing. More kinds here
-    // would be told apart by one indirect jump, whose target is guessed wrongly where kinds take turns.
+    // Inlined into the loop of a worker, where nearly all objects have fields, elements or nothing. With more kinds
+    // here, one indirect jump would choose among them, and its target is mispredicted when kinds alternate.
     #[inline(always)]
     fn next(&mut self) -> Option<u64> {
         match &mut self.rest {
@@ -89,8 +89,8 @@ impl<'g, A: Allocator> Iterator for HeldIds<'g, A> {
 impl<'g, A: Allocator> HeldIds<'g, A> {
     ghost use Rattle.std.specs.Iterator.{YieldsFirst};
 
-    /// The next one, whatever is left.
-    // A call, so that the worker's loop has no code for the few that it is made for.
+    /// Returns the next identifier, whatever the kind of the object.
+    // A call, so that the worker's loop has no code for the few objects that need it.
     #[inline(never)]
     fn next_of_any(&mut self) -> Option<u64>
         ensures { YieldsFirst (λ h. h) self.old result self.new }

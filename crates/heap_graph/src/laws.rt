@@ -1,5 +1,5 @@
-//! What a text has in common with its graph and with the first fault of its links, as laws: functions whose bodies are
-//! empty, or the laws that they stand on.
+//! Laws about a text, its graph and the first fault of its links: functions whose bodies are empty, or call the laws
+//! that they rest on.
 
 ghost use Rattle.std.specs.Prelude.{List, [], map, ℕ, ◌∷◌, ◌≡◌, ◌⊎◌};
 ghost use Rattle.hprof_grammar.specs.Dump.{Spells};
@@ -23,7 +23,7 @@ pub fn one_graph()
         → IsGraphOfText text skip other → graph ≡ other }
 {}
 
-/// A text whose form has no fault is accepted, or it has a first fault of its links.
+/// A text whose form has no fault is accepted, or its links have a first fault.
 pub fn always_linked_or_fault()
     ensures { (text : List ℕ) (id_size : ℕ) (records : List Record) → Spells text id_size records
         → IsOrderly (map tag_of records)
@@ -38,7 +38,8 @@ pub fn one_skip_list()
         → list ≡ other }
 {}
 
-/// Where the list of fields to skip is empty, an instance holds what stands in all fields of type 2 of its layout.
+/// If the list of fields to skip is empty, an instance holds its class and the identifiers in all fields of type 2 of
+/// its layout.
 pub fn an_empty_list_skips_nothing()
     ensures { (records : List Record) (s : ℕ) (i : Instance) (chain : List Class)
         → instance_ids (is_skipped records []) s i chain ≡ i.class ∷ all_field_ids s (layout chain) i.values }

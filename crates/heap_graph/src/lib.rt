@@ -1,9 +1,9 @@
 //! The objects of a heap dump: their references, roots, rows and bytes, and the rules that link them.
 //!
-//! `Graph::build` takes the bytes of a dump and what `hprof_grammar::read` found in them, and answers the graph of its
-//! objects, or the first fault of its links. It keeps places and an index of identifiers, and no reference: what an
-//! object refers to is read from the bytes each time that it is asked for, in order and with repeats. The fields that a
-//! `Skip` lists are not followed.
+//! `Graph::build` takes the bytes of a dump and the result of `hprof_grammar::read` on them. It returns the graph of
+//! the dump's objects, or the first fault of their links. The graph keeps places and an index of identifiers, and no
+//! references: it reads the references of an object from the bytes at each visit, in order and with repeats. It does
+//! not follow the fields that a `Skip` lists.
 //!
 //! From `crates/graph_tests/src/graphs.rt`, which is proved and run with the tests:
 //!
@@ -13,8 +13,8 @@
 //!     };
 //!     Graph::build(&team, alloc, bytes, dump, skip).ok()
 //!
-//! README.md beside this folder has a table of the calls; the definitions begin in `specs/ObjectGraph.antt`, and what
-//! is accepted and refused stands in `docs/FORMAT.md`.
+//! README.md beside this folder has a table of the calls. The definitions begin in `specs/ObjectGraph.antt`.
+//! `docs/FORMAT.md` says what is accepted and what is refused.
 #![tactic(auto)]
 
 mod class_entry;

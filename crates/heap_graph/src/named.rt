@@ -1,4 +1,4 @@
-//! The objects that identifiers name, one after the other, of an object with its row and its bytes.
+//! Iterates over the objects that an object's identifiers name, with the object's row and bytes.
 
 use crate::held::{FieldIds, HeldIds};
 use crate::resolving::target;
@@ -8,15 +8,15 @@ use id_index::IdIndex;
 use std::alloc::Allocator;
 use std::marker::Model;
 
-/// What gives identifiers one after the other.
+/// A source that yields identifiers one after the other.
 pub trait IdSource: Drop {
     ghost use Rattle.std.specs.Prelude.{List, ℕ};
     ghost use Rattle.std.specs.Iterator.{YieldsFirst};
 
-    /// Those that are left.
+    /// The remaining identifiers.
     ghost ids: { Self → List ℕ };
 
-    /// The next one.
+    /// Returns the next identifier.
     fn next_id(&mut self) -> Option<u64>
         ensures { YieldsFirst ids self.old result self.new };
 }
@@ -30,7 +30,7 @@ impl IdSource for NoIds {
 
     ghost ids = { λ _. [] };
 
-    // Inlined: no code, then, is the loop over it.
+    // Inlined, so that a loop over it compiles to no code.
     #[inline(always)]
     fn next_id(&mut self) -> Option<u64> {
         None
@@ -67,8 +67,8 @@ impl<'g, A: Allocator> IdSource for HeldIds<'g, A> {
     }
 }
 
-/// An iterator over the numbers of the objects that identifiers name, of an object with that row and so many bytes. It
-/// counts the identifiers other than 0 that name no object.
+/// An iterator over the numbers of the objects that identifiers name. The identifiers belong to an object with the row
+/// `row` and `bytes` bytes. Counts the identifiers other than 0 that name no object.
 #[derive(Drop)]
 pub struct Named<'g, A: Allocator, I: IdSource> {
     pub(crate) index: &'g IdIndex<A>,
@@ -98,9 +98,9 @@ impl<'g, A: Allocator, I: IdSource> Named<'g, A, I> {
     ghost use Rattle.std.specs.Prelude.{length, map, ◌+◌, ◌^◌, ◌≡◌, ◌≤◌};
     ghost use Rattle.heap_graph.specs.Walks.{step_in};
 
-    /// The objects that these identifiers name, of an object with that row and so many bytes, of whose identifiers so
-    /// many were passed that name none.
-    // Inlined, as all that makes a visit.
+    /// Creates the iterator over the objects that `ids` name. `row` and `bytes` are those of the object that holds
+    /// them. `unresolved` counts the identifiers passed before `ids` that name no object.
+    // Inlined, as everything that makes up a visit.
     #[inline(always)]
     pub(crate) fn new(
         index: &'g IdIndex<A>,
@@ -126,21 +126,21 @@ impl<'g, A: Allocator, I: IdSource> Named<'g, A, I> {
         }
     }
 
-    /// The row of the object in the histogram.
+    /// Returns the row of the object in the histogram.
     pub fn row(&self) -> RowKey
         ensures { result ≡ self.now.row }
     {
         self.row
     }
 
-    /// The bytes of the object.
+    /// Returns the bytes of the object.
     pub fn bytes(&self) -> u64
         ensures { result ≡ self.now.bytes }
     {
         self.bytes
     }
 
-    /// How many of the identifiers that were passed are other than 0 and name no object.
+    /// Returns the number of identifiers passed so far that are not 0 and name no object.
     pub fn unresolved(&self) -> u64
         ensures { result ≡ self.now.unresolved }
     {
@@ -158,7 +158,7 @@ impl<'g, A: Allocator, I: IdSource> Iterator for Named<'g, A, I> {
 
     ghost remaining = { item_count references_left };
 
-    // Inlined into the loop of a worker, of which there is one for each source of identifiers.
+    // Inlined into the loops of a worker, one for each source of identifiers.
     #[inline(always)]
     fn next(&mut self) -> Option<u32> {
         while let Some(id) = self.ids.next_id() {
@@ -173,14 +173,14 @@ impl<'g, A: Allocator, I: IdSource> Iterator for Named<'g, A, I> {
     }
 }
 
-/// Of no identifiers.
+/// The iterator for no identifiers.
 pub type NamedNone<'g, A> = Named<'g, A, NoIds>;
 
-/// Of those in the fields of an instance.
+/// The iterator for the identifiers in the fields of an instance.
 pub type NamedFields<'g, A> = Named<'g, A, FieldIds<'g, A>>;
 
-/// Of those in the elements of an array.
+/// The iterator for the identifiers that are the elements of an array.
 pub type NamedElements<'g, A> = Named<'g, A, Ids<'g>>;
 
-/// Of those that an object of any kind holds.
+/// The iterator for the identifiers that an object of any kind holds.
 pub type NamedIds<'g, A> = Named<'g, A, HeldIds<'g, A>>;

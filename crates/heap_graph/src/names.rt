@@ -18,7 +18,8 @@ pub(crate) struct Names<'a, 'd> {
     pub(crate) loaded: &'d [u32],
 }
 
-/// The strings and the loaded classes of a dump, by their identifiers. The first one of an identifier counts.
+/// The strings and the loaded classes of a dump, by their identifiers. If several have the same identifier, the first
+/// one counts.
 #[derive(Drop)]
 pub(crate) struct NamesById<'n, 'a, A: Allocator> {
     pub(crate) names: &'n Names<'a, 'n>,
@@ -27,7 +28,7 @@ pub(crate) struct NamesById<'n, 'a, A: Allocator> {
 }
 
 impl<'a, 'd> Names<'a, 'd> {
-    /// The strings by their identifiers.
+    /// Indexes the strings by their identifiers.
     fn strings_by_id<B: Allocator + Copy>(&self, alloc: B) -> Result<IdIndex<B>, AllocError>
         requires { (records : List Record) × AreNamesOf self.now records }
         ensures { IfOk result (λ index. (records : List Record) → AreNamesOf self.now records
@@ -40,7 +41,7 @@ impl<'a, 'd> Names<'a, 'd> {
         builder.finish(alloc)
     }
 
-    /// The loaded classes by their identifiers.
+    /// Indexes the loaded classes by their identifiers.
     fn loaded_by_id<B: Allocator + Copy>(&self, alloc: B) -> Result<IdIndex<B>, AllocError>
         requires { (records : List Record) × AreNamesOf self.now records }
         ensures { IfOk result (λ index. (records : List Record) → AreNamesOf self.now records
@@ -55,7 +56,7 @@ impl<'a, 'd> Names<'a, 'd> {
 }
 
 impl<'n, 'a, A: Allocator + Copy> NamesById<'n, 'a, A> {
-    /// These strings and loaded classes, by their identifiers.
+    /// Indexes the strings and the loaded classes of `names` by their identifiers.
     pub(crate) fn new(alloc: A, names: &'n Names<'a, 'n>) -> Result<Self, AllocError>
         requires { (records : List Record) × AreNamesOf names.now records }
         ensures { IfOk result (λ n. (records : List Record) → AreNamesOf names.now records → AreNamesByIdOf n records) }
@@ -71,7 +72,7 @@ impl<'n, 'a, A: Allocator + Copy> NamesById<'n, 'a, A> {
 }
 
 impl<'n, 'a, A: Allocator> NamesById<'n, 'a, A> {
-    /// The identifier of the string that names a loaded class: that of the first such class.
+    /// Returns the identifier of the string that names the first loaded class with the identifier `class`.
     fn name_of(&self, class: u64) -> Option<u64>
         requires { (records : List Record) × AreNamesByIdOf self.now records }
         ensures { (records : List Record) → AreNamesByIdOf self.now records → result ≡ named.name_of records class }
@@ -85,7 +86,7 @@ impl<'n, 'a, A: Allocator> NamesById<'n, 'a, A> {
         }
     }
 
-    /// The text of the first string with that identifier.
+    /// Returns the text of the first string with the identifier `id`.
     pub(crate) fn string_named(&self, id: u64) -> Option<&'a [u8]>
         requires { (records : List Record) × AreNamesByIdOf self.now records }
         ensures { (records : List Record) → AreNamesByIdOf self.now records
@@ -100,7 +101,7 @@ impl<'n, 'a, A: Allocator> NamesById<'n, 'a, A> {
         }
     }
 
-    /// The text that names a class, if the dump has one.
+    /// Returns the text that names `class`, if the dump has one.
     pub(crate) fn class_text(&self, class: u64) -> Option<&'a [u8]>
         requires { (records : List Record) × AreNamesByIdOf self.now records }
         ensures { (records : List Record) → AreNamesByIdOf self.now records

@@ -30,11 +30,11 @@ pub(crate) struct Objects<'d, A: Allocator> {
     pub(crate) places: Vec<u32, A>,
     pub(crate) index: IdIndex<A>,
     pub(crate) classes: Classes<'d, A>,
-    /// What becomes of the chain of each class.
+    /// The fate of each class's chain of superclasses.
     pub(crate) fates: Vec<Fate, A>,
 }
 
-/// The identifiers of the objects or roots at these places.
+/// Returns the identifiers of the objects or roots at `places`.
 pub(crate) fn read_ids<B: Allocator>(
     alloc: B,
     view: &View<'_>,

@@ -1,4 +1,4 @@
-//! The faults where a rule is broken, and why no graph was built.
+//! The fault of a broken rule, and why no graph was built.
 
 ghost use Rattle.std.specs.Prelude.{◌≡◌};
 ghost use Rattle.heap_graph.specs.LinkFault.{code_of};
@@ -8,7 +8,7 @@ use std::fmt;
 use thiserror::Error;
 
 impl LinkRule {
-    /// The code of a fault where the rule is broken.
+    /// Returns the code of the fault of an object that breaks the rule.
     pub(crate) fn code(self) -> u8
         ensures { result ≡ code_of self }
     {
@@ -26,9 +26,9 @@ impl LinkRule {
 /// The first fault in the links of a dump.
 #[derive(Clone, Copy, Debug, PartialEq, Eq, Error)]
 pub struct LinkFault {
-    /// 9 to 14.
+    /// The code of the broken rule, 9 to 14.
     pub code: u8,
-    /// The place of the object's sub-record in the bytes.
+    /// The place of the object's sub-record in the bytes of the dump.
     pub offset: u64,
 }
 
@@ -50,7 +50,7 @@ impl fmt::Display for LinkFault {
 pub enum LinkRefusal {
     /// The objects of the dump are not linked.
     Fault(LinkFault),
-    /// A request for memory was refused.
+    /// An allocation failed.
     OutOfMemory,
 }
 

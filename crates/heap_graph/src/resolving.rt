@@ -1,4 +1,4 @@
-//! What identifiers name: 0 is null, and another one names the first object that bears it.
+//! What identifiers name: 0 is null, and any other names the first object that bears it.
 
 ghost use Rattle.std.specs.Prelude.{IfOk, ◌≡◌};
 ghost use Rattle.heap_graph.specs.working.Resolving.{Resolves, ResolvesOne, target_in};
@@ -6,8 +6,8 @@ ghost use Rattle.heap_graph.specs.working.Resolving.{Resolves, ResolvesOne, targ
 use id_index::IdIndex;
 use std::alloc::{AllocError, Allocator};
 
-/// The number of the object that an identifier names, none for 0.
-// Inlined, as the look-up is that it asks.
+/// Returns the number of the object that `id` names, or `None` if it is 0 or names no object.
+// Inlined, as the look-up that it calls.
 #[inline(always)]
 pub(crate) fn target<A: Allocator>(index: &IdIndex<A>, id: u64) -> Option<u32>
     ensures { result ≡ target_in index.now id }
@@ -18,7 +18,7 @@ pub(crate) fn target<A: Allocator>(index: &IdIndex<A>, id: u64) -> Option<u32>
     index.find(id)
 }
 
-/// Appends the object that an identifier names, and says whether it is another than 0 and names none.
+/// Appends the object that `id` names to `targets`. Returns whether `id` is not 0 and names no object.
 fn push_target<A: Allocator, B: Allocator>(
     index: &IdIndex<A>,
     id: u64,
@@ -35,7 +35,7 @@ fn push_target<A: Allocator, B: Allocator>(
     }
 }
 
-/// Appends the objects that these identifiers name, and says how many other than 0 name none.
+/// Appends the objects that `ids` name to `targets`. Returns the number of `ids` that are not 0 and name no object.
 pub(crate) fn resolve<A: Allocator, B: Allocator>(
     index: &IdIndex<A>,
     ids: &[u64],

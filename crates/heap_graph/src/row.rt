@@ -3,24 +3,26 @@
 ghost use Rattle.std.specs.Prelude.{◌≡◌, ◌<◌, ◌+◌, ◌^◌};
 ghost use Rattle.heap_graph.specs.RowNumbers as numbers;
 
-/// How many rows there are beside those of classes: the eight primitive types, and the class objects.
+/// The number of rows besides those of classes: one for each of the eight primitive types, and one for the class
+/// objects.
 pub(crate) const FIXED_ROWS: usize = 9;
 
 /// The row of the histogram that an object belongs to.
 #[derive(Clone, Copy, Debug, PartialEq, Eq)]
 pub enum RowKey {
-    /// That of a class, by its number among the class dumps: the row of its instances and arrays. In a linked heap the
-    /// number tells the class as its identifier does, and needs no look-up.
+    /// The row of a class, by its number among the class dumps: the row of its instances and arrays. In a linked heap
+    /// the number identifies the class as its identifier does, and needs no look-up.
     Class(u32),
-    /// That of the primitive arrays of a type, by its code, 4 to 11.
+    /// The row of the primitive arrays of a type, by its code, 4 to 11.
     Primitive(u8),
-    /// That of the objects that are classes.
+    /// The row of the objects that are classes.
     ClassObject,
 }
 
 impl RowKey {
-    /// The number of a row: the types 4 to 11 first, then the class objects, then the classes by their numbers.
-    // Inlined: asked of each object that is marked.
+    /// Returns the number of the row: the types 4 to 11 come first, then the class objects, then the classes by their
+    /// numbers.
+    // Inlined, because it is called for each object that is marked.
     #[inline(always)]
     pub fn number(self) -> usize
         ensures { result ≡ numbers.row_number self }
@@ -32,7 +34,7 @@ impl RowKey {
         }
     }
 
-    /// The row of that number.
+    /// Returns the row with the number `number`.
     pub fn numbered(number: usize) -> RowKey
         requires { number < 9 + 2 ^ 32 }
         ensures { result ≡ numbers.numbered_row number }

@@ -1,4 +1,4 @@
-//! The rules that the objects of a dump keep.
+//! The rules that the objects of a dump follow.
 
 /// The rules that each object is tested by, in this order.
 #[derive(Clone, Copy, Debug, PartialEq, Eq)]
@@ -7,9 +7,9 @@ pub enum LinkRule {
     ZeroObject,
     /// No earlier object has its identifier.
     DuplicateObject,
-    /// The class of an instance or an object array is there.
+    /// The class of an instance or an object array exists.
     UnknownClass,
-    /// The superclasses of a class are there, and come to an end.
+    /// The superclasses of a class exist, and following them ends.
     SuperChain,
     /// An instance has as many value bytes as its layout.
     InstanceSize,

@@ -16,10 +16,10 @@ pub use refusal::SkipRefusal;
 use std::alloc::Allocator;
 use std::marker::Model;
 
-/// The most entries of a list.
+/// The largest number of entries in a list.
 const MOST_ENTRIES: usize = 64;
 
-/// Fields that are not followed, each by the text that names the class that declares it and the string of its own name.
+/// Fields that are not followed, each by the text that names its declaring class and the string of its own name.
 #[derive(Drop)]
 pub struct Skip<'t, A: Allocator> {
     pairs: Vec<SkipPair<'t>, A>,
@@ -34,7 +34,7 @@ impl<'t, A: Allocator> Model for Skip<'t, A> {
     ghost view = { λ skip. skip.pairs.items };
 }
 
-/// Whether a list of so many entries has room for another one.
+/// Tests whether a list of `entries` entries has room for another one.
 fn has_room(entries: usize) -> bool
     ensures room { result ≡ true → entries < 64 }
     ensures full { result ≡ false → 64 ≤ entries }
@@ -43,7 +43,7 @@ fn has_room(entries: usize) -> bool
 }
 
 impl<'t, A: Allocator> Skip<'t, A> {
-    /// The list of no field: all are followed. It takes no memory.
+    /// Creates an empty list: all fields are followed. Allocates nothing.
     pub fn none(alloc: A) -> Self
         ensures { result ≡ [] }
     {
@@ -52,8 +52,9 @@ impl<'t, A: Allocator> Skip<'t, A> {
         }
     }
 
-    /// The fields that a text lists: 1 to 64 entries `Class.field` with commas between. The last dot of an entry parts
-    /// class from field, and neither is empty. Any other text is `BadOptions`.
+    /// Reads the list of fields from `text`: 1 to 64 entries `Class.field`, separated by commas. The last dot of an
+    /// entry separates the class from the field, and neither is empty. `Err(SkipRefusal::BadOptions)` if `text` is not
+    /// such a list.
     pub fn new(alloc: A, text: &'t str) -> Result<Self, SkipRefusal>
         ensures list { IfOk result (λ skip. SpellsSkips text.now skip) }
         ensures bad { result ≡ Err SkipRefusal.BadOptions → (list : List SkipEntry) → SpellsSkips text.now list → ⊥ }
@@ -76,7 +77,7 @@ impl<'t, A: Allocator> Skip<'t, A> {
         Err(SkipRefusal::BadOptions)
     }
 
-    /// The entries, in the order of the text.
+    /// Returns the entries, in the order of the text.
     pub fn pairs(&self) -> &[SkipPair<'t>]
         ensures { result.now ≡ self.now }
     {

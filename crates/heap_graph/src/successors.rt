@@ -6,8 +6,9 @@ use crate::visit::Visit;
 use std::alloc::Allocator;
 use std::marker::Model;
 
-/// An iterator over the numbers of the objects that an object refers to: a visit of it, without its row and its bytes.
-/// It reads the identifiers that the object holds from the bytes, and looks each of them up.
+/// An iterator over the numbers of the objects that an object refers to: a visit of it without its row and its bytes.
+/// It reads the identifiers that the object holds from the bytes and looks up each of them, except that of a class that
+/// is already known.
 #[derive(Drop)]
 pub struct Successors<'g, A: Allocator> {
     visit: Visit<'g, A>,
@@ -23,15 +24,15 @@ impl<'g, A: Allocator> Model for Successors<'g, A> {
 }
 
 impl<'g, A: Allocator> Successors<'g, A> {
-    /// The objects that a visit gives.
+    /// Creates the iterator over the objects that `visit` yields.
     pub(crate) fn of(visit: Visit<'g, A>) -> Self
         ensures { result ≡ visit.entry.left }
     {
         Successors { visit }
     }
 
-    /// How many of the identifiers that the object holds were not walked yet, those counted too that are 0 or name no
-    /// object.
+    /// Returns the number of remaining identifiers of those that the object holds, including those that are 0 or name
+    /// no object.
     pub fn left(&self) -> u64
         ensures { result ≡ length self.now }
     {

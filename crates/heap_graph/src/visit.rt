@@ -11,27 +11,27 @@ use std::marker::Model;
 
 /// An iterator over the numbers of the objects that an object refers to. It has the object's row and bytes, and counts
 /// the identifiers other than 0 that name no object. An instance or an object array begins with its class, which is
-/// known without a look-up; the identifiers behind it are read from the bytes, and each is looked up.
+/// known without a look-up. The identifiers after it are read from the bytes, and each is looked up.
 #[derive(Drop)]
 pub struct Visit<'g, A: Allocator> {
     index: &'g IdIndex<A>,
-    /// The class, where it is known without a look-up and was not given yet.
+    /// The class, if it is known without a look-up and was not returned yet.
     class: Option<u32>,
-    /// What the identifiers behind it name.
+    /// The objects that the identifiers after it name.
     rest: NamedIds<'g, A>,
 }
 
-/// The class of an object, where it is known without a look-up, and the objects that the identifiers behind it name, by
-/// where these identifiers stand: a loop over one of them asks this once.
+/// The class of an object, if it is known without a look-up, and the objects that the identifiers after it name, by
+/// where these identifiers are. A loop over one of them makes this choice once, before it begins.
 #[derive(Drop)]
 pub enum ByKind<'g, A: Allocator> {
-    /// Nowhere.
+    /// There are no identifiers.
     Nothing(Option<u32>, NamedNone<'g, A>),
-    /// In the fields of an instance.
+    /// The identifiers are in the fields of an instance.
     Fields(Option<u32>, NamedFields<'g, A>),
-    /// In the elements of an array.
+    /// The identifiers are the elements of an array.
     Elements(Option<u32>, NamedElements<'g, A>),
-    /// Not told: a visit gives them.
+    /// Any other object. This has none of its references: a new visit yields them.
     Any,
 }
 
@@ -57,9 +57,9 @@ impl<'g, A: Allocator> Visit<'g, A> {
     ghost use Rattle.heap_graph.specs.Walks.{step_in};
     ghost use Rattle.heap_graph.specs.working.Resolving.{IsNamed, known_ids};
 
-    /// The class, where it is known, and the objects that these identifiers name, of an object with that row and so
-    /// many bytes.
-    // Inlined, as all that makes a visit.
+    /// Creates a visit that yields `class`, if it is known, and then the objects that `ids` name. `row` and `bytes` are
+    /// those of the object.
+    // Inlined, as everything that makes up a visit.
     #[inline(always)]
     pub(crate) fn new(
         index: &'g IdIndex<A>,
@@ -84,29 +84,29 @@ impl<'g, A: Allocator> Visit<'g, A> {
         }
     }
 
-    /// The row of the object in the histogram.
+    /// Returns the row of the object in the histogram.
     pub fn row(&self) -> RowKey
         ensures { result ≡ self.now.row }
     {
         self.rest.row()
     }
 
-    /// The bytes of the object.
+    /// Returns the bytes of the object.
     pub fn bytes(&self) -> u64
         ensures { result ≡ self.now.bytes }
     {
         self.rest.bytes()
     }
 
-    /// How many of the identifiers that were passed are other than 0 and name no object: behind the last object, how
-    /// many of all that the object holds.
+    /// Returns the number of identifiers passed so far that are not 0 and name no object. After the last object, this
+    /// counts all identifiers that the object holds.
     pub fn unresolved(&self) -> u64
         ensures { result ≡ self.now.unresolved }
     {
         self.rest.unresolved()
     }
 
-    /// How many of the identifiers that the object holds were not passed yet, those counted too that are 0 or name no
+    /// Returns the number of identifiers of the object that were not passed yet, including those that are 0 or name no
     /// object.
     pub(crate) fn left(&self) -> u64
         ensures { result ≡ length self.now.left }
@@ -118,8 +118,9 @@ impl<'g, A: Allocator> Visit<'g, A> {
         }
     }
 
-    /// The class and what the identifiers behind it name, by where they stand.
-    // Inlined, so that each kind's loop has the parts of its walk where they stand.
+    /// Splits the visit into the class and the objects that the identifiers after it name, by where these identifiers
+    /// are.
+    // Inlined, so that each kind's loop has the parts of its walk in place.
     #[inline(always)]
     pub fn by_kind(self) -> ByKind<'g, A>
         ensures { AreByKind self.entry result }
@@ -160,7 +161,7 @@ impl<'g, A: Allocator> Iterator for Visit<'g, A> {
 
     ghost remaining = { item_count references_left };
 
-    // Inlined, as the walk over what is behind the class.
+    // Inlined, as the walk over the identifiers after the class.
     #[inline(always)]
     fn next(&mut self) -> Option<u32> {
         if let Some(class) = self.class {

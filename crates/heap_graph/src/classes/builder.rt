@@ -1,4 +1,4 @@
-//! How the table of classes is filled.
+//! Fills the table of classes.
 
 ghost use Rattle.std.specs.Prelude.{Contains, IfOk, OnOk, [], length, ◌<◌, ◌^◌, ◌≡◌};
 ghost use Rattle.heap_graph.specs.working.ClassList.{ids_of};
@@ -13,7 +13,7 @@ use crate::classes::{ClassPlace, Classes};
 use hprof_grammar::{Members, View};
 use std::alloc::{AllocError, Allocator};
 
-/// How many bytes the values of these fields have together.
+/// Returns the size in bytes of the values of `members` together.
 fn bytes_of_fields(view: &View<'_>, members: Members<'_>) -> u64
     requires { length members < 2 ^ 16 }
     ensures value { result ≡ size_together view.now.id_size members.entry }
@@ -27,7 +27,7 @@ fn bytes_of_fields(view: &View<'_>, members: Members<'_>) -> u64
 }
 
 impl<'d, A: Allocator + Copy> Classes<'d, A> {
-    /// No class, with places for so many.
+    /// Creates an empty table with room for `classes` classes.
     pub(crate) fn new(
         alloc: A,
         view: View<'d>,
@@ -45,7 +45,7 @@ impl<'d, A: Allocator + Copy> Classes<'d, A> {
 impl<'d, A: Allocator> Classes<'d, A> {
     ghost use Rattle.heap_graph.specs.working.ClassTable.{AddsEntry};
 
-    /// Adds the class that is dumped at a place. Its identifier is a new one.
+    /// Adds the class `id`, whose dump is at `place`. The table must not contain `id` yet.
     pub(crate) fn add(&mut self, id: u64, place: u32) -> Result<(), AllocError>
         requires dump { (c : Class) × Stands self.old.view place (class_dump c) }
         requires new { Contains (ids_of self.old.table.entries) id → ⊥ }

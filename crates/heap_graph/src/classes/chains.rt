@@ -1,4 +1,4 @@
-//! The chains of superclasses. Each class is followed once.
+//! Follows the chains of superclasses, each class once.
 
 ghost use Rattle.std.specs.Prelude.{Contains, IfOk, List, OnOk, Some, [], length, slice_get, ◌<◌, ◌^◌, ◌≡◌, ℕ};
 ghost use Rattle.hprof_grammar.specs.SubRecord.{SubRecord};
@@ -8,21 +8,21 @@ ghost use Rattle.heap_graph.specs.declared.classes.fate.Fate.TheVariants as fate
 use crate::classes::{Classes, Fate, Layout};
 use std::alloc::{AllocError, Allocator};
 
-/// What stands above a class.
+/// What is above a class.
 pub(crate) enum Above {
-    /// Nothing: it has no superclass.
+    /// Nothing: the class has no superclass.
     Nothing,
-    /// A superclass that is not there.
+    /// A superclass that is missing.
     Missing,
-    /// The class of that number.
+    /// The class with that number.
     Class(u32),
 }
 
-/// How a climb goes on behind a class.
+/// How a climb continues above a class.
 pub(crate) enum Step {
-    /// At the class of that number, of which nothing is known yet.
+    /// At the class with that number, whose fate is unknown.
     Up(u32),
-    /// It ends: that is the fate of what stands above.
+    /// It ends: what is above the class has this fate.
     End(Fate),
 }
 
@@ -33,7 +33,7 @@ const NO_LAYOUT: Layout = Layout {
     next: None,
 };
 
-/// Nothing is known of so many classes.
+/// Returns `count` unknown fates.
 fn unknown<B: Allocator>(alloc: B, count: usize) -> Result<Vec<Fate, B>, AllocError>
     ensures count { IfOk result (λ known. length known.items ≡ count) }
     ensures each { IfOk result (λ known. (k : ℕ) (f : Fate) → slice_get known.items k ≡ Some f → f ≡ fates.Unknown) }
@@ -50,7 +50,7 @@ impl<'d, A: Allocator> Classes<'d, A> {
     ghost use Rattle.heap_graph.specs.working.Chains.{AreFatesOf, AreSettledOf, DoesStay, IsAboveOf, IsClimbOf};
     ghost use Rattle.heap_graph.specs.working.Chains.{IsKnown, IsPathOf, IsStepOf, IsTopOf, IsUnderOf};
 
-    /// What stands above a class.
+    /// Returns what is above class `number`.
     fn above(&self, number: u32) -> Above
         requires below { number < length self.now.table.entries }
         requires few { length self.now.table.entries < 2 ^ 32 }
@@ -68,7 +68,7 @@ impl<'d, A: Allocator> Classes<'d, A> {
         }
     }
 
-    /// How a climb goes on above a class, which is on the path.
+    /// Returns how a climb continues above class `at`, which is on the path.
     fn next_step(&self, at: u32, known: &[Fate]) -> Step
         requires below { at < length self.now.table.entries }
         requires few { length self.now.table.entries < 2 ^ 32 }
@@ -89,8 +89,8 @@ impl<'d, A: Allocator> Classes<'d, A> {
         }
     }
 
-    /// Follows the superclasses of a class of which nothing is known, up to one whose fate is. The classes on the way
-    /// are the path, and the answer is the fate of what stands above its last one.
+    /// Follows the superclasses from class `first`, whose fate is unknown, up to one whose fate is known. Appends the
+    /// classes on the way to `path`, and returns the fate of what is above the last one.
     fn climb<B: Allocator>(
         &self,
         first: u32,
@@ -107,7 +107,7 @@ impl<'d, A: Allocator> Classes<'d, A> {
             × Contains path.new.items first) }
     {
         let mut at = first;
-        // Named for its invariant.
+        // The loop has a name for its invariant.
         'up: loop {
             known[at as usize] = Fate::OnPath;
             path.push(at)?;
@@ -118,7 +118,8 @@ impl<'d, A: Allocator> Classes<'d, A> {
         }
     }
 
-    /// Settles the classes of a path from its end to its start, below a fate.
+    /// Settles the classes of `path` from its end to its start, and empties it. `above` is the fate of what is above
+    /// its last class.
     fn unwind<B: Allocator>(&self, above: Fate, known: &mut [Fate], path: &mut Vec<u32, B>)
         requires heap { (heap : List SubRecord) × AreClassesOf self.now heap
             × AreFatesOf self.now heap path.old.items known.old × IsTopOf self.now heap path.old.items above }
@@ -136,7 +137,7 @@ impl<'d, A: Allocator> Classes<'d, A> {
         }
     }
 
-    /// Settles a class and those above it. The path is empty before and afterwards.
+    /// Settles class `first` and those above it. `path` is empty before and after.
     fn settle<B: Allocator>(
         &self,
         first: u32,
@@ -163,7 +164,7 @@ impl<'d, A: Allocator> Classes<'d, A> {
         }
     }
 
-    /// The fates of all classes.
+    /// Returns the fates of all classes.
     pub(crate) fn settle_all<B: Allocator + Copy>(
         &self,
         alloc: B,

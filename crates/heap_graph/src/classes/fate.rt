@@ -1,14 +1,14 @@
-//! What becomes of a class's chain of superclasses.
+//! The fate of a class's chain of superclasses.
 
 /// The layout of the instances of a class.
 #[derive(Clone, Copy)]
 pub(crate) struct Layout {
-    /// Its bytes. Sizes from 2^32 on are told as 2^32: no instance has so many.
+    /// Its size in bytes. A size above 2^32 is stored as 2^32: no instance is that large.
     pub(crate) size: u64,
-    /// The first class that declares fields, of the class and the classes above it: a walk over an instance's fields
-    /// begins there, so that a long chain of classes without fields costs it nothing.
+    /// The first class that declares fields, from the class up. A walk over an instance's fields begins there, so that
+    /// a long chain of classes without fields costs it nothing.
     pub(crate) first: Option<u32>,
-    /// The first of the classes above it that declares fields.
+    /// The first class above it that declares fields.
     pub(crate) next: Option<u32>,
 }
 
@@ -21,8 +21,8 @@ pub(crate) enum Fate {
     OnPath,
     /// It ends at a class without a superclass.
     Whole(Layout),
-    /// It ends at a superclass that is not there.
+    /// It ends at a superclass that is missing.
     Broken,
-    /// It comes back, and never ends.
+    /// It repeats, and never ends.
     Endless,
 }

@@ -1,32 +1,32 @@
-//! How the identifiers of classes are hashed.
+//! The hash of the identifiers of classes.
 //!
-//! For a hash that is known beforehand a file can be made: its classes have identifiers that all begin in one place of
-//! the table, and each look-up goes past half of them. So the hash of a dump's classes is begun by all their
-//! identifiers, and whoever changes one of them changes the hash of each. It is the same in each run. No contract knows
-//! the hash: nothing rests on it but time.
+//! If the hash were known beforehand, a file could be made against it: identifiers that all begin at one place of the
+//! table, so that each look-up passes half of them. So the hash of a dump's classes is seeded with all their
+//! identifiers, and a change of one identifier changes the hash of each. The hash is the same in each run. No contract
+//! mentions the hash: only time depends on it.
 
 use std::hash::{BuildHasher, DefaultHasher, FoldHasher, Hasher};
 
-/// What begins the hash of the classes of a dump: a hasher that reads their identifiers, SipHash-1-3.
+/// The seed of the hash for the classes of a dump: a SipHash-1-3 hasher that reads their identifiers.
 #[derive(Drop)]
 pub(crate) struct HashSeed {
     hasher: DefaultHasher,
 }
 
 impl HashSeed {
-    /// The seed of no class.
+    /// Creates the seed of no classes.
     pub(crate) fn new() -> Self {
         HashSeed {
             hasher: DefaultHasher::new(),
         }
     }
 
-    /// Reads the identifier of one more class.
+    /// Reads `id`, the identifier of one more class.
     pub(crate) fn read(&mut self, id: u64) {
         self.hasher.write_u64(id);
     }
 
-    /// The hash that is begun by the identifiers that were read.
+    /// Returns the hash seeded with the identifiers that were read.
     pub(crate) fn finish(&self) -> ClassHash {
         let mut begun = FoldHasher::default();
         begun.write_u64(self.hasher.finish());
@@ -34,7 +34,7 @@ impl HashSeed {
     }
 }
 
-/// How identifiers of classes are hashed: the hasher of each begins where the seed ended.
+/// The hash of identifiers of classes. Each hasher begins with the seed's result already written to it.
 #[derive(Clone, Copy, Drop)]
 pub(crate) struct ClassHash {
     begun: FoldHasher,

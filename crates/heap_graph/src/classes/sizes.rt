@@ -1,4 +1,4 @@
-//! The layouts of classes, from those of their superclasses.
+//! Computes the layouts of classes from those of their superclasses.
 
 ghost use Rattle.std.specs.Prelude.{List, length, slice_index, ◌<◌, ◌∷◌, ◌≡◌, ℕ};
 ghost use Rattle.hprof_grammar.specs.SubRecord.{Class, SubRecord};
@@ -6,7 +6,7 @@ ghost use Rattle.hprof_grammar.specs.SubRecord.{Class, SubRecord};
 use crate::classes::{Classes, Fate, Layout};
 use std::alloc::Allocator;
 
-/// Sizes from here on are told as this one.
+/// The largest size of a layout: a larger one is stored as this.
 const MOST_SIZE: u64 = 4_294_967_296;
 
 impl<'d, A: Allocator> Classes<'d, A> {
@@ -14,7 +14,7 @@ impl<'d, A: Allocator> Classes<'d, A> {
     ghost use Rattle.heap_graph.specs.working.Chains.{IsChainAtOf, IsFateOf, IsFirstOf, IsLayoutAtOf, IsSettled};
     ghost use Rattle.heap_graph.specs.working.Chains.{IsUnderOf};
 
-    /// The first class that declares fields, of a class with such fields and those above it.
+    /// Returns the first class that declares fields, from class `number` up. `above` is the first one above it.
     fn first_of(&self, number: u32, above: Option<u32>) -> Option<u32>
         requires below { number < length self.now.table.entries }
         requires heap { (heap : List SubRecord) × AreClassesOf self.now heap }
@@ -28,7 +28,7 @@ impl<'d, A: Allocator> Classes<'d, A> {
         Some(number)
     }
 
-    /// The layout of a class, from that of its superclass.
+    /// Returns the layout of class `number`. `above` is that of its superclass.
     fn layout_below(&self, number: u32, above: Layout) -> Layout
         requires below { number < length self.now.table.entries }
         requires heap { (heap : List SubRecord) × (c : Class) × (rest : List Class) × AreClassesOf self.now heap
@@ -45,7 +45,7 @@ impl<'d, A: Allocator> Classes<'d, A> {
         }
     }
 
-    /// The fate of a class, from that of its superclass.
+    /// Returns the fate of class `number`. `above` is that of its superclass.
     pub(crate) fn fate_below(&self, number: u32, above: Fate) -> Fate
         requires below { number < length self.now.table.entries }
         requires heap { (heap : List SubRecord) × (super : ℕ) × AreClassesOf self.now heap

@@ -1,4 +1,4 @@
-//! The table of classes: how a class is found by its identifier, and what is kept of it.
+//! The table of classes: finds a class by its identifier, and keeps the place of its dump and the size of its fields.
 
 ghost use Rattle.std.specs.Prelude.{Contains, IfOk, OnOk, Some, [], length, position, slice_get, slice_index};
 ghost use Rattle.std.specs.Prelude.{true, ◌++◌, ◌<◌, ◌==◌, ◌^◌, ◌∷◌, ◌≡◌, ℕ};
@@ -11,8 +11,8 @@ use indexmap::IndexMap;
 use std::alloc::{AllocError, Allocator};
 use std::marker::Model;
 
-/// Classes in order, found by their identifiers. A class's number is its position in the map, which is asked where the
-/// class that was guessed is another one.
+/// Classes in order, found by their identifiers. A class's number is its position in the map. The map is searched only
+/// if the guessed class is another one.
 #[derive(Drop)]
 pub(crate) struct ClassTable<A: Allocator> {
     map: IndexMap<u64, ClassPlace, ClassHash, A>,
@@ -32,7 +32,7 @@ impl<A: Allocator> Model for ClassTable<A> {
 }
 
 impl<A: Allocator + Copy> ClassTable<A> {
-    /// No class, with places for so many.
+    /// Creates an empty table with room for `classes` classes.
     pub(crate) fn new(alloc: A, hash: ClassHash, classes: usize) -> Result<Self, AllocError>
         ensures { IfOk result (λ t. t.entries ≡ []) }
     {
@@ -45,14 +45,14 @@ impl<A: Allocator + Copy> ClassTable<A> {
 }
 
 impl<A: Allocator> ClassTable<A> {
-    /// How many classes there are.
+    /// Returns the number of classes.
     pub(crate) fn len(&self) -> usize
         ensures { result ≡ length self.now.entries }
     {
         self.map.len()
     }
 
-    /// Adds a class, whose identifier is a new one.
+    /// Adds the class `id`, which the table must not contain yet.
     #[tactic(auto, using(crate::proofs::InsertLaws::insert_last))]
     pub(crate) fn push(&mut self, id: u64, place: ClassPlace) -> Result<(), AllocError>
         requires { Contains (ids_of self.old.entries) id → ⊥ }
@@ -64,7 +64,7 @@ impl<A: Allocator> ClassTable<A> {
         Ok(())
     }
 
-    /// Whether there is a class of that number and it has that identifier.
+    /// Tests whether a class `number` exists and has the identifier `id`.
     // Inlined, as `find` is.
     #[inline(always)]
     fn bears(&self, number: u32, id: u64) -> bool
@@ -77,8 +77,8 @@ impl<A: Allocator> ClassTable<A> {
         }
     }
 
-    /// The number of the class with that identifier, by the map.
-    // A call, so that a look-up whose guess is right has no locals for it.
+    /// Finds the number of the class `id` in the map.
+    // A call, so that a look-up whose guess is right needs no locals for it.
     #[inline(never)]
     fn find_in_map(&self, id: u64) -> Option<u32>
         requires { length self.now.entries < 2 ^ 32 }
@@ -90,7 +90,7 @@ impl<A: Allocator> ClassTable<A> {
         }
     }
 
-    /// The number of the class with that identifier.
+    /// Returns the number of the class `id`, if the table contains it.
     // Inlined, as the `find` of the classes is.
     #[inline(always)]
     fn find(&self, id: u64) -> Option<u32>
@@ -104,7 +104,7 @@ impl<A: Allocator> ClassTable<A> {
         self.find_in_map(id)
     }
 
-    /// The class of that number.
+    /// Returns the identifier and the entry of class `number`.
     fn get(&self, number: u32) -> (u64, ClassPlace)
         requires { number < length self.now.entries }
         ensures { (e : TableEntry) → slice_get self.now.entries number ≡ Some e → result ≡ e }
@@ -117,8 +117,8 @@ impl<A: Allocator> ClassTable<A> {
 }
 
 impl<'d, A: Allocator> Classes<'d, A> {
-    /// The number of the class that an identifier names.
-    // Inlined: asked of each instance and each object array that is marked.
+    /// Returns the number of the class that `id` names, if it names one.
+    // Inlined, because it is called for each instance and each object array that is marked.
     #[inline(always)]
     pub(crate) fn find(&self, id: u64) -> Option<u32>
         requires { length self.now.table.entries < 2 ^ 32 }
@@ -127,7 +127,7 @@ impl<'d, A: Allocator> Classes<'d, A> {
         self.table.find(id)
     }
 
-    /// The identifier of the class of that number.
+    /// Returns the identifier of class `number`.
     pub(crate) fn id(&self, number: u32) -> u64
         requires { number < length self.now.table.entries }
         ensures { result ≡ slice_index (ids_of self.now.table.entries) number }
@@ -135,7 +135,7 @@ impl<'d, A: Allocator> Classes<'d, A> {
         self.table.get(number).0
     }
 
-    /// What is kept of the class of that number.
+    /// Returns the entry of class `number`.
     pub(crate) fn entry(&self, number: u32) -> ClassPlace
         requires { number < length self.now.table.entries }
         ensures { (e : TableEntry) → slice_get self.now.table.entries number ≡ Some e → result ≡ e.1 }

@@ -1,4 +1,4 @@
-//! A graph from a dump.
+//! Builds a graph from a dump.
 
 ghost use Rattle.std.specs.Prelude.{IfOk, List, OnOk, [], filter, ◌≡◌, ℕ};
 ghost use Rattle.hprof_grammar.specs.Places.{IsDumpOf, Places};
@@ -27,7 +27,7 @@ use std::alloc::{AllocError, Allocator};
 use std::snapshot::Snapshot;
 use std::thread::Threads;
 
-/// The objects at these places of a dump, by their identifiers, and its classes.
+/// Indexes the objects at `places` by their identifiers, and reads their classes.
 fn read_objects<'a, T: Threads + Sync, A: Allocator + Copy + Send + Sync>(
     team: &Team<'_, T>,
     alloc: A,
@@ -55,7 +55,7 @@ fn read_objects<'a, T: Threads + Sync, A: Allocator + Copy + Send + Sync>(
     })
 }
 
-/// The objects of a dump, which hands over their places: they are kept once.
+/// Reads the objects of `dump`. Their places move out of `dump`, so that they are kept only once.
 fn take_objects<'a, T: Threads + Sync, A: Allocator + Copy + Send + Sync>(
     team: &Team<'_, T>,
     alloc: A,
@@ -72,7 +72,7 @@ fn take_objects<'a, T: Threads + Sync, A: Allocator + Copy + Send + Sync>(
 }
 
 impl<'a, A: Allocator + Copy> Graph<'a, A> {
-    /// The graph of linked objects, of which these are the classes and the roots.
+    /// Puts together the graph of linked objects from its classes in `named` and its roots in `rooted`.
     fn of(
         objects: Objects<'a, A>,
         named: Named<'a, A>,
@@ -95,7 +95,7 @@ impl<'a, A: Allocator + Copy> Graph<'a, A> {
         }
     }
 
-    /// The graph of linked objects.
+    /// Builds the graph of linked objects: reads its classes and its roots.
     fn assemble(
         alloc: A,
         objects: Objects<'a, A>,
@@ -115,10 +115,10 @@ impl<'a, A: Allocator + Copy> Graph<'a, A> {
 }
 
 impl<'a, A: Allocator + Copy + Send + Sync> Graph<'a, A> {
-    /// The graph of a dump that was read from these bytes, in which the fields on the list are not followed: a fault is
-    /// the first one of its links, and else only memory can be missing. To skip no field, lend it `Skip::none`. Where
-    /// there are many objects, the threads of the team gather their identifiers and test the rules of the links in
-    /// parts.
+    /// Builds the graph of `dump`, which was read from `bytes`. The fields that `skip` lists are not followed; pass
+    /// `Skip::none` to follow all. `Err(LinkRefusal::Fault)` has the first fault of the links; the only other error is
+    /// out of memory. If there are many objects, the threads of the team gather their identifiers and test the rules of
+    /// the links in parts.
     pub fn build<T: Threads + Sync, B: Allocator>(
         team: &Team<'_, T>,
         alloc: A,

@@ -1,4 +1,4 @@
-//! What a graph keeps beside its objects.
+//! The parts of a graph besides its objects.
 
 ghost use Rattle.std.specs.Prelude.{IfOk, List, filter};
 ghost use Rattle.hprof_grammar.specs.Dump.{is_root};
@@ -19,21 +19,21 @@ use crate::resolving::resolve;
 use crate::skip::SkipPair;
 use std::alloc::{AllocError, Allocator};
 
-/// The classes with what names them, and what is planned for them.
+/// The classes with the texts that name them, and their plans.
 #[derive(Drop)]
 pub(crate) struct Named<'a, A: Allocator> {
     pub(crate) plan: Plan<A>,
     pub(crate) classes: Vec<ClassEntry<'a>, A>,
 }
 
-/// The objects that roots name, and how many identifiers of roots name none.
+/// The objects that roots name, and the number of root identifiers that are not 0 and name no object.
 #[derive(Drop)]
 pub(crate) struct Rooted<A: Allocator> {
     pub(crate) roots: Vec<u32, A>,
     pub(crate) unresolved: u64,
 }
 
-/// The classes of these objects. The names by their identifiers are let go.
+/// Reads the names and the plans of the classes of `objects`. The index of the names is dropped at the end.
 pub(crate) fn name_classes<'a, A: Allocator + Copy>(
     alloc: A,
     objects: &Objects<'a, A>,
@@ -52,7 +52,7 @@ pub(crate) fn name_classes<'a, A: Allocator + Copy>(
     Ok(Named { plan, classes })
 }
 
-/// The objects that the roots at these places name.
+/// Finds the objects that the roots at `places` name.
 pub(crate) fn find_roots<A: Allocator + Copy>(
     alloc: A,
     objects: &Objects<'_, A>,

@@ -8,10 +8,10 @@ use crate::types::OBJECT_TYPE;
 use hprof_grammar::{Ids, Values, View, number_at};
 use std::marker::Model;
 
-/// The identifiers that are left of a class.
+/// The remaining identifiers of those that a class holds.
 #[derive(Drop)]
 pub(crate) struct ClassIds<'g> {
-    /// Those of its superclass, loader, signers and protection domain.
+    /// The identifiers of its superclass, loader, signers and protection domain.
     leading: Ids<'g>,
     constants: Values<'g>,
     statics: Values<'g>,
@@ -32,7 +32,7 @@ impl<'g> Model for ClassIds<'g> {
     } };
 }
 
-/// The next identifier among these values: the next value of type 2.
+/// Returns the next identifier among `values`: the next value of type 2.
 fn next_id(values: &mut Values<'_>) -> Option<u64>
     requires { AreClassValues values.old }
     ensures ids { YieldsFirst values_ids values.old result values.new }
@@ -46,7 +46,7 @@ fn next_id(values: &mut Values<'_>) -> Option<u64>
     None
 }
 
-/// How many identifiers there are among these values.
+/// Returns the number of identifiers among `values`.
 fn count_ids(values: Values<'_>) -> u64
     requires { length values < 2 ^ 16 }
     ensures value { result ≡ length (values_ids values.entry) }
@@ -67,8 +67,8 @@ impl<'g> ClassIds<'g> {
     ghost use Rattle.hprof_grammar.specs.Standing.{Stands};
     ghost use Rattle.heap_graph.specs.References.{class_ids};
 
-    /// Those of the class dump at a place.
-    // Inlined, as all that makes a visit.
+    /// Returns the identifiers of the class dump at `at`.
+    // Inlined, as everything that makes up a visit.
     #[inline(always)]
     pub(crate) fn new(view: &View<'g>, at: u32) -> Self
         requires size { (1 ≤ view.now.id_size) × (view.now.id_size ≤ 8) }
@@ -82,7 +82,7 @@ impl<'g> ClassIds<'g> {
         }
     }
 
-    /// How many are left.
+    /// Returns the number of remaining identifiers.
     pub(crate) fn len(&self) -> u64
         ensures { result ≡ length self.now }
     {

@@ -8,24 +8,24 @@ use crate::objects::Objects;
 use std::alloc::Allocator;
 use std::marker::Model;
 
-/// The identifiers that are left in the fields of an instance: those of a class, and then those of the classes above
-/// it that declare fields.
-// The order of the fields is for the compiler: other variants of the walk that this is one of have fields of a byte and
-// of four bytes where `next` and `own` lie. It keeps what lies there in such pieces, and would put these together again
-// for each identifier if the number of places were there.
+/// The remaining identifiers in the fields of an instance: those in the fields of one class, and then those of the
+/// classes above it that declare fields.
+// The order of the fields is for the compiler. Other variants of the walk that this is part of have fields of one byte
+// and of four bytes at the offsets of `next` and `own`, so the compiler keeps what is there in pieces of these sizes.
+// If the length of `places` were there, it would put the pieces together again for each identifier.
 #[derive(Drop)]
 pub struct FieldIds<'g, A: Allocator> {
     objects: &'g Objects<'g, A>,
     plan: &'g Plan<A>,
-    /// The first class above the one at hand that declares fields.
+    /// The first class above the current one that declares fields.
     next: Option<u32>,
-    /// How many bytes the values of the class at hand have.
+    /// The size in bytes of the values of the current class's own fields.
     own: usize,
-    /// Where those of the class at hand stand in the values.
+    /// The remaining places of identifiers among the values of the current class.
     places: &'g [u32],
-    /// The values of the fields of the class at hand, and of the classes above it.
+    /// The values of the fields of the current class, and of those of the classes above it.
     values: &'g [u8],
-    /// The next class, the first above it, and so on up.
+    /// The class `next`, the first above it that declares fields, and so on up.
     ghost up: { Up objects.now.fates.items next } by { Up-prop objects.now.fates.items next },
 }
 
@@ -47,8 +47,8 @@ impl<'g, A: Allocator> Model for FieldIds<'g, A> {
     } };
 }
 
-/// The values of the fields of a class, which have so many bytes, and those of the classes above it, which stand behind
-/// them.
+/// Splits `values` into the values of a class's own fields, the first `own` bytes, and those of the classes above it,
+/// which follow.
 // Inlined, as `next` is.
 #[inline(always)]
 fn by_class(values: &[u8], own: usize) -> (&[u8], &[u8])
@@ -67,8 +67,9 @@ impl<'g, A: Allocator> FieldIds<'g, A> {
     ghost use Rattle.heap_graph.specs.working.HeldIds.{IsLayoutFrom};
     ghost use Rattle.heap_graph.specs.working.ClassFates.{HaveFatesOf};
 
-    /// Those of a layout, of an instance with these values. `first` is the first class with fields of that layout.
-    // Inlined, as all that makes a visit.
+    /// Returns the identifiers in the fields of an instance with the values `values`. `first` is the first class of its
+    /// layout that declares fields.
+    // Inlined, as everything that makes up a visit.
     #[inline(always)]
     pub(crate) fn new(
         objects: &'g Objects<'g, A>,
@@ -95,7 +96,7 @@ impl<'g, A: Allocator> FieldIds<'g, A> {
         }
     }
 
-    /// How many are left.
+    /// Returns the number of remaining identifiers.
     pub(crate) fn len(&self) -> u64
         ensures { result ≡ length self.now }
     {
@@ -118,7 +119,7 @@ impl<'g, A: Allocator> Iterator for FieldIds<'g, A> {
 
     ghost remaining = { item_count (λ f. f) };
 
-    // Inlined into the loop of a worker, which asks for each reference of an instance.
+    // Inlined into the loop of a worker, which calls it for each reference of an instance.
     #[inline(always)]
     fn next(&mut self) -> Option<u64> {
         loop {

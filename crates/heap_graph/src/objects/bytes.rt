@@ -10,8 +10,8 @@ ghost use Rattle.heap_graph.specs.Rows.{bytes_of};
 use crate::types::OBJECT_TYPE;
 use hprof_grammar::{Values, View};
 
-/// The bytes of these values together.
-// A call, so that the walk over a class's statics does not stand in a visit.
+/// Returns the size in bytes of `values` together.
+// A call, so that a visit does not contain the walk over a class's statics.
 #[inline(never)]
 fn bytes_together(view: &View<'_>, values: Values<'_>) -> u64
     requires { length values < 2 ^ 16 }
@@ -24,8 +24,8 @@ fn bytes_together(view: &View<'_>, values: Values<'_>) -> u64
     bytes
 }
 
-/// The bytes of a class dump: those of its statics.
-// Inlined, as all that makes a visit, so that a visit is written where it stays.
+/// Returns the bytes of the class dump at `at`: those of its statics.
+// Inlined, as everything that makes up a visit, so that a visit is built in place.
 #[inline(always)]
 pub(crate) fn class_bytes(view: &View<'_>, at: u32) -> u64
     requires { (c : Class) × Stands view.now at (class_dump c) }
@@ -34,8 +34,8 @@ pub(crate) fn class_bytes(view: &View<'_>, at: u32) -> u64
     bytes_together(view, view.statics(at))
 }
 
-/// The bytes of an object array.
-// Inlined, as all that makes a visit.
+/// Returns the bytes of the object array at `at`.
+// Inlined, as everything that makes up a visit.
 #[inline(always)]
 pub(crate) fn array_bytes(view: &View<'_>, at: u32) -> u64
     requires { (a : ObjectArray) × Stands view.now at (object_array_dump a) }
@@ -46,8 +46,8 @@ pub(crate) fn array_bytes(view: &View<'_>, at: u32) -> u64
     view.array_elements(at).len() as u64 * size
 }
 
-/// The bytes of a primitive array with elements of the type of that code.
-// Inlined, as all that makes a visit.
+/// Returns the bytes of the primitive array at `at`, whose elements have the type code `code`.
+// Inlined, as everything that makes up a visit.
 #[inline(always)]
 pub(crate) fn primitive_bytes(view: &View<'_>, at: u32, code: u8) -> u64
     requires { (a : PrimitiveArray) × Stands view.now at (primitive_array_dump a) × (code ≡ a.type) }

@@ -1,4 +1,4 @@
-//! The rules that an object of a dump is tested by.
+//! Tests an object by the rules of the links.
 
 ghost use Rattle.std.specs.Prelude.{IfNone, List, false, length, true, ◌<◌, ◌≡◌, ◌≢◌, ◌≤◌};
 ghost use Rattle.hprof_grammar.specs.Dump.{is_object};
@@ -15,7 +15,7 @@ use std::alloc::Allocator;
 /// The largest number of objects.
 const MOST_OBJECTS: usize = 16_777_216;
 
-/// Whether the values of an instance have the size of a layout.
+/// Tests whether `values` have the size of `layout`.
 fn has_size(values: &[u8], layout: Layout) -> bool
     ensures right { result ≡ true → length values.now ≡ layout.size }
     ensures wrong { result ≡ false → length values.now ≢ layout.size }
@@ -29,7 +29,7 @@ impl<'d, A: Allocator> Objects<'d, A> {
     ghost use Rattle.heap_graph.specs.working.ClassFates.{HaveFatesOf};
     ghost use Rattle.heap_graph.specs.working.RuleAnswers.{IsLateRule, IsLeastRule};
 
-    /// The rule on superclasses, if a class dump breaks it.
+    /// Returns the rule on superclasses, if the class dump at `at` breaks it.
     fn class_rule(&self, at: u32) -> Option<LinkRule>
         requires object { (c : Class) × Stands self.now.view at (class_dump c) }
         requires heap { (heap : List SubRecord) × HaveFatesOf self.now heap }
@@ -50,7 +50,7 @@ impl<'d, A: Allocator> Objects<'d, A> {
         }
     }
 
-    /// The first of the rules on the class and the size of an instance that it breaks.
+    /// Returns the first of the rules on class and size that the instance at `at` breaks.
     fn instance_rule(&self, at: u32) -> Option<LinkRule>
         requires object { (i : Instance) × Stands self.now.view at (instance_dump i) }
         requires heap { (heap : List SubRecord) × HaveFatesOf self.now heap }
@@ -73,7 +73,7 @@ impl<'d, A: Allocator> Objects<'d, A> {
         }
     }
 
-    /// The rule on the class of an object array, if it is broken.
+    /// Returns the rule on the class of an object array, if the one at `at` breaks it.
     fn array_rule(&self, at: u32) -> Option<LinkRule>
         requires object { (a : ObjectArray) × Stands self.now.view at (object_array_dump a) }
         requires heap { (heap : List SubRecord) × HaveFatesOf self.now heap }
@@ -87,7 +87,7 @@ impl<'d, A: Allocator> Objects<'d, A> {
         }
     }
 
-    /// The first of the rules on classes, superclasses and sizes that an object breaks.
+    /// Returns the first of the rules on classes, superclasses and sizes that the object at `at` breaks.
     fn late_rule(&self, at: u32) -> Option<LinkRule>
         requires object { (o : SubRecord) × Stands self.now.view at o × (is_object o ≡ true) }
         requires heap { (heap : List SubRecord) × HaveFatesOf self.now heap }
@@ -102,8 +102,8 @@ impl<'d, A: Allocator> Objects<'d, A> {
         }
     }
 
-    /// The first rule that an object breaks. `repeat` is the number of the first object that bears the identifier of an
-    /// earlier one; the object is that one or stands before it.
+    /// Returns the first rule that object `number` breaks. `repeat` is the number of the first object whose identifier
+    /// an earlier one has; `number` is at most `repeat`.
     pub(super) fn broken_rule(&self, number: usize, repeat: usize) -> Option<LinkRule>
         requires below { number < length self.now.places.items }
         requires repeat { IsFirstRepeat self.now.index repeat }

@@ -1,4 +1,4 @@
-//! The test of all objects of a dump, part by part.
+//! Tests all objects of a dump, part by part.
 
 ghost use Rattle.std.specs.Prelude.{IfErr, List, OnOk};
 ghost use Rattle.hprof_grammar.specs.SubRecord.{SubRecord};
@@ -12,9 +12,9 @@ use std::thread;
 use std::thread::Threads;
 
 impl<'d, A: Allocator> Objects<'d, A> {
-    /// Tests the objects of a part of the places in turn, up to the first fault: those from the number `start` on. What
-    /// it answers is said where no object before them breaks a rule. `repeat` is the number of the first object that
-    /// bears the identifier of an earlier one; where that stands before the part, nothing is tested.
+    /// Tests the objects of `part` in turn, up to the first fault. `part` holds the places of the objects from number
+    /// `start` on. The result is meaningful only if no object before `start` breaks a rule. `repeat` is the number of
+    /// the first object whose identifier an earlier one has; if it is less than `start`, nothing is tested.
     fn check_part(&self, start: usize, part: &[u32], repeat: usize) -> Result<(), LinkFault>
         requires { MayTest self.now repeat start part.now }
         ensures { HasTested self.now repeat start part.now result }
@@ -40,8 +40,8 @@ impl<'d, A: Allocator + Copy + Send + Sync> Objects<'d, A> {
     ghost use Rattle.heap_graph.specs.working.ClassFates.{HaveFatesOf};
     ghost use Rattle.heap_graph.specs.working.RuleAnswers.{IsFaultOf};
 
-    /// Tests each object, up to the first fault in the order of the file: where there are many, in as many parts as the
-    /// team has threads, and in one part also where there is no memory for the answers of several.
+    /// Tests each object, and returns the first fault in the order of the file. Many objects are tested in as many
+    /// parts as the team has threads, or in one part if there is no memory for the results of several.
     pub(crate) fn check<T: Threads + Sync>(
         &self,
         team: &Team<'_, T>,

@@ -16,7 +16,7 @@ impl<'d, A: Allocator> Objects<'d, A> {
     ghost use Rattle.heap_graph.specs.working.Refinement.{named_class};
     ghost use Rattle.heap_graph.specs.working.ClassFates.{HaveFatesOf};
 
-    /// The classes in the order of their dumps.
+    /// Returns the classes in the order of their dumps, with the texts that name them in `names`.
     pub(crate) fn classes<'a, B: Allocator + Copy>(
         &self,
         alloc: B,

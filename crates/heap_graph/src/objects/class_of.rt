@@ -15,8 +15,8 @@ impl<'d, A: Allocator> Objects<'d, A> {
     ghost use Rattle.heap_graph.specs.working.FieldsUp.{next_above};
     ghost use Rattle.heap_graph.specs.working.HeldIds.{AreLinkedOf, IsFirstOfInstance, IsObjectAt};
 
-    /// The number of the class with that identifier. The class is there.
-    // Inlined, as all that makes a visit, so that a visit is written where it stays.
+    /// Returns the number of the class with the identifier `id`, which exists.
+    // Inlined, as everything that makes up a visit, so that a visit is built in place.
     #[inline(always)]
     pub(crate) fn class_numbered(&self, id: u64) -> u32
         requires { (heap : List SubRecord) × AreLinkedOf self.now heap × HaveFatesOf self.now heap
@@ -31,9 +31,9 @@ impl<'d, A: Allocator> Objects<'d, A> {
         }
     }
 
-    /// The class of an instance, by its identifier and its number, and the first class that declares fields, of that
-    /// one and those above it.
-    // Inlined, as all that makes a visit.
+    /// Returns the identifier and the number of the class of the instance at `at`, and the number of the first class
+    /// that declares fields, from that class up.
+    // Inlined, as everything that makes up a visit.
     #[inline(always)]
     pub(crate) fn class_of(&self, at: u32) -> (u64, u32, Option<u32>)
         requires { (heap : List SubRecord) × (n : ℕ) × (i : Instance) × AreLinkedOf self.now heap
@@ -55,7 +55,7 @@ impl<'d, A: Allocator> Objects<'d, A> {
         }
     }
 
-    /// The first of the classes above a class that declares fields.
+    /// Returns the first class above class `number` that declares fields.
     pub(crate) fn next_of(&self, number: u32) -> Option<u32>
         requires { number < length self.now.fates.items }
         ensures { result ≡ next_above self.now.fates.items number }

@@ -1,4 +1,4 @@
-//! What is planned for the classes of a dump, by their numbers.
+//! Plans the classes of a dump, by their numbers.
 
 ghost use Rattle.std.specs.Prelude.{IfOk, List};
 ghost use Rattle.hprof_grammar.specs.Record.{Record};
@@ -18,7 +18,7 @@ impl<'d, A: Allocator> Objects<'d, A> {
     ghost use Rattle.heap_graph.specs.working.ClassPlans.{IsPlanOf};
     ghost use Rattle.heap_graph.specs.working.ClassFates.{HaveFatesOf};
 
-    /// The plan of the classes.
+    /// Returns the plan of the classes, whose fields are followed unless `skip` lists them.
     pub(crate) fn plan<B: Allocator + Copy>(
         &self,
         alloc: B,

@@ -1,4 +1,4 @@
-//! How the table of classes is filled from the objects.
+//! Fills the table of classes from the objects.
 
 ghost use Rattle.std.specs.Prelude.{IfOk, List, OnOk, length, ◌+◌, ◌<◌, ◌≡◌, ◌≤◌};
 ghost use Rattle.hprof_grammar.specs.Standing.{StandInTurn, Stands};
@@ -14,7 +14,8 @@ use hprof_grammar::View;
 use id_index::IdIndex;
 use std::alloc::{AllocError, Allocator};
 
-/// The hash of the classes that these class dumps among the objects at these places describe.
+/// Returns the hash for the classes that the objects with the numbers `class_dumps` describe. `places` are those of all
+/// objects.
 fn hash_of(view: &View<'_>, places: &[u32], class_dumps: &[u32]) -> ClassHash
     requires { (heap : List SubRecord) × StandInTurn (Stands view.now) places.now (objects heap)
         × AreClassNumbers (objects heap) (length places.now) class_dumps.now }
@@ -26,7 +27,7 @@ fn hash_of(view: &View<'_>, places: &[u32], class_dumps: &[u32]) -> ClassHash
     seed.finish()
 }
 
-/// Adds the class dump of that number, if it describes a class that its identifier names.
+/// Adds the class that object `number`, a class dump, describes, if its identifier names this object.
 fn add_class<A: Allocator, B: Allocator>(
     classes: &mut Classes<'_, A>,
     places: &[u32],
@@ -54,7 +55,7 @@ fn add_class<A: Allocator, B: Allocator>(
     classes.add(id, place)
 }
 
-/// The table of the classes among these objects.
+/// Builds the table of the classes among the objects of `indexed`.
 pub(crate) fn class_table<'d, A: Allocator + Copy, B: Allocator>(
     alloc: A,
     view: View<'d>,

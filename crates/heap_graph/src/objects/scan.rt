@@ -1,4 +1,4 @@
-//! An object with its row, its bytes and the identifiers that it holds, in one step.
+//! Reads an object's row, its bytes and the identifiers that it holds in one step.
 
 ghost use Rattle.std.specs.Prelude.{Bool, List, length, ◌<◌};
 ghost use Rattle.hprof_grammar.specs.SubRecord.{Class, Member, SubRecord};
@@ -17,9 +17,9 @@ impl<'d, A: Allocator> Objects<'d, A> {
     ghost use Rattle.heap_graph.specs.working.HeldIds.{AreLinkedOf};
     ghost use Rattle.heap_graph.specs.working.Scans.{IsScanOf};
 
-    /// The row and the bytes of an object, the object that is its class where that is known, and the identifiers that
-    /// it holds behind that of a class that is known. Its kind is asked for once, and its class is looked up once.
-    // Inlined, so that a visit is written where it stays.
+    /// Returns the row and the bytes of object `number`, the object that is its class, if that is known, and the
+    /// identifiers that it holds, without that of a known class. Reads its kind once, and looks up its class once.
+    // Inlined, so that a visit is built in place.
     #[inline(always)]
     pub(crate) fn scan<'g>(
         &'g self,

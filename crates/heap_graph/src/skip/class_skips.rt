@@ -15,7 +15,8 @@ use crate::types::OBJECT_TYPE;
 use hprof_grammar::MemberField;
 use std::alloc::Allocator;
 
-/// The entries that may name fields of one class. `class` is the text that names it, where the list has entries.
+/// The entries that may name fields of one class. `class` is the text that names the class. It is `None` if the dump
+/// has no such text, or if the list is empty.
 #[derive(Drop)]
 pub(crate) struct ClassSkips<'s, 'a, A: Allocator> {
     names: &'s NamesById<'s, 'a, A>,
@@ -23,7 +24,7 @@ pub(crate) struct ClassSkips<'s, 'a, A: Allocator> {
     class: Option<&'a [u8]>,
 }
 
-/// A text that is not there equals nothing.
+/// Tests whether `text` is `name`. A missing text equals no name.
 pub(super) fn is_text(text: Option<&[u8]>, name: &[u8]) -> bool
     ensures { result ≡ skips.is_text (option_copied text.entry) name.now }
 {
@@ -33,7 +34,7 @@ pub(super) fn is_text(text: Option<&[u8]>, name: &[u8]) -> bool
     }
 }
 
-/// Whether an entry names the class of that text.
+/// Tests whether one of `entries` names the class whose text is `class`.
 fn any_names(entries: &[SkipPair<'_>], class: Option<&[u8]>) -> bool
     ensures { result ≡ list_any (names_class (option_copied class.entry)) entries.now }
 {
@@ -48,8 +49,8 @@ fn any_names(entries: &[SkipPair<'_>], class: Option<&[u8]>) -> bool
 impl<'s, 'a, A: Allocator> ClassSkips<'s, 'a, A> {
     ghost use Rattle.heap_graph.specs.working.ClassSkips.{IsSkipTest, is_skipped_in, names_field};
 
-    /// The entries that may name fields of the class with this identifier: none where no entry names it, so that its
-    /// fields are not compared.
+    /// Selects the entries that may name fields of `class`. If no entry names the class, there are none, so that its
+    /// fields need no comparison.
     pub(crate) fn of(
         names: &'s NamesById<'s, 'a, A>,
         entries: &'s [SkipPair<'s>],
@@ -76,7 +77,7 @@ impl<'s, 'a, A: Allocator> ClassSkips<'s, 'a, A> {
         }
     }
 
-    /// Whether an entry names the class, and the field whose name is that string.
+    /// Tests whether `entry` names the class, and the field whose name is the string `name`.
     fn is_named(&self, entry: &SkipPair<'_>, name: u64) -> bool
         requires { (records : List Record) × AreNamesByIdOf self.now.names.now records }
         ensures { (records : List Record) → AreNamesByIdOf self.now.names.now records
@@ -85,7 +86,7 @@ impl<'s, 'a, A: Allocator> ClassSkips<'s, 'a, A> {
         is_text(self.class, entry.class()) && is_text(self.names.string_named(name), entry.field())
     }
 
-    /// Whether the field whose name is that string is on the list.
+    /// Tests whether the field whose name is the string `name` is on the list.
     fn has(&self, name: u64) -> bool
         requires { (test : Member → Bool) × IsSkipTest self.now test }
         ensures { (test : Member → Bool) (m : Member) → IsSkipTest self.now test → m.name ≡ name → result ≡ test m }
@@ -98,7 +99,8 @@ impl<'s, 'a, A: Allocator> ClassSkips<'s, 'a, A> {
         false
     }
 
-    /// Whether the identifier in a field of the class is followed: the field is of type 2, and not on the list.
+    /// Tests whether the value of `field`, which the class declares, is followed: `field` is of type 2, and not on the
+    /// list.
     pub(crate) fn follows(&self, field: MemberField) -> bool
         requires { (test : Member → Bool) × IsSkipTest self.now test }
         ensures { (test : Member → Bool) → IsSkipTest self.now test

@@ -1,4 +1,4 @@
-//! An entry of the list of fields that are not followed, and how its text is cut.
+//! An entry of the list of fields that are not followed, and how it is read from the text.
 
 ghost use Rattle.std.specs.Prelude.{Contains, IfNone, IfSome, MatchOption, ◌++◌, ◌∷◌, ◌≡◌};
 ghost use Rattle.heap_graph.specs.SkipText.{IsEntry, entry_text};
@@ -22,14 +22,14 @@ impl<'t> Model for SkipPair<'t> {
 }
 
 impl<'t> SkipPair<'t> {
-    /// The text that names the class that declares the field.
+    /// Returns the text that names the class that declares the field.
     pub fn class(&self) -> &'t [u8]
         ensures { result.now ≡ self.now.class }
     {
         self.class
     }
 
-    /// The field's own name.
+    /// Returns the field's own name.
     pub fn field(&self) -> &'t [u8]
         ensures { result.now ≡ self.now.field }
     {
@@ -37,7 +37,7 @@ impl<'t> SkipPair<'t> {
     }
 }
 
-/// What stands before the first comma, and what behind it.
+/// Splits `text` at its first comma into the part before it and the part after it, if there is a comma.
 pub(super) fn first_piece(text: &str) -> (&str, Option<&str>)
     ensures no_comma { Contains result.0.now 44 → ⊥ }
     ensures whole { MatchOption result.1 (text.now ≡ result.0.now) (λ more. text.now ≡ result.0.now ++ 44 ∷ more.now) }
@@ -48,7 +48,8 @@ pub(super) fn first_piece(text: &str) -> (&str, Option<&str>)
     }
 }
 
-/// The entry that a piece of the text without a comma spells. Its last dot parts class from field.
+/// Reads the entry that `piece` spells, which has no comma. Its last dot separates the class from the field. Returns
+/// `None` if there is no dot, or if the class or the field is empty.
 pub(super) fn entry_of(piece: &str) -> Option<SkipPair<'_>>
     requires { Contains piece.now 44 → ⊥ }
     ensures entry { IfSome result (λ e. IsEntry e × (entry_text e ≡ piece.now)) }

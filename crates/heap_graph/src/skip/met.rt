@@ -37,7 +37,7 @@ impl<'a> Model for DescribedClass<'a> {
 }
 
 impl<'a> DescribedClass<'a> {
-    /// The class whose dump stands at this place.
+    /// Reads the class whose dump is at `at`.
     fn at<A: Allocator>(view: &View<'a>, names: &NamesById<'_, 'a, A>, at: u32) -> Self
         requires names { (records : List Record) × AreNamesByIdOf names.now records }
         requires class { (c : Class) × Stands view.now at (class_dump c) }
@@ -50,7 +50,8 @@ impl<'a> DescribedClass<'a> {
         }
     }
 
-    /// Whether it declares a field of that name. A clone of the fields is an `Err` in no run: it takes no memory.
+    /// Tests whether the class declares a field whose name is `name`. The result is never `Err`: a clone of the fields
+    /// allocates nothing.
     fn has_field<A: Allocator>(
         &self,
         names: &NamesById<'_, '_, A>,
@@ -68,7 +69,7 @@ impl<'a> DescribedClass<'a> {
         Ok(false)
     }
 
-    /// Whether it is the class that an entry names, and declares the entry's field.
+    /// Tests whether `entry` names the class and a field that it declares.
     fn declares<A: Allocator>(
         &self,
         names: &NamesById<'_, '_, A>,
@@ -85,7 +86,7 @@ impl<'a> DescribedClass<'a> {
     }
 }
 
-/// The classes whose dumps stand among the objects at these places.
+/// Returns the classes whose dumps are among the objects at `places`.
 fn described_classes<'a, A: Allocator, B: Allocator>(
     alloc: B,
     view: &View<'a>,
@@ -108,7 +109,7 @@ fn described_classes<'a, A: Allocator, B: Allocator>(
     Ok(classes)
 }
 
-/// Whether one of these classes declares the field of an entry.
+/// Tests whether one of `classes` is named by `entry` and declares its field.
 fn is_met<A: Allocator>(
     names: &NamesById<'_, '_, A>,
     classes: &[DescribedClass<'_>],
@@ -126,7 +127,7 @@ fn is_met<A: Allocator>(
     Ok(false)
 }
 
-/// Of each of these entries, whether the objects at these places have a class that declares its field.
+/// Returns for each of `entries` whether a class among the objects at `places` declares its field.
 fn met_among<B: Allocator + Copy>(
     alloc: B,
     entries: &[SkipPair<'_>],
@@ -149,9 +150,9 @@ fn met_among<B: Allocator + Copy>(
 }
 
 impl<'t, A: Allocator> Skip<'t, A> {
-    /// Of each entry, in the order of the text, whether it names a field of a dump that was read from these bytes: some
-    /// class that a class dump describes has the entry's text and declares a field of its name, of whatever type. A
-    /// static field is none of these.
+    /// Returns for each entry, in the order of the list, whether it names a field of `dump`, which was read from
+    /// `bytes`: a class that a class dump describes is named by the entry and declares a field of the entry's name, of
+    /// whatever type. Static fields do not count.
     pub fn met<B: Allocator + Copy, C: Allocator>(
         &self,
         alloc: B,

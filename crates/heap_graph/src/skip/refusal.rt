@@ -6,9 +6,9 @@ use thiserror::Error;
 /// Why no list of fields was made.
 #[derive(Clone, Copy, Debug, PartialEq, Eq, Error)]
 pub enum SkipRefusal {
-    /// The text is no list of 1 to 64 entries `Class.field` with commas between.
+    /// The text is not a list of 1 to 64 entries `Class.field` separated by commas.
     BadOptions,
-    /// A request for memory was refused.
+    /// An allocation failed.
     OutOfMemory,
 }
 
