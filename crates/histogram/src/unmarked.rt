@@ -1,6 +1,6 @@
 //! The totals of the objects that are not marked.
 
-ghost use Rattle.std.specs.Prelude.{◌≡◌, ◌<◌, ◌≤◌, ◌+◌, ◌*◌, ◌^◌, [], ◌∷◌, IfOk, length, max};
+ghost use Rattle.std.specs.Prelude.{◌≡◌, ◌<◌, ◌+◌, ◌^◌, [], ◌∷◌, IfOk, length};
 ghost use Rattle.std.specs.Thread.{IsSync};
 ghost use Rattle.heap_graph.specs.ObjectGraph.{object_count};
 ghost use Rattle.heap_graph.specs.Whole.{unresolved_among};
