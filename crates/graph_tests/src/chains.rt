@@ -1,9 +1,9 @@
-//! Dumps whose superclasses or whose instances' sizes are wrong.
+//! Dumps in which superclasses or the sizes of instances are wrong.
 
 use crate::faults::Faulty;
 use test_dumps::Sub::{Class, Instance, Objects, Values};
 
-/// Superclasses that are not there, or that never end.
+/// Superclasses that are missing, or that never end.
 pub static CHAINS: [Faulty; 17] = [
     ("a missing superclass", &[Class(0x100, 0x999, &[])], 12, 40),
     (

@@ -12,7 +12,7 @@ use test_dumps::{Bytes, Record, Sub, TWO_OBJECTS};
 /// The name of a heap dump, its sub-records, and the code and the place of its first fault.
 pub type Faulty = (&'static str, &'static [Sub], u8, u64);
 
-/// Identifiers: 0, those that come again, and classes that are not there.
+/// Identifiers that are 0 or repeated, and classes that are missing.
 static IDENTIFIERS: [Faulty; 17] = [
     (
         "a class with ID 0 and a missing superclass",
@@ -136,7 +136,8 @@ static IDENTIFIERS: [Faulty; 17] = [
     ),
 ];
 
-/// The first fault of the two instances with one byte changed: place, byte, code, place of the fault.
+/// The first fault of the dump of two instances with one byte changed: the place of the byte, its new value, and the
+/// code and the place of the fault.
 static CHANGES: [(usize, u8, u8, u64); 5] = [
     (82, 0, 9, 79),
     (152, 1, 10, 148),
@@ -145,7 +146,7 @@ static CHANGES: [(usize, u8, u8, u64); 5] = [
     (126, 5, 13, 127),
 ];
 
-/// The code and the place of the fault that refuses the graph of a whole dump.
+/// Returns the code and the place of the fault for which the dump `bytes` has no graph.
 fn fault_in<T: Threads + Sync>(rt: &T, alloc: Global, bytes: &[u8]) -> Option<(u8, u64)> {
     let skip = Skip::none(alloc);
     let team = Team::new(rt, 4);
@@ -158,7 +159,7 @@ fn fault_in<T: Threads + Sync>(rt: &T, alloc: Global, bytes: &[u8]) -> Option<(u
     }
 }
 
-/// The code and the place of the fault that refuses the graph of a heap dump of these sub-records.
+/// Returns the code and the place of the fault for which a heap dump of `subs` has no graph.
 fn first_fault<T: Threads + Sync>(
     rt: &T,
     alloc: Global,
@@ -179,8 +180,8 @@ fn first_faults(rt: HostRuntime) -> Result<(), Fail> {
     Ok(())
 }
 
-/// The code and the place of the fault of the dump of two instances with the byte at this place changed. None also
-/// where there is no such place.
+/// Returns the code and the place of the fault of the dump of two instances with the byte at `at` changed to `byte`.
+/// Returns `None` also if the dump has no such place.
 fn fault_of_change<T: Threads + Sync>(
     rt: &T,
     alloc: Global,

@@ -1,5 +1,5 @@
-//! Dumps of so many objects that the rules of their links are tested in parts: of faults in several of these the first
-//! in the order of the file is told, also where there is no memory for the parts' answers.
+//! Dumps with so many objects that the rules of the links are tested in parts. If several parts have faults, the first
+//! in the order of the file is reported, even if there is no memory for the results of the parts.
 
 use heap_graph::{Graph, LinkFault, LinkRefusal, Skip};
 use hprof_grammar::{Team, read};
@@ -10,38 +10,38 @@ use std::thread::Threads;
 use test_dumps::Bytes;
 use test_dumps::Sub::{Class, Instance};
 
-/// How many instances there are, behind their class. For a team of four the parts end with the instances 16,499,
-/// 33,000, 49,501 and 65,999.
+/// The number of instances after their class. For a team of four, the parts end with the instances 16,499, 33,000,
+/// 49,501 and 65,999.
 const INSTANCES: u32 = 66_000;
 
 /// The identifier of the class.
 const CLASS: u32 = 0x100;
 
-/// A field of an instance of that number, and another value for it.
+/// A field of the instance with that number, and a new value for it.
 #[derive(Clone, Copy)]
 enum Change {
     Id(u32, u32),
     Class(u32, u32),
 }
 
-/// The identifier of an instance.
+/// Returns the identifier of `instance`.
 fn id_of(instance: u32) -> u32 {
     0x1000u32.saturating_add(instance)
 }
 
-/// The place of the first instance: behind the header, the head of the record, and the class.
+/// The place of the first instance: after the header, the head of the record, and the class.
 const FIRST: u64 = 83;
 
-/// The bytes of an instance: its tag, its identifier, a serial, its class, and the length of its values.
+/// The size in bytes of an instance: its tag, its identifier, a serial, its class, and the length of its values.
 const LENGTH: u64 = 17;
 
-/// The place of an instance.
+/// Returns the place of `instance`.
 fn place_of(instance: u32) -> u64 {
     FIRST + LENGTH * u64::from(instance)
 }
 
 impl Change {
-    /// The place of the field, and its value.
+    /// Returns the place of the field and its new value.
     fn new_field(self) -> (u64, u32) {
         match self {
             Change::Id(instance, id) => (FIRST + 1 + LENGTH * u64::from(instance), id),
@@ -49,7 +49,7 @@ impl Change {
         }
     }
 
-    /// The place of the field, and the value that it had before.
+    /// Returns the place of the field and its original value.
     fn old_field(self) -> (u64, u32) {
         let (place, _) = self.new_field();
         match self {
@@ -59,14 +59,14 @@ impl Change {
     }
 }
 
-/// Puts a number at a place. None where the bytes end before.
+/// Writes `value` at `place`. Returns `None` if the bytes end before that.
 fn put(bytes: &mut [u8], (place, value): (u64, u32)) -> Option<()> {
     let field = bytes.get_mut(place as usize..)?.get_mut(..4)?;
     field.copy_from_slice(&value.to_be_bytes());
     Some(())
 }
 
-/// A class without fields, and its instances.
+/// Returns a class without fields, and its instances.
 fn instances(alloc: Global) -> Result<Bytes, AllocError> {
     let mut heap = Bytes::new(alloc, 4);
     heap.sub(Class(u64::from(CLASS), 0, &[]))?;
@@ -76,7 +76,7 @@ fn instances(alloc: Global) -> Result<Bytes, AllocError> {
     Ok(heap)
 }
 
-/// A dump of these.
+/// Returns a dump of the class and its instances.
 fn dump(alloc: Global) -> Result<Bytes, AllocError> {
     let heap = instances(alloc)?;
     let mut file = Bytes::header(alloc, 4)?;
@@ -84,10 +84,10 @@ fn dump(alloc: Global) -> Result<Bytes, AllocError> {
     Ok(file)
 }
 
-/// How many objects a graph has, or the code and the place of the fault. None where memory is missing.
+/// The number of objects of a graph, or the code and the place of the fault. `None` if out of memory.
 type Answer = Option<Result<u32, (u8, u64)>>;
 
-/// What a team of so many threads answers over this heap.
+/// Returns the result of a team of `threads` threads on `heap`.
 fn answer<T: Threads + Sync, A: Allocator + Copy + Send + Sync>(
     rt: &T,
     alloc: Global,
@@ -105,7 +105,8 @@ fn answer<T: Threads + Sync, A: Allocator + Copy + Send + Sync>(
     }
 }
 
-/// What teams of one thread and of four answer of the dump with these changes. The dump is as before then.
+/// Returns the results of a team of one thread and of a team of four for the dump with `changes`, which are then
+/// undone.
 fn answers<T: Threads + Sync>(
     rt: &T,
     alloc: Global,
@@ -123,12 +124,12 @@ fn answers<T: Threads + Sync>(
     Some((alone, in_parts))
 }
 
-/// Changes, and what is answered: how many objects there are, or the code of the fault and the instance that has it.
+/// Changes and their result: the number of objects, or the code of the fault and the instance that has it.
 type Case = (&'static [Change], Result<u32, (u8, u32)>);
 
 static CASES: [Case; 9] = [
     (&[], Ok(66_001)),
-    // The last of the first part, with a fault in each other part.
+    // The last object of the first part, with a fault in each other part.
     (
         &[
             Change::Class(16_499, 0x999),
@@ -138,7 +139,7 @@ static CASES: [Case; 9] = [
         ],
         Err((11, 16_499)),
     ),
-    // The first of the second part.
+    // The first object of the second part.
     (
         &[
             Change::Id(16_500, 0),
@@ -147,14 +148,14 @@ static CASES: [Case; 9] = [
         ],
         Err((9, 16_500)),
     ),
-    // The last of the third part.
+    // The last object of the third part.
     (
         &[Change::Class(49_501, 0x999), Change::Id(65_999, 0)],
         Err((11, 49_501)),
     ),
-    // The last of all.
+    // The last object of all.
     (&[Change::Id(65_999, 0)], Err((9, 65_999))),
-    // An identifier that an object of another part bears, with faults behind it in its part and in the next ones.
+    // The identifier of an object in another part, with faults after it in its part and in the next ones.
     (
         &[
             Change::Id(30_000, 0x1000),
@@ -164,14 +165,14 @@ static CASES: [Case; 9] = [
         ],
         Err((10, 30_000)),
     ),
-    // One with a fault in the part before.
+    // The identifier of an object in another part, with a fault in the part before.
     (&[Change::Id(2, 0), Change::Id(30_000, 0x1000)], Err((9, 2))),
-    // One in the last part, with a fault in the part before.
+    // A repeated identifier within the last part, with a fault in the part before.
     (
         &[Change::Class(40_000, 0x999), Change::Id(60_001, 0xfa60)],
         Err((11, 40_000)),
     ),
-    // The identifier of the class, borne by the last of all.
+    // The last object of all has the identifier of the class.
     (&[Change::Id(65_999, CLASS)], Err((10, 65_999))),
 ];
 
@@ -189,7 +190,7 @@ fn first_faults_of_parts(rt: HostRuntime) -> Result<(), Fail> {
 /// A class that is missing in the third part, and an identifier that is 0 in the last.
 const THIRD_AND_LAST: [Change; 2] = [Change::Class(40_000, 0x999), Change::Id(60_000, 0)];
 
-/// The dump with these.
+/// Returns the dump with `THIRD_AND_LAST`.
 fn faulty_dump(alloc: Global) -> Result<Option<Bytes>, AllocError> {
     let mut file = dump(alloc)?;
     for change in THIRD_AND_LAST {
@@ -200,14 +201,15 @@ fn faulty_dump(alloc: Global) -> Result<Option<Bytes>, AllocError> {
     Ok(Some(file))
 }
 
-/// How many requests for memory a team of four makes of the dump.
+/// Returns the number of allocations that a team of four makes for the dump `bytes`.
 fn requests_of<T: Threads + Sync>(rt: &T, alloc: Global, bytes: &[u8]) -> u64 {
     let heap = LimitedHeap::new(alloc, u64::MAX);
     let _answer = answer(rt, alloc, &heap, bytes, 4);
     u64::MAX - heap.requests_left()
 }
 
-/// What a team of four answers where so many requests are granted, and how many are refused.
+/// Returns the result of a team of four if only the first `granted` allocations succeed, and the number of those that
+/// failed.
 fn answer_with<T: Threads + Sync>(
     rt: &T,
     alloc: Global,
@@ -219,7 +221,8 @@ fn answer_with<T: Threads + Sync>(
     (answer, heap.refusals())
 }
 
-/// What it answers of that dump where so many of the last requests are refused, and how many are.
+/// Returns, for each number *n* in `last`, the result for the faulty dump if its last *n* allocations fail, and the
+/// number of allocations that failed.
 fn answer_without<T: Threads + Sync>(
     rt: &T,
     alloc: Global,

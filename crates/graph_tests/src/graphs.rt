@@ -8,7 +8,7 @@ use std::test::Fail;
 use std::thread::Threads;
 use test_dumps::Bytes;
 
-/// The graph of a dump that is whole and linked.
+/// Returns the graph of the dump `bytes`, which is whole and linked.
 pub fn graph_of<'a, T: Threads + Sync>(
     rt: &T,
     alloc: Global,
@@ -22,7 +22,7 @@ pub fn graph_of<'a, T: Threads + Sync>(
     Graph::build(&team, alloc, bytes, dump, skip).ok()
 }
 
-/// Whether a walk gives these objects and then none. With each of them fewer identifiers are left, and behind them
+/// Tests whether `walk` yields exactly `objects`. With each object fewer identifiers remain, and after the last call
 /// none.
 pub fn gives<A: Allocator>(walk: Successors<'_, A>, objects: &[u32]) -> bool {
     let mut walk = walk;
@@ -35,7 +35,7 @@ pub fn gives<A: Allocator>(walk: Successors<'_, A>, objects: &[u32]) -> bool {
     walk.next().is_none() && walk.left() == 0 && walk.next().is_none()
 }
 
-/// Whether a visit gives these objects and then none, and has counted so many identifiers that name none.
+/// Tests whether `visit` yields exactly `objects`, and has then counted `unresolved` identifiers that name no object.
 fn visits<A: Allocator>(visit: Visit<'_, A>, objects: &[u32], unresolved: u64) -> bool {
     let mut visit = visit;
     for object in objects {
@@ -46,7 +46,7 @@ fn visits<A: Allocator>(visit: Visit<'_, A>, objects: &[u32], unresolved: u64) -
     visit.next().is_none() && visit.unresolved() == unresolved
 }
 
-/// Whether all that the graph tells of an object is right, and both walks over it are.
+/// Tests whether `graph` returns what is `wanted` of `object`, by a visit, by a walk and by the calls for one property.
 pub fn tells<A: Allocator>(graph: &Graph<'_, A>, object: u32, wanted: &Object<'_>) -> bool {
     if object >= graph.len() {
         return false;
@@ -62,7 +62,7 @@ pub fn tells<A: Allocator>(graph: &Graph<'_, A>, object: u32, wanted: &Object<'_
         && visits(visit, references, unresolved)
 }
 
-/// Whether these are its objects.
+/// Tests whether `objects` are the objects of `graph`.
 fn tells_objects<A: Allocator>(graph: &Graph<'_, A>, objects: &[Object<'_>]) -> bool {
     for object in 0..graph.len() {
         let Some(wanted) = objects.get(object as usize) else {
@@ -75,14 +75,14 @@ fn tells_objects<A: Allocator>(graph: &Graph<'_, A>, objects: &[Object<'_>]) -> 
     graph.len() as usize == objects.len()
 }
 
-/// Whether it tells right of a class.
+/// Tests whether `graph` returns what is `wanted` of `class`.
 fn tells_class<A: Allocator>(graph: &Graph<'_, A>, class: u32, wanted: &ClassRow) -> bool {
     class < graph.classes()
         && graph.class_id(class) == wanted.0
         && graph.class_text(class) == wanted.1
 }
 
-/// Whether these are its classes.
+/// Tests whether `classes` are the classes of `graph`.
 fn tells_classes<A: Allocator>(graph: &Graph<'_, A>, classes: &[ClassRow]) -> bool {
     for class in 0..graph.classes() {
         let Some(wanted) = classes.get(class as usize) else {
@@ -95,7 +95,7 @@ fn tells_classes<A: Allocator>(graph: &Graph<'_, A>, classes: &[ClassRow]) -> bo
     graph.classes() as usize == classes.len()
 }
 
-/// How many identifiers other than 0 these objects hold that name no object.
+/// Returns the number of identifiers other than 0 that `objects` hold and that name no object.
 fn missing_of(objects: &[Object<'_>]) -> u64 {
     let mut missing = 0u64;
     for object in objects {
@@ -104,7 +104,7 @@ fn missing_of(objects: &[Object<'_>]) -> u64 {
     missing
 }
 
-/// Whether the graph is the worked one.
+/// Tests whether `graph` is that of `worked`.
 pub fn is_worked<A: Allocator>(graph: &Graph<'_, A>, worked: &Worked) -> bool {
     let unresolved = graph
         .unresolved()

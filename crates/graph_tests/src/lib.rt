@@ -1,12 +1,13 @@
-//! Tests of `heap_graph`, in a crate of their own: so that crate is proved once, and not once more with its tests. They
-//! ask what callers may ask. The crate has nothing to hand out.
+//! Tests of `heap_graph`, in a crate of their own, so that `heap_graph` is not proved again together with its tests.
+//! They use only its public calls. The crate exports nothing.
 //!
-//! `worked` has dumps with the graphs that they have to give, `skipped` those of which some fields are not followed,
-//! `chains` and `faults` dumps that are not linked, with the first fault of each, `faults_in_parts` large ones,
-//! `gathered` small ones that are gathered in parts all the same. `graphs` asks a graph all that it tells, `walks` what
-//! is left of a walk, `kinds` what a visit is by the kind of its object, `memory` refuses each request in turn. `skips`
-//! holds the texts that are lists of fields, `met` which of their entries a dump meets (`refused` refuses the requests
-//! of both), `texts` how a refusal is shown, `sizes` how large a visit is.
+//! `worked` has dumps with their expected graphs, and `skipped` has dumps of which some fields are not followed.
+//! `chains` and `faults` have dumps that are not linked, with the first fault of each; `faults_in_parts` has large
+//! ones, and `gathered` small ones that are nevertheless gathered in parts. `graphs` calls everything that a graph
+//! offers, `walks` tests the number of remaining identifiers of a walk, `kinds` a visit by the kind of its object.
+//! `memory` lets each allocation fail in turn. `skips` has texts that are lists of fields, `met` the entries that name
+//! a field of a dump; `refused` lets the allocations of both fail. `texts` tests the texts of refusals, and `sizes` the
+//! size of a visit.
 
 #![tactic(auto)]
 

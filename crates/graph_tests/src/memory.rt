@@ -1,5 +1,5 @@
-//! Want of memory: of the requests of `read` and `build` each is refused in turn, with all behind it and alone. And
-//! asking a graph makes none.
+//! Out of memory: each allocation of `read` and `build` fails in turn, with all after it and as the only one. The calls
+//! on a graph allocate nothing.
 
 use crate::graphs::{is_worked, tells};
 use crate::skipped::SKIPPED;
@@ -14,10 +14,10 @@ use std::thread::Threads;
 use test_dumps::Sub::{Class, Instance};
 use test_dumps::{Bytes, Record};
 
-/// More requests than any call here makes.
+/// More allocations than any call here makes.
 const MANY_REQUESTS: u64 = 512;
 
-/// Reads a dump that is whole, and builds its graph.
+/// Reads a whole dump, and builds its graph.
 fn build<'a, T: Threads + Sync, A: Allocator + Copy + Send + Sync>(
     rt: &T,
     heap: A,
@@ -31,7 +31,7 @@ fn build<'a, T: Threads + Sync, A: Allocator + Copy + Send + Sync>(
     Graph::build(&team, heap, bytes, dump, skip)
 }
 
-/// How many requests it makes.
+/// Returns the number of allocations that `build` makes.
 fn requests_to_build<T: Threads + Sync>(
     rt: &T,
     alloc: Global,
@@ -43,14 +43,14 @@ fn requests_to_build<T: Threads + Sync>(
     u64::MAX - heap.requests_left()
 }
 
-/// What is to come of a dump: the worked graph, or a fault of this code at this place.
+/// The expected result for a dump: the worked graph, or the fault with that code at that place.
 #[derive(Drop)]
 enum Wanted<'a> {
     Graph(&'a Worked),
     Fault(u8, u64),
 }
 
-/// Whether it is this graph.
+/// Tests whether `graph` is what is `wanted`.
 fn is_graph<A: Allocator>(wanted: &Wanted<'_>, graph: &Graph<'_, A>) -> bool {
     match wanted {
         Wanted::Graph(worked) => is_worked(graph, worked),
@@ -58,7 +58,7 @@ fn is_graph<A: Allocator>(wanted: &Wanted<'_>, graph: &Graph<'_, A>) -> bool {
     }
 }
 
-/// Whether it is this refusal, or want of memory where so many requests were refused.
+/// Tests whether `refusal` is what is `wanted`, or is out of memory with `refusals` above 0.
 fn is_refusal(wanted: &Wanted<'_>, refusal: LinkRefusal, refusals: u64) -> bool {
     match (refusal, wanted) {
         (LinkRefusal::Fault(LinkFault { code, offset }), Wanted::Fault(fault, place)) => {
@@ -69,7 +69,7 @@ fn is_refusal(wanted: &Wanted<'_>, refusal: LinkRefusal, refusals: u64) -> bool 
     }
 }
 
-/// Whether that, or want of memory, comes over this heap.
+/// Tests whether the result on `heap` is what is `wanted`, or is out of memory after an allocation failed.
 fn comes<T: Threads + Sync>(
     rt: &T,
     heap: &LimitedHeap<Global>,
@@ -83,7 +83,8 @@ fn comes<T: Threads + Sync>(
     }
 }
 
-/// With how many requests it comes, where each of them was refused before, with all behind it or alone.
+/// Lets each allocation fail in turn: as the only one if `alone` is set, otherwise with all after it. Returns the
+/// number of allocations if each result is right, or else `None`.
 fn requests_with<T: Threads + Sync>(
     rt: &T,
     alloc: Global,
@@ -107,8 +108,8 @@ fn requests_with<T: Threads + Sync>(
     None
 }
 
-/// With how many requests it comes, where that number is the same with all behind a request refused and with each
-/// alone.
+/// Lets each allocation fail in turn, with all after it and as the only one. Returns the number of allocations if each
+/// result is right and the number is the same both ways.
 fn requests_until<T: Threads + Sync>(
     rt: &T,
     alloc: Global,
@@ -123,8 +124,8 @@ fn requests_until<T: Threads + Sync>(
     requests
 }
 
-/// Whether each answer is right, and the whole one comes with the requests that it takes to build the graph: none is
-/// made to ask it, and each would be refused.
+/// Tests whether each result is right while the allocations fail in turn, and whether the allocations are just those
+/// that build the graph: the calls on the graph make none.
 fn is_right_in_turn<T: Threads + Sync>(
     rt: &T,
     alloc: Global,
@@ -137,7 +138,7 @@ fn is_right_in_turn<T: Threads + Sync>(
     requests > 0 && requests_until(rt, alloc, bytes, skip, &wanted) == Some(requests)
 }
 
-/// Whether they are right of a worked dump.
+/// Tests whether this holds for the dump of `worked`.
 fn is_right_of<T: Threads + Sync>(
     rt: &T,
     alloc: Global,
@@ -148,7 +149,7 @@ fn is_right_of<T: Threads + Sync>(
     Ok(is_right_in_turn(rt, alloc, &file.bytes, worked, skip))
 }
 
-/// Whether they are without the fields of a list.
+/// Tests whether this holds for the dump of `worked` if the fields of `list` are not followed.
 fn is_right_without<T: Threads + Sync>(
     rt: &T,
     alloc: Global,
@@ -184,7 +185,8 @@ static TOO_SHORT: [Record; 1] = [Record::Heap(&[
     Instance(0x201, 0x110, &[0; 4]),
 ])];
 
-/// How many requests it takes to find the fault of the dump of an instance that is too short.
+/// Returns the number of allocations that it takes to find the fault of `TOO_SHORT`, if each result is right while they
+/// fail in turn.
 fn requests_to_refuse_short<T: Threads + Sync>(
     rt: &T,
     alloc: Global,
@@ -201,7 +203,7 @@ fn a_fault_or_want_of_memory(rt: HostRuntime) -> Result<(), Fail> {
     Ok(())
 }
 
-/// Whether the array is walked right, and its row and its bytes are told, over this heap.
+/// Tests whether the graph that is built on `heap` has the array with `elements`, its row and its bytes.
 fn walks_over<T: Threads + Sync>(
     rt: &T,
     heap: &LimitedHeap<Global>,
@@ -215,8 +217,8 @@ fn walks_over<T: Threads + Sync>(
     }
 }
 
-/// Whether the array is walked right over a heap that grants just the requests that it takes to build the graph; how
-/// many it then has left and has refused.
+/// Tests the walk over the array on a heap that grants just the allocations that it takes to build the graph. Returns
+/// whether it is right, and the numbers of allocations that remain and that failed.
 fn walked<T: Threads + Sync>(
     rt: &T,
     alloc: Global,
@@ -229,8 +231,8 @@ fn walked<T: Threads + Sync>(
     (right, heap.requests_left(), heap.refusals())
 }
 
-/// Whether a long array is walked right over the requests that it takes to build its graph; how many are then left, and
-/// were refused.
+/// Tests the walk over a long array with just the allocations that it takes to build its graph. Returns whether it is
+/// right, and the numbers of allocations that remain and that failed.
 fn walked_long<T: Threads + Sync>(rt: &T, alloc: Global) -> Result<(bool, u64, u64), AllocError> {
     let file = long_array(alloc)?;
     let mut elements = vec![in alloc; 2u32; MANY + 1]?;

@@ -1,4 +1,4 @@
-//! Which entries of a list name a field of a dump, and that each request for memory may be refused.
+//! Which entries of a list name a field of a dump, and that each allocation may fail.
 
 use heap_graph::Skip;
 use hprof_grammar::{Team, read};
@@ -9,11 +9,11 @@ use test_dumps::Record::{Heap, Load, Text};
 use test_dumps::Sub::{Instance, Named, Root, Static};
 use test_dumps::{Bytes, Record};
 
-/// More requests than any call here makes.
+/// More allocations than any call here makes.
 const MANY: u64 = 512;
 
-/// A class `S` and below it two of the name `T`; a class `V` with a static field `f`; a class that is loaded again as
-/// `U`, with a second string for its field's name; one that is not loaded; and one whose string is missing.
+/// A class `S`, and two classes named `T` below it; a class `V` with a static field `f`; a class that is loaded again
+/// as `U`, with a second string for its field's name; a class that is not loaded; and a class whose string is missing.
 const CLASSES: &[Record] = &[
     Text(1, b"S"),
     Text(2, b"f"),
@@ -44,7 +44,7 @@ const CLASSES: &[Record] = &[
     ]),
 ];
 
-/// Lists, and which of their entries are met.
+/// Lists, and for each entry whether it is met.
 static LISTS: [(&str, &[bool]); 7] = [
     ("S.f", &[true]),
     ("S.f,T.count,T.next", &[true, true, true]),
@@ -58,7 +58,7 @@ static LISTS: [(&str, &[bool]); 7] = [
     ("T.count,T.f,T.count", &[true, false, true]),
 ];
 
-/// Whether these entries are met by the dump of these bytes.
+/// Tests whether the entries of `list` are met by the dump `bytes` as in `want`.
 fn is_met<T: Threads + Sync>(
     rt: &T,
     alloc: Global,
@@ -76,7 +76,7 @@ fn is_met<T: Threads + Sync>(
     }
 }
 
-/// Whether they are met by these classes.
+/// Tests whether the entries of `list` are met by `CLASSES` as in `want`.
 fn is_met_by_classes<T: Threads + Sync>(rt: &T, alloc: Global, list: &str, want: &[bool]) -> bool {
     match Bytes::dump(alloc, 4, CLASSES) {
         Ok(dump) => is_met(rt, alloc, dump.bytes.as_slice(), list, want),
@@ -91,7 +91,8 @@ fn entries_are_met(rt: HostRuntime) {
     }
 }
 
-/// Whether the list and the dump, read over this heap, answer that, or want of memory where a request was refused.
+/// Tests whether the list and the dump, both read on `heap`, result in `want`, or in out of memory after an allocation
+/// failed.
 fn is_answered<T: Threads + Sync>(
     rt: &T,
     heap: &LimitedHeap<Global>,
@@ -109,7 +110,8 @@ fn is_answered<T: Threads + Sync>(
     }
 }
 
-/// With how many requests they answer, where each of them was refused before, with all behind it or alone.
+/// Lets each allocation fail in turn: as the only one if `alone` is set, otherwise with all after it. Returns the
+/// number of allocations if each result is right, or else `None`.
 fn requests_to_answer<T: Threads + Sync>(
     rt: &T,
     alloc: Global,

@@ -1,19 +1,19 @@
-//! Memory that is refused at each request of a call in turn: with all behind it, and alone.
+//! Lets each allocation of a call fail in turn: with all after it, and as the only one.
 
 use limited_heap::LimitedHeap;
 use std::alloc::Global;
 
-/// More requests than any call here makes.
+/// More allocations than any call here makes.
 const MANY: u64 = 512;
 
-/// A call that takes memory.
+/// A call that allocates.
 pub trait Call {
-    /// Whether the answer over this heap is right: the whole one, or want of memory where a request was refused.
+    /// Tests whether the result on `heap` is right: the complete one, or out of memory after an allocation failed.
     fn is_right(&self, heap: &LimitedHeap<Global>) -> bool;
 }
 
-/// With how many requests the call is answered, where each of them was refused before, with all behind it or alone, and
-/// each answer was right.
+/// Lets each allocation of `call` fail in turn: as the only one if `alone` is set, otherwise with all after it. Returns
+/// the number of allocations if each result is right, or else `None`.
 fn answered_with<C: Call>(alloc: Global, call: &C, alone: bool) -> Option<u64> {
     for request in 0..MANY {
         let heap = match alone {
@@ -30,8 +30,8 @@ fn answered_with<C: Call>(alloc: Global, call: &C, alone: bool) -> Option<u64> {
     None
 }
 
-/// With how many requests the call is answered, where that number is the same with all behind a request refused and
-/// with each alone, and each answer was right.
+/// Lets each allocation of `call` fail in turn, with all after it and as the only one. Returns the number of
+/// allocations if each result is right and the number is the same both ways.
 pub fn requests_of<C: Call>(alloc: Global, call: &C) -> Option<u64> {
     let requests = answered_with(alloc, call, false);
     if answered_with(alloc, call, true) != requests {

@@ -7,7 +7,7 @@ use test_dumps::Record::{Heap, Load, Text};
 use test_dumps::Sub::{Instance, Named, Root, Whole};
 use test_dumps::{ClassParts, Record};
 
-/// What each list makes of `REFERENCES`.
+/// The parts of the graph of `REFERENCES` that are the same for each list.
 const REFERENCE: Worked = Worked {
     name: "",
     id_size: 4,
@@ -21,8 +21,8 @@ const REFERENCE: Worked = Worked {
     unresolved: 0,
 };
 
-/// Two classes, of which each field could be the other's if the names were one text: class `a` with a field `b.c`, and
-/// class `a.b` with a field `c`.
+/// Two classes whose fields could be confused if the two names were one text: class `a` with a field `b.c`, and class
+/// `a.b` with a field `c`.
 const DOTS: &[Record] = &[
     Text(1, b"a"),
     Text(2, b"b.c"),
@@ -59,7 +59,7 @@ const LACKING: &[Record] = &[
     ]),
 ];
 
-/// What each list makes of it.
+/// The parts of the graph of `LACKING` that are the same for each list.
 const NAMES_LACKING: Worked = Worked {
     name: "",
     id_size: 4,
@@ -70,7 +70,7 @@ const NAMES_LACKING: Worked = Worked {
     unresolved: 0,
 };
 
-/// Lists of fields, and what each makes of a dump.
+/// Lists of fields, each with the graph of a dump in which they are not followed.
 pub static SKIPPED: [(&str, Worked); 9] = [
     (
         "T.other",

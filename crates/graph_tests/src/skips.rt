@@ -1,4 +1,4 @@
-//! The texts that are lists of fields, and those that are none.
+//! Texts that are lists of fields, and texts that are not.
 
 use crate::refused::{Call, requests_of};
 use heap_graph::{Skip, SkipRefusal};
@@ -27,7 +27,7 @@ static LISTS: [(&str, &[Names]); 8] = [
     ),
 ];
 
-/// Texts that are no list.
+/// Texts that are not lists.
 static OTHERS: [&str; 13] = [
     "referent",
     "T.",
@@ -44,7 +44,7 @@ static OTHERS: [&str; 13] = [
     "a.b,c.d,.f",
 ];
 
-/// Whether the list has these entries.
+/// Tests whether `skip` has the entries `names`.
 fn has_entries<A: Allocator>(skip: &Skip<'_, A>, names: &[Names]) -> bool {
     for (pair, (class, field)) in skip.pairs().iter().zip(names) {
         if pair.class() != class.as_bytes() || pair.field() != field.as_bytes() {
@@ -54,7 +54,7 @@ fn has_entries<A: Allocator>(skip: &Skip<'_, A>, names: &[Names]) -> bool {
     skip.pairs().len() == names.len()
 }
 
-/// Whether the text is read as a list of these entries, or how it is refused.
+/// Tests whether `text` is read as a list of the entries `names`. `Err` says how it is refused.
 fn read_as(alloc: Global, text: &str, names: &[Names]) -> Result<bool, SkipRefusal> {
     let skip = Skip::new(alloc, text)?;
     Ok(has_entries(&skip, names))
@@ -72,7 +72,7 @@ fn lists_of_fields(rt: HostRuntime) -> Result<(), Fail> {
     Ok(())
 }
 
-/// So many entries of different names.
+/// Returns the text of a list of `entries` entries with different names.
 fn list_of(alloc: Global, entries: u32) -> Result<String, AllocError> {
     let mut text = format!(in alloc; "Class.field")?;
     for number in 1..entries {
@@ -81,7 +81,7 @@ fn list_of(alloc: Global, entries: u32) -> Result<String, AllocError> {
     Ok(text)
 }
 
-/// Whether this is the last entry of a list.
+/// Tests whether the last entry of `skip` is `field` of `class`.
 fn ends_with<A: Allocator>(skip: &Skip<'_, A>, class: &[u8], field: &[u8]) -> bool {
     match skip.pairs().last() {
         Some(last) => last.class() == class && last.field() == field,
@@ -89,7 +89,7 @@ fn ends_with<A: Allocator>(skip: &Skip<'_, A>, class: &[u8], field: &[u8]) -> bo
     }
 }
 
-/// How many entries are read of a list of so many, and whether the last one is the last of 64.
+/// Reads a list of `entries` entries. Returns the number of entries read, and whether the last is the last of 64.
 fn read_of(alloc: Global, entries: u32) -> Result<(usize, bool), SkipRefusal> {
     let Ok(text) = list_of(alloc, entries) else {
         return Err(SkipRefusal::OutOfMemory);
@@ -104,7 +104,7 @@ fn at_most_64_entries(rt: HostRuntime) {
     assert_eq!(rt; read_of(rt.alloc(), 65), Err(SkipRefusal::BadOptions));
 }
 
-/// Reads a list of so many entries.
+/// Reads a list of `entries` entries.
 #[derive(Drop)]
 struct Reading<'a> {
     text: &'a str,
@@ -120,12 +120,14 @@ impl Call for Reading<'_> {
     }
 }
 
-/// How many requests it takes to read it, where each of them was refused before.
+/// Returns the number of allocations that it takes to read `text`, a list of `entries` entries, if each result is right
+/// while they fail in turn.
 fn requests_to_read(alloc: Global, text: &str, entries: usize) -> Option<u64> {
     requests_of(alloc, &Reading { text, entries })
 }
 
-/// How many requests it takes to read a list of 64 entries, where each of them was refused before.
+/// Returns the number of allocations that it takes to read a list of 64 entries, if each result is right while they
+/// fail in turn.
 fn requests_to_read_most(alloc: Global) -> Result<Option<u64>, AllocError> {
     let text = list_of(alloc, 64)?;
     Ok(requests_to_read(alloc, &text, 64))
@@ -134,7 +136,7 @@ fn requests_to_read_most(alloc: Global) -> Result<Option<u64>, AllocError> {
 #[test]
 fn memory_refused_in_turn(rt: HostRuntime) -> Result<(), Fail> {
     let alloc = rt.alloc();
-    // room for 4 entries, and for twice as many each time
+    // room for 4 entries, doubled each time
     let requests = (
         requests_to_read(alloc, "T.f,U.g", 2),
         requests_to_read_most(alloc)?,
@@ -143,7 +145,7 @@ fn memory_refused_in_turn(rt: HostRuntime) -> Result<(), Fail> {
     Ok(())
 }
 
-/// Whether the list of no field is empty.
+/// Tests whether the empty list has no entries.
 fn none_is_empty<A: Allocator>(alloc: A) -> bool {
     Skip::none(alloc).pairs().is_empty()
 }

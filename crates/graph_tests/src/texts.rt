@@ -1,11 +1,11 @@
-//! How the refusals are shown.
+//! The texts of the refusals.
 
 use heap_graph::{LinkFault, LinkRefusal, SkipRefusal};
 use std::alloc::{AllocError, Global};
 use std::fmt;
 use std::test::Fail;
 
-/// Whether a refusal is shown so.
+/// Tests whether the text of `refusal` is `text`.
 fn is_shown<T: fmt::Display>(alloc: Global, refusal: &T, text: &str) -> Result<bool, AllocError> {
     let shown = format!(in alloc; "{refusal}")?;
     Ok(shown.as_str() == text)

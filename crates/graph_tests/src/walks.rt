@@ -9,8 +9,8 @@ use std::thread::Threads;
 use test_dumps::Sub::{Class, Instance, Root};
 use test_dumps::{Bytes, Record, TWO_OBJECTS};
 
-/// A dump by its name, an object of it, and how many of its identifiers are left: at first, and after each call of
-/// `next` up to the one that gives none.
+/// A dump by its name, an object of it, and the numbers of remaining identifiers: at first, and after each call of
+/// `next` up to the first that returns `None`.
 type Walk = (&'static str, u32, &'static [u64]);
 
 static WALKS: [Walk; 7] = [
@@ -51,12 +51,12 @@ static WALKS: [Walk; 7] = [
     ),
 ];
 
-/// How many identifiers are left before a call of `next`, and whether it gives an object.
+/// Returns the number of remaining identifiers before a call of `next`, and whether that returns an object.
 fn next_of<A: Allocator>(walk: &mut Successors<'_, A>) -> (u64, bool) {
     (walk.left(), walk.next().is_some())
 }
 
-/// Whether so many identifiers are left, call by call: the last two calls give none.
+/// Tests whether the numbers of remaining identifiers are `left`, call by call. The last two calls return `None`.
 fn leaves<A: Allocator>(walk: Successors<'_, A>, left: &[u64]) -> bool {
     let mut walk = walk;
     let objects = left.len().saturating_sub(2);
@@ -68,7 +68,7 @@ fn leaves<A: Allocator>(walk: Successors<'_, A>, left: &[u64]) -> bool {
     true
 }
 
-/// Whether they are in an object of that dump.
+/// Tests whether the numbers of remaining identifiers of `object` are `left`, in the dump of `worked`.
 fn leaves_in<T: Threads + Sync>(
     rt: &T,
     alloc: Global,
@@ -99,10 +99,10 @@ fn identifiers_left(rt: HostRuntime) -> Result<(), Fail> {
     Ok(())
 }
 
-/// The elements of a long array.
+/// The number of elements of a long array.
 pub const MANY: usize = 100_000;
 
-/// Adds two instances, and an array that has the second of them as each of its elements.
+/// Adds two instances, and an array with the second of them as each element.
 fn add_long(alloc: Global, heap: &mut Bytes) -> Result<(), AllocError> {
     let elements = vec![in alloc; 0x202u64; MANY]?;
     heap.subs(&[
@@ -114,7 +114,7 @@ fn add_long(alloc: Global, heap: &mut Bytes) -> Result<(), AllocError> {
     heap.subs(&[Root(0x201), Root(0x203)])
 }
 
-/// A dump of these.
+/// Returns a dump with the long array.
 pub fn long_array(alloc: Global) -> Result<Bytes, AllocError> {
     let mut heap = Bytes::new(alloc, 4);
     add_long(alloc, &mut heap)?;
@@ -123,7 +123,7 @@ pub fn long_array(alloc: Global) -> Result<Bytes, AllocError> {
     Ok(file)
 }
 
-/// An instance of a class that declares a field of the name that its superclass's field has, in `java/lang/ref`.
+/// Instances of a class that declares a field with the same name as its superclass's field, in `java/lang/ref`.
 pub const REFERENCES: &[Record] = &[
     Record::Text(1, b"java/lang/ref/Reference"),
     Record::Text(2, b"referent"),
@@ -140,14 +140,15 @@ pub const REFERENCES: &[Record] = &[
     ]),
 ];
 
-/// A list, how many identifiers object 0x201 holds, and how many of those of 0x203 name no object.
+/// A list, the number of identifiers that object 0x201 holds, and the number of those of 0x203 that name no object.
 const SKIPS: [(&str, u64, u64); 3] = [
     ("T.other", 3, 1),
     ("T.referent", 2, 1),
     ("java/lang/ref/Reference.referent", 2, 0),
 ];
 
-/// Whether so many are left without the fields of a list.
+/// Tests whether object 0x201 holds `left` identifiers if the fields of `list` are not followed, and `unresolved` of
+/// those of object 0x203 name no object.
 fn leaves_without<T: Threads + Sync>(
     rt: &T,
     alloc: Global,

@@ -1,11 +1,12 @@
-//! Dumps with the graphs that they have to give.
+//! Dumps with their expected graphs.
 
 use heap_graph::RowKey;
 use test_dumps::Record::{Heap, Load, Text};
 use test_dumps::Sub::{Class, Instance, Objects, Root, Static, Values, Whole};
 use test_dumps::{ClassParts, Record, TWO_OBJECTS};
 
-/// What an object refers to, its row, its bytes, and how many identifiers other than 0 that it holds name no object.
+/// The objects that an object refers to, its row, its bytes, and the number of identifiers other than 0 that it holds
+/// and that name no object.
 pub type Object<'a> = (&'a [u32], RowKey, u64, u64);
 
 /// The identifier and the text of a class.
@@ -19,7 +20,7 @@ pub struct Worked {
     pub roots: &'static [u32],
     pub objects: &'static [Object<'static>],
     pub classes: &'static [ClassRow],
-    /// How many identifiers other than 0, in all objects and in roots, name no object.
+    /// The number of identifiers other than 0, in all objects and in roots, that name no object.
     pub unresolved: u64,
 }
 

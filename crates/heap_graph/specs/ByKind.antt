@@ -1,10 +1,10 @@
--- A visit that is taken apart by where the identifiers of the object stand.
+-- A visit that is split by where the identifiers of the object are.
 use Rattle.std.specs.Prelude.{Option, option_to_list, ℕ, ◌+◌, ◌++◌, ◌≡◌}
 use Rattle.heap_graph.specs.declared.visit.ByKind.{ByKind}
 use Rattle.heap_graph.specs.declared.visit.ByKind.TheVariants as kinds
 use Rattle.heap_graph.specs.Walks.{Visited, references_left, unresolved_left}
 
--- the class of an object, where it is known, and a visit of what is behind it
+-- the class of an object, if it is known, and a visit of the identifiers after it
 pub record IsBehind (whole : Visited) (class : Option ℕ) (rest : Visited) : Type 0 where
   pub row_is : rest.row ≡ whole.row
   pub bytes_is : rest.bytes ≡ whole.bytes

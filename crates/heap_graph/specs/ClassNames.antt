@@ -1,9 +1,9 @@
--- The names of classes. Where an identifier comes again among the strings or the loaded classes, the first one counts.
+-- The names of classes. If several strings or several loaded classes have the same identifier, the first one counts.
 use Rattle.std.specs.Prelude.{List, None, Option, Some, [], if◌then◌else◌, option_and_then, ℕ, ◌==◌, ◌∷◌}
 use Rattle.hprof_grammar.specs.Record.{Record}
 use Rattle.hprof_grammar.specs.Record.Record.{load_class, string}
 
--- the text of the string
+-- the text of the string with that identifier
 abbrev pub string_named : List Record → ℕ → Option (List ℕ)
 string_named [] id = None
 string_named (string time i text ∷ rest) id = if i == id then Some text else string_named rest id
@@ -15,6 +15,7 @@ name_of [] id = None
 name_of (load_class time serial class stack name ∷ rest) id = if class == id then Some name else name_of rest id
 name_of (r ∷ rest) id = name_of rest id
 
--- The text that names a class. There is none where no class of that identifier is loaded, or no such string is there.
+-- The text that names a class: `None` if no class with that identifier is loaded, or if the string of its name is
+-- missing.
 abbrev pub class_text : List Record → ℕ → Option (List ℕ)
 class_text records id = option_and_then (string_named records) (name_of records id)

@@ -4,7 +4,7 @@ use Rattle.byteorder.specs.Endian.{big_number}
 use Rattle.hprof_grammar.specs.SubRecord.{Class, Member}
 use Rattle.hprof_grammar.specs.TagsAndTypes.{size_of}
 
--- the fields that a class declares, each beside the class, and those of a layout
+-- the fields that a class declares, each paired with the class, and those of a layout
 abbrev pub own_fields : Class → List (Class × Member)
 own_fields c = map (λ m. (c, m)) c.members
 
@@ -19,7 +19,8 @@ field_ids skips s (f ∷ fs) values =
     (if not (skips f.0 f.1) && (f.1.type == 2) then big_number s (take s values) ∷ [] else [])
     ++ field_ids skips s fs (drop (size_of s f.1.type) values)
 
--- Those in all fields of type 2, told without the classes that declare them: what the others are where none is skipped.
+-- The identifiers in all fields of type 2, for fields without the classes that declare them: what `field_ids` is if no
+-- field is skipped.
 abbrev pub all_field_ids : ℕ → List Member → List ℕ → List ℕ
 all_field_ids s [] values = []
 all_field_ids s (m ∷ ms) values =

@@ -7,11 +7,11 @@ use Rattle.hprof_grammar.specs.SubRecord.{Class, SubRecord}
 use Rattle.hprof_grammar.specs.SubRecord.SubRecord.{class_dump}
 pub use Rattle.hprof_grammar.specs.Dump.{heap_of, id_of}
 
--- The sub-records that describe objects, in order. An object's number is its place here.
+-- The sub-records that describe objects, in order. An object's number is its position here.
 abbrev pub objects : List SubRecord → List SubRecord
 objects heap = filter is_object heap
 
--- An identifier names the first object that bears it, whatever its kind: the number of that object.
+-- The number of the object that an identifier names: the first one that bears it, of whatever kind.
 abbrev pub number_named : List SubRecord → ℕ → Option ℕ
 number_named heap id = position (λ o. id_of o == id) (objects heap)
 
@@ -22,14 +22,14 @@ abbrev pub as_class : SubRecord → Option Class
 as_class (class_dump c) = Some c
 as_class o = None
 
--- The class that an identifier names: it names an object, and that is a class dump. Identifier 0 names none.
+-- The class that an identifier names: it names an object, and that object is a class dump. Identifier 0 names none.
 abbrev pub class_named : List SubRecord → ℕ → Option Class
 class_named heap id = if id == 0 then None else option_and_then as_class (object_named heap id)
 
--- The class dumps in their order. A class's number is its place here.
+-- The class dumps in their order. A class's number is its position here.
 abbrev pub class_dumps : List SubRecord → List Class
 class_dumps heap = filter_map as_class heap
 
--- the number of the class of that identifier
+-- the number of the class with that identifier
 abbrev pub class_number : List SubRecord → ℕ → ℕ
 class_number heap id = position_or_len (λ c. c.object == id) (class_dumps heap)

@@ -4,12 +4,12 @@ use Rattle.heap_graph.specs.Heap.{class_named}
 use Rattle.hprof_grammar.specs.TagsAndTypes.{size_of}
 use Rattle.hprof_grammar.specs.SubRecord.{Class, Member, SubRecord}
 
--- these are the class of that identifier, its superclass, and so on up
+-- the classes are the one that `id` names, its superclass, and so on up
 abbrev pub IsLine : List SubRecord → ℕ → List Class → Type 0
 IsLine heap id [] = Unit {0}
 IsLine heap id (c ∷ cs) = (class_named heap id ≡ Some c) × IsLine heap c.super cs
 
--- and the last of them has no superclass
+-- the same, and the last of them has no superclass
 abbrev pub IsChain : List SubRecord → ℕ → List Class → Type 0
 IsChain heap id [] = id ≡ 0
 IsChain heap id (c ∷ cs) = (class_named heap id ≡ Some c) × IsChain heap c.super cs

@@ -19,18 +19,18 @@ code_of SuperChain = 12
 code_of InstanceSize = 13
 code_of TooLarge = 14
 
--- this is the rule of the least code that the object breaks
+-- the rule is the one with the least code among those that object `n` breaks
 pub record IsLeastFault (s : ℕ) (heap : List SubRecord) (n : ℕ) (rule : LinkRule) : Type 0 where
   pub fails : Fails s heap n rule
   pub least : (other : LinkRule) → Fails s heap n other → code_of rule ≤ code_of other
 
--- and no object before it breaks one
+-- the same, and no object before it breaks a rule
 pub record IsFirstFault (s : ℕ) (heap : List SubRecord) (n : ℕ) (rule : LinkRule) : Type 0 where
   pub here : IsLeastFault s heap n rule
   pub first : (before : ℕ) (other : LinkRule) → before < n → Fails s heap before other → ⊥
 
--- The text spells a dump with an orderly list of records, whose objects are not linked: the code of the first fault,
--- and the place of that object's sub-record.
+-- The text spells a dump with an orderly list of records, but its objects are not linked. `code` is the code of the
+-- first fault, and `place` is the place of the sub-record of the object that has it.
 pub record HasLinkFault (text : List ℕ) (code place : ℕ) : Type 0 where
   pub id_size : ℕ
   pub records : List Record

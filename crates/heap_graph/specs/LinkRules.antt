@@ -12,13 +12,13 @@ use Rattle.heap_graph.specs.declared.rule.LinkRule.TheVariants.{UnknownClass, Ze
 abbrev pub most_objects : ℕ
 most_objects = 16777216
 
--- an instance or object array whose class is not there
+-- an instance or object array whose class is missing
 abbrev pub LacksClass : List SubRecord → SubRecord → Type 0
 LacksClass heap (instance_dump i) = class_named heap i.class ≡ None
 LacksClass heap (object_array_dump a) = class_named heap a.class ≡ None
 LacksClass heap o = ⊥
 
--- a class whose superclass is not there, or whose superclasses never end
+-- a class whose superclass is missing, or whose superclasses never end
 abbrev pub HasBadChain : List SubRecord → SubRecord → Type 0
 HasBadChain heap (class_dump c) = IsBadSuper heap c.super
 HasBadChain heap o = ⊥
@@ -29,7 +29,7 @@ HasWrongSize s heap (instance_dump i) = (chain : List Class) × IsChain heap i.c
     × (length i.values ≢ layout_size s chain)
 HasWrongSize s heap o = ⊥
 
--- Object number n of the heap list breaks a rule.
+-- Object number `n` of the heap list, which is `o`, breaks the rule.
 abbrev pub Breaks : ℕ → List SubRecord → ℕ → SubRecord → LinkRule → Type 0
 Breaks s heap n o ZeroObject = id_of o ≡ 0
 Breaks s heap n o DuplicateObject = Contains (take n (map id_of (objects heap))) (id_of o)
@@ -41,6 +41,6 @@ Breaks s heap n o TooLarge = most_objects ≤ n
 abbrev pub Fails : ℕ → List SubRecord → ℕ → LinkRule → Type 0
 Fails s heap n rule = (o : SubRecord) × (slice_get (objects heap) n ≡ Some o) × Breaks s heap n o rule
 
--- A heap list is linked where no object breaks a rule.
+-- A heap list is linked if no object breaks a rule.
 abbrev pub IsLinked : ℕ → List SubRecord → Type 0
 IsLinked s heap = (n : ℕ) (rule : LinkRule) → Fails s heap n rule → ⊥

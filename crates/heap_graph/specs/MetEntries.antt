@@ -11,11 +11,11 @@ use Rattle.hprof_grammar.specs.SubRecord.{Class, Member}
 abbrev pub is_called : List Record → List ℕ → Member → Bool
 is_called records name m = is_text (string_named records m.name) name
 
--- The entry has the text that names the class, and the string that names a field which the class declares, of whatever
--- type.
+-- The class of the entry is the text that names the class, and its field is the string that names a field which the
+-- class declares, of whatever type.
 abbrev pub declares : List Record → SkipEntry → Class → Bool
 declares records e c = is_text (class_text records c.object) e.class && list_any (is_called records e.field) c.members
 
--- Some class that a class dump describes declares the field of the entry.
+-- A class that a class dump describes declares the field of the entry.
 abbrev pub is_met : List Record → SkipEntry → Bool
 is_met records e = list_any (declares records e) (class_dumps (heap_of records))

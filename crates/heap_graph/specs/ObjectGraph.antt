@@ -1,4 +1,4 @@
--- The graph of a heap list: what is left of a dump when its objects are numbers.
+-- The graph of a heap list: what remains of a dump when its objects are numbers.
 use Rattle.std.specs.Prelude.{List, None, Option, [], count_by, length, map, slice_index, slice_index_or, ℕ, ◌++◌, ◌≡◌}
 use Rattle.std.specs.List.{concat}
 use Rattle.heap_graph.specs.ClassNames.{class_text}
@@ -21,18 +21,18 @@ pub record NamedClass : Type 0 where
 pub record ObjectGraph : Type 0 where
   -- the identifier of each object
   pub ids : List ℕ
-  -- of each object: the identifiers that it holds, in order, and the objects that they name, repeats kept
+  -- for each object, the identifiers that it holds, in order, and the objects that they name, with repeats
   pub held : List (List ℕ)
   pub references : List (List ℕ)
-  -- the identifiers of the root sub-records in order, and the objects that they name, repeats kept
+  -- the identifiers of the root sub-records, in order, and the objects that they name, with repeats
   pub root_names : List ℕ
   pub roots : List ℕ
-  -- of each object: its row and its bytes
+  -- for each object, its row and its bytes
   pub rows : List RowKey
   pub bytes : List ℕ
   -- the classes by their numbers
   pub classes : List NamedClass
-  -- how many identifiers other than 0, in objects and in roots, name no object
+  -- the number of identifiers other than 0, in objects and in roots, that name no object
   pub unresolved : ℕ
 
 abbrev pub object_count : ObjectGraph → ℕ
@@ -41,7 +41,7 @@ object_count g = length g.references
 abbrev pub class_count : ObjectGraph → ℕ
 class_count g = length g.classes
 
--- of an object by its number: the objects that it refers to, its row, its bytes
+-- the references, the row and the bytes of an object, by its number
 abbrev pub references_of : ObjectGraph → ℕ → List ℕ
 references_of g o = slice_index_or g.references o []
 
@@ -51,7 +51,7 @@ row_at g o = slice_index_or g.rows o keys.ClassObject
 abbrev pub bytes_at : ObjectGraph → ℕ → ℕ
 bytes_at g o = slice_index g.bytes o
 
--- the class of that number
+-- the class with that number
 abbrev pub class_at : ObjectGraph → ℕ → NamedClass
 class_at g n = slice_index_or g.classes n (record { id = 0; text = None })
 
@@ -66,7 +66,7 @@ named_classes records = map (named_in records) (class_dumps (heap_of records))
 abbrev pub unresolved_in : List SubRecord → List (List ℕ) → ℕ
 unresolved_in heap lists = count_by (is_unresolved heap) (concat lists ++ root_ids heap)
 
--- This is the graph of the heap list of these records, where the fields on that list are not followed.
+-- `g` is the graph of the heap list of `records`, if the fields that `skip` lists are not followed.
 pub record IsGraphOf (s : ℕ) (records : List Record) (skip : List SkipEntry) (g : ObjectGraph) : Type 0 where
   pub ids_are : g.ids ≡ map id_of (objects (heap_of records))
   pub held_are : AreIdLists (is_skipped records skip) s (heap_of records) g.held
@@ -78,7 +78,8 @@ pub record IsGraphOf (s : ℕ) (records : List Record) (skip : List SkipEntry) (
   pub classes_are : g.classes ≡ named_classes records
   pub unresolved_is : g.unresolved ≡ unresolved_in (heap_of records) g.held
 
--- The text is accepted, and this is the graph of the dump that it spells, where those fields are not followed.
+-- The text is accepted, and `g` is the graph of the dump that it spells, if the fields that `skip` lists are not
+-- followed.
 pub record IsGraphOfText (text : List ℕ) (skip : List SkipEntry) (g : ObjectGraph) : Type 0 where
   pub id_size : ℕ
   pub records : List Record

@@ -1,8 +1,8 @@
--- The objects that a path of references joins to a root.
+-- The objects that a path of references connects to a root.
 use Rattle.std.specs.Prelude.{Bool, Contains, List, [], false, length, slice_index_or, true, ℕ, ◌↔◌, ◌∷◌, ◌≡◌}
 use Rattle.heap_graph.specs.ObjectGraph.{ObjectGraph, object_count, references_of}
 
--- each neighbouring pair of the path is a reference, and it ends with that object
+-- each step of the path from the first object is a reference, and the path ends at the last object
 abbrev pub LeadsTo : (ℕ → ℕ → Type 0) → ℕ → List ℕ → ℕ → Type 0
 LeadsTo refers a [] b = a ≡ b
 LeadsTo refers a (c ∷ path) b = refers a c × LeadsTo refers c path b
@@ -21,11 +21,11 @@ IsRootOf g o = Contains g.roots o
 abbrev pub IsReferenceOf : ObjectGraph → ℕ → ℕ → Type 0
 IsReferenceOf g a b = Contains (references_of g a) b
 
--- a mark for each object; nothing is marked past the last one
+-- a mark for each object; nothing is marked after the last one
 abbrev pub IsMarked : List Bool → ℕ → Type 0
 IsMarked marks o = slice_index_or marks o false ≡ true
 
--- true exactly at the reachable objects
+-- the marks are true exactly at the reachable objects
 pub record MarksReachable (count : ℕ) (is_root : ℕ → Type 0) (refers : ℕ → ℕ → Type 0)
     (marks : List Bool) : Type 0 where
   pub one_each : length marks ≡ count

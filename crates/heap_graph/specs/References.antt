@@ -1,4 +1,4 @@
--- The identifiers that an object holds, and the references that they are.
+-- The identifiers that an object holds, and its references: the objects that they name.
 use Rattle.std.specs.Prelude.{Bool, List, None, Option, Some, [], false, filter, filter_map, if◌then◌else◌, is_none}
 use Rattle.std.specs.Prelude.{length, map, slice_get, ℕ, ◌++◌, ◌==◌, ◌∷◌, ◌≡◌}
 use Rattle.byteorder.specs.Endian.{big_number}
@@ -40,11 +40,11 @@ pub record AreIdLists (skips : Class → Member → Bool) (s : ℕ) (heap : List
   pub each : (n : ℕ) (o : SubRecord) (ids : List ℕ) → slice_get (objects heap) n ≡ Some o
       → slice_get lists n ≡ Some ids → AreIdsIn skips s heap o ids
 
--- 0 is null, and what names no object is not followed
+-- 0 is null, and an identifier that names no object is not followed
 abbrev pub target_of : List SubRecord → ℕ → Option ℕ
 target_of heap id = if id == 0 then None else number_named heap id
 
--- the objects that these identifiers name, in order, repeats kept
+-- the objects that the identifiers name, in order, with repeats
 abbrev pub targets : List SubRecord → List ℕ → List ℕ
 targets heap ids = filter_map (target_of heap) ids
 

@@ -1,10 +1,10 @@
--- What a refusal says of the links, and how it is shown.
+-- What a refusal says of the links, and its text.
 use Rattle.std.specs.Prelude.{Err, List, Ok, Result, codes, decimal, ℕ, ◌++◌}
 use Rattle.heap_graph.specs.declared.refusal.LinkFault.{LinkFault}
 use Rattle.heap_graph.specs.declared.refusal.LinkRefusal.{LinkRefusal}
 use Rattle.heap_graph.specs.declared.refusal.LinkRefusal.TheVariants as refusals
 
--- nothing is said of a graph, nor of want of memory
+-- `P` holds of the fault of a refusal; nothing is said of a graph, nor of an allocation that failed
 abbrev pub IfLinkFault : {X : Type 0} → Result X LinkRefusal → (LinkFault → Type 0) → Type 0
 IfLinkFault (Ok x) P = Unit {0}
 IfLinkFault (Err (refusals.Fault f)) P = P f

@@ -9,6 +9,6 @@ use Rattle.hprof_grammar.specs.SubRecord.{SubRecord}
 abbrev pub root_ids : List SubRecord → List ℕ
 root_ids heap = map id_of (filter is_root heap)
 
--- the objects that they name, in order, repeats kept
+-- the objects that they name, in order, with repeats
 abbrev pub root_objects : List SubRecord → List ℕ
 root_objects heap = targets heap (root_ids heap)

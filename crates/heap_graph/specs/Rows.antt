@@ -8,16 +8,16 @@ use Rattle.hprof_grammar.specs.SubRecord.SubRecord.{root}
 use Rattle.heap_graph.specs.declared.row.RowKey.{RowKey}
 use Rattle.heap_graph.specs.declared.row.RowKey.TheVariants as keys
 
--- An instance or object array belongs to the row of its class, a primitive array to that of its type, a class to that
--- of the class objects.
+-- An instance or object array belongs to the row of its class, a primitive array to the row of its type, and a class to
+-- the row of the class objects.
 abbrev pub row_of : List SubRecord → SubRecord → RowKey
 row_of heap (instance_dump i) = keys.Class (class_number heap i.class)
 row_of heap (object_array_dump a) = keys.Class (class_number heap a.class)
 row_of heap (primitive_array_dump a) = keys.Primitive a.type
 row_of heap o = keys.ClassObject
 
--- An instance has its value bytes, an object array its identifiers, a primitive array its elements, a class its static
--- values.
+-- The bytes of an instance are its values, those of an object array its elements, those of a primitive array its
+-- elements, and those of a class its static values.
 abbrev pub bytes_of : ℕ → SubRecord → ℕ
 bytes_of s (root r) = 0
 bytes_of s (class_dump c) = sum_by (λ f. size_of s f.type) c.statics

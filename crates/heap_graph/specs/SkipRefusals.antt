@@ -1,4 +1,4 @@
--- How a refusal of a list of fields is shown.
+-- The text of a refusal of a list of fields.
 use Rattle.std.specs.Prelude.{List, codes, ℕ}
 use Rattle.heap_graph.specs.declared.skip.refusal.SkipRefusal.{SkipRefusal}
 use Rattle.heap_graph.specs.declared.skip.refusal.SkipRefusal.TheVariants as refusals

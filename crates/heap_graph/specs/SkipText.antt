@@ -3,18 +3,18 @@ use Rattle.std.specs.Prelude.{Contains, List, [], length, ℕ, ◌++◌, ◌∷�
 use Rattle.std.specs.List.{AllByRecursion}
 use Rattle.heap_graph.specs.Skips.{SkipEntry}
 
--- class, a dot, field
+-- the class, a dot, and the field
 abbrev pub entry_text : SkipEntry → List ℕ
 entry_text e = e.class ++ 46 ∷ e.field
 
--- Neither is empty. There is no dot in the field, so the last dot parts the two, and no comma in either.
+-- Neither name is empty. The field has no dot, so that the last dot separates the two, and neither has a comma.
 pub record IsEntry (e : SkipEntry) : Type 0 where
   pub some_class : e.class ≢ []
   pub some_field : e.field ≢ []
   pub last_dot : Contains e.field 46 → ⊥
   pub no_comma : Contains (entry_text e) 44 → ⊥
 
--- entries with commas between
+-- entries separated by commas
 abbrev pub list_text : List SkipEntry → List ℕ
 list_text [] = []
 list_text (e ∷ []) = entry_text e

@@ -1,4 +1,4 @@
--- Fields that are not followed, by the names of the class that declares the field and of the field itself.
+-- Fields that are not followed, by the name of the class that declares the field and the name of the field itself.
 use Rattle.std.specs.Prelude.{Bool, List, None, Option, Some, false, ◌&&◌, ℕ}
 use Rattle.std.specs.List.{list_any}
 use Rattle.std.specs.Str.{bytes_eq}
@@ -11,7 +11,7 @@ pub record SkipEntry : Type 0 where
   pub class : List ℕ
   pub field : List ℕ
 
--- a text that is not there equals nothing
+-- a missing text equals no name
 abbrev pub is_text : Option (List ℕ) → List ℕ → Bool
 is_text None name = false
 is_text (Some text) name = bytes_eq text name

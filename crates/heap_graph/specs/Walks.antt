@@ -1,9 +1,10 @@
--- A walk over the identifiers that an object holds, which gives the objects that they name.
+-- A walk over the identifiers that an object holds, which yields the objects that they name.
 use Rattle.std.specs.Prelude.{Bool, List, None, Option, Some, [], count_by, false, filter_map, if◌then◌else◌, is_none}
 use Rattle.std.specs.Prelude.{map, position, ℕ, ◌+◌, ◌++◌, ◌==◌, ◌∷◌, ◌≡◌}
 use Rattle.heap_graph.specs.declared.row.RowKey.{RowKey}
 
--- what an identifier names among objects with these identifiers: 0 is null, else the first that bears it
+-- the object that an identifier names, among objects with the identifiers `all`: none for 0, otherwise the first that
+-- bears it
 abbrev pub target_in : List ℕ → ℕ → Option ℕ
 target_in all id = if id == 0 then None else position (λ x. x == id) all
 
@@ -11,7 +12,7 @@ target_in all id = if id == 0 then None else position (λ x. x == id) all
 abbrev pub is_unresolved_in : List ℕ → ℕ → Bool
 is_unresolved_in all id = if id == 0 then false else is_none (position (λ x. x == id) all)
 
--- an identifier, and the object that it names: none for 0, and for one that names no object
+-- an identifier, and the object that it names: `None` for 0, and for an identifier that names no object
 pub record Step : Type 0 where
   pub id : ℕ
   pub names : Option ℕ
@@ -20,28 +21,28 @@ pub record Step : Type 0 where
 abbrev pub step_in : List ℕ → ℕ → Step
 step_in all id = record { id = id; names = target_in all id }
 
--- of the steps that are left: the identifiers, and the objects that they name
+-- the identifiers of the remaining steps, and the objects that they name
 abbrev pub ids_in : List Step → List ℕ
 ids_in steps = map (λ s. s.id) steps
 
 abbrev pub references_in : List Step → List ℕ
 references_in steps = filter_map (λ s. s.names) steps
 
--- A walk goes past the steps that name no object up to the first that names one, and is behind that then. Where none
--- names an object it is at its end.
+-- A walk passes the steps that name no object, up to the first that names one, and continues after it. If no step names
+-- an object, the walk is at its end.
 abbrev pub GoesPast : List Step → Option ℕ → List Step → Type 0
 GoesPast old None new = (references_in old ≡ []) × (new ≡ [])
 GoesPast old (Some o) new = (passed : List Step) × (id : ℕ) × (references_in passed ≡ [])
     × (old ≡ passed ++ record { id = id; names = Some o } ∷ new)
 
--- of the steps that are left: how many have an identifier other than 0 and name no object
+-- the number of remaining steps that have an identifier other than 0 and name no object
 abbrev pub is_unresolved_step : Step → Bool
 is_unresolved_step s = if s.id == 0 then false else is_none s.names
 
 abbrev pub unresolved_left : List Step → ℕ
 unresolved_left steps = count_by is_unresolved_step steps
 
--- A visit of an object: its row and its bytes, the steps that are left, and how many of those that were passed have an
+-- A visit of an object: its row and its bytes, the remaining steps, and the number of those passed that have an
 -- identifier other than 0 and name no object.
 pub record Visited : Type 0 where
   pub row : RowKey
@@ -52,7 +53,7 @@ pub record Visited : Type 0 where
 abbrev pub references_left : Visited → List ℕ
 references_left v = references_in v.left
 
--- a visit goes on: what it misses in all stays the same
+-- a visit advances: the passed and the remaining unresolved identifiers are together as many as before
 pub record Advances (old : Visited) (object : Option ℕ) (new : Visited) : Type 0 where
   pub goes : GoesPast old.left object new.left
   pub row_is : new.row ≡ old.row

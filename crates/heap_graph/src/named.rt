@@ -100,7 +100,7 @@ impl<'g, A: Allocator, I: IdSource> Named<'g, A, I> {
 
     /// Creates the iterator over the objects that `ids` name. `row` and `bytes` are those of the object that holds
     /// them. `unresolved` counts the identifiers passed before `ids` that name no object.
-    // Inlined, as everything that makes up a visit.
+    // Inlined, like everything that makes up a visit.
     #[inline(always)]
     pub(crate) fn new(
         index: &'g IdIndex<A>,

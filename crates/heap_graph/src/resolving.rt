@@ -7,7 +7,7 @@ use id_index::IdIndex;
 use std::alloc::{AllocError, Allocator};
 
 /// Returns the number of the object that `id` names, or `None` if it is 0 or names no object.
-// Inlined, as the look-up that it calls.
+// Inlined, as the look-up that it calls is.
 #[inline(always)]
 pub(crate) fn target<A: Allocator>(index: &IdIndex<A>, id: u64) -> Option<u32>
     ensures { result ≡ target_in index.now id }

@@ -59,7 +59,7 @@ impl<'g, A: Allocator> Visit<'g, A> {
 
     /// Creates a visit that yields `class`, if it is known, and then the objects that `ids` name. `row` and `bytes` are
     /// those of the object.
-    // Inlined, as everything that makes up a visit.
+    // Inlined, like everything that makes up a visit.
     #[inline(always)]
     pub(crate) fn new(
         index: &'g IdIndex<A>,

@@ -1,5 +1,5 @@
--- Chains of superclasses by the numbers of classes, and what is known of them. `ids` are the identifiers of the classes
--- by their numbers.
+-- Chains of superclasses by the numbers of classes, and what is known of them. `ids` are the identifiers of the
+-- classes, by their numbers.
 use Rattle.std.specs.Prelude.{Bool, Contains, List, None, Option, Some, [], false, length, min, slice_get, slice_index}
 use Rattle.std.specs.Prelude.{true, ℕ, ◌++◌, ◌<◌, ◌∷◌, ◌≡◌, ◌≢◌}
 use Rattle.hprof_grammar.specs.SubRecord.{Class, Member, SubRecord}
@@ -16,30 +16,30 @@ use Rattle.heap_graph.specs.declared.classes.fate.Layout.{Layout}
 use Rattle.heap_graph.specs.declared.classes.chains.Above.{Above}
 use Rattle.heap_graph.specs.declared.classes.chains.Above.TheVariants as aboves
 
--- the class of that number has that superclass identifier
+-- class `k` has the superclass identifier `super`
 pub record IsUnder (heap : List SubRecord) (ids : List ℕ) (k super : ℕ) : Type 0 where
   pub class : Class
   pub below : k < length ids
   pub named : class_named heap (slice_index ids k) ≡ Some class
   pub super_is : class.super ≡ super
 
--- what stands above a class, from its superclass identifier
+-- what is above a class, from its superclass identifier
 abbrev pub IsAbove : List SubRecord → List ℕ → ℕ → Above → Type 0
 IsAbove heap ids super aboves.Nothing = super ≡ 0
 IsAbove heap ids super aboves.Missing = (super ≢ 0) × (class_named heap super ≡ None)
 IsAbove heap ids super (aboves.Class k) = (k < length ids) × (slice_index ids k ≡ super)
 
--- the classes from that identifier up, to a superclass that is not there
+-- the classes from that identifier up, to a superclass that is missing
 abbrev pub IsCut : List SubRecord → ℕ → List Class → Type 0
 IsCut heap id [] = (id ≢ 0) × (class_named heap id ≡ None)
 IsCut heap id (c ∷ cs) = (class_named heap id ≡ Some c) × IsCut heap c.super cs
 
--- sizes from here on are told as this one
+-- larger sizes are stored as this one
 abbrev pub most_size : ℕ
 most_size = 4294967296
 
--- The layout begins with the fields of the class of that number, and goes on with those of its superclass.
--- Each field is told with the class that declares it.
+-- The layout begins with the fields of class `k`, and continues with those of its superclass. Each field is paired with
+-- the class that declares it.
 pub record BeginsAt (heap : List SubRecord) (ids : List ℕ) (fields : List (Class × Member)) (k : ℕ) : Type 0 where
   pub class : Class
   pub rest : List Class
@@ -62,7 +62,7 @@ pub record IsLayoutOf (s : ℕ) (heap : List SubRecord) (ids : List ℕ) (chain 
   pub first_is : IsFirst heap ids (declared_fields chain) l.first
   pub next_is : IsFirst heap ids (declared_fields (tail chain)) l.next
 
--- what a fate says of the classes from that identifier up
+-- what a fate says of the classes from `id` up
 abbrev pub IsFate : ℕ → List SubRecord → List ℕ → ℕ → Fate → Type 0
 IsFate s heap ids id fates.Unknown = Unit {0}
 IsFate s heap ids id fates.OnPath = Unit {0}
@@ -83,32 +83,32 @@ pub record AreFates (s : ℕ) (heap : List SubRecord) (ids path : List ℕ) (kno
   pub each : (k : ℕ) (f : Fate) → slice_get known k ≡ Some f → IsFate s heap ids (slice_index ids k) f
   pub on_path : (k : ℕ) → slice_get known k ≡ Some fates.OnPath → Contains path k
 
--- the fate of the class of that number is known
+-- the fate of class `k` is known
 pub record IsKnown (known : List Fate) (k : ℕ) : Type 0 where
   pub fate : Fate
   pub is : slice_get known k ≡ Some fate
   pub settled : IsSettled fate
 
--- each class of the path has the next one as its superclass, and the last one has that superclass identifier
+-- each class of the path has the next one as its superclass, and the last one has the superclass identifier `super`
 abbrev pub IsPath : List SubRecord → List ℕ → List ℕ → ℕ → Type 0
 IsPath heap ids [] super = Unit {0}
 IsPath heap ids (k ∷ []) super = IsUnder heap ids k super
 IsPath heap ids (k ∷ m ∷ path) super = IsUnder heap ids k (slice_index ids m) × IsPath heap ids (m ∷ path) super
 
--- a climb came to an end above the path: the superclass identifier at its end has that fate
+-- a climb has ended above the path: the superclass identifier at its end has the fate `fate`
 pub record IsTop (s : ℕ) (heap : List SubRecord) (ids path : List ℕ) (fate : Fate) : Type 0 where
   pub super : ℕ
   pub path_is : IsPath heap ids path super
   pub fate_is : IsFate s heap ids super fate
   pub settled : IsSettled fate
 
--- what a climb does above a class with that superclass identifier
+-- how a climb continues above a class with the superclass identifier `super`
 abbrev pub IsStep : ℕ → List SubRecord → List ℕ → List Fate → ℕ → Step → Type 0
 IsStep s heap ids known super (steps.Up next) = (next < length ids) × (slice_index ids next ≡ super)
     × (slice_get known next ≡ Some fates.Unknown)
 IsStep s heap ids known super (steps.End fate) = IsFate s heap ids super fate × IsSettled fate
 
--- a climb from the class `first` has come to the class `at`, of which nothing is known; those before it are the path
+-- a climb from the class `first` has reached the class `at`, whose fate is unknown; the classes before it are the path
 pub record IsClimb (s : ℕ) (heap : List SubRecord) (ids : List ℕ) (first : ℕ) (path : List ℕ) (known : List Fate)
     (at : ℕ) : Type 0 where
   pub fates_are : AreFates s heap ids path known
@@ -133,13 +133,13 @@ is_unknown (fates.Whole l) = false
 is_unknown fates.Broken = false
 is_unknown fates.Endless = false
 
--- the class of that number, and those above it
+-- class `k` is `c`, and `rest` are those above it
 pub record IsChainAt (heap : List SubRecord) (ids : List ℕ) (k : ℕ) (c : Class) (rest : List Class) : Type 0 where
   pub below : k < length ids
   pub named : class_named heap (slice_index ids k) ≡ Some c
   pub chain : IsChain heap c.super rest
 
--- ---- the same of a table of classes
+-- ---- the same for a table of classes
 
 abbrev pub AreFatesOf : {A : Type 0} → Classes A → List SubRecord → List ℕ → List Fate → Type 0
 AreFatesOf o heap path known = AreFates o.view.id_size heap (ids_of o.table.entries) path known

@@ -2,7 +2,7 @@
 use Rattle.std.specs.Prelude.{List, map, ℕ}
 use Rattle.heap_graph.specs.declared.classes.ClassPlace.{ClassPlace}
 
--- a class: its identifier, and what is kept of it
+-- a class: its identifier, and the place and the size that are kept of it
 abbrev pub TableEntry : Type 0
 TableEntry = ℕ × ClassPlace
 

@@ -1,5 +1,4 @@
--- What is planned for the classes of a dump, by their numbers: where the identifiers stand in the fields that they
--- declare.
+-- The plans of the classes of a dump, by their numbers: where the identifiers are in the fields that they declare.
 use Rattle.std.specs.Prelude.{Bool, List, None, Option, Some, [], length, slice_get, slice_index, slice_index_or}
 use Rattle.std.specs.Prelude.{slice_range}
 use Rattle.std.specs.Prelude.{ℕ, ◌++◌, ◌∷◌}
@@ -15,15 +14,15 @@ use Rattle.heap_graph.specs.declared.row.RowKey.{RowKey}
 use Rattle.heap_graph.specs.declared.row.RowKey.TheVariants as keys
 use Rattle.heap_graph.specs.working.Resolving.{target_in}
 
--- what is planned for the class of that number
+-- the plan of class `k`
 abbrev pub plan_at : List ClassPlan → ℕ → ClassPlan
 plan_at plans k = slice_index_or plans k (record { start = 0; end = 0; size = 0; object = None })
 
--- the places of the fields of type 2 that it declares, of those that are not skipped
+-- the places of the fields of type 2 that class `k` declares and that are not skipped
 abbrev pub id_places_of : List ClassPlan → List ℕ → ℕ → List ℕ
 id_places_of plans places k = slice_range places (plan_at plans k).start (plan_at plans k).end
 
--- the object of the class that the objects of a row are of, and that such a class is planned
+-- the object that is the class of the objects in a row, and that this class has a plan
 abbrev pub object_of_row : List ClassPlan → RowKey → Option ℕ
 object_of_row plans (keys.Class k) = (plan_at plans k).object
 object_of_row plans (keys.Primitive t) = None
@@ -34,13 +33,13 @@ HasPlan plans (keys.Class k) = k < length plans
 HasPlan plans (keys.Primitive t) = Unit {0}
 HasPlan plans keys.ClassObject = Unit {0}
 
--- they stand among the places of all classes
+-- the places of class `k` are among those of all classes
 pub record HasIdPlaces (plans : List ClassPlan) (places : List ℕ) (k : ℕ) : Type 0 where
   pub rising : (plan_at plans k).start ≤ (plan_at plans k).end
   pub within : (plan_at plans k).end ≤ length places
 
--- the places of the fields of type 2 that the class declares, but for those that are skipped, stand in that range, and
--- the values of all its fields have so many bytes
+-- the plan's range has the places of the fields of type 2 that the class declares, except those that are skipped, and
+-- its size is that of the values of all fields that the class declares
 pub record IsClassPlan (skips : Class → Member → Bool) (s : ℕ) (places : List ℕ) (c : Class)
     (p : ClassPlan) : Type 0 where
   pub rising : p.start ≤ p.end
@@ -48,17 +47,17 @@ pub record IsClassPlan (skips : Class → Member → Bool) (s : ℕ) (places : L
   pub places_are : slice_range places p.start p.end ≡ id_places (skips c) s 0 c.members
   pub size_is : p.size ≡ size_together s c.members
 
--- so it is of each of these classes
+-- each plan is that of the class with its number
 abbrev pub AreClassPlans : (Class → Member → Bool) → ℕ → List SubRecord → List ℕ → List ClassPlan → List ℕ → Type 0
 AreClassPlans skips s heap ids plans places = (k : ℕ) (p : ClassPlan) (c : Class) → slice_get plans k ≡ Some p
     → class_named heap (slice_index ids k) ≡ Some c → IsClassPlan skips s places c p
 
--- and of each of them the object that its identifier names, among objects with these identifiers
+-- each plan has the object that the class's identifier names, among objects with the identifiers `all`
 abbrev pub AreClassObjects : List ℕ → List ℕ → List ClassPlan → Type 0
 AreClassObjects all ids plans = (k : ℕ) (p : ClassPlan) → slice_get plans k ≡ Some p
     → p.object ≡ target_in all (slice_index ids k)
 
--- and they are all
+-- the plans are those of all classes
 pub record IsPlan (skips : Class → Member → Bool) (s : ℕ) (heap : List SubRecord) (all ids : List ℕ)
     (plans : List ClassPlan) (places : List ℕ) : Type 0 where
   pub one_each : length plans ≡ length ids
@@ -69,7 +68,7 @@ abbrev pub IsPlanOf : {A B : Type 0} → (Class → Member → Bool) → Objects
 IsPlanOf skips o heap p =
     IsPlan skips o.view.id_size heap o.index (ids_of o.classes.table.entries) p.classes.items p.places.items
 
--- a class with these fields, whose identifier names that object, was added behind the others
+-- a class that declares `members` and whose identifier names `object` was added after the others
 pub record AddsPlan (skips : Member → Bool) (s : ℕ) (members : List Member) (object : Option ℕ)
     (old : List ClassPlan) (old_places : List ℕ) (new : List ClassPlan) (places : List ℕ) : Type 0 where
   pub class : ClassPlan

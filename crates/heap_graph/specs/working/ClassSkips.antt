@@ -8,20 +8,20 @@ use Rattle.heap_graph.specs.Skips.{SkipEntry, is_text}
 use Rattle.heap_graph.specs.working.PlacedNames.{AreNamesByIdOf}
 use Rattle.heap_graph.specs.declared.skip.class_skips.ClassSkips.{ClassSkips}
 
--- an entry of the list has that text for the class
+-- the entry has the text `class` for its class
 abbrev pub names_class : Option (List ℕ) → SkipEntry → Bool
 names_class class e = is_text class e.class
 
--- an entry of the list has that text for the class, and for the field the string of that identifier
+-- the entry has the text `class` for its class, and the string `name` for its field
 abbrev pub names_field : List Record → Option (List ℕ) → ℕ → SkipEntry → Bool
 names_field records class name e = is_text class e.class && is_text (string_named records name) e.field
 
--- what `is_skipped` is for a class of that identifier
+-- what `is_skipped` is for the class with the identifier `class`
 abbrev pub is_skipped_in : List Record → List SkipEntry → ℕ → Member → Bool
 is_skipped_in records skip class m = list_any (names_field records (class_text records class) m.name) skip
 
--- The test says of each field of a class whether it is on the list. The text that names the class is not looked up
--- where the list is empty.
+-- The test says for each field of a class whether it is on the list. If the list is empty, the text that names the
+-- class is not looked up.
 pub record IsSkipTest {A : Type 0} (k : ClassSkips A) (test : Member → Bool) : Type 0 where
   pub records : List Record
   pub class : ℕ

@@ -1,4 +1,4 @@
--- What the table of classes says. A class's number is the place of its identifier in the table.
+-- What the table of classes says. A class's number is the position of its identifier in the table.
 use Rattle.std.specs.Prelude.{Contains, List, Some, [], filter_map, length, map, slice_get, slice_index_or, take, ℕ}
 use Rattle.std.specs.Prelude.{◌++◌, ◌<◌, ◌^◌, ◌∷◌, ◌≡◌, ◌≤◌}
 use Rattle.hprof_grammar.specs.Standing.{Sight, Stands}
@@ -11,7 +11,7 @@ use Rattle.heap_graph.specs.declared.classes.ClassPlace.{ClassPlace}
 pub use Rattle.heap_graph.specs.working.ClassList.{TableEntry, ids_of}
 use Rattle.heap_graph.specs.declared.classes.Classes.{Classes}
 
--- the class that the identifier names stands at that place, and the values of its fields have so many bytes
+-- the class that the identifier names is at that place, and its size is that of the values of its fields
 pub record IsTableEntry (v : Sight) (heap : List SubRecord) (e : TableEntry) : Type 0 where
   pub class : Class
   pub named : class_named heap e.0 ≡ Some class
@@ -24,7 +24,7 @@ pub record AreClasses (v : Sight) (heap : List SubRecord) (entries : List TableE
   pub low : 1 ≤ v.id_size
   pub each : (k : ℕ) (e : TableEntry) → slice_get entries k ≡ Some e → IsTableEntry v heap e
   pub complete : (id : ℕ) (c : Class) → class_named heap id ≡ Some c → Contains (ids_of entries) id
-  -- in a linked heap list they stand in the order of the class dumps
+  -- in a linked heap list they are in the order of the class dumps
   pub in_order : IsLinked v.id_size heap → ids_of entries ≡ map (λ c. c.object) (class_dumps heap)
 
 abbrev pub AreClassesOf : {A : Type 0} → Classes A → List SubRecord → Type 0
@@ -41,7 +41,7 @@ pub record AreClassesAmong (v : Sight) (heap : List SubRecord) (n : ℕ) (entrie
       → ids_of entries ≡ map (λ c. c.object) (filter_map as_class (take n (objects heap)))
   pub few : length entries ≤ n
 
--- the class was added behind the others
+-- the class was added after the others
 pub record AddsEntry (s : ℕ) (c : Class) (id place : ℕ) (old new : List TableEntry) : Type 0 where
   pub entry : ClassPlace
   pub place_is : entry.place ≡ place
@@ -49,7 +49,7 @@ pub record AddsEntry (s : ℕ) (c : Class) (id place : ℕ) (old new : List Tabl
   pub few_bytes : entry.size < 2 ^ 32
   pub entries_are : new ≡ old ++ (id, entry) ∷ []
 
--- ---- the entry of a number
+-- ---- the entry with a number
 
 abbrev pub entry_at : List TableEntry → ℕ → ClassPlace
 entry_at entries k = (slice_index_or entries k (0, record { place = 0; size = 0 })).1

@@ -15,6 +15,6 @@ pub record DescribedClass : Type 0 where
 abbrev pub described : List Record → Class → DescribedClass
 described records c = record { text = class_text records c.object; members = c.members }
 
--- what `declares` is for a class that is described so
+-- what `declares` is for a class described by `d`
 abbrev pub declares_described : List Record → SkipEntry → DescribedClass → Bool
 declares_described records e d = is_text d.text e.class && list_any (is_called records e.field) d.members

@@ -17,11 +17,11 @@ next_in (fates.Whole l) = l.next
 next_in fates.Broken = None
 next_in fates.Endless = None
 
--- the first of the classes above that class that declares fields
+-- the first class above class `k` that declares fields
 abbrev pub next_above : List Fate → ℕ → Option ℕ
 next_above known k = next_in (slice_index_or known k fates.Unknown)
 
--- these are that class, the first above it that declares fields, and so on up
+-- the classes are `first`, the first above it that declares fields, and so on up
 abbrev pub AreUp : List Fate → Option ℕ → List ℕ → Type 0
 AreUp known first [] = first ≡ None
 AreUp known first (k ∷ ks) = (first ≡ Some k) × AreUp known (next_above known k) ks
@@ -29,7 +29,7 @@ AreUp known first (k ∷ ks) = (first ≡ Some k) × AreUp known (next_above kno
 abbrev pub Up : List Fate → Option ℕ → Type 0
 Up known first = (classes : List ℕ) × AreUp known first classes
 
--- there is one such list of classes
+-- there is only one such list of classes
 option_set : (a b : Option ℕ) → IsProp (a ≡ b)
 option_set a b = Coded-set (coded_option coded_ℕ) a b
 
@@ -53,20 +53,20 @@ Up-prop known first = λ x y.
     let same : x.0 ≡ y.0 = one_up known first x.0 y.0 x.1 y.1 in
     Σ_path same (to_path_p (λ i. AreUp known first (same i)) (AreUp-prop known first y.0 _ y.1))
 
--- the identifiers in the fields that these classes declare, whose values stand one class after the other
+-- the identifiers in the fields that the classes declare, whose values follow each other class by class
 abbrev pub ids_up : ℕ → List ClassPlan → List ℕ → List ℕ → List ℕ → List ℕ
 ids_up s plans places [] values = []
 ids_up s plans places (k ∷ ks) values =
     ids_at s (id_places_of plans places k) values
     ++ ids_up s plans places ks (drop (plan_at plans k).size values)
 
--- identifiers at these places stand among the first bytes of the values, no more of them than bytes
+-- the identifiers at the places are within the first `size` bytes of the values, and there are at most `size` of them
 pub record StandInside (s : ℕ) (places : List ℕ) (size : ℕ) (values : List ℕ) : Type 0 where
   pub inside : (k place : ℕ) → slice_get places k ≡ Some place → place + s ≤ size
   pub few : length places ≤ size
   pub room : size ≤ length values
 
--- the class is there, and the values have room for its fields
+-- class `k` exists, and the values have room for its fields
 pub record HasFields (s : ℕ) (plans : List ClassPlan) (places : List ℕ) (known : List Fate) (values : List ℕ)
     (k : ℕ) : Type 0 where
   pub below : k < length plans
@@ -74,7 +74,7 @@ pub record HasFields (s : ℕ) (plans : List ClassPlan) (places : List ℕ) (kno
   pub has : HasIdPlaces plans places k
   pub stand : StandInside s (id_places_of plans places k) (plan_at plans k).size values
 
--- so are those above it
+-- the same for each of the classes, whose values follow each other
 abbrev pub HaveFields : ℕ → List ClassPlan → List ℕ → List Fate → List ℕ → List ℕ → Type 0
 HaveFields s plans places known [] values = Unit {0}
 HaveFields s plans places known (k ∷ ks) values = HasFields s plans places known values k

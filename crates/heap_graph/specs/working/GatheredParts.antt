@@ -10,25 +10,25 @@ use Rattle.heap_graph.specs.Heap.{objects}
 use Rattle.heap_graph.specs.declared.objects.gathering.Gathered.{Gathered}
 use Rattle.heap_graph.specs.working.ClassNumbers.{AreClassNumbers}
 
--- the objects of a heap list stand at these places
+-- the objects of a heap list are at `places`
 pub record MayIndex (v : Sight) (places : List ℕ) : Type 0 where
   pub few : length places < 2 ^ 32
   pub stand : (heap : List SubRecord) × StandInTurn (Stands v) places (objects heap)
 
--- and as many of them as the part has places stand from that number on
+-- the same, and `part` has no more places than there are objects from number `start` on
 pub record MayGather (v : Sight) (places : List ℕ) (bits : LowBits) (start : ℕ) (part : List ℕ) : Type 0 where
   pub may : MayIndex v places
   pub within : start + length part ≤ length places
   pub shifted : bits.shift < 64
   pub low : bits.low < 2 ^ bits.shift
 
--- these are the identifiers of the first n objects, and the numbers of the class dumps among them
+-- the identifiers of the first `n` objects, and the numbers of the class dumps among them
 pub record AreOfFirst (os : List SubRecord) (n : ℕ) (ids numbers : List ℕ) : Type 0 where
   pub ids_are : ids ≡ map id_of (take n os)
   pub class_dumps : AreClassNumbers os n numbers
 
--- What was gathered from the objects from the number `start` up to another: behind what the objects before give, it is
--- what all give up to there.
+-- What was gathered from the objects from number `start` up to `end`: appended to what the objects before `start`
+-- yield, it is what all objects before `end` yield.
 pub record HasGathered {A : Type 0} (v : Sight) (places : List ℕ) (bits : LowBits) (start end : ℕ)
     (g : Gathered A) : Type 0 where
   pub many : start + length g.ids.ids ≡ end
@@ -38,14 +38,14 @@ pub record HasGathered {A : Type 0} (v : Sight) (places : List ℕ) (bits : LowB
       → AreOfFirst (objects heap) start ids numbers
       → AreOfFirst (objects heap) end (ids ++ g.ids.ids) (numbers ++ g.class_dumps.items)
 
--- what a part gives; there is nothing only where an identifier can have other lowest bits
+-- the result of a part: `None` only if identifiers can have other lowest bits
 abbrev pub IsGathering : {A : Type 0} → Sight → List ℕ → LowBits → ℕ → List ℕ
     → Result (Option (Gathered A)) AllocError → Type 0
 IsGathering v places bits start part result =
     IfOk result (λ found. MatchOption found (bits.shift ≢ 0)
     (λ g. HasGathered v places bits start (start + length part) g))
 
--- what was gathered from two neighbouring parts, put together
+-- what was gathered from two neighbouring parts, joined
 pub record AreJoined {A : Type 0} (old next new : Gathered A) : Type 0 where
   pub ids : new.ids.ids ≡ old.ids.ids ++ next.ids.ids
   pub shift : new.ids.shift ≡ old.ids.shift

@@ -1,4 +1,4 @@
--- The graph of a text and a list of fields that are not followed: there is one at most.
+-- The graph of a text and a list of fields that are not followed: there is at most one.
 use Rattle.std.specs.Prelude.{List, ℕ, ◌≡◌}
 use Rattle.std.specs.Coded.{codes}
 use Rattle.std.proofs.Math.Logic.{∥∥₁_elim, ∥∥₁_prop}

@@ -14,7 +14,7 @@ use Rattle.heap_graph.specs.working.Chains.{IsFirst}
 use Rattle.heap_graph.specs.working.ClassTable.{ids_of}
 use Rattle.heap_graph.specs.working.IdPlaces.{size_of_fields}
 
--- the objects stand at their places and are linked, and their identifiers have 1 to 8 bytes
+-- the objects are at their places and are linked, and their identifiers have 1 to 8 bytes
 pub record AreLinked (v : Sight) (places ids : List ℕ) (heap : List SubRecord) : Type 0 where
   pub are : AreObjects v places ids heap
   pub low : 1 ≤ v.id_size
@@ -25,22 +25,22 @@ pub record AreLinked (v : Sight) (places ids : List ℕ) (heap : List SubRecord)
 abbrev pub AreLinkedOf : {A : Type 0} → Objects A → List SubRecord → Type 0
 AreLinkedOf o heap = AreLinked o.view o.places.items o.index heap
 
--- the object of that number stands at that place
+-- object `n` is `o`, and is at `at`
 pub record IsObjectAt (v : Sight) (heap : List SubRecord) (n at : ℕ) (o : SubRecord) : Type 0 where
   pub is : slice_get (objects heap) n ≡ Some o
   pub stands : Stands v at o
 
--- these are the identifiers that the object holds
+-- the identifiers are those that the object holds
 pub record AreIdsOf (skips : Class → Member → Bool) (s : ℕ) (heap : List SubRecord) (o : SubRecord)
     (ids : List ℕ) : Type 0 where
   pub are : AreIdsIn skips s heap o ids
   pub few : length ids ≤ 2 ^ 33
 
--- these identifiers, with that of the class in front of them where they begin behind it
+-- the identifiers with that of the class before them, if `behind` says that they begin after it
 abbrev pub with_class : Bool → ℕ → List ℕ → List ℕ
 with_class behind class ids = if behind then class ∷ ids else ids
 
--- the layout of the instance begins at that class
+-- the layout of the instance begins at class `first`
 pub record IsFirstOfInstance (s : ℕ) (heap : List SubRecord) (ids : List ℕ) (i : Instance)
     (first : Option ℕ) : Type 0 where
   pub chain : List Class
@@ -48,7 +48,7 @@ pub record IsFirstOfInstance (s : ℕ) (heap : List SubRecord) (ids : List ℕ) 
   pub begins : IsFirst heap ids (declared_fields chain) first
   pub size_is : length i.values ≡ layout_size s chain
 
--- the layout of these fields begins at that class, and the values are as many bytes
+-- the layout of the fields begins at class `first`, and the values have at least as many bytes
 pub record IsLayoutFrom {A : Type 0} (o : Objects A) (heap : List SubRecord) (fields : List (Class × Member))
     (first : Option ℕ) (values : List ℕ) : Type 0 where
   pub begins : IsFirst heap (ids_of o.classes.table.entries) fields first

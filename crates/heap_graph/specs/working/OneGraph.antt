@@ -1,5 +1,5 @@
--- A text has at most one graph: its records are determined, so is the chain of a class, and so are the identifiers that
--- an object holds. A graph has a field without bytes that rests on it, so it stands here and not among the proofs.
+-- A text has at most one graph: its records are determined, and so are the chain of a class and the identifiers that an
+-- object holds. A field of a graph that has no bytes rests on this, so it is here and not among the proofs.
 use Rattle.std.proofs.Common.{Bool, ◌≡◌, ℕ, suc, List, [], ◌∷◌, length, map, Some, None, slice_get, refl, sym, ap}
 use Rattle.std.proofs.Common.{subst, ◌∙◌, arith}
 use Rattle.hprof_grammar.specs.Record.{Record}
@@ -19,7 +19,7 @@ no_class heap id c zero_id named =
     let none : None ≡ Some c = subst (λ i. class_named heap i ≡ Some c) zero_id named in
     cc
 
--- a class has one chain of superclasses
+-- a class has only one chain of superclasses
 pub one_chain : (heap : List SubRecord) (id : ℕ) (cs ds : List Class) → IsChain heap id cs → IsChain heap id ds
     → cs ≡ ds
 one_chain heap id [] [] h k = refl
@@ -32,7 +32,7 @@ one_chain heap id (c ∷ cs) (d ∷ ds) h k =
     let rest : cs ≡ ds = one_chain heap c.super cs ds h.1 above in
     λ i. same i ∷ rest i
 
--- an object holds one list of identifiers
+-- an object holds only one list of identifiers
 pub one_ids : (skips : Class → Member → Bool) (s : ℕ) (heap : List SubRecord) (o : SubRecord) (ids others : List ℕ)
     → AreIdsIn skips s heap o ids
     → AreIdsIn skips s heap o others → ids ≡ others
@@ -43,7 +43,8 @@ one_ids skips s heap (instance_dump i) ids others h k =
 one_ids skips s heap (object_array_dump a) ids others h k = h ∙ sym k
 one_ids skips s heap (primitive_array_dump a) ids others h k = h ∙ sym k
 
--- two lists that have at each place what goes with one element are the same
+-- `P` relates each element to at most one other: two lists that it relates to the same list, position by position, are
+-- equal
 module _ {O X : Type 0} (P : O → X → Type 0) (one : (o : O) (x y : X) → P o x → P o y → x ≡ y) where
   same_each :
       (os : List O) (xs ys : List X) → length xs ≡ length os → length ys ≡ length os

@@ -1,4 +1,4 @@
--- A heap list whose objects stand at places of the bytes.
+-- A heap list whose objects are at places of the bytes.
 use Rattle.std.specs.Prelude.{List, map, ℕ, ◌≡◌}
 use Rattle.hprof_grammar.specs.SubRecord.{SubRecord}
 use Rattle.hprof_grammar.specs.Standing.{Sight, StandInTurn, Stands}
@@ -7,7 +7,7 @@ use Rattle.heap_graph.specs.declared.objects.Objects.{Objects}
 use Rattle.hprof_grammar.specs.Places.{IsDumpOf, Places}
 use Rattle.heap_graph.specs.Heap.{heap_of, objects}
 
--- at these places stand the objects of the heap list, and these are their identifiers
+-- the objects of the heap list are at `places`, and have the identifiers `ids`
 pub record AreObjects (v : Sight) (places ids : List ℕ) (heap : List SubRecord) : Type 0 where
   pub stand : StandInTurn (Stands v) places (objects heap)
   pub ids_are : ids ≡ map id_of (objects heap)
@@ -15,14 +15,14 @@ pub record AreObjects (v : Sight) (places ids : List ℕ) (heap : List SubRecord
 abbrev pub AreOf : {A : Type 0} → Objects A → List SubRecord → Type 0
 AreOf o heap = AreObjects o.view o.places.items o.index heap
 
--- the objects were read at the places of the dump that these bytes spell
+-- the objects were read at the places of the dump that `bytes` spell
 pub record IsReadFrom {A : Type 0} (o : Objects A) (bytes : List ℕ) (dump : Places) : Type 0 where
   pub bytes_are : o.view.bytes ≡ bytes
   pub size_is : o.view.id_size ≡ dump.id_size
   pub places_are : o.places.items ≡ dump.objects
   pub are : (is : IsDumpOf bytes dump) → AreOf o (heap_of is.records)
 
--- these are the places of the objects of a dump that these bytes spell, and the size of its identifiers
+-- the places are those of the objects of the dump that `bytes` spell, and the size is that of its identifiers
 pub record ArePlacesOf (bytes : List ℕ) (id_size : ℕ) (places : List ℕ) (dump : Places) : Type 0 where
   pub is : IsDumpOf bytes dump
   pub size_is : id_size ≡ dump.id_size

@@ -1,4 +1,4 @@
--- What a graph keeps, and what it stands for.
+-- The parts of a graph, and the graph that they stand for.
 use Rattle.std.specs.Prelude.{List, map, option_copied, ℕ, ◌≡◌}
 use Rattle.hprof_grammar.specs.Record.{Record}
 use Rattle.heap_graph.specs.Heap.{heap_of}
@@ -15,9 +15,8 @@ use Rattle.heap_graph.specs.declared.field_places.Plan.{Plan}
 abbrev pub named_class : ClassEntry → NamedClass
 named_class c = record { id = c.id; text = option_copied c.text }
 
--- the objects of a linked dump with their classes and what is planned for these, its roots, the names of its classes,
--- how many identifiers of roots name no object, and the fields that are not followed: this is the graph that they stand
--- for
+-- the objects of a linked dump, the plans of their classes, the roots, the names of the classes, the number of root
+-- identifiers other than 0 that name no object, and the fields that are not followed stand for the graph `g`
 pub record StandFor {A : Type 0} (objects : Objects A) (plan : Plan A) (roots : List ℕ) (classes : List ClassEntry)
     (unresolved : ℕ) (skip : List SkipEntry) (g : ObjectGraph) : Type 0 where
   pub records : List Record

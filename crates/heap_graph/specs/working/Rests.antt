@@ -1,4 +1,4 @@
--- The identifiers that are left of those that an object holds.
+-- The remaining identifiers of those that an object holds.
 use Rattle.std.specs.Prelude.{List, [], ℕ, ◌∷◌}
 use Rattle.heap_graph.specs.declared.held.Rest.{Rest}
 use Rattle.heap_graph.specs.declared.held.Rest.TheVariants as rests

@@ -1,4 +1,4 @@
--- What the tests of one object answer.
+-- The results of the tests of one object.
 use Rattle.std.specs.Prelude.{List, None, Option, Some, slice_get, ℕ, ◌<◌, ◌≡◌, ◌≤◌}
 use Rattle.hprof_grammar.specs.SubRecord.{SubRecord}
 use Rattle.heap_graph.specs.declared.refusal.LinkFault.{LinkFault}
@@ -17,18 +17,18 @@ BreaksLate s heap o SuperChain = HasBadChain heap o
 BreaksLate s heap o InstanceSize = HasWrongSize s heap o
 BreaksLate s heap o TooLarge = ⊥
 
--- the first of them that the object breaks
+-- the first of these rules that the object breaks
 abbrev pub IsLateRule : ℕ → List SubRecord → SubRecord → Option LinkRule → Type 0
 IsLateRule s heap o None = (rule : LinkRule) → BreaksLate s heap o rule → ⊥
 IsLateRule s heap o (Some rule) = BreaksLate s heap o rule × ((other : LinkRule) → BreaksLate s heap o other
     → code_of rule ≤ code_of other)
 
--- the first of all rules that object number n breaks
+-- the first of all rules that object `n` breaks
 abbrev pub IsLeastRule : ℕ → List SubRecord → ℕ → Option LinkRule → Type 0
 IsLeastRule s heap n None = (rule : LinkRule) → Fails s heap n rule → ⊥
 IsLeastRule s heap n (Some rule) = IsLeastFault s heap n rule
 
--- the objects before that number break no rule
+-- the objects before number `to` break no rule
 abbrev pub AreFine : ℕ → List SubRecord → ℕ → Type 0
 AreFine s heap to = (k : ℕ) (rule : LinkRule) → k < to → Fails s heap k rule → ⊥
 

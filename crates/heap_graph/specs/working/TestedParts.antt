@@ -8,14 +8,15 @@ use Rattle.id_index.specs.Repeats.{IsFirstRepeat}
 use Rattle.heap_graph.specs.working.PlacedObjects.{AreOf}
 use Rattle.heap_graph.specs.working.RuleAnswers.{AreFine, IsFaultOf}
 
--- as many objects as the part has places stand from that number on
+-- the part has no more places than there are objects from number `start` on
 pub record MayTest {A : Type 0} (o : Objects A) (repeat start : ℕ) (part : List ℕ) : Type 0 where
   pub within : start + length part ≤ length o.places.items
   pub repeat_is : IsFirstRepeat o.index repeat
   pub heap : (heap : List SubRecord) × AreOf o heap × HaveFatesOf o heap
 
--- What the test of a part says where no object before it breaks a rule: none of the part does, and the first repeat is
--- none of them; or which fault is the first of all.
+-- What the test of a part says, if no object before the part breaks a rule: without a fault, no object of the part
+-- breaks one and the first repeat is not in the part, unless that repeat is before the part; a fault is the first of
+-- all.
 pub record HasTested {A : Type 0} (o : Objects A) (repeat start : ℕ) (part : List ℕ)
     (result : Result (Unit {0}) LinkFault) : Type 0 where
   pub first : OnOk result (start ≤ repeat → start + length part ≤ repeat)

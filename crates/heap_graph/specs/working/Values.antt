@@ -4,7 +4,7 @@ use Rattle.std.specs.List.{AllByRecursion}
 use Rattle.byteorder.specs.Endian.{big_number}
 use Rattle.hprof_grammar.specs.Series.{LabelledValue}
 
--- a value of the type of identifiers has a size that identifiers have
+-- a value of the type of identifiers has a size that identifiers can have
 abbrev pub IsIdValue : ℕ → List ℕ → Type 0
 IsIdValue type value = type ≡ 2 → (1 ≤ length value) × (length value ≤ 8)
 
@@ -17,7 +17,7 @@ values_ids values = flat_map (λ v. value_ids v.type v.value) values
 abbrev pub AreIdValues : List LabelledValue → Type 0
 AreIdValues values = AllByRecursion (λ v. IsIdValue v.type v.value) values
 
--- the values of the constants or of the static fields of a class, of which there are less than 2^16
+-- the values of the constants or of the static fields of a class, fewer than 2^16
 pub record AreClassValues (values : List LabelledValue) : Type 0 where
   pub few : length values < 2 ^ 16
   pub fit : AreIdValues values

@@ -89,8 +89,8 @@ impl<'d, A: Allocator> Classes<'d, A> {
         }
     }
 
-    /// Follows the superclasses from class `first`, whose fate is unknown, up to one whose fate is known. Appends the
-    /// classes on the way to `path`, and returns the fate of what is above the last one.
+    /// Follows the superclasses from class `first`, whose fate is unknown, until the fate of what is above is known.
+    /// Appends the classes on the way to `path`, and returns that fate.
     fn climb<B: Allocator>(
         &self,
         first: u32,

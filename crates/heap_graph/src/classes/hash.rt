@@ -1,9 +1,9 @@
 //! The hash of the identifiers of classes.
 //!
-//! If the hash were known beforehand, a file could be made against it: identifiers that all begin at one place of the
-//! table, so that each look-up passes half of them. So the hash of a dump's classes is seeded with all their
-//! identifiers, and a change of one identifier changes the hash of each. The hash is the same in each run. No contract
-//! mentions the hash: only time depends on it.
+//! If the hash were known beforehand, a file could be made against it: its classes would have identifiers that all
+//! begin at one place of the table, so that each look-up passes half of them. So the hash of a dump's classes is seeded
+//! with all their identifiers: a change of one identifier changes the hashes of all. The hash is the same in each run.
+//! No contract mentions the hash: only time depends on it.
 
 use std::hash::{BuildHasher, DefaultHasher, FoldHasher, Hasher};
 

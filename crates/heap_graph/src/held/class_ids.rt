@@ -68,7 +68,7 @@ impl<'g> ClassIds<'g> {
     ghost use Rattle.heap_graph.specs.References.{class_ids};
 
     /// Returns the identifiers of the class dump at `at`.
-    // Inlined, as everything that makes up a visit.
+    // Inlined, like everything that makes up a visit.
     #[inline(always)]
     pub(crate) fn new(view: &View<'g>, at: u32) -> Self
         requires size { (1 ≤ view.now.id_size) × (view.now.id_size ≤ 8) }

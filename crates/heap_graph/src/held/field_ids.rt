@@ -69,7 +69,7 @@ impl<'g, A: Allocator> FieldIds<'g, A> {
 
     /// Returns the identifiers in the fields of an instance with the values `values`. `first` is the first class of its
     /// layout that declares fields.
-    // Inlined, as everything that makes up a visit.
+    // Inlined, like everything that makes up a visit.
     #[inline(always)]
     pub(crate) fn new(
         objects: &'g Objects<'g, A>,

@@ -25,7 +25,7 @@ fn bytes_together(view: &View<'_>, values: Values<'_>) -> u64
 }
 
 /// Returns the bytes of the class dump at `at`: those of its statics.
-// Inlined, as everything that makes up a visit, so that a visit is built in place.
+// Inlined, like everything that makes up a visit, so that a visit is built in place.
 #[inline(always)]
 pub(crate) fn class_bytes(view: &View<'_>, at: u32) -> u64
     requires { (c : Class) × Stands view.now at (class_dump c) }
@@ -35,7 +35,7 @@ pub(crate) fn class_bytes(view: &View<'_>, at: u32) -> u64
 }
 
 /// Returns the bytes of the object array at `at`.
-// Inlined, as everything that makes up a visit.
+// Inlined, like everything that makes up a visit.
 #[inline(always)]
 pub(crate) fn array_bytes(view: &View<'_>, at: u32) -> u64
     requires { (a : ObjectArray) × Stands view.now at (object_array_dump a) }
@@ -47,7 +47,7 @@ pub(crate) fn array_bytes(view: &View<'_>, at: u32) -> u64
 }
 
 /// Returns the bytes of the primitive array at `at`, whose elements have the type code `code`.
-// Inlined, as everything that makes up a visit.
+// Inlined, like everything that makes up a visit.
 #[inline(always)]
 pub(crate) fn primitive_bytes(view: &View<'_>, at: u32, code: u8) -> u64
     requires { (a : PrimitiveArray) × Stands view.now at (primitive_array_dump a) × (code ≡ a.type) }

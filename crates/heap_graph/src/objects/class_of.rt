@@ -16,7 +16,7 @@ impl<'d, A: Allocator> Objects<'d, A> {
     ghost use Rattle.heap_graph.specs.working.HeldIds.{AreLinkedOf, IsFirstOfInstance, IsObjectAt};
 
     /// Returns the number of the class with the identifier `id`, which exists.
-    // Inlined, as everything that makes up a visit, so that a visit is built in place.
+    // Inlined, like everything that makes up a visit, so that a visit is built in place.
     #[inline(always)]
     pub(crate) fn class_numbered(&self, id: u64) -> u32
         requires { (heap : List SubRecord) × AreLinkedOf self.now heap × HaveFatesOf self.now heap
@@ -33,7 +33,7 @@ impl<'d, A: Allocator> Objects<'d, A> {
 
     /// Returns the identifier and the number of the class of the instance at `at`, and the number of the first class
     /// that declares fields, from that class up.
-    // Inlined, as everything that makes up a visit.
+    // Inlined, like everything that makes up a visit.
     #[inline(always)]
     pub(crate) fn class_of(&self, at: u32) -> (u64, u32, Option<u32>)
         requires { (heap : List SubRecord) × (n : ℕ) × (i : Instance) × AreLinkedOf self.now heap

@@ -18,7 +18,7 @@ impl<'d, A: Allocator> Objects<'d, A> {
     ghost use Rattle.heap_graph.specs.working.HeldIds.{with_class};
 
     /// Returns the identifiers that the class dump at `at` holds. The two reserved ones are not followed.
-    // Inlined, as everything that makes up a visit.
+    // Inlined, like everything that makes up a visit.
     #[inline(always)]
     pub(crate) fn ids_of_class(&self, at: u32) -> HeldIds<'_, A>
         requires size { (1 ≤ self.now.view.id_size) × (self.now.view.id_size ≤ 8) }
@@ -35,7 +35,7 @@ impl<'d, A: Allocator> Objects<'d, A> {
 
     /// Returns the identifiers that the instance at `at` holds: its class `class`, unless `behind` is set, and then
     /// those in its fields. Its layout begins at the class `first`.
-    // Inlined, as everything that makes up a visit.
+    // Inlined, like everything that makes up a visit.
     #[inline(always)]
     pub(crate) fn ids_of_instance<'g>(
         &'g self,
@@ -68,7 +68,7 @@ impl<'d, A: Allocator> Objects<'d, A> {
 
     /// Returns the identifiers that the object array at `at` holds: its class `class`, unless `behind` is set, and then
     /// its elements.
-    // Inlined, as everything that makes up a visit.
+    // Inlined, like everything that makes up a visit.
     #[inline(always)]
     pub(crate) fn ids_of_array(&self, at: u32, class: u64, behind: bool) -> HeldIds<'_, A>
         requires { (a : ObjectArray) × Stands self.now.view at (object_array_dump a) × (class ≡ a.class) }

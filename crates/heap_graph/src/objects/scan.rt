@@ -18,7 +18,8 @@ impl<'d, A: Allocator> Objects<'d, A> {
     ghost use Rattle.heap_graph.specs.working.Scans.{IsScanOf};
 
     /// Returns the row and the bytes of object `number`, the object that is its class, if that is known, and the
-    /// identifiers that it holds, without that of a known class. Reads its kind once, and looks up its class once.
+    /// identifiers that it holds, without that of a known class. Reads the kind of the object once, and looks up its
+    /// class once.
     // Inlined, so that a visit is built in place.
     #[inline(always)]
     pub(crate) fn scan<'g>(
