@@ -1,4 +1,4 @@
-//! Each field of a dump that has one part of every kind, read at its place.
+//! Reads each field of a dump that has one part of every kind.
 
 ghost use Rattle.std.specs.Prelude.{List, slice_index, ℕ, ◌<◌};
 ghost use Rattle.hprof_grammar.specs.SubRecord.{Class, Instance, ObjectArray, PrimitiveArray, Root};
@@ -13,7 +13,7 @@ use std::process::Abort;
 use std::test::Fail;
 use std::thread::Threads;
 
-/// The numbers of a header, of a string's record and of a loaded class, in the order of the manual.
+/// The numbers of a header, of a string record and of a loaded class, in the order of the manual.
 fn record_numbers(view: &View<'_>, string: u32, loaded: u32) -> [u64; 8]
     requires header { (time : ℕ) × HeaderStands view.now time }
     requires string { (time id : ℕ) × (text : List ℕ) × StringStands view.now string time id text }
@@ -32,7 +32,7 @@ fn record_numbers(view: &View<'_>, string: u32, loaded: u32) -> [u64; 8]
     ]
 }
 
-/// The numbers of a class dump, in the order of the manual.
+/// Returns the numbers of the class dump at `at`, in the order of the manual.
 fn class_numbers(view: &View<'_>, at: u32) -> [u64; 9]
     requires { (c : Class) × Stands view.now at (class_dump c) }
 {
@@ -49,13 +49,13 @@ fn class_numbers(view: &View<'_>, at: u32) -> [u64; 9]
     ]
 }
 
-/// The label, the type and the last byte of a value.
+/// The label, the type code and the last byte of a value.
 fn labelled(value: TypedValue<'_>) -> Option<(u64, u8, u8)> {
     let last = value.value.last()?;
     Some((value.label, value.type_code, *last))
 }
 
-/// Two values, where there are so many.
+/// Returns the two values, if `values` has exactly two.
 fn two_values(values: Values<'_>) -> Option<[(u64, u8, u8); 2]> {
     let mut values = values;
     if values.len() != 2 {
@@ -66,7 +66,7 @@ fn two_values(values: Values<'_>) -> Option<[(u64, u8, u8); 2]> {
     values.is_empty().then_some([first, second])
 }
 
-/// Two identifiers, where there are so many.
+/// Returns the two identifiers, if `ids` has exactly two.
 fn two_ids(ids: Ids<'_>) -> Option<[u64; 2]> {
     let mut ids = ids;
     if ids.len() != 2 {
@@ -75,7 +75,7 @@ fn two_ids(ids: Ids<'_>) -> Option<[u64; 2]> {
     Some([ids.next()?, ids.next()?])
 }
 
-/// The identifiers of a class dump that are followed.
+/// Returns the identifiers of a class dump that are followed.
 fn followed_ids(view: &View<'_>, at: u32) -> Option<[u64; 4]>
     requires { (c : Class) × Stands view.now at (class_dump c) }
 {
@@ -84,7 +84,7 @@ fn followed_ids(view: &View<'_>, at: u32) -> Option<[u64; 4]>
     ids.is_empty().then_some(followed)
 }
 
-/// The names and types of a class's two instance fields.
+/// Returns the names and type codes of a class's two instance fields.
 fn two_members(view: &View<'_>, at: u32) -> Option<[(u64, u8); 2]>
     requires { (c : Class) × Stands view.now at (class_dump c) }
 {
@@ -97,7 +97,7 @@ fn two_members(view: &View<'_>, at: u32) -> Option<[(u64, u8); 2]>
     ])
 }
 
-/// The class of an instance, and the bytes of its fields.
+/// Returns the class of an instance and the bytes of its fields.
 fn instance_fields<'a>(view: &View<'a>, at: u32) -> (ObjectKind, u64, &'a [u8])
     requires { (i : Instance) × Stands view.now at (instance_dump i) }
 {
@@ -108,7 +108,7 @@ fn instance_fields<'a>(view: &View<'a>, at: u32) -> (ObjectKind, u64, &'a [u8])
     )
 }
 
-/// The class of an object array, and its two elements.
+/// Returns the class of an object array and its two elements.
 fn object_array_fields(view: &View<'_>, at: u32) -> (ObjectKind, u64, Option<[u64; 2]>)
     requires { (a : ObjectArray) × Stands view.now at (object_array_dump a) }
 {
@@ -119,7 +119,7 @@ fn object_array_fields(view: &View<'_>, at: u32) -> (ObjectKind, u64, Option<[u6
     )
 }
 
-/// The identifiers at the first two places of an instance's values, where there are so many bytes.
+/// Returns the identifiers at the offsets 0 and 1 of an instance's values, if these have enough bytes.
 fn first_identifiers(view: &View<'_>, at: u32) -> Option<[u64; 2]>
     requires { (i : Instance) × Stands view.now at (instance_dump i) }
 {
@@ -130,7 +130,7 @@ fn first_identifiers(view: &View<'_>, at: u32) -> Option<[u64; 2]>
     Some([view.identifier_at(values, 0), view.identifier_at(values, 1)])
 }
 
-/// The type of a primitive array, how many elements it has, and their bytes.
+/// Returns the type code of a primitive array, the number of its elements, and their bytes.
 fn primitive_array_fields<'a>(view: &View<'a>, at: u32) -> (ObjectKind, u8, u32, &'a [u8])
     requires { (a : PrimitiveArray) × Stands view.now at (primitive_array_dump a) }
 {
@@ -142,8 +142,8 @@ fn primitive_array_fields<'a>(view: &View<'a>, at: u32) -> (ObjectKind, u8, u32,
     )
 }
 
-/// What a root says: its kind, its object, and the reference, the thread, the frame and the stack trace that its kind
-/// has.
+/// The fields of a root: its kind, its object, and the reference, the thread, the frame and the stack trace, each if
+/// its kind has one.
 type RootNumbers = (
     RootKind,
     u64,
@@ -153,7 +153,7 @@ type RootNumbers = (
     Option<u32>,
 );
 
-/// What the root at a place says.
+/// Returns the fields of the root at `at`.
 fn root_numbers(view: &View<'_>, at: u32) -> RootNumbers
     requires { (r : Root) × Stands view.now at (root r) }
 {
@@ -184,7 +184,7 @@ fn root_numbers(view: &View<'_>, at: u32) -> RootNumbers
 /// The places of a dump's parts: strings, loaded classes, objects, roots.
 type PlacesOfParts = [&'static [u32]; 4];
 
-/// A dump with one part of every kind, how many bytes its identifiers have, and the places of its parts.
+/// A dump with one part of every kind, the size of its identifiers, and the places of its parts.
 const PLACES: [(&[u8], u8, PlacesOfParts); 2] = [
     (
         &WITH_FOUR,
@@ -208,7 +208,7 @@ const PLACES: [(&[u8], u8, PlacesOfParts); 2] = [
     ),
 ];
 
-/// How many bytes the identifiers of a dump have, and whether these are the places of its parts.
+/// Returns the size of a dump's identifiers, and whether `places` are the places of its parts.
 fn placed_so<T: Threads + Sync>(
     rt: &T,
     alloc: Global,
@@ -232,7 +232,7 @@ fn places(rt: HostRuntime) -> Result<(), Fail> {
     Ok(())
 }
 
-/// The records are these, with a string whose record has so many bytes.
+/// Compares the records with what they should be.
 fn has_records<R: Abort>(rt: &R, view: &View<'_>, string: u32, loaded: u32, length: u64)
     requires header { (time : ℕ) × HeaderStands view.now time }
     requires string { (time id : ℕ) × (text : List ℕ) × StringStands view.now string time id text }
@@ -252,7 +252,7 @@ fn records(rt: HostRuntime) {
     has_records(&rt, &View::new(&WITH_EIGHT, 8), 31, 49, 9);
 }
 
-/// The class is this one.
+/// Compares the class with what it should be.
 fn has_class<R: Abort>(rt: &R, view: &View<'_>, at: u32)
     requires { (c : Class) × Stands view.now at (class_dump c) }
 {
@@ -273,7 +273,7 @@ fn has_class<R: Abort>(rt: &R, view: &View<'_>, at: u32)
     assert_eq!(rt; two_members(view, at), Some([(5, 2), (6, 4)]));
 }
 
-/// The instance, with these values, and the arrays are these.
+/// Compares the instance and the arrays with what they should be.
 fn has_objects<R: Abort>(
     rt: &R,
     view: &View<'_>,
@@ -342,7 +342,7 @@ const ROOTS: [RootNumbers; 9] = [
     ),
 ];
 
-/// The roots are these, in turn.
+/// Compares the roots with what they should be, in order.
 fn has_roots<R: Abort>(rt: &R, view: &View<'_>, places: &[u32; 9])
     requires { (k : ℕ) → k < 9 → (r : Root) × Stands view.now (slice_index places.now k) (root r) }
 {

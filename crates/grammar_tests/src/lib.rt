@@ -1,10 +1,10 @@
-//! Tests of `hprof_grammar`, in a crate of their own: so that crate is proved once, and not once more with its tests.
-//! They ask what callers may ask. The crate has nothing to hand out.
+//! Tests of `hprof_grammar` through its public calls. They are a crate of their own, so that `hprof_grammar` is not
+//! proved a second time with them. The crate exports nothing.
 //!
-//! `worked_file` has the worked dump of 174 bytes with its places and its faults, `tags_and_types` each tag and type
-//! code and each order of records, `fields` each field of a dump that has one part of every kind (`dumps`), `parts` a
-//! dump that threads read in parts, and `refusals` how a refusal is shown. `proofs/WorkedFile.antt` sees by computation
-//! that the worked dump is one by the definitions.
+//! `worked_file` has the worked dump of 174 bytes with its places and faults, `tags_and_types` each tag and type code
+//! and each order of records, `fields` each field of a dump with one part of every kind (`dumps`), `parts` a dump that
+//! threads read in parts, `requests` the requests for memory by which they do, and `refusals` the text of a refusal.
+//! `proofs/WorkedFile.antt` computes that the worked dump is a dump by the definitions.
 
 #![tactic(auto)]
 

@@ -1,11 +1,11 @@
-//! A dump that is read in parts: what they make is what one thread makes of it, and so is the first fault.
+//! A dump that threads read in parts has the places and the first fault that it has if one thread reads it.
 
 use hprof_grammar::{Dump, FormatFault, ReadRefusal, Team, read};
 use std::alloc::{Allocator, Global};
 use std::test::Fail;
 use std::thread::Threads;
 
-/// Strings and loaded classes between three segments, their end, and one more string: 215 bytes.
+/// Strings and loaded classes between three segments, the end of these, and one more string: 215 bytes.
 #[rattlefmt::skip]
 pub const FILE: [u8; 215] = [
     0x4a, 0x41, 0x56, 0x41, 0x20, 0x50, 0x52, 0x4f, 0x46, 0x49, 0x4c, 0x45, 0x20, 0x31, 0x2e, 0x30, 0x2e, 0x32, 0,
@@ -26,10 +26,10 @@ pub const FILE: [u8; 215] = [
     0x01, 0, 0, 0, 0, 0, 0, 0, 0x05, 0, 0, 0, 0x03, 0x43,
 ];
 
-/// Where the records of the file begin.
+/// The offsets of the file's records.
 const RECORDS: [usize; 10] = [31, 45, 76, 90, 115, 146, 158, 183, 192, 201];
 
-/// Two bytes of the file that are changed, and the fault: places, bytes, code, place of the fault.
+/// Two bytes to be changed in the file, and the fault then: offsets, bytes, the fault's code, its offset.
 const CHANGES: [([(usize, u8); 2], u8, u64); 6] = [
     ([(54, 0x7e), (124, 0x7e)], 5, 54),
     ([(71, 0x7e), (192, 0x0c)], 5, 71),
@@ -39,7 +39,7 @@ const CHANGES: [([(usize, u8); 2], u8, u64); 6] = [
     ([(192, 0x0c), (209, 0xff)], 8, 192),
 ];
 
-/// Whether these are the places of the parts of the file.
+/// Tests whether `dump` has the places of the file.
 pub fn is_of_the_file<A: Allocator>(dump: &Dump<A>) -> bool {
     dump.strings() == [31, 76, 201].as_slice()
         && dump.loaded() == [90, 158].as_slice()
@@ -56,7 +56,7 @@ fn places_of_parts(rt: HostRuntime) -> Result<(), Fail> {
     Ok(())
 }
 
-/// Whether two dumps have the same places.
+/// Tests whether two dumps have the same places.
 fn are_same(one: &Dump<Global>, other: &Dump<Global>) -> bool {
     one.strings() == other.strings()
         && one.loaded() == other.loaded()
@@ -64,7 +64,7 @@ fn are_same(one: &Dump<Global>, other: &Dump<Global>) -> bool {
         && one.roots() == other.roots()
 }
 
-/// The refusal of these bytes by one thread, and whether four answer the same.
+/// Returns the refusal of `bytes` by one thread, and whether four threads return the same.
 fn told_by_four<T: Threads + Sync>(
     rt: &T,
     alloc: Global,
@@ -80,7 +80,7 @@ fn told_by_four<T: Threads + Sync>(
     }
 }
 
-/// Where the file is cut, and where the tag of a record is another.
+/// Cuts the file at each length, and changes the tag of each record.
 #[test]
 fn same_answers(rt: HostRuntime) {
     for length in 0..FILE.len() {
@@ -98,7 +98,7 @@ fn same_answers(rt: HostRuntime) {
     }
 }
 
-/// Of two faults the first is told, in whichever parts they are.
+/// The first of two faults is reported, whichever parts they are in.
 #[test]
 fn first_of_two_faults(rt: HostRuntime) {
     for (changes, code, place) in CHANGES {

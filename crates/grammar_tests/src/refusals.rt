@@ -1,16 +1,16 @@
-//! How a fault and a refusal are shown.
+//! The texts of faults and refusals.
 
 use hprof_grammar::{FormatFault, ReadRefusal};
 use std::alloc::{AllocError, Global};
 use std::test::Fail;
 
-/// Too many bytes.
+/// The fault of too many bytes.
 const TOO_LARGE: FormatFault = FormatFault {
     code: 14,
     offset: 1_073_741_824,
 };
 
-/// Refusals, and how each is shown.
+/// Refusals and their texts.
 const SHOWN: [(ReadRefusal, &str); 2] = [
     (
         ReadRefusal::Fault(TOO_LARGE),
@@ -19,13 +19,13 @@ const SHOWN: [(ReadRefusal, &str); 2] = [
     (ReadRefusal::OutOfMemory, "out of memory"),
 ];
 
-/// Whether the fault is shown so.
+/// Tests whether `fault` has the text `text`.
 fn fault_is_shown(alloc: Global, fault: FormatFault, text: &str) -> Result<bool, AllocError> {
     let shown = format!(in alloc; "{fault}")?;
     Ok(shown.as_str() == text)
 }
 
-/// Whether the refusal is shown so.
+/// Tests whether `refusal` has the text `text`.
 fn refusal_is_shown(alloc: Global, refusal: ReadRefusal, text: &str) -> Result<bool, AllocError> {
     let shown = format!(in alloc; "{refusal}")?;
     Ok(shown.as_str() == text)

@@ -1,4 +1,4 @@
-//! The requests for memory of a reading tell how it was made: in parts, in how many, and not once more by one thread.
+//! The requests for memory show how a dump was read: in parts, in how many, and not again by one thread.
 
 use crate::parts::{FILE, is_of_the_file};
 use hprof_grammar::{Team, read};
@@ -6,11 +6,11 @@ use limited_heap::LimitedHeap;
 use std::alloc::Global;
 use std::thread::Threads;
 
-/// Teams that read the file in parts: their threads, and the fewest objects that they share. By its bytes the file has
-/// three objects, and two threads read it in two parts.
+/// Teams that read the file in parts: the number of threads, and the fewest objects that they share. By its length the
+/// file counts as three objects. Two threads read it in two parts.
 const IN_PARTS: [(u32, u32); 5] = [(2, 0), (2, 3), (3, 0), (4, 0), (64, 0)];
 
-/// Teams of which the calling thread reads the file.
+/// Teams whose calling thread reads the whole file.
 const IN_ONE: [(u32, u32); 4] = [(0, 0), (1, 0), (2, 4), (64, u32::MAX)];
 
 /// Tests whether `team` reads the file on `heap`.
@@ -21,14 +21,14 @@ fn reads<T: Threads + Sync>(team: &Team<'_, T>, heap: &LimitedHeap<Global>) -> b
     }
 }
 
-/// Returns the number of requests for memory by which `team` reads the file.
+/// Returns the number of requests for memory that `team` makes to read the file.
 fn requests_of<T: Threads + Sync>(team: &Team<'_, T>, alloc: Global) -> u64 {
     let heap = LimitedHeap::new(alloc, u64::MAX);
     let _read = reads(team, &heap);
     u64::MAX.saturating_sub(heap.requests_left())
 }
 
-/// Tests whether `team` reads the file whichever one of its requests is refused if `wanted`, and never if not.
+/// Refuses each request of `team` in turn, and tests whether it reads the file then: always if `wanted`, else never.
 fn reads_without_one<T: Threads + Sync>(team: &Team<'_, T>, alloc: Global, wanted: bool) -> bool {
     for request in 0..requests_of(team, alloc) {
         if reads(team, &LimitedHeap::refusing(alloc, request)) != wanted {
@@ -38,8 +38,8 @@ fn reads_without_one<T: Threads + Sync>(team: &Team<'_, T>, alloc: Global, wante
     true
 }
 
-/// A refused request ends the parts, and the calling thread reads the file then: so each request is one of the parts,
-/// the last one too.
+/// If a request for the parts is refused, the calling thread reads the file. So each request, the last one too, is for
+/// the parts: nothing is read again.
 #[test]
 fn read_in_parts_alone(rt: HostRuntime) {
     for (threads, fewest) in IN_PARTS {
@@ -50,7 +50,7 @@ fn read_in_parts_alone(rt: HostRuntime) {
     }
 }
 
-/// Nobody reads the file once more if the calling thread is refused a request.
+/// If the calling thread reads the whole file, a refused request is a refusal.
 #[test]
 fn read_in_one_part(rt: HostRuntime) {
     for (threads, fewest) in IN_ONE {
@@ -61,12 +61,12 @@ fn read_in_one_part(rt: HostRuntime) {
     }
 }
 
-/// Returns the number of requests by which `threads` threads read the file.
+/// Returns the number of requests that `threads` threads make to read the file.
 fn requests_by<T: Threads + Sync>(rt: &T, alloc: Global, threads: u32) -> u64 {
     requests_of(&Team::sharing_from(rt, threads, 0), alloc)
 }
 
-/// Each part takes memory of its own: so the parts are fewer where the threads are.
+/// Each part allocates, so more threads make more requests: there is not a part for each record.
 #[test]
 fn parts_by_threads(rt: HostRuntime) {
     let [two, four, many] = [2, 4, 64].map(|threads| requests_by(&rt, rt.alloc(), threads));

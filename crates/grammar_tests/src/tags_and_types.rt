@@ -1,4 +1,4 @@
-//! Each tag and each type code, in each place that one has, and each order of the snapshot's records.
+//! Each tag, each type code at each of its places, and each order of the snapshot's records.
 
 use crate::worked_file::fault;
 use hprof_grammar::{Team, read};
@@ -6,7 +6,7 @@ use std::alloc::{AllocError, Global};
 use std::test::Fail;
 use std::thread::Threads;
 
-/// The bytes of each sub-record with its tag, with identifiers of 4 bytes and no entries.
+/// The tag of each sub-record, and its length with identifiers of 4 bytes and no entries.
 const SUB_RECORDS: [(u8, usize); 13] = [
     (0xff, 5),
     (0x01, 9),
@@ -23,7 +23,7 @@ const SUB_RECORDS: [(u8, usize); 13] = [
     (0x23, 14),
 ];
 
-/// The bytes of a value of each type, with identifiers of 4 bytes.
+/// The code of each type, and the size of its values with identifiers of 4 bytes.
 const TYPES: [(u8, usize); 9] = [
     (2, 4),
     (4, 1),
@@ -36,7 +36,7 @@ const TYPES: [(u8, usize); 9] = [
     (11, 8),
 ];
 
-/// Tags of records with empty bodies, and the fault that they make, if any.
+/// Tags of records with empty bodies, and the fault of a file with them, if any.
 const ORDERS: [(&[u8], Option<(u8, u64)>); 14] = [
     (&[], Some((8, 31))),
     (&[0x0c], None),
@@ -54,7 +54,7 @@ const ORDERS: [(&[u8], Option<(u8, u64)>); 14] = [
     (&[0x1c, 0x2c, 0x0c], Some((8, 49))),
 ];
 
-/// What the table has for a code.
+/// Returns the entry of `table` for `code`.
 fn entry(table: &[(u8, usize)], code: u8) -> Option<usize> {
     for (known, size) in table {
         if *known == code {
@@ -64,20 +64,20 @@ fn entry(table: &[(u8, usize)], code: u8) -> Option<usize> {
     None
 }
 
-/// The header, with identifiers of 4 bytes.
+/// Returns the header, with identifiers of 4 bytes.
 fn header(alloc: Global) -> Result<Vec<u8>, AllocError> {
     let mut file = b"JAVA PROFILE 1.0.2\0".to_vec(alloc)?;
     file.extend_from_slice(&[0, 0, 0, 4, 0, 0, 0, 0, 0, 0, 0, 0])?;
     Ok(file)
 }
 
-/// Appends a record, of which the body has fewer than 256 bytes.
+/// Appends a record whose body has fewer than 256 bytes.
 fn push_record(file: &mut Vec<u8>, tag: u8, body: &[u8]) -> Result<(), AllocError> {
     file.extend_from_slice(&[tag, 0, 0, 0, 0, 0, 0, 0, (body.len() % 256) as u8])?;
     file.extend_from_slice(body)
 }
 
-/// The fault of a file with one heap dump.
+/// Returns the fault of a file with one heap dump, whose body is `body`; `None` if it has none.
 fn heap_fault<T: Threads + Sync>(
     rt: &T,
     alloc: Global,
@@ -88,7 +88,7 @@ fn heap_fault<T: Threads + Sync>(
     Ok(fault(read(&Team::new(rt, 1), alloc, &file)))
 }
 
-/// So many zero bytes behind these.
+/// Returns `first` and `zeros` zero bytes after it.
 fn padded(alloc: Global, first: &[u8], zeros: usize) -> Result<Vec<u8>, AllocError> {
     let mut bytes = first.to_vec(alloc)?;
     for _i in 0..zeros {
@@ -97,7 +97,7 @@ fn padded(alloc: Global, first: &[u8], zeros: usize) -> Result<Vec<u8>, AllocErr
     Ok(bytes)
 }
 
-/// The fault of a file with records of these tags, all of them empty.
+/// Returns the fault of a file with an empty record for each of `tags`; `None` if it has none.
 fn order_fault<T: Threads + Sync>(
     rt: &T,
     alloc: Global,
@@ -118,7 +118,7 @@ fn orders_of_the_snapshot(rt: HostRuntime) -> Result<(), Fail> {
     Ok(())
 }
 
-/// The fault of a file with a record of this tag and three zeros, and an empty heap dump.
+/// Returns the fault of a file with a record of three zeros with `tag`, and an empty heap dump.
 fn record_fault<T: Threads + Sync>(
     rt: &T,
     alloc: Global,
@@ -143,7 +143,7 @@ fn tags_of_records(rt: HostRuntime) -> Result<(), Fail> {
     Ok(())
 }
 
-/// The fault of a file with one sub-record: its tag, and so many zeros.
+/// Returns the fault of a file with one sub-record: `tag`, and `zeros` zeros after it.
 fn sub_fault<T: Threads + Sync>(
     rt: &T,
     alloc: Global,
@@ -154,7 +154,7 @@ fn sub_fault<T: Threads + Sync>(
     heap_fault(rt, alloc, &body)
 }
 
-/// The fault of a file with one sub-record, of which all bytes but the last are zeros behind its tag.
+/// Returns the fault of a file with one sub-record: `tag`, `zeros` zeros after it, and `last`.
 fn ended_fault<T: Threads + Sync>(
     rt: &T,
     alloc: Global,
@@ -194,8 +194,8 @@ fn tags_of_sub_records(rt: HostRuntime) -> Result<(), Fail> {
     Ok(())
 }
 
-/// A sub-record with one type code: what the code is of, the tag, how many zeros and which bytes stand before the code,
-/// whether a value follows it, and how many zeros stand behind that.
+/// A sub-record with one type code: the place of the code, the tag, the number of zeros and the bytes before the code,
+/// whether a value follows it, and the number of zeros after that.
 type CodePlace = (&'static str, u8, usize, &'static [u8], bool, usize);
 
 const CODE_PLACES: [CodePlace; 4] = [
@@ -205,7 +205,7 @@ const CODE_PLACES: [CodePlace; 4] = [
     ("array", 0x23, 8, &[0, 0, 0, 1], true, 0),
 ];
 
-/// The fault of a file with one sub-record that has this code at this place, and a value of so many bytes where one
+/// Returns the fault of a file with one sub-record that has `code` at `place`, and a value of `size` bytes if one
 /// follows.
 fn code_fault<T: Threads + Sync>(
     rt: &T,

@@ -1,4 +1,4 @@
-//! Rows of bytes with the places or the fault that they have to give.
+//! The worked dump: its places, and the faults of its beginnings and of changed bytes.
 
 use hprof_grammar::{Dump, FormatFault, ReadRefusal, Team, read};
 use limited_heap::LimitedHeap;
@@ -25,7 +25,7 @@ const FILE: [u8; 174] = [
     0xff, 0, 0, 0x02, 0x01,
 ];
 
-/// The fault of the first bytes of the file, by how many they are: from, up to, code, place.
+/// The faults of the file's beginnings by their length: the least length, the greatest, the fault's code, its offset.
 const CUTS: [(usize, usize, u8, u64); 8] = [
     (0, 18, 1, 0),
     (19, 30, 3, 0),
@@ -37,7 +37,7 @@ const CUTS: [(usize, usize, u8, u64); 8] = [
     (71, 173, 3, 70),
 ];
 
-/// The fault of the file with one byte changed: place, byte, code, place of the fault.
+/// The faults of the file with one byte changed: offset of the byte, byte, the fault's code, its offset.
 const CHANGES: [(usize, u8, u8, u64); 8] = [
     (0, 0, 1, 0),
     (22, 2, 2, 19),
@@ -49,7 +49,7 @@ const CHANGES: [(usize, u8, u8, u64); 8] = [
     (140, 1, 6, 127),
 ];
 
-/// The code and the place of a fault.
+/// Returns the code and the offset of the fault, if `outcome` is one.
 pub fn fault<D>(outcome: Result<D, ReadRefusal>) -> Option<(u8, u64)>
 where
     D: Drop,
@@ -96,7 +96,7 @@ fn first_faults(rt: HostRuntime) -> Result<(), Fail> {
     Ok(())
 }
 
-/// A second snapshot breaks the order, however small.
+/// A second snapshot breaks the order, even an empty one.
 #[test]
 fn one_snapshot(rt: HostRuntime) -> Result<(), Fail> {
     let mut file = FILE.to_vec(rt.alloc())?;
@@ -106,7 +106,7 @@ fn one_snapshot(rt: HostRuntime) -> Result<(), Fail> {
     Ok(())
 }
 
-/// Whether this is what the file spells.
+/// Tests whether `dump` is the dump that the file spells.
 fn is_of_the_file<A: Allocator>(dump: &Dump<A>) -> bool {
     dump.id_size() == 4
         && dump.strings() == [31].as_slice()
@@ -115,7 +115,7 @@ fn is_of_the_file<A: Allocator>(dump: &Dump<A>) -> bool {
         && dump.roots() == [169].as_slice()
 }
 
-/// Whether the file is read over this heap, or want of memory is told where the heap refused a request.
+/// Tests whether `team` reads the file on `heap`, or reports out of memory after the heap refused a request.
 fn is_right_or_told<T: Threads + Sync>(team: &Team<'_, T>, heap: &LimitedHeap<Global>) -> bool {
     match read(team, heap, &FILE) {
         Ok(dump) => is_of_the_file(&dump),
@@ -123,15 +123,15 @@ fn is_right_or_told<T: Threads + Sync>(team: &Team<'_, T>, heap: &LimitedHeap<Gl
     }
 }
 
-/// How many requests it takes to read the file where none is refused.
+/// Returns the number of requests that `team` makes to read the file if none is refused.
 fn requests_of_the_file<T: Threads + Sync>(team: &Team<'_, T>, alloc: Global) -> u64 {
     let heap = LimitedHeap::new(alloc, u64::MAX);
     let _whole = is_right_or_told(team, &heap);
     u64::MAX.saturating_sub(heap.requests_left())
 }
 
-/// Whether the file is read, or want of memory told, over a heap that grants so many requests; and whether none was
-/// refused.
+/// Reads the file on a heap that grants `requests` requests. Returns whether the result is right, and whether no
+/// request was refused.
 fn where_the_rest_is_refused<T: Threads + Sync>(
     team: &Team<'_, T>,
     alloc: Global,
@@ -141,7 +141,7 @@ fn where_the_rest_is_refused<T: Threads + Sync>(
     (is_right_or_told(team, &heap), heap.refusals() == 0)
 }
 
-/// The same over a heap that refuses this request alone.
+/// Like [`where_the_rest_is_refused`], on a heap that refuses only the request number `request`.
 fn where_one_is_refused<T: Threads + Sync>(
     team: &Team<'_, T>,
     alloc: Global,
@@ -151,7 +151,7 @@ fn where_one_is_refused<T: Threads + Sync>(
     (is_right_or_told(team, &heap), heap.refusals() == 0)
 }
 
-/// Each request is refused in turn: with all behind it, and alone. A team that shares the file reads it in parts.
+/// Refuses each request in turn: with all after it, and only it. A team that shares the file reads it in parts.
 #[test]
 fn memory_refused_in_turn(rt: HostRuntime) {
     for fewest in [u32::MAX, 0] {
@@ -172,8 +172,8 @@ fn memory_refused_in_turn(rt: HostRuntime) {
     }
 }
 
-/// How many requests a heap that grants what the file takes has left behind it, whether the dump is right, whether it
-/// hands over its objects and has none then, and how many requests were refused.
+/// Reads the file on a heap that grants as many requests as that takes. Returns the number of requests left, whether
+/// the dump is right, whether its objects can be taken and it has none then, and the number of refused requests.
 fn looked_at<T: Threads + Sync>(
     rt: &T,
     alloc: Global,
@@ -188,8 +188,8 @@ fn looked_at<T: Threads + Sync>(
     Ok((left, right, handed, heap.refusals()))
 }
 
-/// What a dump tells takes no memory: it is asked while each request would be refused, and makes none. A `View` is
-/// handed no allocator.
+/// The methods of a dump allocate nothing: they are called while each request would be refused, and none is made. A
+/// `View` has no allocator.
 #[test]
 fn reading_fields_takes_no_memory(rt: HostRuntime) -> Result<(), Fail> {
     assert_eq!(rt; looked_at(&rt, rt.alloc())?, (0, true, true, 0));
