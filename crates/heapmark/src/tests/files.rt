@@ -53,7 +53,7 @@ fn a_file_gets_the_room_of_its_size(rt: HostRuntime) {
             Ok(bytes) => room_of_bytes(&rt, bytes.as_slice()),
             Err(_) => None,
         };
-        assert_eq!(rt; room, Some((size + 1, size)), "{size} bytes");
+        assert_eq!(rt; room, Some((size.saturating_add(1), size)), "{size} bytes");
     }
 }
 
