@@ -48,7 +48,7 @@ impl<A: Allocator + Copy> PairIndexBuilder<A> {
         ensures { IfOk result (λ found. IfSome found (λ b. b ≡ [])) }
     {
         let (first, last) = (least / PLACES, greatest / PLACES);
-        // With two objects on a page, page words and pairs together take as many bytes as a run for each page.
+        // With two objects on a page, an object takes 14 bytes: 8 of its pair and 6 of the page.
         if last < first || last - first >= MOST_PAGES.min(u64::from(count) / 2) {
             return Ok(None);
         }
