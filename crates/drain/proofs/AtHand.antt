@@ -1,4 +1,4 @@
--- What a worker with its pair has after each call.
+-- What a worker with its pair has at hand after each call.
 use Rattle.drain.proofs.Words.{All, All-from_get_or, AreClaimed, AreOfSize, Book, Bool, CameFrom, CanClaim, CanFinish}
 use Rattle.drain.proofs.Words.{Contains, Contains-append_cases, Contains-append_left, Contains-get_or, Contains-push}
 use Rattle.drain.proofs.Words.{Contains-push_cases, Deals, GoesOn, HasAtHand, Holder, IsAtWork, IsBacked, IsBusy}
@@ -33,16 +33,16 @@ goes_on_again s t = record {
 pub works_on_again : {a b c : Holder} → WorksOn a b → WorksOn b c → WorksOn a c
 works_on_again s t = record { came = came_again s.came t.came; idle = t.idle ∙ s.idle }
 
--- one that goes on works on
+-- a worker that goes on works on
 pub works : {a b : Holder} → GoesOn a b → WorksOn a b
 works on = record { came = on.came; idle = on.idle }
 
--- who has the share and the idle number of a busy one is busy
+-- a worker with the share and the idle number of a busy one is busy
 pub busy_on : (a b : Account) → b.share ≡ a.share → b.idle ≡ a.idle → IsBusy a → IsBusy b
 busy_on a b share idle busy = ⊎_elim (λ several. inl (λ one. several (sym share ∙ one)))
     (λ awake. inr (idle ∙ awake)) busy
 
--- a list in which nothing stands is empty
+-- a list that contains nothing is empty
 pub nothing : (xs : List ℕ) → ((o : ℕ) → times o xs ≡ 0) → xs ≡ []
 nothing [] none = refl
 nothing (x ∷ xs) none = absurd (omega (arith, none x, only-same x x refl))
@@ -71,7 +71,7 @@ hand_without_spill {p} none hand = record {
       omega (arith, hand.charge o, ap (times o) none, ap (times o) (none_last p.spill (buffered_items p) none));
 }
 
--- and once its pair is gone
+-- and after its pair is gone
 pub gone_free : {w : Holder} → HasAtHand empty_pair [] w → w.book.account.open_push ≡ false → IsFree w
 gone_free {w} hand closed = record {
   held = nothing w.book.account.held hand.held;
@@ -79,7 +79,7 @@ gone_free {w} hand closed = record {
   open_push = closed;
 }
 
--- the worker holds the buffers of its pair, and answers for the items and for what it puts
+-- the worker holds the buffers of its pair, and its charge is the items and what it puts
 pub backs : {p : PairState} (put rest : List ℕ) {w : Holder} → HasAtHand p (put ++ rest) w → IsBacked p put w.book
 backs {p} put rest hand = record {
   held = λ i. omega (arith, hand.held i);
@@ -122,7 +122,7 @@ module _ {old : PairState} (before : Holder) {put got : List ℕ} {new : PairSta
     finished = deals.kept.finished;
   }
 
--- what may be claimed by what the worker has at hand
+-- what may be claimed because of what the worker has at hand
 pub can_claim : {p : PairState} {besides : List ℕ} {w : Holder} (o : ℕ) → HasAtHand p besides w
     → MayClaim w.book.setup besides o → CanClaim w.book.setup o w.book.account
 can_claim {p} {besides} {w} o hand may = ⊎_elim inl
@@ -167,7 +167,7 @@ module _ (old new : Holder) (pool : new.pool ≡ old.pool) (o found : ℕ) (is :
   saw_it : Contains new.book.account.seen o
   saw_it = subst (λ xs. Contains xs o) (sym seen_is) (Contains-push old.book.account.seen o)
 
-  -- a white object is answered for
+  -- a white object is in the charge
   white_at_hand : found ≡ 0 → (p : PairState) (besides : List ℕ) → HasAtHand p besides old
       → HasAtHand p (o ∷ besides) new
   white_at_hand white p besides was =
@@ -238,7 +238,7 @@ pub white_at_work : {o : ℕ} {p q : PairState} {a b : Holder} {white : Bool} (b
     → IsClaimed o p a q b white → IsAtWork p besides a → IsAtWork q (o ∷ besides) b
 white_at_work {o} {p} {q} {a} {b} besides is claim = (subst (IsClaimed o p a q b) is claim).at_work besides
 
--- and was claimed once it is put
+-- and was claimed after it is put
 pub white_claimed : {o : ℕ} {p q r : PairState} {a b c : Holder} {white : Bool} → white ≡ true
     → IsClaimed o p a q b white → IsPut o q b r c → AreClaimed (o ∷ []) p a r c
 white_claimed {o} {c = c} is claim puts = record {
@@ -272,7 +272,7 @@ more_claimed {xs} {ys} first next = record {
   at_work = λ besides was. next.at_work besides (first.at_work besides was);
 }
 
--- the scanned object may be finished once all that it refers to was claimed, and then it is no longer at hand
+-- the scanned object may be finished after all that it refers to was claimed, and then it is no longer at hand
 module _ {o : ℕ} {p : PairState} {mid : Holder} (at_work : IsAtWork p (o ∷ []) mid) where
   charged : 0 < times o mid.book.account.charge
   charged = omega (arith, at_work.hand.charge o, only-same o o refl)

@@ -13,7 +13,7 @@ marked_where_set [] o = (λ h. absurd (false≢true h), λ h. absurd (omega (ari
 marked_where_set (m ∷ marks) zero = (leb-true 1 m, le-leb 1 m)
 marked_where_set (m ∷ marks) (suc o) = marked_where_set marks o
 
--- the setup of a book that a pool for this graph opened with
+-- the setup of a book with which a pool for this graph opened
 pub opened_setup : (g : ObjectGraph) (buffers size first_tag units : ℕ) (b : Book)
     → let e : Setup = record {
       objects = object_count g;

@@ -1,8 +1,8 @@
--- As many marks are set as tell of a finished object, where each claimed object was finished.
+-- If each claimed object was finished, the number of marks that are set is that of the finished objects.
 use Rattle.drain.proofs.Words.{AreFinished, Bool, List, [], ap, arith, cond, count_by, is_set, map, refl, suc}
 use Rattle.drain.proofs.Words.{sum_by-cons, sym, zero, ℕ, ◌+◌, ◌==◌, ◌∙◌, ◌∷◌, ◌≡◌, ◌≤◌}
 
--- one mark in front of others that are counted alike
+-- one mark before others that are counted alike
 one_more : (m n k : ℕ) → (1 ≤ m → m ≡ 2) → n ≡ k → cond (m == 2) 1 0 + n ≡ cond (is_set m) 1 0 + k
 one_more zero n k two same = ap (λ (x : ℕ). 0 + x) same
 one_more (suc m) n k two same =

@@ -1,4 +1,4 @@
--- What a thread owed comes back, whatever the leader did meanwhile.
+-- What a thread owed is returned, whatever the leader did meanwhile.
 use Rattle.drain.proofs.Words.{Book, Duty, HasTallied, Holder, IsBackUnder, IsDutyUnder, IsThrough, Measure, ap, subst}
 use Rattle.drain.proofs.Words.{sym, ◌∙◌, ◌≡◌}
 use Rattle.drain.specs.declared.tallied.Tallied.{Tallied}

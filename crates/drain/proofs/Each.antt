@@ -1,4 +1,4 @@
--- What holds of each element of a list holds of the first, and of each of the others, and of one more behind them.
+-- What holds of each element of a list holds of the first, of each of the others, and of one more after them.
 use Rattle.drain.proofs.Words.{All, List, [], ap, arith, cases_lt, get_or, get_or_append_left, get_or_push, length}
 use Rattle.drain.proofs.Words.{length_push, refl, subst, suc, sym, ℕ, ⊎_elim, ◌++◌, ◌+◌, ◌<◌, ◌∙◌, ◌∷◌, ◌≡◌, ◌≤◌}
 
@@ -19,7 +19,7 @@ pushed_holds {X} P xs ys x n long is all last k d below =
     (λ (high : n ≤ k). subst P (sym (get_or_push xs x d k (omega (arith, high, below, long)))) last)
     (cases_lt k n))
 
--- and where the last is taken away, of it and of those that are left
+-- and if the last is taken away, of it and of the remaining ones
 module _ {X : Type 0} (P : X → Type 0) (old left : List X) (x : X) (is : old ≡ left ++ x ∷ []) (all : All P old) where
   long : length old ≡ length left + 1
   long = ap (λ (ys : List X). length ys) is ∙ length_push left x
@@ -38,7 +38,7 @@ module _ {X : Type 0} (P : X → Type 0) (old left : List X) (x : X) (is : old �
       in
       subst P here (all k d (omega (arith, below, long)))
 
--- where it holds of each and of one more
+-- if it holds of each and of one more
 pub more_hold : {X : Type 0} (P : X → Type 0) (xs : List X) (x : X) → All P xs → P x → All P (xs ++ x ∷ [])
 more_hold P xs x all last k d below =
     pushed_holds P xs (xs ++ x ∷ []) x (length xs) refl refl (λ j e low. all j e low) last k d

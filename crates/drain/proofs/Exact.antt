@@ -1,4 +1,5 @@
--- Marked roots, closed under references, and nothing but reachable objects: then marked is reachable.
+-- The roots are marked, the marks are closed under references, and only reachable objects are marked: so exactly the
+-- reachable objects are marked.
 use Rattle.drain.proofs.Words.{IsReachable, LeadsTo, List, [], refl, subst, sym, ℕ, ◌++◌, ◌↔◌, ◌∷◌}
 
 module _ (is_root : ℕ → Type 0) (refers : ℕ → ℕ → Type 0) where
@@ -20,7 +21,7 @@ module _ (is_root : ℕ → Type 0) (refers : ℕ → ℕ → Type 0) where
   }
 
   module _ (holds : ℕ → Type 0) (closed : (a b : ℕ) → holds a → refers a b → holds b) where
-    -- a path from where it holds ends where it holds
+    -- a path from an object for which it holds ends at one for which it holds
     ends_within : (a : ℕ) (path : List ℕ) (b : ℕ) → holds a → LeadsTo refers a path b → holds b
     ends_within a [] b here same = subst holds same here
     ends_within a (c ∷ path) b here leads = ends_within c path b (closed a c here leads.0) leads.1

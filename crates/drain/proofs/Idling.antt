@@ -9,7 +9,7 @@ use Rattle.drain.specs.working.Idle.{TurnsInVain, WaitsInVain}
 use Rattle.drain.specs.working.Idle.WaitsInVain.{more as one_more_vain, none as none_vain}
 use Rattle.drain.proofs.AtHand.{came_again, came_at_all, nothing}
 
--- it has what it had, nothing was pushed on the full stack, and that was found empty
+-- it has what it had, nothing was pushed on the full stack, and that stack was found empty
 pub record IsStill (begun w : Holder) : Type 0 where
   pub came : CameFrom begun w
   pub held : w.book.account.held ≡ begun.book.account.held
@@ -131,7 +131,7 @@ no_turn workers begun is = subst (WaitsInVain workers 0 (idled begun)) (sym is) 
 pub not_all_idle : {all : Bool} {word workers : ℕ} → all ≡ false → (all ≡ true ↔ (word ≡ workers)) → word ≢ workers
 not_all_idle other shows same = false≢true (sym other ∙ shows.1 same)
 
--- and then a look at the full stack, told of the book before both
+-- and then a look at the full stack, stated of the book before both
 pub sees_after : {answer other : Bool} (word : ℕ) (old : Book) {mid new : Book} → mid ≡ idle_loaded word old
     → answer ≡ other → Sees Full mid new answer → Sees Full (idle_loaded word old) new other
 sees_after {other = other} word old {mid} {new} is same sees =

@@ -1,4 +1,4 @@
--- The leader, as it gives away units and takes workers in.
+-- The leader while it gives away units and takes workers in.
 use Rattle.drain.proofs.Words.{AreOfSize, Book, Contains, Contains-append_left, HasAtHand, Holder, IsAtWork, IsAwake}
 use Rattle.drain.proofs.Words.{IsBusy, IsFree, Leads, List, PairState, Setup, [], ap, arith, inl, joined, new_book}
 use Rattle.drain.proofs.Words.{only, parted, refl, subst, sum_of-append, sym, times, ℕ, ◌++◌, ◌<◌, ◌||◌, ◌∙◌, ◌≡◌}
@@ -57,7 +57,7 @@ took_in old other new pool is free = record {
   pushed = ap (λ (b : Book). b.account.pushed) is;
 }
 
--- and it is free then where it was
+-- and it is free then if it was free before
 pub joined_free : (old other new : Holder) → new.book ≡ joined old.book other.book → IsFree old → IsFree other
     → IsFree new
 joined_free old other new is free other_free = record {
@@ -79,7 +79,7 @@ leads_hand {p} leads was = record {
 pub several_busy : (w : Holder) → 1 < w.book.account.share → IsBusy w.book.account
 several_busy w several = inl (λ one. omega (arith, several, one))
 
--- and it goes on with its work once it has several units again
+-- and it goes on with its work after it has several units again
 pub leads_on : {p : PairState} {old new : Holder} → Leads old new → 1 < new.book.account.share → HasAtHand p [] old
     → IsAtWork p [] new
 leads_on {new = new} leads several was = record { hand = leads_hand leads was; busy = several_busy new several }

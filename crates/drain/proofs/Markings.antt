@@ -1,4 +1,4 @@
--- At the close the leader's finished list has exactly the marked objects, each once: so its tally is theirs.
+-- At the close the leader's finished list has exactly the marked objects, each once: so its tally is their tally.
 use Rattle.drain.proofs.Words.{AreThose, Book, Bool, Contains, IsMarkingOf, IsOnce, IsRowIn, IsTallyOf, IsWhole, List}
 use Rattle.drain.proofs.Words.{Marking, MarksTell, ObjectGraph, RowKey, Sum, ap, arith, bytes_at, cases_lt, chosen_sums}
 use Rattle.drain.proofs.Words.{class_count, cond, false, filter, get_or_past, is_set, le-leb, leb-true, length}
@@ -49,7 +49,7 @@ module _ (g : ObjectGraph) (whole : IsWhole g) (objects : List ℕ) (marks : Lis
           ∙ sym (passing_sum (bytes_at g) (λ o. row_number (row_at g o) == place) marked)
           ∙ ap (sum_by (bytes_at g)) (of_place row here)
 
-  -- of a row of the graph that is what stands at its place
+  -- for a row of the graph this is the sum at its place
   told_row : (row : RowKey) → IsRowIn g row → sum_of_row rows row ≡ sum_at rows (row_number row)
   told_row (keys.Class n) here = refl
   told_row (keys.Primitive t) here =

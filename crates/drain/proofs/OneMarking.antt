@@ -1,4 +1,4 @@
--- Two lists of marks at the same objects are one.
+-- Two lists of marks at the same objects are equal.
 use Rattle.drain.proofs.Words.{Bool, List, MarksReachable, ext_get_or, false, get_or, refl, sym, true, ℕ, ◌↔◌, ◌∙◌, ◌≡◌}
 
 same_bool : (a b : Bool) → (a ≡ true) ↔ (b ≡ true) → a ≡ b

@@ -40,7 +40,7 @@ pair_there first (r ∷ rs) (suc k) s h =
     subst (λ (o : ℕ). Contains (pairs_from first (r ∷ rs)) (o, s)) is
     (Contains-append_right (row first r) (pairs_from (first + 1) rs) ((first + 1) + k, s) there)
 
--- a pair that stands from the first object on
+-- a pair of an object, counted from `first`, and one that it refers to
 abbrev IsPairFrom : ℕ → List (List ℕ) → ℕ × ℕ → Type 0
 IsPairFrom first rs p = (k : ℕ) × (k < length rs) × (p.0 ≡ first + k) × Contains (slice_index_or rs k []) p.1
 

@@ -1,4 +1,4 @@
--- Two rows of a graph are the same where their numbers are, and a row that a graph does not have has no object.
+-- Two rows of a graph are the same if their numbers are, and a row that a graph does not have has no object.
 use Rattle.drain.proofs.Words.{Bool, IsRowIn, IsWhole, List, ObjectGraph, RowKey, [], ap, arith, cases_lt, class_count}
 use Rattle.drain.proofs.Words.{eq-eqb, eqb-true, false, filter, inl, inr, ne_eqb, numbered_row, of_row, refl, row_at}
 use Rattle.drain.proofs.Words.{row_number, row_of_its_number, row_there, same_row, subst, sym, true, ℕ, ⊎_elim}
@@ -29,7 +29,7 @@ differ row other n = go (same_row row other) refl
     go true e = absurd (n (same_is_one row other e))
     go false e = e
 
--- two rows of the graph are the same where their numbers are
+-- two rows of the graph are the same if their numbers are
 pub same_number : (g : ObjectGraph) (row other : RowKey) → IsRowIn g row → IsRowIn g other
     → same_row row other ≡ (row_number other == row_number row)
 same_number g row other h k = go (ℕ_discrete (row_number other) (row_number row))

@@ -1,4 +1,4 @@
--- What a loop over an iterator of objects has met, where each run gives a known list.
+-- What a loop over an iterator of objects has met, if each run yields a known list.
 use Rattle.drain.proofs.Words.{All, AlwaysYields, List, None, Option, Some, Yields, YieldsList-end, YieldsList-turn, []}
 use Rattle.drain.proofs.Words.{length, map-id, refl, subst, sym, ℕ, ◌++◌, ◌∙◌, ◌∷◌, ◌≡◌}
 use Rattle.std.proofs.lemmas.Iterator.{YieldsList}

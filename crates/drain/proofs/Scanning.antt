@@ -36,13 +36,13 @@ pub same_tally : {m : Measure} {old new : List ℕ} {rows : List Sum} {unresolve
     → IsTallyOf m old rows unresolved → IsTallyOf m new rows unresolved
 same_tally {m} {old} {new} {rows} {unresolved} same was = subst (λ xs. IsTallyOf m xs rows unresolved) (sym same) was
 
--- what a visit gives is exactly what the object refers to, by the pairs of the setup
+-- what a visit yields is exactly what the object refers to, by the pairs of the setup
 pub given_pairs : (o : ℕ) (given : List ℕ) {pairs own : List (ℕ × ℕ)} → own ≡ pairs
     → ((x : ℕ) → Contains given x ↔ Contains pairs (o, x)) → (x : ℕ) → Contains given x ↔ Contains own (o, x)
 given_pairs o given same exact x =
     subst (λ (ps : List (ℕ × ℕ)). Contains given x ↔ Contains ps (o, x)) (sym same) (exact x)
 
--- a tally to which the object that was finished last is still to be added
+-- a tally to which the last finished object is still to be added
 pub small_before : (o : ℕ) {m : Measure} {count : ℕ} {old end : List ℕ} {rows : List Sum} {unresolved : ℕ}
     → IsMeasureOf count m → end ≡ old ++ o ∷ [] → length end ≤ count → IsTallyOf m old rows unresolved
     → IsSmall rows unresolved

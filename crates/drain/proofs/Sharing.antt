@@ -27,16 +27,16 @@ abbrev answer_of : Result (Option ℕ) Stop → Option ℕ
 answer_of (Ok got) = got
 answer_of (Err stop) = None
 
--- what a get answers where one of its clauses says that it answers this
+-- the object that a get returns is the one that its clause names
 pub same_answer : (got other : Option ℕ) → ◌≡◌ {A = Result (Option ℕ) Stop} (Ok got) (Ok other) → got ≡ other
 same_answer got other told = ap answer_of told
 
--- an answer that is no object is none
+-- a result that is no object is `None`
 pub none_got : (got : Option ℕ) → ((o : ℕ) → got ≡ Some o → ⊥) → got ≡ None
 none_got None other = refl
 none_got (Some o) other = absurd (other o refl)
 
--- a list of which the last object would have been got has none
+-- if nothing was got, but the last object of a list would have been, the list is empty
 pub none_to_get : (xs : List ℕ) (got : Option ℕ) → ((o : ℕ) → got ≡ Some o → ⊥)
     → ((o : ℕ) (rest : List ℕ) → xs ≡ rest ++ o ∷ [] → got ≡ Some o) → xs ≡ []
 none_to_get [] got other last = refl
@@ -44,7 +44,7 @@ none_to_get (x ∷ xs) got other last =
     let end = last_of (x ∷ xs) (omega arith) in
     absurd (other end.1 (last end.1 end.0 end.2))
 
--- where it was got, and put again, that is what is said of it
+-- if it was got and put again, this is the definition of `PutsAgain`
 pub puts_again : (old middle new : PairState) (before between after : Book) (object : ℕ) → 0 < length old.spill
     → ((o : ℕ) (rest : List ℕ) → old.spill ≡ rest ++ o ∷ [] → (object ≡ o) × (middle ≡ record old { spill = rest }))
     → between ≡ before → Puts middle between object new after → PutsAgain old before new after

@@ -1,4 +1,4 @@
--- The leader, turn by turn, while it gives each thread that is started a unit of its own.
+-- The leader, turn by turn, while it gives a unit to each thread that is started.
 use Rattle.drain.proofs.Words.{Book, Duty, HasStarted, Holder, IsDutyUnder, List, Setup, [], ap, arith, length}
 use Rattle.drain.proofs.Words.{new_book, parted, ℕ, ◌++◌, ◌+◌, ◌<◌, ◌∙◌, ◌∷◌, ◌≡◌}
 use Rattle.drain.proofs.Each.{pushed_holds}

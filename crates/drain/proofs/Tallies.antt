@@ -1,4 +1,4 @@
--- A finish is a push on the finished list and a join an append: so a tally takes in an object, or another tally.
+-- A finish is a push on the finished list and a join is an append: so a tally takes in an object, or another tally.
 use Rattle.drain.proofs.Words.{All-from_get_or, Bool, IsMeasureOf, IsSmall, IsTallyOf, List, Measure, Sum, [], ap}
 use Rattle.drain.proofs.Words.{arith, cond, eq-eqb, false, get_or, get_or-replicate, get_or-set_other, get_or-set_same}
 use Rattle.drain.proofs.Words.{length, length-replicate, length-set, ne_eqb, no_object, one_more, refl, replicate}
@@ -100,7 +100,7 @@ few_in : (objects : List ℕ) (f : ℕ → ℕ) (most : ℕ) → ((o : ℕ) → 
 few_in objects f most small =
     sum_by-le f most objects (All-from_get_or (λ x. f x ≤ most) objects 0 (λ k inside. small (get_or objects k 0)))
 
--- the sums of so few objects are small
+-- the sums of this few objects are small
 pub tally_is_small : {count : ℕ} {m : Measure} {objects : List ℕ} {rows : List Sum} {unresolved : ℕ}
     → IsMeasureOf count m → length objects ≤ count → IsTallyOf m objects rows unresolved → IsSmall rows unresolved
 tally_is_small {count} {m} {objects} bounded few is = record {

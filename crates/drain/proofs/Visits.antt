@@ -1,4 +1,4 @@
--- A visit keeps what it tells of its object: behind the last object that it gave that is what is read of it.
+-- A visit keeps what it reads of its object: after the last object that it yields this is all that is read of it.
 use Rattle.drain.proofs.Words.{All, Contains, IsMeasureOf, IsWhole, List, Measure, None, ObjectGraph, Option, Some}
 use Rattle.drain.proofs.Words.{Yields, YieldsFirst, YieldsList-from_shown, [], ap, arith, bytes_at, item_count, length}
 use Rattle.drain.proofs.Words.{measure_of, number_within, object_count, pairs_of, references_of, refl, row_at}
@@ -32,8 +32,8 @@ all_calls [] start last same =
 all_calls (o ∷ given) start last run =
     two_calls start run.0 last (one_call start (Some o) run.0 run.1) (all_calls given run.0 last run.2)
 
--- behind the class of an object, where that is known, stands the rest of its references, and at their end it is told
--- what is read of it
+-- the rest of the references follows the class of an object, if that is known, and at their end what is read of it is
+-- complete
 pub are_given :
     (refers : ℕ → Type 0) (count : ℕ) (m : Measure) (o : ℕ) (whole : Visited) (class : Option ℕ) (rest : Visited)
     → IsVisitOf refers count m o whole → IsBehind whole class rest
@@ -57,7 +57,7 @@ are_given refers count m o whole class rest is behind = record {
       };
 }
 
--- a visit is what is behind no class
+-- a visit without a known class is its own rest
 pub behind_none : (v : Visited) → IsBehind v None v
 behind_none v = record { row_is = refl; bytes_is = refl; references_are = refl; unresolved_is = refl }
 

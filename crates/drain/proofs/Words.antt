@@ -1,4 +1,4 @@
--- The words and the lemmas of libraries that the proofs of this crate speak with, and the words of its own contracts.
+-- The words and the lemmas of libraries that the proofs of this crate use, and the words of its own contracts.
 pub use Rattle.std.proofs.Common.{All, Bool, Contains, Err, List, None, Ok, Option, Result, Some, [], ap, arith}
 pub use Rattle.std.proofs.Common.{below_more, cond, count_by, eq-eqb, false, filter, find, get_or, get_or-set_other}
 pub use Rattle.std.proofs.Common.{get_or-set_same, if◌then◌else◌, inl, inr, is_none, is_some, le-leb, leb-true, length}

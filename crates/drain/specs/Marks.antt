@@ -1,4 +1,4 @@
--- Which marks are those of marked objects, and what is told of these.
+-- The objects that marks say are marked, and what is reported of these.
 use Rattle.std.specs.Prelude.{Bool, List, length, nat_le, slice_index, ℕ, ◌≡◌, ◌≤◌}
 use Rattle.heap_graph.specs.ObjectGraph.{ObjectGraph, object_count}
 use Rattle.heap_graph.specs.Whole.{unresolved_among}
@@ -11,18 +11,18 @@ use Rattle.drain.specs.declared.sum.Sum.{Sum}
 abbrev pub is_set : ℕ → Bool
 is_set mark = nat_le 1 mark
 
--- each object that was claimed was finished
+-- each claimed object was finished
 abbrev pub AreFinished : List ℕ → Type 0
 AreFinished marks = (o : ℕ) → 1 ≤ slice_index marks o → slice_index marks o ≡ 2
 
--- Of each object whether it is marked, of each row how many of its objects are and their bytes together, the rows by
--- their places, and how many identifiers of marked objects are other than 0 and name no object.
+-- Which objects are marked; for each row, by its place, the number of its marked objects and their bytes together; and
+-- how many identifiers of marked objects are other than 0 and name no object.
 pub record MarkedObjects : Type 0 where
   pub marks : List Bool
   pub sums : List Sum
   pub unresolved : ℕ
 
--- These are marks of the objects of this graph, and it is these objects that are told of.
+-- `m` has the marks of the objects of `g`, and its sums and its unresolved identifiers are those of the marked objects.
 pub record IsMarkingOf (g : ObjectGraph) (m : MarkedObjects) : Type 0 where
   pub one_each : length m.marks ≡ object_count g
   pub tallies : (row : RowKey) → sum_of_row m.sums row ≡ total g (of_row g row (marked_objects g m.marks))

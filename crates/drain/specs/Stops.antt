@@ -1,4 +1,4 @@
--- Why a graph was not marked, where a call of a pair was stopped.
+-- Why a graph was not marked, if a call of a pair was stopped.
 use Rattle.work_pair.specs.declared.stop.Stop.{Stop}
 use Rattle.work_pair.specs.declared.stop.Stop.TheVariants as stop
 use Rattle.drain.specs.declared.marked.RunFault.{RunFault}

@@ -1,4 +1,4 @@
--- The sums that a tally has of rows, and which of them is that of a row.
+-- The sums of rows in a tally, and which of them belongs to a row.
 use Rattle.std.specs.Prelude.{List, if◌then◌else◌, nat_le, slice_index_or, ℕ, ◌&&◌, ◌+◌, ◌-◌}
 use Rattle.heap_graph.specs.declared.row.RowKey.{RowKey}
 use Rattle.heap_graph.specs.declared.row.RowKey.TheVariants as keys
@@ -7,12 +7,11 @@ use Rattle.drain.specs.declared.sum.Sum.{Sum}
 abbrev pub no_object : Sum
 no_object = record { count = 0; bytes = 0 }
 
--- how many objects the row at this place has, and their bytes together: none where there is no such place
+-- the number of objects of the row at `place` and their bytes together: 0 and 0 if there is no such place
 abbrev pub sum_at : List Sum → ℕ → ℕ × ℕ
 sum_at rows place = ((slice_index_or rows place no_object).count, (slice_index_or rows place no_object).bytes)
 
--- The types 4 to 11 come first, then the class objects, then the classes by their numbers. A row that is none of these
--- has nothing.
+-- The types 4 to 11 come first, then the class objects, then the classes by their numbers. Any other row has no object.
 abbrev pub sum_of_row : List Sum → RowKey → ℕ × ℕ
 sum_of_row rows (keys.Class n) = sum_at rows (9 + n)
 sum_of_row rows (keys.Primitive t) = if nat_le 4 t && nat_le t 11 then sum_at rows (t - 4) else (0, 0)

@@ -1,4 +1,4 @@
--- How many objects of a graph with marks there are, and how many bytes they have.
+-- The number of objects in a graph with marks, and their bytes.
 use Rattle.std.specs.Prelude.{Bool, List, false, filter, length, not, slice_index_or, sum_by, true, ℕ, ◌==◌}
 use Rattle.std.specs.List.{range_with_len}
 use Rattle.heap_graph.specs.ObjectGraph.{ObjectGraph, bytes_at, object_count, row_at}
@@ -19,10 +19,10 @@ marked_objects g marks = filter (λ o. slice_index_or marks o false) (range_with
 abbrev pub unmarked_objects : ObjectGraph → List Bool → List ℕ
 unmarked_objects g marks = filter (λ o. not (slice_index_or marks o false)) (range_with_len 0 (object_count g))
 
--- those of these objects that belong to the row
+-- the objects among `numbers` that belong to `row`
 abbrev pub of_row : ObjectGraph → RowKey → List ℕ → List ℕ
 of_row g row numbers = filter (λ o. same_row row (row_at g o)) numbers
 
--- how many objects these are, and their bytes together
+-- the number of objects in `numbers`, and their bytes together
 abbrev pub total : ObjectGraph → List ℕ → ℕ × ℕ
 total g numbers = (length numbers, sum_by (bytes_at g) numbers)

@@ -1,9 +1,9 @@
-//! A call before each object is scanned.
+//! A call before each scan of an object.
 
-/// Told of each object before its references are followed. Workers are numbered from 0; the thread that leads
-/// has the number of workers.
+/// Is called for each object before its references are followed. Workers are numbered from 0; the leading thread has
+/// the number of workers as its number.
 pub trait Gate: Sync {
-    /// The worker is about to scan the object.
+    /// Is called when `worker` is about to scan `object`.
     fn before_scan(&self, worker: u32, object: u32);
 }
 

@@ -1,4 +1,4 @@
-//! What runs behind [`mark`](crate::mark), for the crate of its tests: no other caller needs it.
+//! The parts of [`mark`](crate::mark), for the crate of its tests: no other caller needs them.
 
 pub use crate::job::Job;
 pub use crate::leader::{lead, mark_where};

@@ -3,19 +3,19 @@
 use buffer_pool::Pool;
 use std::alloc::Allocator;
 
-/// The graph that is marked, what it is marked with, and what is called meanwhile.
+/// The graph to be marked, the pool that it is marked with, and the calls during the marking.
 #[derive(Drop)]
 pub struct Job<'j, A: Allocator, V, G, S> {
-    /// What the lists of the workers take memory from.
+    /// The allocator of the workers' lists.
     pub alloc: A,
-    /// The graph that is marked.
+    /// The graph to be marked.
     pub graph: &'j V,
     /// The buffers and the marks.
     pub pool: &'j Pool<A>,
-    /// What is called before each object is scanned.
+    /// The gate, which is called before each object is scanned.
     pub gate: &'j G,
-    /// What is asked before each thread is started.
+    /// The hook, which is called before each thread is started.
     pub hook: &'j S,
-    /// How many threads mark beside the one that leads.
+    /// The number of threads that mark, without the leading one.
     pub workers: u32,
 }

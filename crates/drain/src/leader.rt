@@ -1,4 +1,4 @@
-//! The call that marks a graph, and the thread that leads.
+//! The call that marks a graph, and the leading thread.
 
 ghost use Rattle.std.specs.Prelude.{◌≡◌, ◌<◌, ◌+◌, [], IfOk};
 ghost use Rattle.mark_core.specs.Shares.{whole};
@@ -24,8 +24,8 @@ use std::alloc::Allocator;
 use std::sync::Wait;
 use std::thread::Threads;
 
-/// Claims the roots and gives them to the workers, runs these, scans what is left once all have ended, and then joins
-/// them.
+/// Claims the roots, gives them to the workers and runs these. After all workers have ended it scans the remaining
+/// objects, and then joins the workers.
 pub fn lead<T, A, V, G, S>(
     rt: &T,
     job: &Job<'_, A, V, G, S>,
@@ -51,13 +51,14 @@ where
     Ok(gather(rt, job, ran)?)
 }
 
-/// Marks the objects that a path of references joins to a root, with a thread for each worker, and calls the gate
-/// before each object is scanned.
+/// Marks the objects that a path of references joins to a root, with a thread for each worker, and calls `gate` before
+/// each object is scanned.
 ///
-/// `OutOfMemory`: a request for memory was refused, before any thread was started, or for the spill list of a worker or
-/// the leader. `TagSpent`: a stack's last tag was loaded where an exchange was due. Of the workers that were refused by
-/// one of these two the one with the least number is told, and the leader last. `WorkerRefused`: a thread could not be
-/// started. No thread that it started is left when it answers.
+/// `Err(RunFault::OutOfMemory)` if an allocation fails: before any thread is started, or for the spill list of a worker
+/// or the leader. `Err(RunFault::TagSpent)` if a stack's last tag is loaded when an exchange is due. If several workers
+/// stop with one of these two, the fault of the one with the least number is returned; the leader's comes last.
+/// `Err(RunFault::WorkerRefused)` if a thread cannot be started. All threads that it started have ended when it
+/// returns.
 pub fn mark<T, A, B, G>(
     rt: &T,
     alloc: A,
@@ -76,7 +77,7 @@ where
     mark_where(rt, alloc, graph, options, gate, &StartsAll)
 }
 
-/// Marks as [`mark`] does, where the thread of each worker has to be allowed by a hook.
+/// Marks like [`mark`], but `hook` has to allow the thread of each worker.
 pub fn mark_where<T, A, B, G, S>(
     rt: &T,
     alloc: A,

@@ -1,8 +1,8 @@
 //! Marking the reachable objects of a heap.
 //!
-//! `mark` claims the roots of a graph, starts a thread for each worker, and answers which objects were marked, how many
-//! of each row and their bytes. Its clause `exactly_reachable` is the theorem: what is marked is exactly what a path of
-//! references joins to a root, whatever the number of workers and the order of their steps.
+//! `mark` claims the roots of a graph, starts a thread for each worker, and returns which objects were marked, and for
+//! each row their number and their bytes. Its clause `exactly_reachable` is the theorem: the marked objects are exactly
+//! those that a path of references joins to a root, whatever the number of workers and the order of their steps.
 //!
 //! From `crates/drain_tests/src/memory.rt`, which is proved and run as a test:
 //!
@@ -12,8 +12,8 @@
 //!     let told = told(&marked);
 //!     Ok((left, told, heap.refusals()))
 //!
-//! README.md beside this folder has a table of the calls, and says where to read on; the words stand in
-//! `docs/MARKING.md`.
+//! README.md beside this folder has a table of the calls, and says where to read on; `docs/MARKING.md` defines the
+//! words.
 
 #![tactic(auto)]
 

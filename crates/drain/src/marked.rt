@@ -1,4 +1,4 @@
-//! What a marking gives.
+//! The result of a marking.
 
 use crate::tally::Tally;
 use buffer_pool::Marks;
@@ -11,11 +11,11 @@ use work_pair::Stop;
 /// Why a graph was not marked.
 #[derive(Clone, Copy, Debug, PartialEq, Eq, Error)]
 pub enum RunFault {
-    /// A request for memory was refused: before any thread was started, or for the list of a worker that had an object
-    /// and found no empty buffer for it.
+    /// An allocation failed: before any thread was started, or for the spill list of a worker that had an object and
+    /// found no empty buffer for it.
     #[error("out of memory")]
     OutOfMemory,
-    /// A stack's last tag was loaded where an exchange was due.
+    /// A stack's last tag was loaded when an exchange was due.
     #[error("a stack's last tag was loaded")]
     TagSpent,
     /// A worker's thread could not be started.
@@ -48,7 +48,7 @@ impl From<Stop> for RunFault {
     }
 }
 
-/// The marks of a graph's objects, and for each row how many of its objects are marked, and their bytes.
+/// The marks of a graph's objects, and for each row the number of its marked objects and their bytes.
 #[derive(Drop)]
 pub struct Marked<A: Allocator> {
     marks: Marks<A>,
@@ -78,7 +78,7 @@ impl<A: Allocator> Marked<A> {
     ghost use Rattle.drain.specs.Marks.{AreFinished, MarkedObjects, is_set};
     ghost use Rattle.drain.specs.Sums.{sum_of_row};
 
-    /// The marks of so many objects, and the tally of those that are marked.
+    /// Creates the result from the `marks` of `objects` objects and the `tally` of the marked ones.
     pub(crate) fn new(marks: Marks<A>, objects: u32, tally: Tally<A>) -> Self
         requires objects { objects ≡ length marks }
         requires finished { AreFinished marks }
@@ -95,14 +95,14 @@ impl<A: Allocator> Marked<A> {
         }
     }
 
-    /// Whether the object of this number is marked: false for a number that no object has.
+    /// Tests whether `object` is marked. Returns false if no object has this number.
     pub fn is_marked(&self, object: u32) -> bool
         ensures { IsTrue result ↔ IsMarked self.now.marks object }
     {
         object < self.objects && self.marks.is_claimed(object)
     }
 
-    /// The first object from this number on that is not marked: `None` where each of them is.
+    /// Returns the first object from `from` on that is not marked, or `None` if each of them is marked.
     pub fn next_unmarked(&self, from: u32) -> Option<u32>
         ensures { result ≡ find (λ o. not (slice_index_or self.now.marks o false))
             (range_with_len from (length self.now.marks - from)) }
@@ -110,14 +110,14 @@ impl<A: Allocator> Marked<A> {
         self.marks.next_unfinished(from)
     }
 
-    /// How many objects are marked.
+    /// Returns the number of marked objects.
     pub fn len(&self) -> u64
         ensures { result ≡ count_by (λ m. m) self.now.marks }
     {
         self.marks.finished_len()
     }
 
-    /// How many objects of a row are marked, and their bytes together. Both are 0 for a row that no object has.
+    /// Returns the number of marked objects of `row` and the sum of their bytes. Both are 0 if no object has this row.
     pub fn tally(&self, row: &RowKey) -> (u64, u64)
         ensures { result ≡ sum_of_row self.now.sums row.now }
     {
@@ -127,7 +127,7 @@ impl<A: Allocator> Marked<A> {
         }
     }
 
-    /// How many identifiers that marked objects hold are other than 0 and name no object.
+    /// Returns the number of identifiers in marked objects that are other than 0 and name no object.
     pub fn unresolved(&self) -> u64
         ensures { result ≡ self.now.unresolved }
     {

@@ -2,10 +2,10 @@
 
 use buffer_pool::Edges;
 
-/// A graph of whose objects each has a row and its bytes.
+/// A graph each of whose objects has a row and a size in bytes.
 ///
-/// A trait beside [`Walk`](crate::walk::Walk), since what a thread owes is said by it and may name no type that a graph
-/// picks.
+/// This is a trait of its own beside [`Walk`](crate::walk::Walk): the duty of a thread is stated with it, and may name
+/// no type that a graph picks.
 pub trait Measured: Edges {
     ghost use Rattle.std.specs.Prelude.{◌≡◌};
     ghost use Rattle.drain.specs.working.Tallies.{IsMeasureOf, Measure};
@@ -13,12 +13,12 @@ pub trait Measured: Edges {
     /// What a tally reads of the objects.
     ghost measure: { Self → Measure };
 
-    /// What each graph keeps, said of this one: its objects are few, each has a row, and its numbers are small. The
-    /// call does nothing.
+    /// Recalls what holds of each graph: it has few objects, each has a row, and its numbers are small. The call does
+    /// nothing.
     fn recall_measure(&self)
         ensures { IsMeasureOf (Self.count self.now) (measure self.now) };
 
-    /// How many rows a tally has.
+    /// Returns the number of rows of a tally.
     fn rows(&self) -> usize
         ensures { result ≡ (measure self.now).rows };
 }

@@ -1,4 +1,4 @@
-//! How many workers mark, and with how much room.
+//! The options of a marking: the number of workers, and the room that they have.
 
 use std::marker::Model;
 use thiserror::Error;
@@ -8,7 +8,7 @@ use thiserror::Error;
 #[error("an option is out of its range")]
 pub struct BadOptions;
 
-/// How a graph is marked: by how many workers, with how many buffers of how many objects, and from which tag on.
+/// The options of a marking: the number of workers, the number of buffers and of objects in each, and the first tag.
 #[derive(Clone, Copy, Debug, PartialEq, Eq)]
 pub struct Options {
     workers: u32,
@@ -34,20 +34,21 @@ impl Options {
     ghost use Rattle.std.specs.Prelude.{◌≡◌, ◌↔◌, IfOk, IsOk};
     ghost use Rattle.drain.specs.Options.{IsInRange, choice};
 
-    /// The most workers that can be asked for.
+    /// The largest number of workers.
     pub const MOST_WORKERS: u32 = 64;
 
-    /// The most objects that a buffer can be asked to hold.
+    /// The largest number of objects in a buffer.
     pub const MOST_IN_BUFFER: u32 = 4096;
 
-    /// The most buffers that can be asked for.
+    /// The largest number of buffers.
     pub const MOST_BUFFERS: u32 = 65_534;
 
-    /// The last tag of a stack's head, and so the largest first tag.
+    /// The last tag of a stack's head, and thus the largest first tag.
     pub const LAST_TAG: u64 = 281_474_976_710_655;
 
-    /// Options for 1 to 64 workers, 4 to 65,534 buffers of 2 to 4,096 objects, at least two for each worker and two
-    /// more, and a first tag of at most 281,474,976,710,655. `BadOptions` at any other value.
+    /// Creates the options for 1 to 64 `workers`, a `buffer` of 2 to 4,096 objects, 4 to 65,534 `buffers` with at least
+    /// two for each worker and two more, and a `first_tag` of at most 281,474,976,710,655. `Err(BadOptions)` for any
+    /// other value.
     pub fn new(
         workers: u32,
         buffer: u32,
@@ -72,7 +73,7 @@ impl Options {
         })
     }
 
-    /// How many threads mark beside the one that calls.
+    /// Returns the number of threads that mark, without the calling one.
     pub fn workers(&self) -> u32
         ensures value { result ≡ self.now.workers }
         ensures allowed { IsInRange self.now }
@@ -80,21 +81,21 @@ impl Options {
         self.workers
     }
 
-    /// How many objects a buffer holds.
+    /// Returns the number of objects in a buffer.
     pub fn buffer(&self) -> u32
         ensures { result ≡ self.now.buffer }
     {
         self.buffer
     }
 
-    /// How many buffers there are.
+    /// Returns the number of buffers.
     pub fn buffers(&self) -> u32
         ensures { result ≡ self.now.buffers }
     {
         self.buffers
     }
 
-    /// The tag that the heads of the stacks bear at first.
+    /// Returns the tag that the heads of the stacks have at first.
     pub fn first_tag(&self) -> u64
         ensures { result ≡ self.now.first_tag }
     {

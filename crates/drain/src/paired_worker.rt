@@ -19,7 +19,7 @@ pub(crate) struct PairedWorker<A: Allocator> {
     pub(crate) pair: Pair<A>,
 }
 
-/// What the opening of a pair gives.
+/// The result of opening a pair.
 #[derive(Drop)]
 pub(crate) enum Opened<A: Allocator> {
     /// The worker at its pair.
@@ -44,7 +44,7 @@ impl<A: Allocator> PairedWorker<A> {
     ghost use Rattle.drain.specs.working.Sharing.{GivesSome, PutsAgain, SharesWork, Unspills};
     ghost use Rattle.drain.specs.working.Walk.{HasEnded};
 
-    /// A pair for a worker that has none yet. `Unpaired` where there were not two empty buffers.
+    /// Opens a pair for `worker`, which has none yet. Returns `Unpaired` if there are not two empty buffers.
     pub(crate) fn open<R: Wait>(
         rt: &R,
         alloc: A,
@@ -63,7 +63,7 @@ impl<A: Allocator> PairedWorker<A> {
         }
     }
 
-    /// A pair for a worker that has none yet, and a bare one where there were not two empty buffers.
+    /// Opens a pair for `worker`, which has none yet, or a bare one if there are not two empty buffers.
     fn open_or_bare<R: Wait>(
         rt: &R,
         alloc: A,
@@ -83,7 +83,8 @@ impl<A: Allocator> PairedWorker<A> {
         }
     }
 
-    /// A worker without buffers: what it puts goes to its spill list until it finds an empty one.
+    /// Returns `worker` with a pair without buffers: what it puts goes to its spill list until it finds an empty
+    /// buffer.
     fn bare(alloc: A, worker: Worker<A>) -> PairedWorker<A>
         requires free { IsFree worker }
         requires busy { IsBusy worker.book.account }
@@ -177,7 +178,7 @@ impl<A: Allocator> PairedWorker<A> {
         Ok(())
     }
 
-    /// Gives what is in the pair's buffers to others, as far as there are empty ones.
+    /// Gives what is in the pair's buffers to others, as long as there are empty buffers.
     pub(crate) fn publish<R: Wait>(&mut self, rt: &R, pool: &Pool<A>) -> Result<(), Stop>
         requires pool { self.old.worker.pool ≡ pool.now }
         requires at_work { IsAtWork self.old.pair [] self.old.worker }
@@ -189,7 +190,7 @@ impl<A: Allocator> PairedWorker<A> {
         self.pair.publish(rt, pool, &mut self.worker)
     }
 
-    /// Puts the object that was spilled last into the pair again. False where there is no buffer for it.
+    /// Puts the last spilled object into the pair again. Returns false if there is no buffer for it.
     fn unspill_one<R: Wait>(&mut self, rt: &R, pool: &Pool<A>) -> Result<bool, Stop>
         requires pool { self.old.worker.pool ≡ pool.now }
         requires at_work { IsAtWork self.old.pair [] self.old.worker }
@@ -209,8 +210,8 @@ impl<A: Allocator> PairedWorker<A> {
         }
     }
 
-    /// Puts what is spilled into buffers, those that get full on the full stack, as long as there is room or an empty
-    /// buffer is found.
+    /// Puts the spilled objects into buffers, and buffers that get full on the full stack, as long as there is room or
+    /// an empty buffer is found.
     fn unspill<R: Wait>(&mut self, rt: &R, pool: &Pool<A>) -> Result<(), Stop>
         requires pool { self.old.worker.pool ≡ pool.now }
         requires at_work { IsAtWork self.old.pair [] self.old.worker }
@@ -227,7 +228,7 @@ impl<A: Allocator> PairedWorker<A> {
         Ok(())
     }
 
-    /// Gives some of what is in the pair to others, what is spilled first.
+    /// Gives some of what is in the pair to others, and the spilled objects first.
     // A call, so that the many turns in which nothing is given neither save registers for it nor clear its locals.
     #[inline(never)]
     fn give<R: Wait>(&mut self, rt: &R, pool: &Pool<A>) -> Result<(), Stop>
@@ -242,7 +243,7 @@ impl<A: Allocator> PairedWorker<A> {
     }
 
     /// Tests whether others may have nothing to scan: the full stack is seen empty.
-    // Inlined: this look alone is made in each turn of the worker's loop. It does not wait, so that no byte is tested
+    // Inlined: only this look is made in each turn of the worker's loop. It does not wait, so that no byte is tested
     // after it.
     #[inline(always)]
     fn others_want(&mut self, pool: &Pool<A>) -> bool
@@ -270,7 +271,7 @@ impl<A: Allocator> PairedWorker<A> {
         self.give(rt, pool)
     }
 
-    /// Gives the buffers of a pair without items back, and answers its worker.
+    /// Returns the buffers of a pair without items to the pool, and returns its worker.
     pub(crate) fn close<R: Wait>(self, rt: &R, pool: &Pool<A>) -> Result<Worker<A>, Stop>
         requires pool { self.worker.pool ≡ pool.now }
         requires hand { HasAtHand self.pair [] self.worker }

@@ -1,4 +1,4 @@
-//! What the leader has before its workers run.
+//! The leader before it starts its workers.
 
 ghost use Rattle.std.specs.Prelude.{◌≡◌, ◌≤◌, [], IfOk, vec_capacity, vec_len};
 ghost use Rattle.mark_core.specs.Events.{IsBusy};
@@ -15,7 +15,7 @@ use buffer_pool::Worker;
 use std::alloc::Allocator;
 use std::sync::Wait;
 
-/// A leader that has claimed the roots and given them to others, and what its workers are started with.
+/// A leader that has claimed the roots and given them to others, and the memory for its workers.
 #[derive(Drop)]
 pub(crate) struct Ready<A: Allocator, V: Measured> {
     /// The leader with its pair.
@@ -24,8 +24,8 @@ pub(crate) struct Ready<A: Allocator, V: Measured> {
     pub(crate) supplies: Supplies<A, V>,
 }
 
-/// Takes the memory that the workers of a job are started with; then the leader claims the roots and gives them to
-/// others. It has tallied nothing.
+/// Allocates the memory for the workers of `job`; then `leader` claims the roots and gives them to others. It has
+/// tallied nothing.
 pub(crate) fn make_ready<T: Wait, A: Allocator + Copy, V: Walk, G, S>(
     rt: &T,
     job: &Job<'_, A, V, G, S>,

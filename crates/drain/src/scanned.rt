@@ -1,12 +1,12 @@
-//! What is known of an object behind its scan.
+//! What is known of an object after its scan.
 
-/// What is read of an object while the objects that it refers to are found.
+/// What is read of an object while its references are followed.
 #[derive(Clone, Copy)]
 pub struct Scanned {
     /// The place of its row in a tally.
     pub row: usize,
-    /// How many bytes it has, at most 2^30.
+    /// The size in bytes, at most 2^30.
     pub bytes: u64,
-    /// How many of the identifiers that it holds are other than 0 and name no object, at most 2^33.
+    /// The number of its identifiers that are other than 0 and name no object, at most 2^33.
     pub unresolved: u64,
 }

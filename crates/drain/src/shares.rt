@@ -1,4 +1,4 @@
-//! The joins: what the leader takes in once it has drained.
+//! The joins: what the leader takes in after it has drained.
 
 ghost use Rattle.std.specs.Prelude.{◌≡◌, ◌+◌, [], ℕ, Contains, IfOk, vec_len};
 ghost use Rattle.drain.specs.working.AtWork.{IsFree, Leads};
@@ -18,7 +18,7 @@ use std::alloc::Allocator;
 use std::sync::Wait;
 use work_pair::Stop;
 
-/// Joins a worker that is through to the leader, and what it counted to the leader's tally.
+/// Joins the worker of `back`, which is through, to that of `leader`, and its tally to the leader's tally.
 fn join_share<A: Allocator, V: Measured>(
     graph: &V,
     pool: &Pool<A>,
@@ -47,8 +47,8 @@ fn join_share<A: Allocator, V: Measured>(
     Tallied { worker, tally }
 }
 
-/// Joins each worker that is through to the leader, which has given its buffers back, and what they counted to the
-/// leader's tally.
+/// Joins each worker of `back`, which are through, to that of `leader`, which has returned its buffers, and their
+/// tallies to the leader's tally.
 fn join_shares<A: Allocator, V: Measured>(
     graph: &V,
     pool: &Pool<A>,
@@ -72,7 +72,7 @@ fn join_shares<A: Allocator, V: Measured>(
     leader
 }
 
-/// Scans what is left once all workers have ended, and then joins them.
+/// Scans the remaining objects after all workers have ended, and then joins the workers.
 pub(crate) fn gather<R: Wait, A: Allocator, V: Walk, G: Gate, S>(
     rt: &R,
     job: &Job<'_, A, V, G, S>,

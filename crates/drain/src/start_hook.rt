@@ -1,8 +1,8 @@
-//! A place where a test refuses to start a worker's thread: the system cannot be made to.
+//! A hook with which a test refuses to start a worker's thread: the system cannot be made to.
 
-/// Asked before the thread of each worker is started.
+/// Is called before the thread of each worker is started.
 pub trait StartHook: Sync {
-    /// Whether the thread of the worker of this number may be started.
+    /// Tests whether the thread of worker number `worker` may be started.
     fn may_start(&self, worker: u32) -> bool;
 }
 

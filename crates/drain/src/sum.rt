@@ -1,27 +1,27 @@
-//! How many objects there are, and their bytes together.
+//! The number of some objects, and their bytes together.
 
 ghost use Rattle.std.specs.Prelude.{◌≡◌, ◌+◌, ◌^◌, ◌<◌};
 ghost use Rattle.drain.specs.Sums.{no_object};
 ghost use Rattle.drain.specs.working.Tallies.{one_more, together};
 
-/// How many objects there are, and their bytes together.
+/// The number of some objects, and their bytes together.
 #[derive(Clone, Copy)]
 pub struct Sum {
-    /// How many objects there are.
+    /// The number of objects.
     pub count: u64,
-    /// How many bytes they have together.
+    /// The bytes of all of them.
     pub bytes: u64,
 }
 
 impl Sum {
-    /// The sum of no object.
+    /// Creates the sum of no object.
     pub(crate) fn none() -> Sum
         ensures { result ≡ no_object }
     {
         Sum { count: 0, bytes: 0 }
     }
 
-    /// Takes in one object more.
+    /// Adds one object of `bytes` bytes.
     pub(crate) fn add(&mut self, bytes: u64)
         requires counts { self.old.count + 1 < 2 ^ 64 }
         requires sums { self.old.bytes + bytes < 2 ^ 64 }
@@ -31,7 +31,7 @@ impl Sum {
         self.bytes += bytes;
     }
 
-    /// Takes in other objects.
+    /// Adds the objects of `other`.
     pub(crate) fn join(&mut self, other: Sum)
         requires counts { self.old.count + other.count < 2 ^ 64 }
         requires sums { self.old.bytes + other.bytes < 2 ^ 64 }

@@ -1,4 +1,4 @@
-//! What takes memory before the first thread is started.
+//! The memory that is allocated before the first thread is started.
 
 ghost use Rattle.std.specs.Prelude.{◌≡◌, ◌≤◌, [], IfOk, vec_capacity, vec_len};
 ghost use Rattle.drain.specs.working.Tallies.{Measure};
@@ -11,12 +11,12 @@ use crate::tally::Tally;
 use crate::worker_threads::Started;
 use std::alloc::{AllocError, Allocator};
 
-/// Room for the threads of a job and for the workers that come back from them, and the tallies of all that count in it.
+/// Room for the threads of a job and for the workers that they return, and the tallies of the workers and the leader.
 #[derive(Drop)]
 pub(crate) struct Supplies<A: Allocator, V: Measured> {
-    /// The threads: none yet, and room for each.
+    /// The threads: none yet, with room for each.
     pub(crate) threads: Vec<Started<A, V>, A>,
-    /// The workers that are through: none yet, and room for each.
+    /// The workers that are through: none yet, with room for each.
     pub(crate) back: Vec<Tallied<A>, A>,
     /// A tally for each worker, of no object.
     pub(crate) tallies: Vec<Tally<A>, A>,
@@ -24,9 +24,9 @@ pub(crate) struct Supplies<A: Allocator, V: Measured> {
     pub(crate) tally: Tally<A>,
 }
 
-/// Takes the memory for the threads of a job, for the workers that come back from them, for the workers' tallies, and
-/// for the leader's, in this order. A tally that grew with the rows that its worker meets would take memory while
-/// others mark.
+/// Allocates the room for the threads of `job`, for the workers that they return, the workers' tallies, and the
+/// leader's tally, in this order. A tally that grew with the rows that its worker meets would allocate while others
+/// mark.
 pub(crate) fn supplies_of<A: Allocator + Copy, V: Measured, G, S>(
     job: &Job<'_, A, V, G, S>,
 ) -> Result<Supplies<A, V>, AllocError>
@@ -49,7 +49,7 @@ pub(crate) fn supplies_of<A: Allocator + Copy, V: Measured, G, S>(
     })
 }
 
-/// A tally for each worker, of no object and with so many rows.
+/// Creates a tally of no object with `rows` rows for each of `workers` workers.
 fn tallies_of_none<A: Allocator + Copy>(
     alloc: A,
     workers: u32,

@@ -7,8 +7,8 @@ use std::alloc::Allocator;
 /// A worker, and the tally of the objects that it finished.
 #[derive(Drop)]
 pub struct Tallied<A: Allocator> {
-    /// The worker, which has no buffer and answers for nothing.
+    /// The worker, which has no buffer and no charge.
     pub worker: Worker<A>,
-    /// What it counted.
+    /// The tally of what it finished.
     pub tally: Tally<A>,
 }

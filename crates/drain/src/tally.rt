@@ -10,18 +10,18 @@ use crate::scanned::Scanned;
 use crate::sum::Sum;
 use std::alloc::{AllocError, Allocator};
 
-/// What is counted of some objects: of each row how many of them it has, and their bytes; and how many of their
-/// identifiers name no object.
+/// The counts of some objects: for each row their number and their bytes, and how many of their identifiers name no
+/// object.
 #[derive(Drop)]
 pub struct Tally<A: Allocator> {
     /// The sums of the rows, by their places.
     pub rows: Vec<Sum, A>,
-    /// How many identifiers are other than 0 and name no object.
+    /// The number of identifiers that are other than 0 and name no object.
     pub unresolved: u64,
 }
 
 impl<A: Allocator> Tally<A> {
-    /// The tally of no object, with so many rows. All its memory is taken here.
+    /// Creates the tally of no object with `rows` rows. Allocates all its memory.
     pub fn new(alloc: A, rows: usize) -> Result<Tally<A>, AllocError>
         ensures { IfOk result (λ t. (m : Measure) → m.rows ≡ rows → Tallies m [] t) }
     {
@@ -32,7 +32,7 @@ impl<A: Allocator> Tally<A> {
         })
     }
 
-    /// Takes in one object more.
+    /// Adds one `object`.
     pub fn add(&mut self, object: Scanned)
         requires row { object.row < length self.old.rows.items }
         requires small { HasSmallSums self.old }
@@ -46,7 +46,7 @@ impl<A: Allocator> Tally<A> {
         self.unresolved += object.unresolved;
     }
 
-    /// Takes in the objects of another tally of as many rows.
+    /// Adds the objects of `other`, which has as many rows.
     pub fn join(&mut self, other: &Tally<A>)
         requires rows { length self.old.rows.items ≡ length other.now.rows.items }
         requires small { HasSmallSums self.old }
@@ -61,7 +61,7 @@ impl<A: Allocator> Tally<A> {
         self.unresolved += other.unresolved;
     }
 
-    /// How many objects the row at that place has, and their bytes together: 0 and 0 where there is no such place.
+    /// Returns the number of objects of the row at `place` and their bytes together: (0, 0) if there is no such place.
     pub fn told_at(&self, place: usize) -> (u64, u64)
         ensures { result ≡ sum_at self.now.rows.items place }
     {

@@ -10,7 +10,7 @@ use buffer_pool::Edges;
 use heap_graph::{Graph, IdSource, Named, RowKey, Visit};
 use std::alloc::Allocator;
 
-/// A graph of bytes that live for `'b`, whose roots and references are walked.
+/// A graph of bytes that live for `'b`, with the roots and references that marking walks.
 #[derive(Drop)]
 pub struct WalkedGraph<'a, 'b, A: Allocator> {
     /// The graph of the dump.
@@ -38,7 +38,7 @@ impl<'a, 'b, A: Allocator> Measured for WalkedGraph<'a, 'b, A> {
     ghost measure = { λ l. measure_of l.graph.now };
 
     fn recall_measure(&self) {
-        // Read for its clause `whole` alone: what is true of each graph bounds its rows, bytes and identifiers.
+        // Called only for its clause `whole`: what is true of each graph bounds its rows, bytes and identifiers.
         let _objects = self.graph.len();
     }
 
@@ -47,8 +47,8 @@ impl<'a, 'b, A: Allocator> Measured for WalkedGraph<'a, 'b, A> {
     }
 }
 
-/// What a tally takes in of an object: its row, its size, and how many of its identifiers name no object.
-// Inlined, as all that is told of a visit: else its three words are written behind a call and read again.
+/// Returns what a tally counts of an object: its row, its size, and how many of its identifiers name no object.
+// Inlined, like all that a visit reports: otherwise a call would write its three words and its caller read them again.
 #[inline(always)]
 fn scanned(row: RowKey, bytes: u64, unresolved: u64) -> Scanned
     ensures { result ≡ record { row = numbers.row_number row; bytes = bytes; unresolved = unresolved } }
@@ -87,7 +87,7 @@ impl<'a, 'b, A: Allocator + Sync> Walk for WalkedGraph<'a, 'b, A> {
         self.graph.roots()
     }
 
-    // Inlined, so that where a worker's loop begins it is known of what kind the object is.
+    // Inlined, so that the kind of the object is known where a worker's loop begins.
     #[inline(always)]
     fn visit(&self, object: u32) -> Visit<'_, A> {
         self.graph.visit(object)

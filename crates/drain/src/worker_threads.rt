@@ -1,4 +1,4 @@
-//! A thread for each worker: what it does, how it is started, and how it is joined.
+//! A thread for each worker: its work, its start and its join.
 
 ghost use Rattle.std.specs.Prelude.{◌≡◌, ◌<◌, ◌≤◌, ◌+◌, ◌⊎◌, ℕ, IfErr, IfOk, get_or, vec_capacity, vec_len};
 ghost use Rattle.drain.specs.declared.marked.RunFault.TheVariants as fault;
@@ -27,11 +27,11 @@ use std::thread;
 use std::thread::{Promise, PromisedHandle, Scope, Threads};
 use work_pair::Stop;
 
-/// What the thread of a worker owes: the worker that it began with, through with its work, and a tally of what it
-/// finished.
+/// What the thread of a worker owes: the worker that it began with, now through with its work, and a tally of what that
+/// worker finished.
 #[derive(Drop)]
 pub struct Duty<A: Allocator, V> {
-    /// The worker as it began: a promise is plain data, and what comes back is known by it alone.
+    /// The worker as it began: a promise is plain data, and the returned worker is compared only with this one.
     pub begun: Snapshot<Worker<A>>,
     /// The graph that it works on.
     pub graph: Snapshot<V>,
@@ -46,11 +46,11 @@ impl<A: Allocator, V: Measured> Promise<Result<Tallied<A>, Stop>> for Duty<A, V>
         × HasTallied (V.measure duty.graph.value) t.worker t.tally) };
 }
 
-/// A worker that was started.
+/// The thread of a worker that was started.
 pub type Started<A, V> = PromisedHandle<Result<Tallied<A>, Stop>, Duty<A, V>>;
 
-/// The work of one worker: it scans until it has nothing left, and stays until all are idle or it waited long enough.
-/// It has none to do where there are not two empty buffers for it.
+/// Does the work of worker `number`: it scans until it has nothing left, and stays until all are idle or it has waited
+/// long enough. It has nothing to do if there are not two empty buffers for it.
 fn work<T: Wait, A: Allocator + Copy, V: Walk, G: Gate, S>(
     rt: &T,
     job: &Job<'_, A, V, G, S>,
@@ -72,7 +72,7 @@ fn work<T: Wait, A: Allocator + Copy, V: Walk, G: Gate, S>(
     Ok(Tallied { worker, tally })
 }
 
-/// Starts the thread of a worker.
+/// Starts the thread of worker `number`. `Err(RunFault::WorkerRefused)` if the hook or the system refuses it.
 fn start<'s, E, T, A, V, G, S>(
     rt: &'s T,
     scope: &'s Scope<'s, E>,
@@ -109,7 +109,8 @@ where
     }
 }
 
-/// A leader that gives units away, the threads that were started with them so far, and the tallies of those to come.
+/// A leader that gives units away, the threads that were started with them so far, and the tallies of those still to be
+/// started.
 #[derive(Drop)]
 struct Starting<A: Allocator, V: Measured> {
     leader: Worker<A>,
@@ -117,7 +118,7 @@ struct Starting<A: Allocator, V: Measured> {
     tallies: Vec<Tally<A>, A>,
 }
 
-/// Splits off a unit for one worker more, and starts its thread with a tally of its own.
+/// Splits off a unit for worker `number`, and starts its thread with a tally of its own.
 fn start_next<'s, E, T, A, V, G, S>(
     rt: &'s T,
     scope: &'s Scope<'s, E>,
@@ -166,7 +167,7 @@ where
     })
 }
 
-/// Starts a thread for each worker. What the leader has left comes back with the threads.
+/// Starts a thread for each worker. Returns the threads and the leader with its remaining units.
 fn start_all<'s, E, T, A, V, G, S>(
     rt: &'s T,
     scope: &'s Scope<'s, E>,
@@ -197,7 +198,8 @@ where
     Ok(starting)
 }
 
-/// Waits for each thread in turn, and lists their workers. Answers at the first worker that was refused.
+/// Waits for each thread in turn and lists their workers in `back`. Returns at the first thread whose worker was
+/// stopped, with the fault of that worker.
 pub fn join_all<T: Threads, A: Allocator, V: Measured>(
     rt: &T,
     threads: Vec<Started<A, V>, A>,
@@ -217,20 +219,20 @@ pub fn join_all<T: Threads, A: Allocator, V: Measured>(
     Ok(back)
 }
 
-/// A leader whose workers ran: it has joined none of them yet.
+/// A leader whose workers have ended: it has joined none of them yet.
 #[derive(Drop)]
 pub(crate) struct Ran<A: Allocator> {
     /// The leader with its pair.
     pub(crate) paired: PairedWorker<A>,
-    /// What the leader itself finished.
+    /// The tally of what the leader itself finished.
     pub(crate) tally: Tally<A>,
     /// The workers that are through.
     pub(crate) back: Vec<Tallied<A>, A>,
 }
 
-/// Runs the workers for a leader that has given them what it has to do. Answers the leader and its tally, and lists the
-/// workers that are through: the last thread has ended, and none was joined to the leader. The leader's pair is asked
-/// for, so that a leader that gave nothing away is refused.
+/// Runs the workers of a leader that has given its objects to others. Returns the leader, its tally, and the workers
+/// that are through: the last thread has ended, and no worker has been joined to the leader. `ready` includes the
+/// leader's pair, so that the clause `given` can refuse a leader that gave nothing away.
 pub(crate) fn run_workers<T, A, V, G, S>(
     rt: &T,
     job: &Job<'_, A, V, G, S>,

@@ -6,20 +6,20 @@ use std::alloc::{AllocError, Global};
 use std::test::Fail;
 use std::thread::Threads;
 
-/// Puts class 0x100, without a superclass, fields and values.
+/// Appends class 0x100, which has no superclass, fields or values.
 pub(crate) fn put_class(heap: &mut Vec<u8>) -> Result<(), AllocError> {
     heap.extend_from_slice(&[0x20, 0, 0, 1, 0])?;
     heap.extend_from_slice(&[0; 38])
 }
 
-/// Puts an instance of that class with the identifier `id`.
+/// Appends an instance of class 0x100 with the identifier `id`.
 pub(crate) fn put_instance(heap: &mut Vec<u8>, id: u32) -> Result<(), AllocError> {
     heap.push(0x21)?;
     heap.extend_from_slice(&id.to_be_bytes())?;
     heap.extend_from_slice(&[0, 0, 0, 0, 0, 0, 1, 0, 0, 0, 0, 0])
 }
 
-/// Puts the header of a dump and the record of this heap.
+/// Appends the header of a dump and a heap record with the bytes of `heap`.
 fn put_dump(dump: &mut Vec<u8>, heap: &[u8]) -> Result<(), AllocError> {
     dump.extend_from_slice(b"JAVA PROFILE 1.0.2\0\0\0\0\x04")?;
     dump.extend_from_slice(&[0; 8])?;
@@ -29,14 +29,14 @@ fn put_dump(dump: &mut Vec<u8>, heap: &[u8]) -> Result<(), AllocError> {
     dump.extend_from_slice(heap)
 }
 
-/// A dump with this heap.
+/// Returns a dump of one heap record with the bytes of `heap`.
 pub(crate) fn dump_of(alloc: Global, heap: &[u8]) -> Result<Vec<u8>, AllocError> {
     let mut dump = Vec::new(alloc);
     put_dump(&mut dump, heap)?;
     Ok(dump)
 }
 
-/// Puts an array that is the root, and the 60 instances that it refers to.
+/// Appends an array that is the root, and the 60 instances that it refers to.
 fn put_wide_array(heap: &mut Vec<u8>) -> Result<(), AllocError> {
     put_class(heap)?;
     // Array 0x200 of that class.
@@ -50,14 +50,14 @@ fn put_wide_array(heap: &mut Vec<u8>) -> Result<(), AllocError> {
     heap.extend_from_slice(&[0xff, 0, 0, 2, 0])
 }
 
-/// A dump with an array that is the root, and the 60 instances that it refers to.
+/// Returns a dump with an array that is the root, and the 60 instances that it refers to.
 pub(crate) fn wide_array(alloc: Global) -> Result<Vec<u8>, AllocError> {
     let mut heap = Vec::new(alloc);
     put_wide_array(&mut heap)?;
     dump_of(alloc, heap.as_slice())
 }
 
-/// The graph of a dump that is whole.
+/// Returns the graph of `dump`, which has to be whole.
 pub(crate) fn graph_of<'a, T: Threads + Sync>(
     rt: &T,
     alloc: Global,

@@ -1,4 +1,5 @@
-//! Who calls the gate: each of many workers, the leader under a number of its own, and a worker to which another gave.
+//! Who calls the gate: each of many workers, the leader under a number of its own, and a worker to which another gave
+//! objects.
 
 use crate::dumps::{dump_of, graph_of, put_class, put_instance, wide_array};
 use drain::{Gate, Options, RunFault, mark};
@@ -11,10 +12,10 @@ use std::thread;
 use std::thread::Threads;
 use std::time::{Clock, Duration};
 
-/// How often a worker that is held looks whether the others have come, 1 ms apart.
+/// The number of times that a held worker checks whether the others have come, 1 ms apart.
 const TURNS: u32 = 4_000;
 
-/// How often two workers run on the array: one that waits stays for about 0.4 s, and may leave too soon.
+/// The most runs of two workers on the array: a worker that waits stays for about 0.4 s, and may leave too soon.
 const RUNS: u32 = 5;
 
 /// Notes who calls, and holds each worker until all have come.
@@ -22,13 +23,13 @@ const RUNS: u32 = 5;
 struct Meeting<C: Clock> {
     clock: C,
     workers: u32,
-    /// So many calls are let through at first.
+    /// The number of calls that are let through at first.
     free: u64,
     calls: AtomicU64,
     /// A bit for each worker that came.
     come: AtomicU64,
     by_leader: AtomicU64,
-    /// How many waited in vain: nobody is held after that.
+    /// The number of calls that were held in vain: after the first of them no call is held.
     late: AtomicU64,
 }
 
@@ -60,7 +61,7 @@ impl<C: Clock> Meeting<C> {
         self.late.fetch_add(1, Ordering::SeqCst);
     }
 
-    /// The calls, the workers that came, and the calls of the leader.
+    /// Returns the number of calls, the workers that came, and the number of the leader's calls.
     fn noted(&self) -> (u64, u64, u64) {
         (
             self.calls.load(Ordering::SeqCst),
@@ -87,7 +88,7 @@ impl<C: Clock + Sync> Gate for Meeting<C> {
 /// The identifier of the first root. The class has a lower one.
 const FIRST_ROOT: u32 = 0x1000;
 
-/// Puts `count` instances of one class, each a root.
+/// Appends `count` instances of one class, each of them a root.
 fn put_roots(heap: &mut Vec<u8>, count: u32) -> Result<(), AllocError> {
     put_class(heap)?;
     for number in 0..count {
@@ -99,14 +100,14 @@ fn put_roots(heap: &mut Vec<u8>, count: u32) -> Result<(), AllocError> {
     Ok(())
 }
 
-/// Returns a dump of `count` instances of one class, each a root.
+/// Returns a dump of `count` instances of one class, each of them a root.
 fn roots_alone(alloc: Global, count: u32) -> Result<Vec<u8>, AllocError> {
     let mut heap = Vec::new(alloc);
     put_roots(&mut heap, count)?;
     dump_of(alloc, heap.as_slice())
 }
 
-/// Marks the graph, and answers how many objects are marked.
+/// Marks `graph` and returns the number of marked objects.
 fn marked_in<T: Threads + Wait + Sync, G: Gate>(
     rt: &T,
     alloc: Global,
@@ -118,7 +119,7 @@ fn marked_in<T: Threads + Wait + Sync, G: Gate>(
     Ok(marked.len())
 }
 
-/// Marks the dump, and answers how many objects are marked.
+/// Marks the graph of `dump` and returns the number of marked objects.
 fn marked<T: Threads + Wait + Sync, G: Gate>(
     rt: &T,
     alloc: Global,
@@ -131,8 +132,8 @@ fn marked<T: Threads + Wait + Sync, G: Gate>(
     Ok(marked_in(rt, alloc, &graph, options, gate)?)
 }
 
-/// Marks `roots` roots with the options `workers`, `buffer` and `buffers`. Returns how many objects are marked and what
-/// the gate noted: the calls, the workers that came, and the calls of the leader.
+/// Marks `roots` roots with the options `workers`, `buffer` and `buffers`. Returns the number of marked objects and
+/// what the gate noted: the number of calls, the workers that came, and the number of the leader's calls.
 fn calls_of<T: Clock + Copy + Threads + Wait + Sync>(
     rt: T,
     alloc: Global,
@@ -146,11 +147,11 @@ fn calls_of<T: Clock + Copy + Threads + Wait + Sync>(
     Ok((objects, gate.noted()))
 }
 
-/// Roots; workers, objects of a buffer and buffers; the workers that came, and the calls of the leader.
+/// Roots; workers, objects in a buffer, buffers; the workers that came; the number of the leader's calls.
 static ROWS: [(u32, (u32, u32, u32), u64, u64); 4] = [
     // There is a buffer of two roots for each of 64 workers, and none scans before all have come.
     (128, (64, 2, 1024), u64::MAX, 0),
-    // Of many objects as well each of four workers scans some, and none before all have come.
+    // Of many objects, too, each of four workers scans some, and none before all have come.
     (3_000, (4, 2, 4096), 0xf, 0),
     (150_000, (4, 256, 1024), 0xf, 0),
     // Seven roots take all four buffers: the worker has no pair, and the leader scans all that there is.
@@ -171,8 +172,8 @@ fn workers_and_the_leader_have_their_numbers(rt: HostRuntime) -> Result<(), Fail
     Ok(())
 }
 
-/// How many objects of the wide array two workers mark, and which of the two came. Each call but the first waits until
-/// both have come.
+/// Marks the wide array with two workers, and returns the number of marked objects and which of the two came. Each call
+/// but the first waits until both have come.
 fn come_to<T: Clock + Copy + Threads + Wait + Sync>(
     rt: T,
     alloc: Global,

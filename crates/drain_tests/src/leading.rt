@@ -1,4 +1,4 @@
-//! What no clause of a marking says: when the gate is told of an object; and a leader that finds no buffers.
+//! What no clause of a marking says: when the gate is called for an object; and a leader that finds no buffers.
 
 ghost use Rattle.std.specs.Prelude.{◌≡◌, ◌<◌, ◌≤◌, ◌+◌};
 ghost use Rattle.mark_core.specs.Events.{IsBusy};
@@ -17,13 +17,13 @@ use std::thread::Threads;
 use std::time::{Duration, Instant};
 use work_pair::Pair;
 
-/// The graph of a dump with at most 64 objects, and for which of them the gate was called.
+/// The graph of a dump with at most 64 objects that notes for which of them the gate was called.
 #[derive(Drop)]
 struct Watched<'a, 'b> {
     walked: WalkedGraph<'a, 'b, Global>,
     /// A bit for each object for which the gate was called.
     passed: &'a AtomicU64,
-    /// How often the references of an object were asked for before the gate was called for it.
+    /// The number of times that an object was visited before the gate was called for it.
     early: &'a AtomicU64,
 }
 
@@ -92,7 +92,7 @@ fn take_pair<T: Wait>(rt: &T, alloc: Global, pool: &Pool<Global>, worker: Worker
     let _pair = Pair::open(rt, alloc, pool, &mut worker);
 }
 
-/// A leader of whom so many others were split off, each of which took two buffers.
+/// Splits `others` workers off `leader`, each of which takes two buffers. Returns the leader.
 fn behind_others<T: Wait>(
     rt: &T,
     alloc: Global,
@@ -118,8 +118,8 @@ fn behind_others<T: Wait>(
     leader
 }
 
-/// Leads so many workers over the graph, with so many buffers of two objects, where so many others hold two buffers
-/// each; whether that was done.
+/// Leads `workers` workers over the graph, with `buffers` buffers of two objects. `others` other workers hold two
+/// buffers each. Returns whether the marking was done.
 fn lead_watched<T: Threads + Wait + Sync>(
     rt: &T,
     alloc: Global,
@@ -147,8 +147,8 @@ fn lead_watched<T: Threads + Wait + Sync>(
     lead(rt, &job, leader).is_ok()
 }
 
-/// Leads behind others over the wide array: whether that was done, for how many objects the gate was called, and how
-/// often an object's references were asked for before.
+/// Does the same over the wide array. Returns whether the marking was done, for how many objects the gate was called,
+/// and how often an object was visited before that.
 fn lead_over_array<T: Threads + Wait + Sync>(
     rt: &T,
     alloc: Global,
@@ -191,7 +191,7 @@ fn a_leader_without_buffers_drains(rt: HostRuntime) -> Result<(), Fail> {
     Ok(())
 }
 
-/// The least time that a worker waits for another, in milliseconds. Its naps add up to 300; if all were as short as the
+/// The least time that a worker waits for another, in milliseconds. Its naps add up to 300. If all were as short as the
 /// first ones they would add up to 50, and to 130 with what the system adds to each.
 const LEAST_WAIT: u64 = 250;
 

@@ -1,9 +1,9 @@
-//! Tests of `drain`, in a crate of their own: so that crate is proved once, and not once more with its tests. They ask
-//! what callers may ask, and `drain::inside`. The crate has nothing to hand out.
+//! Tests of `drain`, in a crate of their own, so that `drain` is proved once and not again with its tests. They call
+//! what callers may call, and `drain::inside`. The crate exports nothing.
 //!
-//! `dumps` has the dumps that are marked. `refused_threads` refuses threads, `several_refused_workers` has several
-//! workers refused, `gate_calls` and `leading` tell who calls the gate and when, `memory` refuses requests, `tallies`
-//! and `sums` have what is counted, the latter at its bounds, and `texts` what is printed of a fault.
+//! `dumps` has the dumps that are marked. `refused_threads` refuses threads, and `several_refused_workers` stops
+//! several workers. `gate_calls` and `leading` test who calls the gate and when. `memory` has failing allocations.
+//! `tallies` and `sums` test what is counted, `sums` at its bounds. `texts` tests the texts of the faults.
 
 #![tactic(auto)]
 

@@ -1,4 +1,4 @@
-//! Want of memory: where a request is refused no thread is started, and what is asked of a marking takes none.
+//! Out of memory: if an allocation fails no thread is started; and the calls of a marking allocate nothing.
 
 use crate::dumps::{graph_of, wide_array};
 use drain::inside::{StartHook, mark_where};
@@ -11,15 +11,16 @@ use std::sync::atomic::{AtomicU64, Ordering};
 use std::test::Fail;
 use std::thread::Threads;
 
-/// More requests than the set-up of a marking with few buffers makes.
+/// More allocations than the set-up of a marking with few buffers makes.
 const MANY: u64 = 64;
 
-/// Two workers, and buffers that have room for all that one of them finds: no worker's list has to grow.
+/// Returns the options for two workers, with room in the buffers for all that one of them finds: no worker's list has
+/// to grow.
 fn with_room() -> Result<Options, Fail> {
     Ok(Options::new(2, 64, 6, 0)?)
 }
 
-/// Counts the calls of the gate, and the threads that were about to be started.
+/// Counts the calls of the gate and of the start hook.
 #[derive(Drop)]
 struct Calls {
     scans: AtomicU64,
@@ -55,7 +56,8 @@ impl StartHook for Calls {
     }
 }
 
-/// A heap that refuses a request alone, or with all behind it.
+/// Returns a heap on which allocation number `request`, counted from 0, fails: only this one if `alone`, otherwise all
+/// after it too.
 fn heap_without(alloc: Global, request: u64, alone: bool) -> LimitedHeap<Global> {
     match alone {
         true => LimitedHeap::refusing(alloc, request),
@@ -63,8 +65,8 @@ fn heap_without(alloc: Global, request: u64, alone: bool) -> LimitedHeap<Global>
     }
 }
 
-/// Marks the graph over the heap. Whether a request was refused, and whether the answer is the right one then: all 62
-/// objects and both workers, or want of memory and no call at all.
+/// Marks `graph` on `heap`. Returns whether an allocation failed, and whether the result is right: all 62 objects and
+/// both workers, or, if an allocation failed, out of memory and no call at all.
 fn marks_over<T: Threads + Wait + Sync>(
     rt: &T,
     heap: &LimitedHeap<Global>,
@@ -81,8 +83,9 @@ fn marks_over<T: Threads + Wait + Sync>(
     (refused, right)
 }
 
-/// With how many requests the graph is marked, where each of them was refused before, with all behind it or alone, and
-/// nothing else was answered.
+/// Returns the number of allocations that marking `graph` takes. Before that each of them fails once, and all after it
+/// too unless `alone`. Returns `None` if a result is not right, as [`marks_over`] tests, or if the marking takes
+/// [`MANY`] allocations or more.
 fn marked_with<T: Threads + Wait + Sync>(
     rt: &T,
     alloc: Global,
@@ -101,7 +104,8 @@ fn marked_with<T: Threads + Wait + Sync>(
     None
 }
 
-/// With how many requests the wide array is marked: where all behind each request was refused, and where it was alone.
+/// Returns the number of allocations with which the wide array is marked: if all after a failed one fail too, and if
+/// only that one fails.
 fn array_marked_with<T: Threads + Wait + Sync>(
     rt: &T,
     alloc: Global,
@@ -118,14 +122,14 @@ fn array_marked_with<T: Threads + Wait + Sync>(
 #[test]
 fn want_of_memory_starts_no_thread(rt: HostRuntime) -> Result<(), Fail> {
     let requests = array_marked_with(&rt, rt.alloc())?;
-    // The words, the slots, six buffers, two blocks of the table, the threads, the workers that come back, the tallies
-    // and three of them.
+    // The words, the slots, six buffers, two blocks of the table, the threads, the returned workers, the tallies and
+    // three of them.
     assert_eq!(rt; requests, (Some(16), Some(16)));
     Ok(())
 }
 
-/// What is told of a marking of the wide array: of its first object and of one past the last, how many are marked, the
-/// instances with their bytes, and how many identifiers name no object.
+/// What a marking of the wide array says: whether its first object and the one after the last are marked, the number of
+/// marked objects, the instances with their bytes, and the number of identifiers that name no object.
 type Told = (bool, bool, u64, (u64, u64), u64);
 
 fn told<A: Allocator>(marked: &Marked<A>) -> Told {
@@ -138,8 +142,8 @@ fn told<A: Allocator>(marked: &Marked<A>) -> Told {
     )
 }
 
-/// Marks the graph over a heap that grants so many requests: how many are left then, what is told of the marking, and
-/// how many were refused after all.
+/// Marks `graph` on a heap that grants `requests` allocations. Returns the number of allocations that remain then, what
+/// the marking says, and the number of allocations that failed by the end.
 fn told_with<T: Threads + Wait + Sync>(
     rt: &T,
     alloc: Global,
@@ -154,8 +158,7 @@ fn told_with<T: Threads + Wait + Sync>(
     Ok((left, told, heap.refusals()))
 }
 
-/// Marks the wide array over a heap that grants just the requests that it takes: how many are left, what is told of the
-/// marking, and how many were refused.
+/// Marks the wide array on a heap that grants just the allocations that it takes. Returns what [`told_with`] does.
 fn array_told<T: Threads + Wait + Sync>(
     rt: &T,
     alloc: Global,

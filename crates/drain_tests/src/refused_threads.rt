@@ -1,4 +1,4 @@
-//! A thread that is not started: that is told, no later one is started, and no started one is left.
+//! A thread that cannot be started: this is reported, no later thread is started, and no started one remains.
 
 use crate::dumps::{graph_of, wide_array};
 use drain::inside::{StartHook, mark_where};
@@ -12,7 +12,7 @@ use std::thread;
 use std::thread::Threads;
 use std::time::{Clock, Duration};
 
-/// Refuses the thread of the worker of one number.
+/// Refuses the thread of the worker with the number `refused`.
 #[derive(Drop)]
 struct AllBut {
     refused: u32,
@@ -24,8 +24,8 @@ impl StartHook for AllBut {
     }
 }
 
-/// Marks the wide array by so many workers with so many buffers of so many objects and a first tag, and answers how
-/// many objects are marked, or why none is.
+/// Marks the wide array with the options `workers`, `buffer`, `buffers` and `first_tag`. Returns the number of marked
+/// objects, or why none is.
 fn marked_where<T: Threads + Wait + Sync, G: Gate, S: StartHook>(
     rt: &T,
     alloc: Global,
@@ -40,11 +40,11 @@ fn marked_where<T: Threads + Wait + Sync, G: Gate, S: StartHook>(
     Ok(mark_where(rt, alloc, &graph, &options, gate, hook).map(|marked| marked.len()))
 }
 
-/// Workers, objects of a buffer, buffers, and the first tag; the worker without a thread; and what is answered.
+/// Workers, objects in a buffer, buffers, and the first tag; the worker whose thread is refused; and the result.
 type Start = ((u32, u32, u32, u64), u32, Result<u64, RunFault>);
 
-/// The leader takes three buffers, two for its pair and one for the root that it gives away: then the stack of the
-/// empty ones has its last tag, and no worker finds a pair.
+/// The leader takes three buffers, two for its pair and one for the root that it gives away. Then the stack of the
+/// empty buffers has its last tag, and no worker finds a pair.
 const LATE: u64 = Options::LAST_TAG - 3;
 
 static STARTS: [Start; 9] = [
@@ -53,10 +53,10 @@ static STARTS: [Start; 9] = [
     ((4, 256, 1024, 0), 2, Err(RunFault::WorkerRefused)),
     ((4, 256, 1024, 0), 3, Err(RunFault::WorkerRefused)),
     ((4, 256, 1024, 0), 4, Ok(62)),
-    // 60 references find no room in six buffers of two, and go to the lists of who found them.
+    // 60 references find no room in six buffers of two, and go to the spill lists of the workers that found them.
     ((2, 2, 6, 0), 2, Ok(62)),
     ((2, 256, 1024, LATE), 2, Err(RunFault::TagSpent)),
-    // Worker 0 is refused as well, but worker 1 was not started.
+    // Worker 0 is stopped as well, but worker 1 was not started.
     ((2, 256, 1024, LATE), 1, Err(RunFault::WorkerRefused)),
     ((2, 256, 1024, LATE), 0, Err(RunFault::WorkerRefused)),
 ];
@@ -70,11 +70,11 @@ fn a_thread_that_cannot_be_started_is_told(rt: HostRuntime) -> Result<(), Fail> 
     Ok(())
 }
 
-/// The workers that were to be started, those that scanned, and how often.
+/// The workers for which the hook was called, those that scanned, and the number of scans.
 type Notes = (u64, u64, u64);
 
-/// Notes for which workers a thread was to be started, and refuses it to worker 1. Notes which workers scan, and how
-/// often, each scan of 1 ms at least.
+/// Notes for which workers the hook is called, and refuses the thread of worker 1. Notes which workers scan, and how
+/// often; each scan takes at least 1 ms.
 #[derive(Drop)]
 struct RefusesOne<C: Clock> {
     clock: C,
@@ -118,7 +118,7 @@ impl<C: Clock> RefusesOne<C> {
     }
 }
 
-/// What is answered where worker 1 is refused, what was noted by then, and what was noted somewhat later.
+/// Returns the result if the thread of worker 1 is refused, the notes at that time, and the notes somewhat later.
 fn noted_twice<T: Clock + Copy + Threads + Wait + Sync>(
     rt: T,
     alloc: Global,
@@ -134,7 +134,7 @@ fn noted_twice<T: Clock + Copy + Threads + Wait + Sync>(
 fn no_worker_is_started_behind_a_refused_one(rt: HostRuntime) -> Result<(), Fail> {
     let (outcome, first, later) = noted_twice(rt, rt.alloc())?;
     assert_eq!(rt; outcome, Err(RunFault::WorkerRefused));
-    // A thread was to be started for workers 0 and 1; worker 0 alone came, and all that it found was done.
+    // The hook was called for workers 0 and 1; only worker 0 came, and all that it found was done.
     assert_eq!(rt; first, (3, 1, 62));
     assert_eq!(rt; later, first, "no thread is left");
     Ok(())

@@ -1,4 +1,4 @@
-//! Which refusal is told where several workers are refused.
+//! Which fault is returned if several workers are stopped.
 
 ghost use Rattle.std.specs.Prelude.{◌≡◌, ◌<◌, ◌≤◌, ℕ, IfOk, get_or, length, vec_capacity, vec_len};
 ghost use Rattle.drain.specs.working.AtWork.{IsFree, IsThrough, Leads};
@@ -16,7 +16,7 @@ use std::thread;
 use std::thread::{Scope, Threads};
 use work_pair::Stop;
 
-/// No object.
+/// A graph without objects.
 #[derive(Drop)]
 struct Nothing;
 
@@ -47,7 +47,7 @@ impl Measured for Nothing {
     }
 }
 
-/// A thread that answers the worker and the tally, or that it was stopped.
+/// Starts a thread that returns `begun`, or `stop` if there is one.
 fn answer<'s, E, V: Measured + Sync>(
     scope: &'s Scope<'s, E>,
     graph: &'s V,
@@ -81,7 +81,7 @@ fn answer<'s, E, V: Measured + Sync>(
     }
 }
 
-/// For each of these a thread that answers it, with a worker of the leader's.
+/// Starts a thread for each of `stops`, with a worker split off `leader`, that returns its worker or is stopped.
 fn answer_all<'s, E, V: Measured + Sync>(
     scope: &'s Scope<'s, E>,
     alloc: Global,
@@ -111,7 +111,7 @@ fn answer_all<'s, E, V: Measured + Sync>(
     Ok((leader, threads))
 }
 
-/// What the leader answers where its workers answer these.
+/// Starts a thread for each of `stops` and joins them. Returns the fault that this ends with, or `None`.
 fn told<T: Threads + Wait, V: Measured + Sync>(
     rt: &T,
     alloc: Global,
@@ -144,7 +144,7 @@ const TAG: Option<Stop> = Some(Stop::TagSpent);
 
 const MEMORY: Option<Stop> = Some(Stop::OutOfMemory);
 
-/// What the workers answer, and what the leader does.
+/// What the workers return, and what joining them returns.
 static ANSWERS: [(&[Option<Stop>], Option<RunFault>); 7] = [
     (&[], None),
     (&[None, None, None], None),

@@ -13,7 +13,7 @@ const BYTES: u64 = 1 << 30;
 
 const UNRESOLVED: u64 = 1 << 33;
 
-/// A tally of so many objects, each of them as large as one can be, all of one row.
+/// Returns a tally of `objects` objects of one row, each of the largest size.
 fn of_largest(alloc: Global, objects: u64) -> Result<Tally<Global>, AllocError>
     requires { objects ≤ 2 ^ 24 }
     ensures { IfOk result (λ t. HasSmallSums t × (length t.rows.items ≡ 1)) }
@@ -28,17 +28,17 @@ fn of_largest(alloc: Global, objects: u64) -> Result<Tally<Global>, AllocError>
     })
 }
 
-/// What is told of the first row, of the one behind it, and of identifiers.
+/// The sum of the first row, that at the place after it, and the number of identifiers that name no object.
 type Told = ((u64, u64), (u64, u64), u64);
 
-/// All of the largest objects.
+/// The tally of all largest objects.
 const BOUNDS: Told = ((OBJECTS, OBJECTS * BYTES), (0, 0), OBJECTS * UNRESOLVED);
 
 fn told(tally: &Tally<Global>) -> Told {
     (tally.told_at(0), tally.told_at(1), tally.unresolved)
 }
 
-/// What is told of all the largest objects but one, and that one.
+/// Returns the tally of all largest objects but one, with that one added.
 fn told_of_one_more(alloc: Global) -> Result<Told, AllocError> {
     let mut tally = of_largest(alloc, OBJECTS - 1)?;
     tally.add(Scanned {
@@ -49,7 +49,7 @@ fn told_of_one_more(alloc: Global) -> Result<Told, AllocError> {
     Ok(told(&tally))
 }
 
-/// What is told of the largest objects, each half of them counted for itself.
+/// Returns the tally of all largest objects, joined from two halves.
 fn told_of_halves(alloc: Global) -> Result<Told, AllocError> {
     let mut halves = of_largest(alloc, OBJECTS / 2)?;
     let other = of_largest(alloc, OBJECTS / 2)?;

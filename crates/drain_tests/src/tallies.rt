@@ -1,4 +1,4 @@
-//! What a marking tells of rows and of identifiers that name no object, whoever marked.
+//! What a marking says of rows and of identifiers that name no object, however many workers there are.
 
 use crate::dumps::{dump_of, graph_of, put_class, wide_array};
 use drain::{Marked, NoGate, Options, RunFault, mark};
@@ -9,8 +9,8 @@ use std::sync::Wait;
 use std::test::Fail;
 use std::thread::Threads;
 
-/// Puts two arrays of the class, of which the first is a root. Both hold a boolean array of 3 and an identifier that
-/// names no object.
+/// Appends two arrays of the class, the first of which is a root. Both refer to a boolean array of 3 elements, and hold
+/// an identifier that names no object.
 fn put_two_missing(heap: &mut Vec<u8>) -> Result<(), AllocError> {
     put_class(heap)?;
     for id in 0..2u8 {
@@ -21,17 +21,17 @@ fn put_two_missing(heap: &mut Vec<u8>) -> Result<(), AllocError> {
     heap.extend_from_slice(&[0xff, 0, 0, 2, 0])
 }
 
-/// A dump with these arrays.
+/// Returns a dump with these two arrays.
 fn two_missing(alloc: Global) -> Result<Vec<u8>, AllocError> {
     let mut heap = Vec::new(alloc);
     put_two_missing(&mut heap)?;
     dump_of(alloc, heap.as_slice())
 }
 
-/// A row, and what is told of it: how many of its objects are marked, and their bytes.
+/// A row, the number of its marked objects, and their bytes.
 type Row = (RowKey, (u64, u64));
 
-/// The array's 60 identifiers have 4 bytes each, and the instances none.
+/// The array's 60 identifiers have 4 bytes each, and the instances have no bytes.
 static WIDE: [Row; 6] = [
     (RowKey::Class(0), (61, 240)),
     (RowKey::Class(1), (0, 0)),
@@ -49,7 +49,7 @@ static MISSING: [Row; 5] = [
     (RowKey::Primitive(12), (0, 0)),
 ];
 
-/// Whether each of these rows is told so of the marked objects, and that so many of their identifiers name no object.
+/// Tests whether `marked` has the sums in `rows` and `unresolved` identifiers that name no object.
 fn is_told(marked: &Marked<Global>, rows: &[Row], unresolved: u64) -> bool {
     for (row, sum) in rows {
         if marked.tally(row) != *sum {
@@ -59,7 +59,7 @@ fn is_told(marked: &Marked<Global>, rows: &[Row], unresolved: u64) -> bool {
     marked.unresolved() == unresolved
 }
 
-/// Marks the graph, and answers whether that is told of the marked objects.
+/// Marks `graph` and tests its result against `rows` and `unresolved`.
 fn graph_tells<T: Threads + Wait + Sync>(
     rt: &T,
     alloc: Global,
@@ -72,7 +72,7 @@ fn graph_tells<T: Threads + Wait + Sync>(
     Ok(is_told(&marked, rows, unresolved))
 }
 
-/// Marks the graph of a dump with so many workers, and answers whether that is told of the marked objects.
+/// Marks the graph of `dump` with `workers` workers and tests the result against `rows` and `unresolved`.
 fn tells<T: Threads + Wait + Sync>(
     rt: &T,
     alloc: Global,
@@ -87,7 +87,7 @@ fn tells<T: Threads + Wait + Sync>(
     Ok(graph_tells(rt, alloc, &graph, &options, rows, unresolved)?)
 }
 
-/// Checks that this is told by 1, 2 and 4 workers.
+/// Checks the result of 1, 2 and 4 workers against `rows` and `unresolved`.
 fn check<T: Abort + Threads + Wait + Sync>(
     rt: &T,
     alloc: Global,

@@ -1,4 +1,4 @@
-//! What is printed where a graph is not marked.
+//! The texts that are printed if a graph is not marked.
 
 use drain::{BadOptions, RunFault};
 use std::test::Fail;

@@ -11,7 +11,7 @@ use Rattle.drain.specs.declared.paired_worker.Opened.TheVariants as opened
 use Rattle.work_pair.specs.Deals.{OpensNone, OpensTwo}
 use Rattle.work_pair.specs.PairState.{AreOfSize, IsOpen, PairState, buffered_items, pair_items, numbers_of}
 
--- These are the objects, the roots and the references of a graph.
+-- The setup `e` has these objects, roots and references of a graph.
 pub record IsSetupOf (count : ℕ) (root_list : List ℕ) (pair_list : List (ℕ × ℕ)) (e : Setup) : Type 0 where
   pub objects : e.objects ≡ count
   pub roots : e.roots ≡ root_list
@@ -24,41 +24,42 @@ pub record CameFrom (old new : Holder) : Type 0 where
   pub share : new.book.account.share ≡ old.book.account.share
   pub seen : (o : ℕ) → Contains old.book.account.seen o → Contains new.book.account.seen o
 
--- The worker came from the old one, and its idle number is what it was: so where it was busy it is busy.
+-- The worker came from the old one, and its idle number is unchanged: if it was busy it is busy.
 pub record WorksOn (old new : Holder) : Type 0 where
   pub came : CameFrom old new
   pub idle : new.book.account.idle ≡ old.book.account.idle
 
--- The worker came from the old one, its idle number is what it was, and it finished nothing since.
+-- The worker came from the old one, its idle number is unchanged, and it has finished nothing since.
 pub record GoesOn (old new : Holder) : Type 0 where
   pub came : CameFrom old new
   pub idle : new.book.account.idle ≡ old.book.account.idle
   pub finished : new.book.account.finished ≡ old.book.account.finished
 
--- A worker with its pair: it holds the pair's buffers and no others, and answers for the pair's items and for these
--- objects, which it is about to put or to finish, and for no others.
+-- A worker with its pair: it holds the pair's buffers and no others. Its charge is the pair's items and the objects
+-- `besides`, which it is about to put or to finish, and no others.
 pub record HasAtHand (p : PairState) (besides : List ℕ) (w : Holder) : Type 0 where
   pub going : IsOpen p
   pub sized : AreOfSize w.book.setup.size p
   pub held : (i : ℕ) → times i w.book.account.held ≡ times i (numbers_of p)
   pub charge : (o : ℕ) → times o w.book.account.charge ≡ times o (pair_items p) + times o besides
 
--- A worker that is not idle holds the buffers of its pair, and answers for its items and for these objects.
+-- A worker that is not idle holds the buffers of its pair, and its charge is the pair's items and the objects
+-- `besides`.
 pub record IsAtWork (p : PairState) (besides : List ℕ) (w : Holder) : Type 0 where
   pub hand : HasAtHand p besides w
   pub busy : IsBusy w.book.account
 
--- What it answered for beside the pair's items it answers for still.
+-- Whatever was in its charge besides the pair's items is in its charge still.
 abbrev pub StaysAtWork : PairState → Holder → PairState → Holder → Type 0
 StaysAtWork old_pair old new_pair new =
     (besides : List ℕ) → IsAtWork old_pair besides old → IsAtWork new_pair besides new
 
--- A worker that answers for these objects may claim this one: it is a root, or one of them refers to it.
+-- A worker whose charge has the objects `besides` may claim `o`: it is a root, or one of them refers to it.
 abbrev pub MayClaim : Setup → List ℕ → ℕ → Type 0
 MayClaim e besides o = Contains e.roots o ⊎ ((p : ℕ) × Contains besides p × Contains e.pairs (p, o))
 
--- An object was claimed: it was seen. If it was white the worker has it at hand besides what it had, and is about to
--- put it; else it answers for what it did before.
+-- `object` was claimed: it was seen. If it was white the worker has it at hand besides what it had, and is about to put
+-- it; otherwise its charge is what it was.
 pub record IsClaimed (object : ℕ) (old_pair : PairState) (old : Holder) (new_pair : PairState) (new : Holder)
     (white : Bool) : Type 0 where
   pub goes_on : GoesOn old new
@@ -66,51 +67,51 @@ pub record IsClaimed (object : ℕ) (old_pair : PairState) (old : Holder) (new_p
   pub at_work : (besides : List ℕ) → IsAtWork old_pair besides old
       → IsAtWork new_pair (if white then object ∷ besides else besides) new
 
--- An object at hand was put: it is in the pair, or went with a buffer of it.
+-- `object`, which was at hand, was put: it is in the pair, or went with a buffer of it.
 pub record IsPut (object : ℕ) (old_pair : PairState) (old : Holder) (new_pair : PairState) (new : Holder)
     : Type 0 where
   pub goes_on : GoesOn old new
   pub at_work : (besides : List ℕ) → IsAtWork old_pair (object ∷ besides) old → IsAtWork new_pair besides new
 
--- These objects were claimed: they were seen, and those that were white are in the pair, or went with a buffer of it.
+-- `objects` were claimed: they were seen, and those that were white are in the pair, or went with a buffer of it.
 pub record AreClaimed (objects : List ℕ) (old_pair : PairState) (old : Holder) (new_pair : PairState) (new : Holder)
     : Type 0 where
   pub goes_on : GoesOn old new
   pub saw : (o : ℕ) → Contains objects o → Contains new.book.account.seen o
   pub at_work : StaysAtWork old_pair old new_pair new
 
--- It holds no buffer, answers for nothing, and has no open push.
+-- The worker holds no buffer, has no charge, and has no open push.
 pub record IsFree (w : Holder) : Type 0 where
   pub held : w.book.account.held ≡ []
   pub charge : w.book.account.charge ≡ []
   pub open_push : w.book.account.open_push ≡ false
 
--- Its pair has no items, it has no open push, and it found the full stack empty since its own last push there.
+-- The pair has no items, the worker has no open push, and it found the full stack empty since its own last push there.
 abbrev pub HasNoneLeft : PairState → Holder → Type 0
 HasNoneLeft p w =
     (pair_items p ≡ []) × (w.book.account.open_push ≡ false) × (w.book.account.found ≡ true)
 
--- A worker is through: it is the one that began, and is free. It may be idle.
+-- A worker is through: it came from `begun`, and is free. It may be idle.
 abbrev pub IsThrough : Holder → Holder → Type 0
 IsThrough begun w = CameFrom begun w × IsFree w
 
--- Others have what the buffers of its pair held: they have no items, or it saw that no empty buffer was left.
+-- Others have what the buffers of the pair held: these have no items, or the worker saw that no empty buffer was left.
 abbrev pub HasGiven : PairState → Holder → Type 0
 HasGiven p w = (buffered_items p ≡ []) ⊎ (0 < empties_of w.book Empty)
 
--- The opening of a pair: the worker went on from there. It is at work with two buffers and nothing at hand beside the
--- pair's items; or it is as free as it was, and there were not two empty buffers.
+-- A pair was opened: the worker went on from `w`. It is at work with two buffers and nothing at hand besides the pair's
+-- items; or it is as free as it was, and there were not two empty buffers.
 abbrev pub HasOpened : {A : Type 0} → Holder → Opened A → Type 0
 HasOpened w (opened.Paired p) =
     GoesOn w p.worker × IsAtWork p.pair [] p.worker × OpensTwo w.book p.pair p.worker.book
 HasOpened w (opened.Unpaired v) = GoesOn w v × IsFree v × OpensNone w.book v.book
 
--- It saw each root marked.
+-- The worker saw each root marked.
 abbrev pub SawRoots : Holder → Type 0
 SawRoots w = (o : ℕ) → Contains w.book.setup.roots o → Contains w.book.account.seen o
 
--- The leader, while others have parts of its share: it holds the same buffers, answers for the same objects, and
--- pushes nothing on the full stack.
+-- The leader, while others have parts of its share: it holds the same buffers, has the same charge, and pushes nothing
+-- on the full stack.
 pub record Leads (old new : Holder) : Type 0 where
   pub pool : new.pool ≡ old.pool
   pub setup : new.book.setup ≡ old.book.setup
@@ -119,7 +120,7 @@ pub record Leads (old new : Holder) : Type 0 where
   pub charge : (o : ℕ) → times o new.book.account.charge ≡ times o old.book.account.charge
   pub pushed : new.book.account.pushed ≡ old.book.account.pushed
 
--- The leader at the end: it has these units, is free, and saw each root.
+-- The leader at the end: it has `units` units, is free, and saw each root.
 pub record HasLed (units : ℕ) (begun w : Holder) : Type 0 where
   pub pool : w.pool ≡ begun.pool
   pub setup : w.book.setup ≡ begun.book.setup

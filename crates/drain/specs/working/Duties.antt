@@ -1,4 +1,4 @@
--- What the threads of workers owe, and what comes back from them.
+-- The duties of the workers' threads, and what they return.
 use Rattle.std.specs.Prelude.{All, List, get_or, ℕ, ◌+◌, ◌<◌, ◌≡◌}
 use Rattle.buffer_pool.specs.Book.{new_book}
 use Rattle.buffer_pool.specs.Calls.{Holder}
@@ -9,13 +9,14 @@ use Rattle.drain.specs.working.AtWork.{IsFree, Leads}
 use Rattle.drain.specs.working.Tallies.{Measure}
 use Rattle.drain.specs.working.Tallying.{HasTallied}
 
--- a thread that was started for this graph with a worker of the leader's pool, with one unit and nothing else
+-- the duty of a thread that was started for `graph` with a worker of the leader's pool that had one unit and nothing
+-- else
 pub record IsDutyUnder {A V : Type 0} (graph : V) (leader : Holder) (duty : Duty A V) : Type 0 where
   pub pool : duty.begun.value.pool ≡ leader.pool
   pub book : duty.begun.value.book ≡ new_book leader.book.setup 1
   pub graph_is : duty.graph.value ≡ graph
 
--- so many threads were started, each with a unit of the leader's, who has finished no more than before
+-- `number` threads were started, each with a unit of the leader's; the leader has finished no more than before
 pub record HasStarted {A V X : Type 0} (graph : V) (duty : X → Duty A V) (begun leader : Holder) (threads : List X)
     (number : ℕ) : Type 0 where
   pub leads : Leads begun leader
@@ -31,6 +32,6 @@ pub record IsBackUnder {A : Type 0} (m : Measure) (leader w : Holder) (t : Tally
   pub free : IsFree w
   pub tally : HasTallied m w t
 
--- these are each back
+-- each worker in `back` is back
 abbrev pub AreBackUnder : {A : Type 0} → Measure → Holder → List (Tallied A) → Type 0
 AreBackUnder m leader back = All (λ t. IsBackUnder m leader t.worker t.tally) back

@@ -14,7 +14,7 @@ pub record IsAwake (w : Holder) : Type 0 where
 abbrev pub TurnsInVain : ℕ → Book → Book → Type 0
 TurnsInVain workers old new = (word : ℕ) × (word ≢ workers) × Sees Full (idle_loaded word old) new true
 
--- The worker made this number of turns in vain, and nothing else.
+-- The worker made `turns` turns in vain, and nothing else.
 pub data WaitsInVain (workers : ℕ) : ℕ → Book → Book → Type 0 where
   none : (b : Book) → WaitsInVain workers 0 b b
   more : (turns : ℕ) (old mid new : Book) → WaitsInVain workers turns old mid → TurnsInVain workers mid new

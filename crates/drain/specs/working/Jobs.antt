@@ -1,4 +1,4 @@
--- What is asked where a worker begins with its job, while it scans, and where a leader runs its workers.
+-- The conditions when a worker begins its job, while it scans, and when a leader runs its workers.
 use Rattle.std.specs.Prelude.{Bool, List, None, [], false, true, ℕ, ◌++◌, ◌<◌, ◌≡◌, ◌≤◌, ◌⊎◌, ◌∷◌}
 use Rattle.buffer_pool.specs.Calls.{Holder}
 use Rattle.work_pair.specs.Deals.{Gets, OpensNone, OpensTwo, ShelvesAll}
@@ -23,8 +23,8 @@ pub record MayWork {A V G S : Type 0} (count : V → ℕ) (roots : V → List �
   pub awake : IsAwake w
   pub tally : HasTallied (measure job.graph.now) w t
 
--- a worker of the job's pool and graph at its pair, with these objects at hand beside the pair's items, and the tally
--- of what it finished
+-- a worker of the job's pool and graph at its pair, with the objects `besides` at hand besides the pair's items, and
+-- the tally of what it finished
 pub record IsOnJob {A V G S : Type 0} (count : V → ℕ) (roots : V → List ℕ) (pairs : V → List (ℕ × ℕ))
     (measure : V → Measure) (job : Job A V G S) (besides : List ℕ) (paired : PairedWorker A) (t : Tally A)
     : Type 0 where
@@ -33,8 +33,8 @@ pub record IsOnJob {A V G S : Type 0} (count : V → ℕ) (roots : V → List �
   pub at_work : IsAtWork paired.pair besides paired.worker
   pub tally : HasTallied (measure job.graph.now) paired.worker t
 
--- the worker works on with nothing at hand beside its pair's items, and its tally and its table are of what it finished
--- and saw
+-- the worker works on with nothing at hand besides its pair's items, and its tally and its table are of what it
+-- finished and saw
 pub record HasScanned {A : Type 0} (m : Measure) (old new : PairedWorker A) (table : RecentlySeen) (t : Tally A)
     : Type 0 where
   pub goes_on : WorksOn old.worker new.worker
@@ -88,8 +88,8 @@ HasWorked {A} workers begun t =
     × ShelvesAll last.pair last.worker.book t.worker.book)
     ⊎ OpensNone begun.book t.worker.book
 
--- a leader of the job's pool and graph with more units than there are workers, room for so many threads and for so many
--- workers that come back, of which none is there, and so many tallies of no object
+-- a leader of the job's pool and graph with more units than there are workers, room for as many threads and as many
+-- returned workers, none of which exists yet, and as many tallies of no object
 pub record MayRun {A V G S : Type 0} (count : V → ℕ) (roots : V → List ℕ) (pairs : V → List (ℕ × ℕ))
     (measure : V → Measure) (job : Job A V G S) (leader : Holder) (threads space back back_space : ℕ)
     (tallies : List (Tally A)) (made : ℕ) : Type 0 where

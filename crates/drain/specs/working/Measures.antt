@@ -14,6 +14,6 @@ measure_of g = record {
   unresolved = unresolved_at g;
 }
 
--- what a visit tells so far of its object
+-- what a visit has read of its object so far
 abbrev pub scanned_in : Visited → Scanned
 scanned_in v = record { row = row_number v.row; bytes = v.bytes; unresolved = v.unresolved }

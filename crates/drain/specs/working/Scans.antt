@@ -3,7 +3,7 @@ use Rattle.std.specs.Prelude.{ℕ, ◌≡◌}
 use Rattle.drain.specs.declared.scanned.Scanned.{Scanned}
 use Rattle.drain.specs.working.Tallies.{Measure}
 
--- This is what is read of the object.
+-- `s` is what is read of the object `o`.
 pub record IsScanOf (m : Measure) (o : ℕ) (s : Scanned) : Type 0 where
   pub row : s.row ≡ m.row o
   pub bytes : s.bytes ≡ m.bytes o

@@ -1,4 +1,4 @@
--- What a worker does that shares: one look at the full stack, and where that has no buffer it gives some of its pair.
+-- What a worker does that shares: it looks at the full stack once, and if that has no buffer it gives some of its pair.
 use Rattle.std.specs.Prelude.{Bool, List, [], false, length, true, ℕ, ◌++◌, ◌<◌, ◌≡◌, ◌≤◌, ◌∷◌}
 use Rattle.mark_core.specs.declared.which.Which.TheVariants.{Full}
 use Rattle.buffer_pool.specs.Book.{Book}
@@ -6,14 +6,14 @@ use Rattle.buffer_pool.specs.Calls.{Sees}
 use Rattle.work_pair.specs.Deals.{Balances, Puts}
 use Rattle.work_pair.specs.PairState.{PairState}
 
--- the object that was spilled last was taken off the list and put into the pair again
+-- the last spilled object was taken off the list and put into the pair again
 abbrev pub PutsAgain : PairState → Book → PairState → Book → Type 0
 PutsAgain old before new after =
     (rest : List ℕ) × (object : ℕ) × (old.spill ≡ rest ++ object ∷ [])
     × Puts (record old { spill = rest }) before object new after
 
--- what is spilled was put again, the last first, until nothing was spilled or an object came back to the list, for want
--- of an empty buffer
+-- the spilled objects were put again, the last first, until none was spilled or an object came back to the list because
+-- no empty buffer was found
 pub data Unspills : PairState → Book → PairState → Book → Type 0 where
   none : (p : PairState) (b : Book) → p.spill ≡ [] → Unspills p b p b
   last : (old : PairState) (before : Book) (new : PairState) (after : Book) → PutsAgain old before new after
@@ -22,12 +22,12 @@ pub data Unspills : PairState → Book → PairState → Book → Type 0 where
       → PutsAgain old before middle between → length middle.spill < length old.spill
       → Unspills middle between new after → Unspills old before new after
 
--- what is spilled was put again, and then the pair was balanced
+-- the spilled objects were put again, and then the pair was balanced
 abbrev pub GivesSome : PairState → Book → PairState → Book → Type 0
 GivesSome old before new after =
     (middle : PairState) × (between : Book) × Unspills old before middle between × Balances middle between new after
 
--- the full stack was looked at once: where it had a buffer that is all that was done, and else some was given
+-- the full stack was looked at once: if it had a buffer nothing else was done, otherwise some was given
 abbrev pub SharesWork : PairState → Book → PairState → Book → Type 0
 SharesWork old before new after =
     (none : Bool) × (looked : Book) × Sees Full before looked none

@@ -1,5 +1,5 @@
--- What a tally of objects says: of each row how many of them it has and their bytes together, and how many identifiers
--- they miss.
+-- What a tally of objects counts: for each row its number of objects and their bytes together, and the identifiers that
+-- name no object.
 use Rattle.std.specs.Prelude.{List, if◌then◌else◌, length, slice_index_or, sum_by, ℕ, ◌+◌, ◌<◌, ◌==◌, ◌^◌, ◌≡◌, ◌≤◌}
 use Rattle.drain.specs.Sums.{no_object}
 use Rattle.drain.specs.declared.sum.Sum.{Sum}
@@ -10,35 +10,35 @@ one_more s bytes = record { count = s.count + 1; bytes = s.bytes + bytes }
 abbrev pub together : Sum → Sum → Sum
 together a b = record { count = a.count + b.count; bytes = a.bytes + b.bytes }
 
--- What is read of objects: how many rows there are, and of an object the place of its row, its bytes, and how many of
--- its identifiers are other than 0 and name no object.
+-- What is read of objects: the number of rows, and for an object the place of its row, its bytes, and how many of its
+-- identifiers are other than 0 and name no object.
 pub record Measure : Type 0 where
   pub rows : ℕ
   pub row : ℕ → ℕ
   pub bytes : ℕ → ℕ
   pub unresolved : ℕ → ℕ
 
--- of so many objects: each has a row, and numbers that stay small
+-- of `count` objects: each has a row, and its numbers are small
 pub record IsMeasureOf (count : ℕ) (m : Measure) : Type 0 where
   pub few_objects : count ≤ 2 ^ 24
   pub within : (o : ℕ) → o < count → m.row o < m.rows
   pub few_bytes : (o : ℕ) → m.bytes o ≤ 2 ^ 30
   pub few_unresolved : (o : ℕ) → m.unresolved o ≤ 2 ^ 33
 
--- how many of these objects belong to the row at this place, and their bytes together
+-- the number of `objects` in the row at place `n`, and their bytes together
 abbrev pub sum_in : Measure → ℕ → List ℕ → Sum
 sum_in m n objects = record {
   count = sum_by (λ o. if m.row o == n then 1 else 0) objects;
   bytes = sum_by (λ o. if m.row o == n then m.bytes o else 0) objects;
 }
 
--- The tally of these objects.
+-- The sums and the unresolved identifiers are those of `objects`.
 pub record IsTallyOf (m : Measure) (objects : List ℕ) (rows : List Sum) (unresolved : ℕ) : Type 0 where
   pub each : length rows ≡ m.rows
   pub right : (n : ℕ) → n < m.rows → slice_index_or rows n no_object ≡ sum_in m n objects
   pub unresolved_is : unresolved ≡ sum_by m.unresolved objects
 
--- The sums of a tally of at most 2 ^ 24 objects.
+-- The sums are within the bounds of a tally of at most 2 ^ 24 objects.
 pub record IsSmall (rows : List Sum) (unresolved : ℕ) : Type 0 where
   pub counts : (n : ℕ) → n < length rows → (slice_index_or rows n no_object).count ≤ 2 ^ 24
   pub bytes : (n : ℕ) → n < length rows → (slice_index_or rows n no_object).bytes ≤ 2 ^ 54

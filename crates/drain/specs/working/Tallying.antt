@@ -1,4 +1,4 @@
--- A worker's tally: it says what the worker finished.
+-- A worker's tally: it counts what the worker finished.
 use Rattle.std.specs.Prelude.{All, List, [], ℕ}
 use Rattle.buffer_pool.specs.Calls.{Holder}
 use Rattle.drain.specs.declared.tally.Tally.{Tally}
@@ -10,10 +10,10 @@ Tallies m objects t = IsTallyOf m objects t.rows.items t.unresolved
 abbrev pub HasSmallSums : {A : Type 0} → Tally A → Type 0
 HasSmallSums t = IsSmall t.rows.items t.unresolved
 
--- the tally of the objects that the worker finished
+-- `t` is the tally of the objects that `w` finished
 abbrev pub HasTallied : {A : Type 0} → Measure → Holder → Tally A → Type 0
 HasTallied m w t = Tallies m w.book.account.finished t
 
--- these tallies are each of no object
+-- each of `tallies` is of no object
 abbrev pub AreTalliesOfNone : {A : Type 0} → Measure → List (Tally A) → Type 0
 AreTalliesOfNone m tallies = All (Tallies m []) tallies

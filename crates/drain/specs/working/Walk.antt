@@ -1,4 +1,4 @@
--- What the references of an object are while it is visited, and what is told at their end.
+-- The references of an object while it is visited, and what is read of it at their end.
 use Rattle.std.specs.Prelude.{All, Contains, List, None, Option, option_to_list, ℕ, ◌++◌, ◌+◌, ◌<◌, ◌≡◌, ◌↔◌}
 use Rattle.std.specs.Iterator.{AlwaysYields, Count, IsFinite, Yields}
 use Rattle.heap_graph.specs.Walks.{Visited, references_left, unresolved_left}
@@ -7,8 +7,8 @@ use Rattle.heap_graph.specs.RowNumbers.{row_number}
 use Rattle.drain.specs.working.Scans.{IsScanOf}
 use Rattle.drain.specs.working.Tallies.{Measure}
 
--- This visit is of the object: what it gives is exactly what the object refers to, all below the count, and it tells
--- what is read of the object.
+-- `v` is a visit of the object `o`: it yields exactly the objects that `o` refers to, all below `count`, and reads its
+-- row, its bytes and its identifiers.
 pub record IsVisitOf (refers : ℕ → Type 0) (count : ℕ) (m : Measure) (o : ℕ) (v : Visited) : Type 0 where
   pub exact : (x : ℕ) → Contains (references_left v) x ↔ refers x
   pub within : All (λ x. x < count) (references_left v)
@@ -16,12 +16,12 @@ pub record IsVisitOf (refers : ℕ → Type 0) (count : ℕ) (m : Measure) (o : 
   pub bytes : v.bytes ≡ m.bytes o
   pub unresolved : v.unresolved + unresolved_left v.left ≡ m.unresolved o
 
--- Some objects were given, and then none.
+-- Some objects were yielded, and then none.
 abbrev pub HasEnded : {S : Type 0} → (S → Option ℕ → S → Type 0) → S → S → Type 0
 HasEnded {S} steps start end = (given : List ℕ) × (last : S) × Yields steps start given last × steps last None end
 
--- The class, where it is known, and what the calls of an iterator give behind it are exactly these objects; then the
--- calls end, and it is told what is read of the object.
+-- The class, if it is known, and the objects that the iterator `s` then yields are exactly those that `o` refers to.
+-- Then the calls end, and what is read of the object is complete.
 pub record IsGiven {S : Type 0} (callable : S → Type 0) (steps : S → Option ℕ → S → Type 0) (left : S → Count)
     (read : S → Scanned) (refers : ℕ → Type 0) (m : Measure) (o : ℕ) (class : Option ℕ) (s : S) : Type 0 where
   pub can : callable s

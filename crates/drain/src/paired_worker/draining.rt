@@ -20,7 +20,7 @@ impl<A: Allocator> PairedWorker<A> {
     /// Scans until no object is left, and waits until all are idle or it waited long enough. Before it looks for an
     /// object it gives some of what it has to others if the full stack is empty, unless it was idle: then it has
     /// nothing.
-    // A call, once for a thread, so that what a turn uses stands in one function and shares registers with no other.
+    // A call, once for a thread, so that what a turn uses is in one function and shares registers with no other.
     #[inline(never)]
     pub(crate) fn work_off<R: Wait, V: Walk, G: Gate, S>(
         &mut self,

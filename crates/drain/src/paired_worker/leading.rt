@@ -1,4 +1,4 @@
-//! What the leader does before its workers run, and behind them.
+//! The leader's work before it starts the workers and after they have ended.
 
 use crate::gate::Gate;
 use crate::job::Job;
@@ -18,7 +18,7 @@ impl<A: Allocator> PairedWorker<A> {
     ghost use Rattle.drain.specs.working.Jobs.{IsOnJob};
     ghost use Rattle.drain.specs.working.Tallying.{HasTallied};
 
-    /// Claims each root, and puts those that were white into the pair.
+    /// Claims each of `roots`, and puts those that were white into the pair.
     fn claim_roots<R: Wait>(&mut self, rt: &R, pool: &Pool<A>, roots: &[u32]) -> Result<(), Stop>
         requires pool { self.old.worker.pool ≡ pool.now }
         requires roots { roots.now ≡ self.old.worker.book.setup.roots }
@@ -35,7 +35,8 @@ impl<A: Allocator> PairedWorker<A> {
         Ok(())
     }
 
-    /// Claims each root, and then gives what is in the pair's buffers to others, as far as there are empty ones.
+    /// Claims each of `roots`, and then gives what is in the pair's buffers to others, as long as there are empty
+    /// buffers.
     fn begin<R: Wait>(&mut self, rt: &R, pool: &Pool<A>, roots: &[u32]) -> Result<(), Stop>
         requires pool { self.old.worker.pool ≡ pool.now }
         requires roots { roots.now ≡ self.old.worker.book.setup.roots }
@@ -49,8 +50,8 @@ impl<A: Allocator> PairedWorker<A> {
         self.publish(rt, pool)
     }
 
-    /// The leader with its pair, a bare one where there were not two empty buffers, once it has claimed the roots and
-    /// given them to others.
+    /// Opens a pair for `leader`, or a bare one if there are not two empty buffers, claims `roots`, and gives them to
+    /// others. Returns the leader with its pair.
     pub(crate) fn begun<R: Wait>(
         rt: &R,
         alloc: A,
@@ -74,7 +75,7 @@ impl<A: Allocator> PairedWorker<A> {
         Ok(paired)
     }
 
-    /// Scans until no object is left, and gives the buffers back.
+    /// Scans until no object is left, and returns the buffers to the pool.
     pub(crate) fn end<R: Wait, V: Walk, G: Gate, S>(
         self,
         rt: &R,

@@ -21,7 +21,8 @@ impl<A: Allocator> PairedWorker<A> {
     ghost use Rattle.drain.specs.working.RecentlySeen.{HasSeenAll};
     ghost use Rattle.drain.specs.working.Walk.{HasEnded, IsGiven};
 
-    /// Claims an object that may be known, unless it was lately seen.
+    /// Claims the object in `known`, if there is one, unless the worker recently saw it marked, and puts it into the
+    /// pair if it was white.
     // Inlined, as `claim` is.
     #[inline(always)]
     fn claim_known<R: Wait>(
@@ -48,7 +49,8 @@ impl<A: Allocator> PairedWorker<A> {
         Ok(())
     }
 
-    /// Scans the object at hand, whose references are given: claims these, finishes it, and adds it to the tally.
+    /// Scans `object`, which is at hand and has the references `given`: claims these, finishes the object, and adds it
+    /// to `tally`.
     // Inlined, so that there is a loop of its own for references of each kind.
     #[inline(always)]
     fn scan<R: Wait, V: Walk, G: Gate, S, I: Reads>(
@@ -80,8 +82,8 @@ impl<A: Allocator> PairedWorker<A> {
         Ok(())
     }
 
-    /// Scans the object at hand, wherever its references stand.
-    // A call, so that the worker's loop has no locals for the few that it is made for.
+    /// Scans `object`, which is at hand, wherever its references are in the dump.
+    // A call, so that the worker's loop has no locals for the few objects that need it.
     #[inline(never)]
     fn scan_any<R: Wait, V: Walk, G: Gate, S>(
         &mut self,
@@ -102,7 +104,7 @@ impl<A: Allocator> PairedWorker<A> {
         self.scan(rt, job, object, (None, visit), seen, tally)
     }
 
-    /// Scans the object at hand.
+    /// Scans `object`, which is at hand.
     // Inlined, so that the worker's loop itself goes to the loop for references of the object's kind.
     #[inline(always)]
     fn scan_one<R: Wait, V: Walk, G: Gate, S>(
@@ -128,8 +130,8 @@ impl<A: Allocator> PairedWorker<A> {
         }
     }
 
-    /// Scans an object of the pair, or of the full stack: claims what it refers to, finishes it, and adds it to the
-    /// tally. False where none is left.
+    /// Scans the next object of the pair or of the full stack: claims what it refers to, finishes it, and adds it to
+    /// `tally`. Returns false if there is none.
     // Inlined into the loop of a worker, so that what it knows of the graph stays in registers.
     #[inline(always)]
     pub(super) fn scan_next<R: Wait, V: Walk, G: Gate, S>(

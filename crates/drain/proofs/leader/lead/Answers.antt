@@ -1,4 +1,4 @@
--- The leader sees all roots and keeps what it saw; it drains with the units that it kept, and then has all again.
+-- The leader sees all roots and keeps what it saw. It drains with the units that it kept, and has all units after that.
 use Rattle.drain.proofs.Words.{Contains, IsAtWork, PairState, Setup, [], arith, rules, subst, sym, ◌<◌, ◌∙◌}
 use Rattle.drain.specs.working.Jobs.{IsOnJob}
 use Rattle.drain.proofs.Leading.{leads_on, several_busy}

@@ -1,4 +1,4 @@
--- The leader that closes the pool saw all roots and is free, so what the close tells of marks and tally is the answer.
+-- The leader that closes the pool saw all roots and is free, so what the close says of marks and tally is the result.
 use Rattle.drain.proofs.Words.{Book, IsMarkingOf, MarkedObjects, Setup, ap, arith, object_count, rules, subst, sym, ◌∙◌}
 use Rattle.mark_core.specs.Shares.{whole}
 use Rattle.buffer_pool.specs.Faults.{Refuses}

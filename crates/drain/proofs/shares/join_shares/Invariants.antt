@@ -1,4 +1,4 @@
--- The leader took in those that were joined and is free, the others are back still, and its tally is of all that it has
+-- The leader took in the joined workers and is free, the others are back still, and its tally is of all that it has
 -- finished.
 use Rattle.drain.proofs.Words.{HasTallied, IsFree, Leads, get_or, into_iter_items, into_iter_len, vec_len, ℕ, ◌+◌, ◌<◌}
 use Rattle.drain.proofs.Words.{◌≡◌}

@@ -1,4 +1,4 @@
--- What the closure asks is what the call asks, and what may be sent to threads.
+-- The closure requires what the call requires, and that what it has may be sent to threads.
 use Rattle.drain.proofs.Scanning.{same_tally}
 use Rattle.drain.proofs.worker_threads.run_workers.Goals as goal
 

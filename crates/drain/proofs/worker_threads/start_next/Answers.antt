@@ -1,4 +1,4 @@
--- The tally that is popped is of no object, as its worker's list; the thread owes a worker that was just split off.
+-- The popped tally is of no object, like its worker's list; the thread owes a worker that was just split off.
 use Rattle.drain.proofs.Words.{Book, Holder, MayWork, Tallies, [], ap, arith, length, option_to_list, rules, ◌++◌, ◌∙◌}
 use Rattle.drain.proofs.Each.{last_holds, left_hold}
 use Rattle.drain.proofs.Leading.{new_awake, new_free}

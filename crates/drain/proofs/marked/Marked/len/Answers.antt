@@ -1,4 +1,4 @@
--- The marks' own count of finished objects: each that was claimed is one of them.
+-- The marks' own count of finished objects: each claimed object is one of them.
 use Rattle.drain.proofs.Words.{rules, ◌∙◌}
 use Rattle.drain.proofs.Counts.{finished_are_set}
 use Rattle.drain.proofs.marked.Marked.len.Goals as goal

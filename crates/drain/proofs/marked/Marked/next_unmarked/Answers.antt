@@ -1,4 +1,4 @@
--- What is not finished is what is not marked, and there are as many marks.
+-- The unfinished objects are the unmarked ones, and there are as many marks as objects.
 use Rattle.drain.proofs.Words.{AreFinished, Bool, List, MarkedObjects, Option, ap, arith, false, find, is_set, le-leb}
 use Rattle.drain.proofs.Words.{length, length-map, map, not, refl, slice_index, slice_index_or, suc, sym, zero, ℕ, ◌-◌}
 use Rattle.drain.proofs.Words.{◌==◌, ◌∙◌, ◌≡◌, ◌≤◌}

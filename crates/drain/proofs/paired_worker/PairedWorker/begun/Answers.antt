@@ -1,4 +1,4 @@
--- The leader that has begun went on from the one that was opened.
+-- The leader that has begun went on from the opened one.
 use Rattle.drain.proofs.Words.{Setup, ap, sym, ◌∙◌}
 use Rattle.drain.proofs.AtHand.{goes_on_again}
 use Rattle.drain.proofs.paired_worker.PairedWorker.begun.Goals as goal

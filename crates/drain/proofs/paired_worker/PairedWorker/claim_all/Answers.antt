@@ -1,4 +1,4 @@
--- Each object that is given may be claimed, and at the end all of them were given.
+-- Each yielded object may be claimed, and at the end all of them were yielded.
 use Rattle.drain.proofs.Words.{MayClaim, Setup, [], refl, rules, subst, sym, ◌++◌, ◌∙◌, ◌∷◌}
 use Rattle.drain.proofs.AtHand.{marked_claimed, more_claimed, none_claimed, white_at_work, white_claimed}
 use Rattle.drain.proofs.Runs.{holds_of_next, met_all, runs_on}

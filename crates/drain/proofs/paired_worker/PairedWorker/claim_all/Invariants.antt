@@ -1,4 +1,4 @@
--- What was met so far was claimed, and what is left ends.
+-- What was met so far was claimed, and the remaining calls end.
 use Rattle.drain.proofs.Words.{AreClaimed, HasSeenAll, IsFinite, List, Yields, size, ℕ}
 use Rattle.drain.proofs.paired_worker.PairedWorker.claim_all.Given as goal
 

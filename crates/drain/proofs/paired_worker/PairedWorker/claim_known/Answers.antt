@@ -1,4 +1,4 @@
--- An object that is known is one of a list of one.
+-- A known object is the only one of a list.
 use Rattle.drain.proofs.Words.{All-contains, AreClaimed, Contains, Contains-push, MayClaim, [], option_to_list, subst}
 use Rattle.drain.proofs.Words.{sym}
 use Rattle.drain.proofs.AtHand.{white_at_work, white_claimed}

@@ -1,4 +1,4 @@
--- A pair without items has none spilled, and what is disposed of leaves the worker free.
+-- A pair without items has none spilled, and after it is disposed of the worker is free.
 use Rattle.drain.proofs.Words.{[], buffered_items, inl, none_first, none_last, refl}
 use Rattle.drain.proofs.AtHand.{dealt_goes_on, dealt_hand, gone_free, hand_without_spill}
 use Rattle.drain.proofs.paired_worker.PairedWorker.close.Goals as goal

@@ -1,4 +1,4 @@
--- What is drained comes from the worker that was given, and closing the pair finishes nothing more.
+-- The drained worker comes from the one that was passed, and closing the pair finishes nothing more.
 use Rattle.drain.proofs.AtHand.{came_again}
 use Rattle.drain.proofs.Scanning.{same_tally}
 use Rattle.drain.proofs.paired_worker.PairedWorker.end.Goals as goal

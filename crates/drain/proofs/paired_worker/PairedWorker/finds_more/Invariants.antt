@@ -1,4 +1,4 @@
--- The worker has its pair still, and each turn so far was in vain: else nothing changed since it went idle.
+-- The worker has its pair still, and each turn so far was in vain: nothing else changed since it went idle.
 use Rattle.drain.proofs.Words.{idled, ◌≡◌}
 use Rattle.drain.proofs.Idling.{IsIdling}
 use Rattle.drain.specs.working.Idle.{WaitsInVain}

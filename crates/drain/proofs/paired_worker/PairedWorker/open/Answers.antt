@@ -1,4 +1,4 @@
--- Where no pair was opened nothing is kept and nothing pushed on full, so the worker is as free as before.
+-- If no pair was opened nothing is kept and nothing is pushed on full, so the worker is as free as before.
 use Rattle.drain.proofs.Words.{DealsQuietly, IfNone, [], empty_pair, refl, subst}
 use Rattle.mark_core.specs.declared.which.Which.TheVariants.{Empty}
 use Rattle.work_pair.specs.Deals.{OpensNone}

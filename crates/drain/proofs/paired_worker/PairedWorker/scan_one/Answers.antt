@@ -1,4 +1,4 @@
--- What is behind the class and the class are the references of the object, wherever they stand.
+-- The class and what follows it are the references of the object, wherever they are in the dump.
 use Rattle.drain.proofs.Visits.{are_given}
 use Rattle.drain.proofs.paired_worker.PairedWorker.scan_one.Goals as goal
 

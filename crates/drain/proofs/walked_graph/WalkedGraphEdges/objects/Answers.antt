@@ -1,4 +1,4 @@
--- The references of a graph are between its objects, of which `len` says how many there are.
+-- The references of a graph are between its objects, and `len` returns their number.
 use Rattle.drain.proofs.Pairs.{pairs_within}
 use Rattle.drain.proofs.walked_graph.WalkedGraphEdges.objects.Goals as goal
 

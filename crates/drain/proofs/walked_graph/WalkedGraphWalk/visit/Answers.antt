@@ -1,4 +1,4 @@
--- The visit gives the references of the object, and tells what is read of it.
+-- The visit yields the references of the object, and what is read of it.
 use Rattle.drain.proofs.Visits.{is_visit}
 use Rattle.drain.proofs.walked_graph.WalkedGraphWalk.visit.Goals as goal
 

@@ -1,4 +1,4 @@
--- The leader leads through the starts, and each unit that went is back from its thread.
+-- The leader leads through the starts, and each unit that it gave away is back from its thread.
 use Rattle.drain.proofs.Words.{arith, ◌∙◌}
 use Rattle.drain.proofs.Duties.{back_still}
 use Rattle.drain.proofs.worker_threads.fn.run_workers.scope.Goals as goal

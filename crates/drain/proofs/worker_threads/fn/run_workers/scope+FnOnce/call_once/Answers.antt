@@ -1,4 +1,4 @@
--- What the closure asks was given, in another order: behind what may be sent to threads.
+-- What the closure requires was given, in another order: after the conditions on what may be sent to threads.
 use Rattle.drain.proofs.worker_threads.fn.run_workers.scope+FnOnce.call_once.Goals as goal
 
 pub scope-requires : goal.scope-requires
