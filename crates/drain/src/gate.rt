@@ -1,7 +1,7 @@
 //! A call before each scan of an object.
 
-/// Is called for each object before its references are followed. Workers are numbered from 0; the leading thread has
-/// the number of workers as its number.
+/// A gate, which is called for each object before its references are followed. Workers are numbered from 0; the leading
+/// thread has the number of workers as its number.
 pub trait Gate: Sync {
     /// Is called when `worker` is about to scan `object`.
     fn before_scan(&self, worker: u32, object: u32);

@@ -228,7 +228,7 @@ impl<A: Allocator> PairedWorker<A> {
         Ok(())
     }
 
-    /// Gives some of what is in the pair to others, and the spilled objects first.
+    /// Gives some of what is in the pair to others, the spilled objects first.
     // A call, so that the many turns in which nothing is given neither save registers for it nor clear its locals.
     #[inline(never)]
     fn give<R: Wait>(&mut self, rt: &R, pool: &Pool<A>) -> Result<(), Stop>

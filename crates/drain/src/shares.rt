@@ -18,7 +18,7 @@ use std::alloc::Allocator;
 use std::sync::Wait;
 use work_pair::Stop;
 
-/// Joins the worker of `back`, which is through, to that of `leader`, and its tally to the leader's tally.
+/// Joins the worker of `back`, which is through, to the leader, and its tally to the leader's tally.
 fn join_share<A: Allocator, V: Measured>(
     graph: &V,
     pool: &Pool<A>,
@@ -47,8 +47,8 @@ fn join_share<A: Allocator, V: Measured>(
     Tallied { worker, tally }
 }
 
-/// Joins each worker of `back`, which are through, to that of `leader`, which has returned its buffers, and their
-/// tallies to the leader's tally.
+/// Joins the workers of `back`, which are through, to the leader, which has returned its buffers, and their tallies to
+/// the leader's tally.
 fn join_shares<A: Allocator, V: Measured>(
     graph: &V,
     pool: &Pool<A>,

@@ -1,6 +1,6 @@
 //! A hook with which a test refuses to start a worker's thread: the system cannot be made to.
 
-/// Is called before the thread of each worker is started.
+/// A hook, which is called before the thread of each worker is started.
 pub trait StartHook: Sync {
     /// Tests whether the thread of worker number `worker` may be started.
     fn may_start(&self, worker: u32) -> bool;

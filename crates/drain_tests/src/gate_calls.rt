@@ -151,7 +151,7 @@ fn calls_of<T: Clock + Copy + Threads + Wait + Sync>(
 static ROWS: [(u32, (u32, u32, u32), u64, u64); 4] = [
     // There is a buffer of two roots for each of 64 workers, and none scans before all have come.
     (128, (64, 2, 1024), u64::MAX, 0),
-    // Of many objects, too, each of four workers scans some, and none before all have come.
+    // Each of four workers scans some of many objects, too, and none before all have come.
     (3_000, (4, 2, 4096), 0xf, 0),
     (150_000, (4, 256, 1024), 0xf, 0),
     // Seven roots take all four buffers: the worker has no pair, and the leader scans all that there is.

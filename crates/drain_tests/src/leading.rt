@@ -147,8 +147,8 @@ fn lead_watched<T: Threads + Wait + Sync>(
     lead(rt, &job, leader).is_ok()
 }
 
-/// Does the same over the wide array. Returns whether the marking was done, for how many objects the gate was called,
-/// and how often an object was visited before that.
+/// Leads like [`lead_watched`], over the wide array. Returns whether the marking was done, for how many objects the
+/// gate was called, and how often an object was visited before that.
 fn lead_over_array<T: Threads + Wait + Sync>(
     rt: &T,
     alloc: Global,

@@ -66,7 +66,7 @@ TakesTurn {A} workers old new =
     × ((FinishesOne old mid × SharesWork mid.pair mid.worker.book new.pair new.worker.book)
     ⊎ (FindsNone old mid × (new.pair ≡ mid.pair) × HasFoundMore workers 1024 mid.worker.book new.worker.book))
 
--- such turns, one after the other
+-- turns, one after the other
 pub data TakesTurns {A : Type 0} (workers : ℕ) : PairedWorker A → PairedWorker A → Type 0 where
   none : (p : PairedWorker A) → TakesTurns workers p p
   more : (old mid new : PairedWorker A) → TakesTurns workers old mid → TakesTurn workers mid new
