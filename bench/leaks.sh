@@ -48,7 +48,7 @@ dumped_twice() {
     ended
 }
 
-# judge NAME STATUS: tells whether it was right, and else which lines there are.
+# judge NAME STATUS: prints whether it was right, and if not, the lines.
 judge() {
     if [ "$2" = 0 ]; then
         echo "ok: $1"
@@ -102,7 +102,7 @@ leaking_by_thread() {
     hanging "$1" 'java/lang/ThreadLocal$ThreadLocalMap$Entry.value' "$2"
 }
 
-# leaking_by_class PROGRAM COUNT: what this program keeps, of so many objects, is unreachable in its dumps.
+# leaking_by_class PROGRAM COUNT: of what this program keeps, at least COUNT objects are unreachable in its dumps.
 leaking_by_class() {
     local objects
     dumped_twice "$1"
@@ -127,7 +127,7 @@ run_twice() {
     judge "$1, two runs: so says tools/grown" "$(! grep -q "  $1" "$room/lines"; echo $?)"
 }
 
-# cut_short NAME: the dumps that are there, this one of them without its end.
+# cut_short NAME: the recipe on the two dumps, with the end of dump NAME cut off.
 cut_short() {
     truncate -s -1000 "$room/$1"
     if pasted > "$room/lines" 2> "$room/told" || [ -s "$room/lines" ]; then
