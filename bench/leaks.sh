@@ -1,16 +1,16 @@
 #!/usr/bin/env bash
-# Tries on programs that leak what the README tells to look for a leak: takes two dumps of each, and sees that the class
-# that leaks is among the lines of the recipe, whose text is taken as it is in docs/RECIPES.md, or of the tools, and that
-# the first line of tools/holders is what holds it.
+# Tries on programs that leak what the README tells to look for a leak: takes two dumps of each, and sees that the
+# class that leaks is among the lines of the recipe, whose text is taken as it is in docs/RECIPES.md, or of the tools,
+# and that the first line of tools/holders is what holds it.
 #
 # usage: bench/leaks.sh
 #
-# The programs are those of bench/java whose names end in Leak. The recipe and tools/grown find the class that leaks, and
-# tools/holders finds what holds it, with that class and without. Of ThreadLocalLeak no class of the program grows, and
-# tools/held finds what the values of thread locals keep. What ClassValueLeak keeps is in no row, and tools/grown says
-# that more is unreachable. Between two runs of one program nothing of its own grew, though its lambdas have other names.
-# A recipe for a dump that is cut has to end with a status other than 0 and to print nothing. heapmark is the binary of
-# crates/heapmark/out, or what the variable HEAPMARK names.
+# The programs are those of bench/java whose names end in Leak. The recipe and tools/grown find the class that leaks,
+# and tools/holders finds what holds it, with that class and without. Of ThreadLocalLeak no class of the program
+# grows, and tools/held finds what the values of thread locals keep. What ClassValueLeak keeps is in no row, and
+# tools/grown says that more is unreachable. Between two runs of one program nothing of its own grew, though its
+# lambdas have other names. A recipe for a dump that is cut has to end with a status other than 0 and to print
+# nothing. heapmark is the binary of crates/heapmark/out, or what the variable HEAPMARK names.
 set -euo pipefail
 
 top=$(cd "$(dirname "$0")/.." && pwd)
@@ -48,7 +48,7 @@ dumped_twice() {
     ended
 }
 
-# judge NAME STATUS: tells whether it was right, and else which lines there are.
+# judge NAME STATUS: prints whether it was right, and if not, the lines.
 judge() {
     if [ "$2" = 0 ]; then
         echo "ok: $1"
@@ -102,7 +102,7 @@ leaking_by_thread() {
     hanging "$1" 'java/lang/ThreadLocal$ThreadLocalMap$Entry.value' "$2"
 }
 
-# leaking_by_class PROGRAM COUNT: what this program keeps, of so many objects, is unreachable in its dumps.
+# leaking_by_class PROGRAM COUNT: of what this program keeps, at least COUNT objects are unreachable in its dumps.
 leaking_by_class() {
     local objects
     dumped_twice "$1"
@@ -127,7 +127,7 @@ run_twice() {
     judge "$1, two runs: so says tools/grown" "$(! grep -q "  $1" "$room/lines"; echo $?)"
 }
 
-# cut_short NAME: the dumps that are there, this one of them without its end.
+# cut_short NAME: the recipe on the two dumps, with the end of dump NAME cut off.
 cut_short() {
     truncate -s -1000 "$room/$1"
     if pasted > "$room/lines" 2> "$room/told" || [ -s "$room/lines" ]; then

@@ -8,7 +8,7 @@ import java.util.Map;
 
 /**
  * A shop whose cache never forgets an order. It sells for a day, and a day more for each line of its input, and prints
- * "ready" behind each.
+ * "ready" after each.
  */
 public final class CacheLeak {
     static final int ORDERS_A_DAY = 20_000;

@@ -7,7 +7,7 @@ import java.util.List;
 /**
  * A service that keeps with a class, by a {@link ClassValue}, how long each call took, and never clears it. Only a
  * field of the class object leads there, which a heap dump leaves out: so in a dump all of it is unreachable. It works
- * for a day, and a day more for each line of its input, and prints "ready" behind each.
+ * for a day, and a day more for each line of its input, and prints "ready" after each.
  */
 public final class ClassValueLeak {
     static final int CALLS_A_DAY = 10_000;

@@ -9,7 +9,7 @@ import java.util.function.Consumer;
 
 /**
  * Opens and closes views, whose listeners nobody removes. It works for an hour, and an hour more for each line of its
- * input, and prints "ready" behind each.
+ * input, and prints "ready" after each.
  */
 public final class ListenerLeak {
     static final int VIEWS_AN_HOUR = 500;

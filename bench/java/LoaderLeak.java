@@ -9,7 +9,7 @@ import java.util.Map;
 
 /**
  * Loads its plugin anew at each change, each time by another class loader, and never lets one go: what was started stays
- * in a list. It works for a day, and a day more for each line of its input, and prints "ready" behind each.
+ * in a list. It works for a day, and a day more for each line of its input, and prints "ready" after each.
  */
 public final class LoaderLeak {
     static final int CHANGES_A_DAY = 100;

@@ -11,7 +11,7 @@ import java.util.concurrent.Future;
 /**
  * A service whose one thread notes each request in a scratch list of its own, and never clears it: what grows are
  * strings, and no class of the program. It works for a day, and a day more for each line of its input, and prints
- * "ready" behind each.
+ * "ready" after each.
  */
 public final class ThreadLocalLeak {
     static final int REQUESTS_A_DAY = 20_000;

@@ -1,4 +1,4 @@
--- Whether literal parts of a dump are as the format asks, by tests that compute; what stands where a test says so.
+-- Tests that compute whether literal parts of a dump keep the format, and what a place holds if its test holds.
 use Rattle.std.proofs.Common.{Bool, List, [], ap, arith, drop, false, length, map, nat_lt, suc, sym, take, true}
 use Rattle.std.proofs.Common.{zero, ℕ, ◌*◌, ◌++◌, ◌<◌, ◌^◌, ◌∙◌, ◌∷◌, ◌≡◌}
 use Rattle.std.specs.List.{AllByRecursion}
@@ -75,7 +75,7 @@ sub_is s x e =
       allowed = every_holds IsAllowed is_right right_allowed fields both.0;
     }
 
--- ---- records, but for those that are skipped
+-- ---- records, without those that are skipped
 
 abbrev has_parts : ℕ → Record → Bool
 has_parts s (string time id text) = nat_lt id (256 ^ s)
@@ -123,9 +123,9 @@ record_is s r e =
       length_allowed = third.1;
     }
 
--- ---- what stands at a place
+-- ---- the part at a place
 
--- the bytes from that place on begin with these
+-- the bytes from the place on begin with the given ones
 abbrev pub Begin : List ℕ → ℕ → List ℕ → Type 0
 Begin bytes at xs = take (length xs) (drop at bytes) ≡ xs
 

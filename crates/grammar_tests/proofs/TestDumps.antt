@@ -1,4 +1,4 @@
--- What stands in both dumps of the tests, with identifiers of s bytes, and that a root says the numbers of its kind.
+-- The parts of both dumps of the tests, with identifiers of s bytes; a root has the numbers of its kind.
 use Rattle.std.proofs.Common.{Bool, List, Option, Some, [], drop, false, refl, true, ℕ, ◌++◌, ◌<◌, ◌^◌}
 use Rattle.std.proofs.Common.{◌∷◌, ◌≡◌}
 use Rattle.byteorder.specs.Endian.{big_bytes}
@@ -19,7 +19,7 @@ pub header_seen : {bytes : List ℕ} {s time : ℕ} (v : Sight) → v.bytes ≡ 
 header_seen {bytes} {s} {time} v b i fits e =
     rw (b, i) (record { rest = drop 31 bytes; bytes_are = parted bytes 0 (header s time) e; fits = fits })
 
--- ---- what stands there
+-- ---- the parts
 
 abbrev pub the_class : ℕ → Class
 the_class s = record {
@@ -60,7 +60,7 @@ the_roots a b c d e f g h i =
     ∷ (g, of_the_instance (thread_block 18)) ∷ (h, of_the_instance monitor_used)
     ∷ (i, of_the_instance (thread_object 19 20)) ∷ []
 
--- ---- a root whose kind has a number says it
+-- ---- a root has the numbers that its kind has
 
 pub said : {v : Sight} {at : ℕ} (r : Root) (field : RootOrigin → Option ℕ) → Stands v at (root r)
     → (n : ℕ) × (field r.origin ≡ Some n) → (n : ℕ) × RootSays v at field n

@@ -69,7 +69,7 @@ places = record { id_size = 4; strings = 31 ∷ []; loaded = 45 ∷ []; roots = 
 places_are : places ≡ places_of 4 records
 places_are = refl
 
--- the file spells a dump, with these places
+-- the file spells a dump with the given places
 file_is_dump : IsDumpOf file places
 unfolding is_id_size is_length_of is_type_at size_of
 file_is_dump = record {

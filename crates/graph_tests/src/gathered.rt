@@ -112,7 +112,15 @@ fn is_right<T: Threads + Sync, A: Allocator + Copy + Send + Sync>(
 ) -> Option<bool> {
     let file = dump(alloc, ids).ok()?;
     let references = references_of(alloc, count_of(ids)).ok()?;
-    tells(rt, alloc, heap, file.bytes.as_slice(), ids, references.as_slice(), threads)
+    tells(
+        rt,
+        alloc,
+        heap,
+        file.bytes.as_slice(),
+        ids,
+        references.as_slice(),
+        threads,
+    )
 }
 
 /// Whether the graph that such a team makes of these bytes has these objects and classes.

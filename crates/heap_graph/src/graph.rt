@@ -162,6 +162,14 @@ impl<'a, A: Allocator> Graph<'a, A> {
         self.classes[class as usize].id
     }
 
+    /// Tests whether the class of number `class` is found by a guess from its identifier, without a look into the map
+    /// of classes. For tests: only time rests on guesses.
+    pub fn is_class_guessed(&self, class: u32) -> bool
+        requires { class < class_count self.now }
+    {
+        self.objects.classes.is_guessed(self.class_id(class))
+    }
+
     /// Returns the text that names `class`, if the dump has one.
     pub fn class_text(&self, class: u32) -> Option<&[u8]>
         requires { class < class_count self.now }

@@ -96,13 +96,19 @@ impl Read for Block {
 }
 
 /// Returns how many of `length` bytes are read, and with how many calls, if `expected` bytes are expected.
-fn read_block(alloc: Global, length: usize, expected: usize) -> (Result<usize, ReaderRefusal>, u32) {
+fn read_block(
+    alloc: Global,
+    length: usize,
+    expected: usize,
+) -> (Result<usize, ReaderRefusal>, u32) {
     let block = Block {
         left: length,
         calls: 0,
     };
     let mut reader = Counted::of_size(block, expected);
-    let outcome = reader.read_to_limit(alloc, 10_000_000).map(|bytes| bytes.len());
+    let outcome = reader
+        .read_to_limit(alloc, 10_000_000)
+        .map(|bytes| bytes.len());
     (outcome, reader.into_inner().calls)
 }
 

@@ -104,6 +104,11 @@ impl<A: Allocator> ClassTable<A> {
         self.find_in_map(id)
     }
 
+    /// Tests whether `find` looks into no map for `id`, since the guessed class bears it.
+    fn is_guessed(&self, id: u64) -> bool {
+        self.bears(self.guesses.guess(id), id)
+    }
+
     /// Returns the identifier and the entry of class `number`.
     fn get(&self, number: u32) -> (u64, ClassPlace)
         requires { number < length self.now.entries }
@@ -125,6 +130,11 @@ impl<'d, A: Allocator> Classes<'d, A> {
         ensures { result ≡ position (λ x. x == id) (ids_of self.now.table.entries) }
     {
         self.table.find(id)
+    }
+
+    /// Tests whether the class that bears `id` is found by a guess.
+    pub(crate) fn is_guessed(&self, id: u64) -> bool {
+        self.table.is_guessed(id)
     }
 
     /// Returns the identifier of class `number`.

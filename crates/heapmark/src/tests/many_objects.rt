@@ -4,7 +4,7 @@
 
 use super::dumps::{Bytes, TWO_OBJECTS};
 use super::{is_answered, run_with, usual};
-use crate::{NoGate, Skip};
+use crate::{NoGate, Options, Skip};
 use limited_heap::LimitedHeap;
 use std::alloc::{AllocError, Global};
 use std::sync::Wait;
@@ -86,20 +86,16 @@ fn a_million_objects_are_counted(rt: HostRuntime) {
     assert!(rt; tree_is_reported(&rt, rt.alloc()));
 }
 
-/// Returns how many allocations a run with this number of `workers` on `bytes` makes, if it is not refused.
+/// Returns how many allocations a run with these `options` on `bytes` makes, if it is not refused.
 fn requests_on<T: Threads + Wait + Sync>(
     rt: &T,
     alloc: Global,
-    workers: u32,
+    options: &Options,
     bytes: &[u8],
-) -> Option<u64>
-    requires some { 1 ≤ workers }
-    requires most { workers ≤ 64 }
-{
+) -> Option<u64> {
     let heap = LimitedHeap::new(alloc, u64::MAX);
     let (skip, written) = (Skip::none(alloc), Vec::new(alloc));
-    let options = usual(workers);
-    let (outcome, _) = run_with(rt, &heap, &options, &skip, &NoGate, bytes, written);
+    let (outcome, _) = run_with(rt, &heap, options, &skip, &NoGate, bytes, written);
     match outcome {
         Ok(()) => Some(u64::MAX.wrapping_sub(heap.requests_left())),
         Err(_) => None,
@@ -110,14 +106,11 @@ fn requests_on<T: Threads + Wait + Sync>(
 fn requests_of_size<T: Threads + Wait + Sync>(
     rt: &T,
     alloc: Global,
-    workers: u32,
-) -> Result<Option<u64>, AllocError>
-    requires some { 1 ≤ workers }
-    requires most { workers ≤ 64 }
-{
+    options: &Options,
+) -> Result<Option<u64>, AllocError> {
     let (large, small) = (tree(alloc, SHARED)?, tree(alloc, 1)?);
-    let large = requests_on(rt, alloc, workers, large.bytes.as_slice());
-    let small = requests_on(rt, alloc, workers, small.bytes.as_slice());
+    let large = requests_on(rt, alloc, options, large.bytes.as_slice());
+    let small = requests_on(rt, alloc, options, small.bytes.as_slice());
     match (large, small) {
         (Some(large), Some(small)) => Ok(large.checked_sub(small)),
         _ => Ok(None),
@@ -127,8 +120,8 @@ fn requests_of_size<T: Threads + Wait + Sync>(
 /// Each part of the work has lists of its own. A single processor shares nothing.
 #[test]
 fn workers_share_the_work_before_the_marking(rt: HostRuntime) {
-    let alone = requests_of_size(&rt, rt.alloc(), 1).unwrap_or(None);
-    let shared = requests_of_size(&rt, rt.alloc(), 4).unwrap_or(None);
+    let alone = requests_of_size(&rt, rt.alloc(), &usual(1)).unwrap_or(None);
+    let shared = requests_of_size(&rt, rt.alloc(), &usual(4)).unwrap_or(None);
     let is_single = available_parallelism(&rt).is_ok_and(|processors| processors.get() == 1);
     assert!(rt;
         alone.is_some() && shared.is_some() && (shared > alone || is_single),

@@ -1,4 +1,4 @@
--- The class, the instance and the arrays stand in both dumps, by computation.
+-- The class, the instance and the arrays are in both dumps, by computation.
 use Rattle.std.proofs.Common.{refl}
 use Rattle.hprof_grammar.specs.TagsAndTypes.{is_type_at, size_of}
 use Rattle.grammar_tests.proofs.Computed.{seen}

@@ -1,4 +1,4 @@
--- The header, the string and the loaded class stand in both dumps, by computation.
+-- The header, the string and the loaded class are in both dumps, by computation.
 use Rattle.std.proofs.Common.{[], lit<, refl, ◌∷◌}
 use Rattle.hprof_grammar.specs.Record.{is_length_of}
 use Rattle.grammar_tests.proofs.Computed.{record_seen}

@@ -1,4 +1,4 @@
--- The kind is that of the origin of the root that stands there, and an origin of such a kind has the number.
+-- The kind is that of the root's origin, and an origin of this kind has the number.
 use Rattle.std.proofs.Common.{arith, subst, true, ◌≡◌}
 use Rattle.hprof_grammar.specs.RootFields.{frame_of, reference_of, thread_of, trace_of}
 use Rattle.hprof_grammar.specs.declared.kinds.RootKind.{RootKind}

@@ -1,4 +1,4 @@
--- The roots stand in both dumps, in turn, by computation.
+-- The roots are in both dumps, in order, by computation.
 use Rattle.std.proofs.Common.{refl}
 use Rattle.grammar_tests.proofs.Computed.{roots_seen}
 use Rattle.grammar_tests.proofs.TestDumps.{the_roots}
