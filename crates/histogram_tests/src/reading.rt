@@ -96,20 +96,26 @@ impl Read for Block {
 }
 
 /// Returns how many of `length` bytes are read, and with how many calls, if `expected` bytes are expected.
-fn read_block(alloc: Global, length: usize, expected: usize) -> (Result<usize, ReaderRefusal>, u32) {
+fn read_block(
+    alloc: Global,
+    length: usize,
+    expected: usize,
+) -> (Result<usize, ReaderRefusal>, u32) {
     let block = Block {
         left: length,
         calls: 0,
     };
     let mut reader = Counted::of_size(block, expected);
-    let outcome = reader.read_to_limit(alloc, 10_000_000).map(|bytes| bytes.len());
+    let outcome = reader
+        .read_to_limit(alloc, 10_000_000)
+        .map(|bytes| bytes.len());
     (outcome, reader.into_inner().calls)
 }
 
 /// One read takes 262,144 bytes at most, and the last one finds the end.
 #[test]
 fn a_large_file_takes_few_reads(rt: HostRuntime) {
-    for (length, calls) in [(0, 1), (262_144, 2), (600_000, 4), (2_621_440, 11)] {
+    for (length, calls) in [(0usize, 1), (262_144, 2), (600_000, 4), (2_621_440, 11)] {
         for expected in [0, length.saturating_add(1)] {
             let told = read_block(rt.alloc(), length, expected);
             assert_eq!(rt; told, (Ok(length), calls), "{expected} bytes are expected");
