@@ -115,7 +115,7 @@ fn read_block(
 /// One read takes 262,144 bytes at most, and the last one finds the end.
 #[test]
 fn a_large_file_takes_few_reads(rt: HostRuntime) {
-    for (length, calls) in [(0, 1), (262_144, 2), (600_000, 4), (2_621_440, 11)] {
+    for (length, calls) in [(0usize, 1), (262_144, 2), (600_000, 4), (2_621_440, 11)] {
         for expected in [0, length.saturating_add(1)] {
             let told = read_block(rt.alloc(), length, expected);
             assert_eq!(rt; told, (Ok(length), calls), "{expected} bytes are expected");
