@@ -21,7 +21,8 @@ const CLASSES_EACH: u32 = 3;
 /// The order of identifiers: the first of sixteen, and how far each is from the one before it, round and round.
 type Order = (u32, u32);
 
-/// They ascend, descend, and do neither.
+/// They ascend, descend, and do neither. Each object of those that descend would be a run, so that these are indexed by
+/// pairs.
 const ORDERS: [Order; 3] = [(0, 1), (15, 15), (3, 5)];
 
 /// The identifiers of so many objects. The one of that number has other lowest bits than the others.
@@ -195,19 +196,28 @@ fn is_right_or_refused<T: Threads + Sync>(
 /// More requests than a dump of nine objects takes.
 const MANY: u64 = 100;
 
+/// Returns the first number of granted requests with which the graph is wrong, if there is one. `u64::MAX` stands for
+/// all of them.
+fn first_wrong<T: Threads + Sync>(rt: &T, alloc: Global, ids: &[u32]) -> Option<u64> {
+    for granted in 0..MANY {
+        if !is_right_or_refused(rt, alloc, ids, granted) {
+            return Some(granted);
+        }
+    }
+    match is_right_or_refused(rt, alloc, ids, u64::MAX) {
+        true => return None,
+        false => return Some(u64::MAX),
+    }
+}
+
 #[test]
 fn parts_or_want_of_memory(rt: HostRuntime) -> Result<(), Fail> {
-    for odd in [4, MOST] {
-        let ids = ids_of(rt.alloc(), (3, 5), MOST, odd)?;
-        for granted in 0..MANY {
-            let right = is_right_or_refused(&rt, rt.alloc(), ids.as_slice(), granted);
-            assert!(rt;
-                right,
-                "{granted} requests are granted, number {odd} differs"
-            );
+    for order in [(3, 5), (15, 15)] {
+        for odd in [4, MOST] {
+            let ids = ids_of(rt.alloc(), order, MOST, odd)?;
+            let wrong = first_wrong(&rt, rt.alloc(), ids.as_slice());
+            assert_eq!(rt; wrong, None, "order {order:?}, number {odd} differs");
         }
-        let all = is_right_or_refused(&rt, rt.alloc(), ids.as_slice(), u64::MAX);
-        assert!(rt; all, "all requests are granted");
     }
     Ok(())
 }
@@ -249,6 +259,22 @@ fn gathered_once(rt: HostRuntime) -> Result<(), Fail> {
         assert!(rt; agree.is_some() && agree == others, "order {order:?}");
         assert!(rt; agree < odd, "order {order:?}");
     }
+    Ok(())
+}
+
+/// Objects in no order take fewer requests than objects in order, since all their pairs are asked for at once.
+#[test]
+fn pairs_are_asked_for_at_once(rt: HostRuntime) -> Result<(), Fail> {
+    let mut requests = [None, None];
+    for (count, order) in [(0, 1), (15, 15)].into_iter().enumerate() {
+        let ids = ids_of(rt.alloc(), order, MOST, MOST)?;
+        requests[count] = requests_of(&rt, rt.alloc(), &ids);
+    }
+    let [ascending, descending] = requests;
+    assert!(rt;
+        descending.is_some() && descending < ascending,
+        "{descending:?} and {ascending:?}"
+    );
     Ok(())
 }
 

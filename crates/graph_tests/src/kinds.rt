@@ -1,7 +1,7 @@
 //! Visits by the kind of the object: where its identifiers stand, and that its class is known without a look-up.
 
 use crate::graphs::graph_of;
-use heap_graph::{ByKind, IdSource, Named, RowKey, Skip, Visit};
+use heap_graph::{ByKind, Graph, IdSource, Named, RowKey, Skip, Visit};
 use std::alloc::{AllocError, Allocator, Global};
 use std::test::Fail;
 use std::thread::Threads;
@@ -79,6 +79,77 @@ fn has_parts<T: Threads + Sync>(
         Some(graph) => return Ok(object < graph.len() && are_parts(graph.visit(object), wanted)),
         None => return Ok(false),
     }
+}
+
+/// How many classes there are, each with an array.
+const CLASSES: u32 = 32;
+
+/// Returns a dump of classes and of an array of each.
+fn arrays(alloc: Global) -> Result<Bytes, AllocError> {
+    let mut heap = Bytes::new(alloc, 4);
+    for class in 0..CLASSES {
+        heap.sub(Class(0x1000 + u64::from(class) * 8, 0, &[]))?;
+    }
+    for array in 0..CLASSES {
+        let class = 0x1000 + u64::from(array) * 8;
+        heap.sub(Objects(0x2000 + u64::from(array) * 8, class, &[0x1000]))?;
+    }
+    let mut file = Bytes::header(alloc, 4)?;
+    file.record(0x0C, heap.bytes.as_slice())?;
+    Ok(file)
+}
+
+/// Tests whether object `object` is an array whose class is object `class`, without a look-up.
+fn is_array_of<A: Allocator>(graph: &Graph<'_, A>, object: u32, class: u32) -> bool {
+    if object >= graph.len() {
+        return false;
+    }
+    match graph.visit(object).by_kind() {
+        ByKind::Elements(known, _) => return known == Some(class),
+        _ => return false,
+    }
+}
+
+/// Tests whether each array's class is known in the graph of the dump.
+fn knows_classes<T: Threads + Sync>(rt: &T, alloc: Global) -> Result<bool, AllocError> {
+    let skip = Skip::none(alloc);
+    let file = arrays(alloc)?;
+    match graph_of(rt, alloc, &file.bytes, &skip) {
+        Some(graph) => return Ok((0..CLASSES).all(|class| is_array_of(
+            &graph,
+            CLASSES + class,
+            class,
+        ))),
+        None => return Ok(false),
+    }
+}
+
+/// Counts the classes of the dump that are found by a guess.
+fn count_guessed<T: Threads + Sync>(rt: &T, alloc: Global) -> Result<usize, AllocError> {
+    let skip = Skip::none(alloc);
+    let file = arrays(alloc)?;
+    match graph_of(rt, alloc, &file.bytes, &skip) {
+        Some(graph) => {
+            let guessed = |class: &u32| *class < graph.classes() && graph.is_class_guessed(*class);
+            return Ok((0..CLASSES).filter(guessed).count());
+        }
+        None => return Ok(0),
+    }
+}
+
+/// Classes are guessed at different places: at least three of four are alone at theirs or were noted last there.
+#[test]
+fn classes_are_guessed(rt: HostRuntime) -> Result<(), Fail> {
+    let guessed = count_guessed(&rt, rt.alloc())?;
+    assert!(rt; guessed >= 24, "{guessed} classes");
+    Ok(())
+}
+
+#[test]
+fn no_array_is_of_any_kind(rt: HostRuntime) -> Result<(), Fail> {
+    let known = knows_classes(&rt, rt.alloc())?;
+    assert!(rt; known);
+    Ok(())
 }
 
 #[test]
