@@ -1,5 +1,5 @@
 #!/usr/bin/env bash
-# Tells how long heapmark reads, builds, marks and reports, by the moments of its system calls.
+# Measures how long heapmark reads, builds, marks and reports, by moments.c, which it preloads.
 #
 # usage: bench/phases.sh [RUNS [DUMP..]]
 #
@@ -9,31 +9,22 @@
 # program ends (with what the leader drains after the workers). The workers are as many threads at once as there are
 # workers: where parsing, linking and reporting start threads these are fewer. A second table has the least, the middle and the largest
 # time of marking, what the middle of one worker is to it, and the processor time of the whole program, user and system,
-# the middle of as many runs without strace. heapmark and the variable STARTER as in bench/run.sh; the words of the
+# the middle of as many runs by themselves. heapmark and the variable STARTER as in bench/run.sh; the words of the
 # variable OPTIONS go to heapmark, as in OPTIONS='--buffer 64'.
 runs=3
 # shellcheck source=bench/head.sh
 . "$(dirname "$0")/head.sh"
 
-# traced WORKERS DUMP: one run; adds "READ BUILD MARK REPORT", in seconds, to what is kept.
-traced() {
+cc -O2 -shared -fPIC -o "$room/moments.so" "$top/bench/moments.c"
+
+# timed WORKERS DUMP: one run; adds "READ BUILD MARK REPORT", in seconds, to what is kept.
+timed() {
     # shellcheck disable=SC2086 # the starter and the options may be several words
-    $starter strace -f --seccomp-bpf -qq -ttt -e trace=openat,read,clone3,exit,exit_group -o "$room/trace" \
+    $starter env LD_PRELOAD="$room/moments.so" MOMENTS="$room/times" WORKERS="$1" \
         "$heapmark" "$2" --workers "$1" ${OPTIONS:-} > "$room/report"
-    awk -v dump="$2" -v workers="$1" '
-        index($0, "\"" dump "\"") { opened = $2 }
-        opened && !groups && / read\(.* = 0$/ { read = $2 }
-        / clone3\(/ { if (!threads) began[++groups] = $2; threads++; size[groups]++ }
-        / exit\(0/ { threads--; ended[groups] = $2 }
-        / exit_group\(/ { last = $2 }
-        END {
-            for (first = groups; first > 1 && size[first] != workers; first--) {}
-            final = size[first] == workers ? first : groups
-            print read - opened, began[first] - read, ended[final] - began[first], last - ended[final]
-        }' "$room/trace" >> "$room/times"
 }
 
-# used WORKERS DUMP: one run without strace; adds its processor time, in seconds, to what is kept.
+# used WORKERS DUMP: one run by itself; adds its processor time, in seconds, to what is kept.
 used() {
     # shellcheck disable=SC2086 # the starter and the options may be several words
     $starter /usr/bin/time -q -f '%U %S' -o "$room/clock" "$heapmark" "$2" --workers "$1" ${OPTIONS:-} > "$room/report"
@@ -65,7 +56,7 @@ for dump in "${dumps[@]}"; do
     for workers in 1 2 4; do
         rm -f "$room/times" "$room/used"
         for _ in $(seq "$runs"); do
-            traced "$workers" "$dump"
+            timed "$workers" "$dump"
             used "$workers" "$dump"
         done
         awk -v name="$name" -v workers="$workers" '

@@ -25,6 +25,11 @@ pub enum ReaderRefusal {
 /// The number of bytes that one read asks for at most, and by which the room grows if none is left.
 const CHUNK: usize = 262_144;
 
+/// The number of bytes that are zeroed at a time.
+// The C library zeroes 2 KiB and more by one instruction that goes on over many pages, and that is slow where pages are
+// touched for the first time: 587 MB took 440 ms so, and 405 in these steps.
+const ZEROED_AT_ONCE: usize = 2_047;
+
 impl<R: Read> Counted<R> {
     /// Reads, straight into the result, until a read returns 0 or `limit` bytes were read. The limit is a parameter, so
     /// that a test can give a small one.
@@ -108,8 +113,9 @@ fn make_room<A: Allocator>(
         .capacity()
         .min(filled.saturating_add(CHUNK))
         .min(limit);
-    if bytes.len() < end {
-        bytes.resize(end, 0)?;
+    while bytes.len() < end {
+        let next = end.min(bytes.len().saturating_add(ZEROED_AT_ONCE));
+        bytes.resize(next, 0)?;
     }
     Ok(())
 }

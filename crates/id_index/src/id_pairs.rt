@@ -2,13 +2,14 @@
 
 ghost use Rattle.std.specs.Prelude.{IfOk, IfSome, IsTrue, [], ◌≡◌, ◌↔◌, ◌%◌, ◌++◌, ◌∷◌, ◌<◌, ◌^◌};
 
+use crate::id_places::IdPlaces;
 use crate::index::{Form, IdIndex, LowBits};
 use crate::pair_builder::PairIndexBuilder;
 use std::alloc::{AllocError, Allocator};
 use std::marker::Model;
 
 /// The identifiers of objects in the order of the file, which agree in their lowest bits: an index by pairs is made of
-/// them. Each identifier is given twice: all are noted, then `set_begins` is called, and then all are pushed.
+/// them. Each identifier is given twice: all are noted in an [`IdPlaces`], and then all are pushed.
 // The identifiers are in the file already: read twice they need no list beside the pairs.
 #[derive(Drop)]
 pub struct IdPairsBuilder<A: Allocator> {
@@ -35,44 +36,19 @@ impl<A: Allocator> Model for IdPairsBuilder<A> {
 }
 
 impl<A: Allocator + Copy> IdPairsBuilder<A> {
-    /// Creates a builder for `count` objects with identifiers from `least` to `greatest` that have the lowest bits
-    /// `bits`, without an object. Returns `None` if these are too far apart for so few objects. `AllocError` if an
-    /// allocation fails.
-    pub fn new(
-        alloc: A,
-        bits: LowBits,
-        least: u64,
-        greatest: u64,
-        count: u32,
-    ) -> Result<Option<Self>, AllocError>
+    /// Creates a builder for `count` objects whose identifiers have the lowest bits `bits` and the places `noted`,
+    /// without an object. `AllocError` if an allocation fails.
+    pub fn new(alloc: A, bits: LowBits, noted: IdPlaces<A>, count: u32) -> Result<Self, AllocError>
         requires shifted { bits.shift < 64 }
         requires low { bits.low < 2 ^ bits.shift }
-        ensures { IfOk result (λ found. IfSome found (λ b.
-            (b.ids ≡ []) × (b.shift ≡ bits.shift) × (b.low ≡ bits.low))) }
+        ensures { IfOk result (λ b. (b.ids ≡ []) × (b.shift ≡ bits.shift) × (b.low ≡ bits.low)) }
     {
-        let (first, last) = (least >> bits.shift, greatest >> bits.shift);
-        match PairIndexBuilder::new(alloc, first, last, count)? {
-            Some(pairs) => return Ok(Some(IdPairsBuilder { pairs, bits })),
-            None => return Ok(None),
-        }
+        let pairs = PairIndexBuilder::new(alloc, noted, count)?;
+        Ok(IdPairsBuilder { pairs, bits })
     }
 }
 
 impl<A: Allocator> IdPairsBuilder<A> {
-    /// Notes that an object bears `id`.
-    pub fn note(&mut self, id: u64)
-        ensures { self.new ≡ self.old }
-    {
-        self.pairs.note(id >> self.bits.shift);
-    }
-
-    /// Counts what was noted, so that identifiers can be pushed.
-    pub fn set_begins(&mut self)
-        ensures { self.new ≡ self.old }
-    {
-        self.pairs.set_begins();
-    }
-
     /// Tests whether `id` has the lowest bits that all identifiers have.
     pub fn fits(&self, id: u64) -> bool
         ensures { IsTrue result ↔ (id % 2 ^ self.now.shift ≡ self.now.low) }

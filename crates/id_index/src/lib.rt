@@ -13,13 +13,15 @@
 //! Then they are sorted (`sorting`), the first identifier that repeats is looked for (`repeats`), and the runs that say
 //! something new are told from the others (`settling`): a `run_index`. A look-up goes through a table of where pages
 //! begin (`beginnings`) to the first run of a page (`pages`), and over the runs of that page (`look_up`). The search of
-//! the first run looks at a bounded number of runs (`looks`). `pair_builder` places pairs where the page words
-//! (`page_words`) guess them, and makes a `pairs` index of them if all were right.
+//! the first run looks at a bounded number of runs (`looks`). `id_places` notes which places
+//! have an object, `page_words` counts them, and `pair_builder` places pairs where these words guess them and makes a
+//! `pairs` index of them if all were right.
 #![tactic(auto)]
 
 mod beginnings;
 mod builder;
 mod id_pairs;
+mod id_places;
 mod index;
 mod look_up;
 mod looks;
@@ -34,4 +36,5 @@ mod settling;
 mod sorting;
 
 pub use id_pairs::IdPairsBuilder;
+pub use id_places::{IdPlaces, are_close};
 pub use index::{IdIndex, IdIndexBuilder, LowBits};

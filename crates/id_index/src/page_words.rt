@@ -30,31 +30,21 @@ pub(crate) struct PageWords<A: Allocator> {
 }
 
 impl<A: Allocator> PageWords<A> {
-    /// Creates `count` pages without objects. `AllocError` if the allocation fails.
-    pub(crate) fn new(alloc: A, count: usize) -> Result<Self, AllocError> {
+    /// Creates the page words of `noted`, the places of each page that have an object. `AllocError` if the allocation
+    /// fails.
+    pub(crate) fn of(alloc: A, noted: &[u64]) -> Result<Self, AllocError> {
         let empty = Page {
             places: [0, 0],
             begin: 0,
         };
-        let pages = vec![in alloc; empty; count]?;
-        Ok(PageWords { pages })
-    }
-
-    /// Notes an object at place `at`, counted from the least page on. A place after the last page is ignored.
-    pub(crate) fn note(&mut self, at: u64) {
-        if at / PLACES < self.pages.len() as u64 {
-            let half = (at % PLACES / 32) as usize;
-            self.pages[(at / PLACES) as usize].places[half] |= 1 << (at % 32) as u32;
-        }
-    }
-
-    /// Counts the noted objects before each page.
-    pub(crate) fn set_begins(&mut self) {
+        let mut pages = vec![in alloc; empty; noted.len()]?;
         let mut begin = 0u32;
-        for page in self.pages.iter_mut() {
+        for (page, places) in pages.iter_mut().zip(noted) {
+            page.places = [(*places % (1 << 32)) as u32, (*places >> 32) as u32];
             page.begin = begin;
-            begin = begin.wrapping_add(page.places().count_ones());
+            begin = begin.wrapping_add(places.count_ones());
         }
+        Ok(PageWords { pages })
     }
 
     /// Returns how many objects were noted before place `at`: the index of its pair, if each object was noted.

@@ -2,16 +2,13 @@
 
 ghost use Rattle.std.specs.Prelude.{IfOk, IfSome, IsTrue, [], ◌++◌, ◌∷◌, ◌≡◌};
 
+use crate::id_places::IdPlaces;
 use crate::page_words::PageWords;
 use crate::pairs::{Pair, PairIndex, UNSET, do_ascend};
-use crate::runs::PLACES;
 use std::alloc::{AllocError, Allocator};
 use std::marker::Model;
 
-/// The most pages that pairs may span: these have 2^32 places, as many as `Pair::at` counts.
-const MOST_PAGES: u64 = 1 << 26;
-
-/// The identifiers of objects in the order of the file, which are noted first and then pushed. No two are the same.
+/// The identifiers of objects in the order of the file, whose places were noted before. No two are the same.
 // A pair goes where the page words guess it, so that nothing is compared to order them. Whether all of them were right
 // is looked at when all are there.
 #[derive(Drop)]
@@ -37,51 +34,30 @@ impl<A: Allocator> Model for PairIndexBuilder<A> {
 }
 
 impl<A: Allocator + Copy> PairIndexBuilder<A> {
-    /// Creates a builder for `count` objects with identifiers from `least` to `greatest`, without an object. Returns
-    /// `None` if these are too far apart for so few objects. `AllocError` if an allocation fails.
-    pub(crate) fn new(
-        alloc: A,
-        least: u64,
-        greatest: u64,
-        count: u32,
-    ) -> Result<Option<Self>, AllocError>
-        ensures { IfOk result (λ found. IfSome found (λ b. b ≡ [])) }
+    /// Creates a builder for `count` objects whose identifiers have the places `noted`, without an object.
+    /// `AllocError` if an allocation fails.
+    pub(crate) fn new(alloc: A, noted: IdPlaces<A>, count: u32) -> Result<Self, AllocError>
+        ensures { IfOk result (λ b. b ≡ []) }
     {
-        let (first, last) = (least / PLACES, greatest / PLACES);
-        // With two objects on a page, an object takes 14 bytes: 8 of its pair and 6 of the page.
-        if last < first || last - first >= MOST_PAGES.min(u64::from(count) / 2) {
-            return Ok(None);
-        }
-        let words = PageWords::new(alloc, (last - first) as usize + 1)?;
+        let lowest = noted.lowest;
+        let words = PageWords::of(alloc, &noted.pages)?;
+        // The bits go before the pairs come, which take more.
+        drop(noted);
         let unset = Pair {
             at: 0,
             number: UNSET,
         };
         let pairs = vec![in alloc; unset; count as usize]?;
-        Ok(Some(PairIndexBuilder {
-            lowest: first * PLACES,
+        Ok(PairIndexBuilder {
+            lowest,
             words,
             pairs,
             count: 0,
-        }))
+        })
     }
 }
 
 impl<A: Allocator> PairIndexBuilder<A> {
-    /// Notes that an object bears `id`. All are noted before the first is pushed.
-    pub(crate) fn note(&mut self, id: u64)
-        ensures { self.new ≡ self.old }
-    {
-        self.words.note(id.wrapping_sub(self.lowest));
-    }
-
-    /// Counts what was noted.
-    pub(crate) fn set_begins(&mut self)
-        ensures { self.new ≡ self.old }
-    {
-        self.words.set_begins();
-    }
-
     /// Adds the next object. Returns `false` if it has no place of its own, since it was not noted or an earlier one
     /// bears `id`.
     pub(crate) fn push(&mut self, id: u64) -> bool

@@ -4,7 +4,7 @@ ghost use Rattle.std.specs.Prelude.{IfOk, IfSome, length, ◌<◌, ◌^◌, ◌�
 
 use crate::beside::answers_all;
 use crate::refused::{Call, requests_of};
-use id_index::{IdIndex, IdPairsBuilder, LowBits};
+use id_index::{IdIndex, IdPairsBuilder, IdPlaces, LowBits, are_close};
 use limited_heap::LimitedHeap;
 use std::alloc::{AllocError, Allocator, Global};
 
@@ -18,13 +18,30 @@ fn ends_of(ids: &[u64]) -> (u64, u64) {
     (least, greatest)
 }
 
-/// Notes all of `ids`.
-fn note_all<A: Allocator>(builder: &mut IdPairsBuilder<A>, ids: &[u64])
-    ensures { builder.new ≡ builder.old }
-{
+/// Notes all of `ids` in `places`.
+fn note_all<A: Allocator>(places: &mut IdPlaces<A>, ids: &[u64]) {
     for id in ids {
-        builder.note(*id);
+        places.note(*id);
     }
+}
+
+/// Returns the places of `ids`, whose ends are `least` and `greatest`: noted in two halves and joined.
+fn noted_in_halves<A: Allocator + Copy>(
+    alloc: A,
+    bits: LowBits,
+    ids: &[u64],
+    least: u64,
+    greatest: u64,
+) -> Result<IdPlaces<A>, AllocError>
+    requires { bits.shift < 64 }
+{
+    let (front, back) = ids.split_at(ids.len() / 2);
+    let mut places = IdPlaces::new(alloc, bits, least, greatest)?;
+    note_all(&mut places, front);
+    let mut more = IdPlaces::new(alloc, bits, least, greatest)?;
+    note_all(&mut more, back);
+    places.join(more);
+    Ok(places)
 }
 
 /// Returns the index by pairs of objects with the identifiers `ids`, if their three lowest bits are `low` and pairs
@@ -40,12 +57,12 @@ pub fn paired_index<A: Allocator + Copy>(
 {
     let bits = LowBits { shift: 3, low };
     let (least, greatest) = ends_of(ids);
-    let made = IdPairsBuilder::new(alloc, bits, least, greatest, ids.len() as u32)?;
-    let Some(mut builder) = made else {
+    let count = ids.len() as u32;
+    if !are_close(bits, least, greatest, count) {
         return Ok(None);
-    };
-    note_all(&mut builder, ids);
-    builder.set_begins();
+    }
+    let places = noted_in_halves(alloc, bits, ids, least, greatest)?;
+    let mut builder = IdPairsBuilder::new(alloc, bits, places, count)?;
     for id in ids {
         if !builder.fits(*id) || !builder.push(*id) {
             return Ok(None);
@@ -108,14 +125,6 @@ fn paired_as_one_by_one_or_out_of_memory(rt: HostRuntime) {
     }
 }
 
-/// Tests whether a builder for as many objects as can be asks for memory, if their identifiers are from `least` to
-/// `greatest`. There is none.
-fn asks_for_memory(alloc: Global, least: u64, greatest: u64) -> bool {
-    let heap = LimitedHeap::new(alloc, 0);
-    let bits = LowBits { shift: 3, low: 0 };
-    IdPairsBuilder::new(&heap, bits, least, greatest, u32::MAX).is_err()
-}
-
 /// Ends of identifiers at multiples of eight, and whether the pages between have at most 2^32 places.
 const ENDS: [(u64, u64, bool); 5] = [
     (0, (1 << 35) - 8, true),
@@ -127,8 +136,9 @@ const ENDS: [(u64, u64, bool); 5] = [
 
 #[test]
 fn pairs_span_as_many_places_as_they_count(rt: HostRuntime) {
-    for (least, greatest, asks) in ENDS {
-        let asked = asks_for_memory(rt.alloc(), least, greatest);
-        assert_eq!(rt; asked, asks, "from {least} to {greatest}");
+    let bits = LowBits { shift: 3, low: 0 };
+    for (least, greatest, close) in ENDS {
+        let found = are_close(bits, least, greatest, u32::MAX);
+        assert_eq!(rt; found, close, "from {least} to {greatest}");
     }
 }

@@ -6,7 +6,7 @@
 
 ghost use Rattle.hprof_grammar.specs.Standing.{StandInTurn, Stands};
 ghost use Rattle.hprof_grammar.specs.SubRecord.{SubRecord};
-ghost use Rattle.std.specs.Prelude.{IfOk, IfSome, List, ◌≡◌};
+ghost use Rattle.std.specs.Prelude.{IfOk, IfSome, List, ◌<◌};
 ghost use Rattle.heap_graph.specs.Heap.{objects};
 ghost use Rattle.heap_graph.specs.working.ClassNumbers.{AreIndexed};
 ghost use Rattle.heap_graph.specs.working.GatheredParts.{MayGather};
@@ -14,7 +14,7 @@ ghost use Rattle.heap_graph.specs.working.GatheredParts.{MayGather};
 use crate::objects::gathering::note_class;
 use crate::objects::indexing::Indexed;
 use hprof_grammar::{Team, View};
-use id_index::{IdPairsBuilder, LowBits};
+use id_index::{IdPairsBuilder, IdPlaces, LowBits, are_close};
 use std::alloc::{AllocError, Allocator};
 use std::thread;
 use std::thread::Threads;
@@ -73,6 +73,14 @@ impl Ends {
         least: u64::MAX,
         greatest: 0,
     };
+
+    /// Returns the number of pages from the least identifier to the greatest.
+    fn pages(self, bits: LowBits) -> usize
+        requires { bits.shift < 64 }
+    {
+        let places = self.greatest.saturating_sub(self.least) >> bits.shift;
+        (places / PLACES) as usize
+    }
 
     /// Returns the ends of these identifiers and of those of `other`.
     fn joined(self, other: Ends) -> Ends {
@@ -151,41 +159,87 @@ fn ends_of<T: Threads + Sync, B: Allocator + Copy + Send + Sync>(
     ends_of_part(view, places, 0, places, bits)
 }
 
-/// Notes the identifiers of all objects.
-fn note_all<B: Allocator>(
-    ids: &mut IdPairsBuilder<B>,
+/// Notes the places of the identifiers of a part, which begins with object number `start`. `AllocError` if the
+/// allocation fails.
+fn note_part<B: Allocator>(
+    alloc: B,
     view: &View<'_>,
     places: &[u32],
+    start: usize,
+    part: &[u32],
     bits: LowBits,
-)
-    requires { MayGather view.now places.now bits 0 places.now }
-    ensures { ids.new ≡ ids.old }
+    ends: Ends,
+) -> Result<IdPlaces<B>, AllocError>
+    requires { MayGather view.now places.now bits start part.now }
 {
-    for number in 0..places.len() {
-        ids.note(view.object_id(places[number]));
+    let mut noted = IdPlaces::new(alloc, bits, ends.least, ends.greatest)?;
+    for number in start..start + part.len() {
+        noted.note(view.object_id(places[number]));
     }
+    Ok(noted)
 }
 
-/// Returns the objects at `places` by pairs, whose identifiers have the ends `ends`. Returns `None` if these are too
-/// far apart, or if two objects have one identifier. `AllocError` if an allocation fails.
-fn placed<B: Allocator + Copy>(
+/// Like [`noted`], in as many parts as the team has threads, but in none that has fewer objects than there are pages:
+/// so what is noted takes no more than the pairs will. Returns `None` if there is no part.
+fn note_in_parts<T: Threads + Sync, B: Allocator + Copy + Send + Sync>(
+    team: &Team<'_, T>,
     alloc: B,
     view: &View<'_>,
     places: &[u32],
     bits: LowBits,
     ends: Ends,
+) -> Result<Option<IdPlaces<B>>, AllocError>
+    requires { MayGather view.now places.now bits 0 places.now }
+{
+    let size = team.part_of(places.len()).max(ends.pages(bits));
+    let note = |start: usize, part: &[u32]| -> Result<IdPlaces<B>, AllocError>
+        requires { MayGather view.now places.now bits start part.now }
+    { note_part(alloc, view, places, start, part, bits, ends) };
+    let mut all: Option<IdPlaces<B>> = None;
+    for noted in thread::map_chunks(team, alloc, places, size, &note)? {
+        let mut noted = noted?;
+        if let Some(before) = all {
+            noted.join(before);
+        }
+        all = Some(noted);
+    }
+    Ok(all)
+}
+
+/// Returns the places of the identifiers of the objects at `places`. They are noted in parts if there are many, and in
+/// one part also if an allocation for several fails.
+fn noted<T: Threads + Sync, B: Allocator + Copy + Send + Sync>(
+    team: &Team<'_, T>,
+    alloc: B,
+    view: &View<'_>,
+    places: &[u32],
+    bits: LowBits,
+    ends: Ends,
+) -> Result<IdPlaces<B>, AllocError>
+    requires { MayGather view.now places.now bits 0 places.now }
+{
+    if team.shares(places.len()) {
+        if let Ok(Some(noted)) = note_in_parts(team, alloc, view, places, bits, ends) {
+            return Ok(noted);
+        }
+    }
+    note_part(alloc, view, places, 0, places, bits, ends)
+}
+
+/// Returns the objects at `places` by pairs, whose places are `noted`. Returns `None` if two objects have one
+/// identifier. `AllocError` if an allocation fails.
+fn placed<B: Allocator + Copy>(
+    alloc: B,
+    view: &View<'_>,
+    places: &[u32],
+    bits: LowBits,
+    noted: IdPlaces<B>,
 ) -> Result<Option<Indexed<B>>, AllocError>
     requires { MayGather view.now places.now bits 0 places.now }
     ensures { IfOk result (λ found. IfSome found (λ indexed. (heap : List SubRecord)
         → StandInTurn (Stands view.now) places.now (objects heap) → AreIndexed view.now places.now heap indexed)) }
 {
-    let count = places.len() as u32;
-    let made = IdPairsBuilder::new(alloc, bits, ends.least, ends.greatest, count)?;
-    let Some(mut ids) = made else {
-        return Ok(None);
-    };
-    note_all(&mut ids, view, places, bits);
-    ids.set_begins();
+    let mut ids = IdPairsBuilder::new(alloc, bits, noted, places.len() as u32)?;
     let mut class_dumps = Vec::new(alloc);
     for number in 0..places.len() {
         let id = view.object_id(places[number]);
@@ -216,8 +270,12 @@ pub(super) fn paired<T: Threads + Sync, B: Allocator + Copy + Send + Sync>(
     if !are_scattered(view, places, bits) {
         return Ok(None);
     }
-    match ends_of(team, alloc, view, places, bits) {
-        Some(ends) => return placed(alloc, view, places, bits, ends),
-        None => return Ok(None),
+    let Some(ends) = ends_of(team, alloc, view, places, bits) else {
+        return Ok(None);
+    };
+    if !are_close(bits, ends.least, ends.greatest, places.len() as u32) {
+        return Ok(None);
     }
+    let noted = noted(team, alloc, view, places, bits, ends)?;
+    placed(alloc, view, places, bits, noted)
 }

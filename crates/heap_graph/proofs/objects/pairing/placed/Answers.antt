@@ -19,9 +19,9 @@ loop-number-preserved g c =
     (omega (arith, c.loop-number-test.true)) c.object_id-id.ensures)
     c.in_ok-note_class.ensures
 
-pub returns-in-Some-finish : goal.returns-in-Some-finish
-returns-in-Some-finish g c = λ heap stand.
+pub returns-in-Some : goal.returns-in-Some
+returns-in-Some g c = λ heap stand.
     all_indexed c.args.view.now c.args.places.now c.args.bits
     (record { ids = c.loop-number.ids; class_dumps = c.loop-number.class_dumps }) _ c.loop-number.number
     c.loop-number.invariant (omega (arith, c.loop-number-test.false, c.loop-number.auto.number-end))
-    c.in-Some-finish.ensures refl heap stand
+    c.in-Some.ensures refl heap stand
