@@ -1,12 +1,12 @@
 -- What a worker with its pair has at hand after each call.
-use Rattle.drain.proofs.Words.{All, All-from_get_or, AreClaimed, AreOfSize, Book, Bool, CameFrom, CanClaim, CanFinish}
-use Rattle.drain.proofs.Words.{Contains, Contains-append_cases, Contains-append_left, Contains-get_or, Contains-push}
-use Rattle.drain.proofs.Words.{Contains-push_cases, Deals, GoesOn, HasAtHand, Holder, IsAtWork, IsBacked, IsBusy}
-use Rattle.drain.proofs.Words.{IsClaimed, IsFree, IsOpen, IsPut, List, MayClaim, PairState, Setup, WorksOn, [], ap}
-use Rattle.drain.proofs.Words.{arith, buffered_items, claimed, cond, empty_pair, eq-eqb, false, false≢true, finished}
-use Rattle.drain.proofs.Words.{get_or, if◌then◌else◌, inl, inr, ne_eqb, none_last, only, only-same, pair_items, refl}
-use Rattle.drain.proofs.Words.{stands_times, subst, sum_of-append, sym, times, times-remove_one, times_stands, true}
-use Rattle.drain.proofs.Words.{without_spill, ℕ, ⊎_elim, ◌++◌, ◌<◌, ◌==◌, ◌↔◌, ◌∙◌, ◌∷◌, ◌≡◌, ◌≢◌}
+use Rattle.drain.proofs.Words.{All, All-from_get_or, AreClaimed, AreOfSize, Book, Bool, CallEffect, CameFrom, CanClaim}
+use Rattle.drain.proofs.Words.{CanFinish, Contains, Contains-append_cases, Contains-append_left, Contains-get_or}
+use Rattle.drain.proofs.Words.{Contains-push, Contains-push_cases, GoesOn, HasAtHand, Holder, IsAtWork, IsBacked}
+use Rattle.drain.proofs.Words.{IsBusy, IsClaimed, IsFree, IsOpen, IsPut, List, MayClaim, PairState, Setup, WorksOn, []}
+use Rattle.drain.proofs.Words.{ap, arith, buffered_items, claimed, cond, empty_pair, eq-eqb, false, false≢true}
+use Rattle.drain.proofs.Words.{finished, get_or, if◌then◌else◌, inl, inr, ne_eqb, none_last, only, only-same}
+use Rattle.drain.proofs.Words.{pair_items, refl, stands_times, subst, sum_of-append, sym, times, times-remove_one}
+use Rattle.drain.proofs.Words.{times_stands, true, without_spill, ℕ, ⊎_elim, ◌++◌, ◌<◌, ◌==◌, ◌↔◌, ◌∙◌, ◌∷◌, ◌≡◌, ◌≢◌}
 use Rattle.mark_core.specs.Account.{Account}
 
 pub came_at_all : (w : Holder) → CameFrom w w
@@ -89,37 +89,38 @@ backs {p} put rest hand = record {
 }
 
 module _ {old : PairState} (before : Holder) {put got : List ℕ} {new : PairState} (after : Holder)
-    (deals : Deals old before.book put got new after.book) where
+    (effect : CallEffect old before.book put got new after.book) where
   -- what was put is in the pair, or went with a buffer of it, and what was got is not
-  pub dealt_hand : (rest : List ℕ) → IsOpen new → HasAtHand old (put ++ rest) before
+  pub hand_after : (rest : List ℕ) → IsOpen new → HasAtHand old (put ++ rest) before
       → HasAtHand new (got ++ rest) after
-  dealt_hand rest going was = record {
+  hand_after rest going was = record {
     going = going;
-    sized = deals.backed.sized;
-    held = λ i. omega (arith, deals.held i, deals.buffers i, was.held i);
+    sized = effect.backed.sized;
+    held = λ i. omega (arith, effect.held i, effect.buffers i, was.held i);
     charge = λ o.
         let puts = sum_of-append (only o) put rest in
         let gets = sum_of-append (only o) got rest in
-        omega (arith, deals.charge o, deals.items o, was.charge o, puts, gets);
+        omega (arith, effect.charge o, effect.items o, was.charge o, puts, gets);
   }
 
   -- and the worker is as busy as it was
-  pub dealt : (rest : List ℕ) → IsOpen new → IsAtWork old (put ++ rest) before → IsAtWork new (got ++ rest) after
-  dealt rest going was = record {
-    hand = dealt_hand rest going was.hand;
-    busy = busy_on before.book.account after.book.account deals.kept.share deals.kept.idle was.busy;
+  pub at_work_after : (rest : List ℕ) → IsOpen new → IsAtWork old (put ++ rest) before
+      → IsAtWork new (got ++ rest) after
+  at_work_after rest going was = record {
+    hand = hand_after rest going was.hand;
+    busy = busy_on before.book.account after.book.account effect.kept.share effect.kept.idle was.busy;
   }
 
-  pub dealt_goes_on : after.pool ≡ before.pool → GoesOn before after
-  dealt_goes_on pool = record {
+  pub goes_on_after : after.pool ≡ before.pool → GoesOn before after
+  goes_on_after pool = record {
     came = record {
       pool = pool;
-      setup = deals.kept.setup;
-      share = deals.kept.share;
-      seen = λ o h. subst (λ (xs : List ℕ). Contains xs o) (sym deals.kept.seen) h;
+      setup = effect.kept.setup;
+      share = effect.kept.share;
+      seen = λ o h. subst (λ (xs : List ℕ). Contains xs o) (sym effect.kept.seen) h;
     };
-    idle = deals.kept.idle;
-    finished = deals.kept.finished;
+    idle = effect.kept.idle;
+    finished = effect.kept.finished;
   }
 
 -- what may be claimed because of what the worker has at hand
@@ -248,11 +249,12 @@ white_claimed {o} {c = c} is claim puts = record {
 }
 
 -- what the pair took in was put
-pub is_put : {o : ℕ} {p q : PairState} (a b : Holder) → b.pool ≡ a.pool → Deals p a.book (o ∷ []) [] q b.book → IsOpen q
+pub is_put : {o : ℕ} {p q : PairState} (a b : Holder) → b.pool ≡ a.pool → CallEffect p a.book (o ∷ []) [] q b.book
+    → IsOpen q
     → IsPut o p a q b
-is_put a b pool deals going = record {
-  goes_on = dealt_goes_on a b deals pool;
-  at_work = λ besides. dealt a b deals besides going;
+is_put a b pool effect going = record {
+  goes_on = goes_on_after a b effect pool;
+  at_work = λ besides. at_work_after a b effect besides going;
 }
 
 pub none_claimed : (p : PairState) (w : Holder) → AreClaimed [] p w p w

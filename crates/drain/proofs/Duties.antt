@@ -1,7 +1,7 @@
 -- What a thread owed is returned, whatever the leader did meanwhile.
 use Rattle.drain.proofs.Words.{Book, Duty, HasTallied, Holder, IsBackUnder, IsDutyUnder, IsThrough, Measure, ap, subst}
 use Rattle.drain.proofs.Words.{sym, ◌∙◌, ◌≡◌}
-use Rattle.drain.specs.declared.tallied.Tallied.{Tallied}
+use Rattle.drain.specs.declared.tallied_worker.TalliedWorker.{TalliedWorker}
 use Rattle.drain.specs.declared.tally.Tally.{Tally}
 
 -- a worker that kept its duty is back
@@ -17,7 +17,7 @@ came_back measure {w = w} t owed through tally = record {
 }
 
 -- a worker and its tally are back
-abbrev pub Back : {A : Type 0} → Measure → Holder → Tallied A → Type 0
+abbrev pub Back : {A : Type 0} → Measure → Holder → TalliedWorker A → Type 0
 Back m leader t = IsBackUnder m leader t.worker t.tally
 
 -- for a leader of the same pool and setup as well

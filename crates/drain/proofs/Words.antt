@@ -27,7 +27,7 @@ pub use Rattle.buffer_pool.specs.Book.{woken}
 pub use Rattle.buffer_pool.specs.Calls.{Holder, Sees}
 pub use Rattle.buffer_pool.specs.Closing.{MarksTell}
 pub use Rattle.work_pair.proofs.Calls.{none_first, none_last}
-pub use Rattle.work_pair.specs.Deals.{Deals, DealsQuietly, Puts}
+pub use Rattle.work_pair.specs.CallEffects.{CallEffect, Puts, TouchesNoFull}
 pub use Rattle.work_pair.specs.PairState.{AreOfSize, IsBacked, IsOpen, PairState, buffered_items, empty_pair}
 pub use Rattle.work_pair.specs.PairState.{pair_items, without_spill}
 pub use Rattle.heap_graph.proofs.RowNumberLaws.{number_within, row_of_its_number, row_there}

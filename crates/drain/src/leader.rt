@@ -11,10 +11,10 @@ use crate::gate::Gate;
 use crate::job::Job;
 use crate::marked::{Marked, RunFault};
 use crate::options::Options;
-use crate::ready::make_ready;
-use crate::shares::gather;
+use crate::prepared_leader::prepare_leader;
+use crate::joins::gather;
 use crate::start_hook::{StartHook, StartsAll};
-use crate::tallied::Tallied;
+use crate::tallied_worker::TalliedWorker;
 use crate::walk::Walk;
 use crate::walked_graph::WalkedGraph;
 use crate::worker_threads::run_workers;
@@ -30,7 +30,7 @@ pub fn lead<T, A, V, G, S>(
     rt: &T,
     job: &Job<'_, A, V, G, S>,
     leader: Worker<A>,
-) -> Result<Tallied<A>, RunFault>
+) -> Result<TalliedWorker<A>, RunFault>
 where
     T: Threads + Wait + Sync,
     A: Allocator + Copy + Send + Sync,
@@ -46,7 +46,7 @@ where
     ensures led { IfOk result (λ t. HasLed leader.book.account.share leader t.worker) }
     ensures tally { IfOk result (λ t. HasTallied (V.measure job.now.graph.now) t.worker t.tally) }
 {
-    let ready = make_ready(rt, job, leader)?;
+    let ready = prepare_leader(rt, job, leader)?;
     let ran = run_workers(rt, job, ready)?;
     Ok(gather(rt, job, ran)?)
 }
@@ -118,6 +118,6 @@ where
         workers,
     };
     let tallied = lead(rt, &job, leader)?;
-    let Tallied { worker, tally } = tallied;
+    let TalliedWorker { worker, tally } = tallied;
     Ok(Marked::new(pool.close(worker), objects, tally))
 }

@@ -34,7 +34,7 @@ impl<A: Allocator> PairedWorker<A> {
     ghost use Rattle.mark_core.specs.Events.{IsBusy};
     ghost use Rattle.mark_core.specs.declared.which.Which.TheVariants.{Empty, Full};
     ghost use Rattle.buffer_pool.specs.Calls.{Sees};
-    ghost use Rattle.work_pair.specs.Deals.{ShelvesAll};
+    ghost use Rattle.work_pair.specs.CallEffects.{ShelvesAll};
     ghost use Rattle.work_pair.specs.Moves.{WasSeenEmpty};
     ghost use Rattle.work_pair.specs.PairState.{buffered_items};
     ghost use Rattle.std.specs.Iterator.{AlwaysYields, IsFinite};
@@ -257,7 +257,7 @@ impl<A: Allocator> PairedWorker<A> {
     }
 
     /// Gives some of what is in the pair to others if the full stack is seen empty.
-    fn share<R: Wait>(&mut self, rt: &R, pool: &Pool<A>) -> Result<(), Stop>
+    fn offer<R: Wait>(&mut self, rt: &R, pool: &Pool<A>) -> Result<(), Stop>
         requires pool { self.old.worker.pool ≡ pool.now }
         requires at_work { IsAtWork self.old.pair [] self.old.worker }
         ensures goes_on { OnOk result (GoesOn self.old.worker self.new.worker) }

@@ -6,18 +6,18 @@ ghost use Rattle.drain.specs.working.Tallying.{AreTalliesOfNone, Tallies};
 
 use crate::job::Job;
 use crate::measured::Measured;
-use crate::tallied::Tallied;
+use crate::tallied_worker::TalliedWorker;
 use crate::tally::Tally;
-use crate::worker_threads::Started;
+use crate::worker_threads::StartedWorker;
 use std::alloc::{AllocError, Allocator};
 
 /// Room for the threads of a job and for the workers that they return, and the tallies of the workers and the leader.
 #[derive(Drop)]
 pub(crate) struct Supplies<A: Allocator, V: Measured> {
     /// The threads: none yet, with room for each.
-    pub(crate) threads: Vec<Started<A, V>, A>,
+    pub(crate) threads: Vec<StartedWorker<A, V>, A>,
     /// The workers that are through: none yet, with room for each.
-    pub(crate) back: Vec<Tallied<A>, A>,
+    pub(crate) back: Vec<TalliedWorker<A>, A>,
     /// A tally for each worker, of no object.
     pub(crate) tallies: Vec<Tally<A>, A>,
     /// The leader's tally, of no object.

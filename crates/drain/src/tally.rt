@@ -4,9 +4,9 @@ ghost use Rattle.std.specs.Prelude.{◌≡◌, ◌<◌, ◌≤◌, ◌^◌, ◌+
 ghost use Rattle.drain.specs.Sums.{sum_at};
 ghost use Rattle.drain.specs.working.Tallying.{HasSmallSums, Tallies};
 ghost use Rattle.drain.specs.working.Tallies.{Measure};
-ghost use Rattle.drain.specs.working.Scans.{IsScanOf};
+ghost use Rattle.drain.specs.working.Scans.{MatchesMeasure};
 
-use crate::scanned::Scanned;
+use crate::scanned_object::ScannedObject;
 use crate::sum::Sum;
 use std::alloc::{AllocError, Allocator};
 
@@ -33,12 +33,12 @@ impl<A: Allocator> Tally<A> {
     }
 
     /// Adds one `object`.
-    pub fn add(&mut self, object: Scanned)
+    pub fn add(&mut self, object: ScannedObject)
         requires row { object.row < length self.old.rows.items }
         requires small { HasSmallSums self.old }
         requires bytes { object.bytes ≤ 2 ^ 30 }
         requires unresolved { object.unresolved ≤ 2 ^ 33 }
-        ensures { (m : Measure) (objects : List ℕ) (o : ℕ) → Tallies m objects self.old → IsScanOf m o object
+        ensures { (m : Measure) (objects : List ℕ) (o : ℕ) → Tallies m objects self.old → MatchesMeasure m o object
             → Tallies m (objects ++ o ∷ []) self.new }
     {
         let sum = &mut self.rows[object.row];

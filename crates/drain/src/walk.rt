@@ -1,20 +1,20 @@
 //! What marking requires of a graph.
 
 use crate::measured::Measured;
-use crate::scanned::Scanned;
+use crate::scanned_object::ScannedObject;
 use heap_graph::Visit;
 use std::alloc::Allocator;
 
 /// The objects that an object refers to, one after the other, and what is read of the object on the way.
 pub trait Reads: Iterator<Item = u32> + Drop + Send {
     ghost use Rattle.std.specs.Prelude.{◌≡◌};
-    ghost use Rattle.drain.specs.declared.scanned.Scanned.{Scanned};
+    ghost use Rattle.drain.specs.declared.scanned_object.ScannedObject.{ScannedObject};
 
     /// What has been read of the object so far.
-    ghost read_so_far: { Self → Scanned };
+    ghost read_so_far: { Self → ScannedObject };
 
     /// Returns what has been read of the object. After the last reference this is all of it.
-    fn read(&self) -> Scanned
+    fn read(&self) -> ScannedObject
         ensures { result ≡ read_so_far self.now };
 }
 

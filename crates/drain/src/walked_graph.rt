@@ -4,10 +4,10 @@ ghost use Rattle.std.specs.Prelude.{◌≡◌};
 ghost use Rattle.heap_graph.specs.RowNumbers as numbers;
 
 use crate::measured::Measured;
-use crate::scanned::Scanned;
+use crate::scanned_object::ScannedObject;
 use crate::walk::{Reads, Walk};
 use buffer_pool::Edges;
-use heap_graph::{Graph, IdSource, Named, RowKey, Visit};
+use heap_graph::{Graph, IdSource, Targets, RowKey, Visit};
 use std::alloc::Allocator;
 
 /// A graph of bytes that live for `'b`, with the roots and references that marking walks.
@@ -50,10 +50,10 @@ impl<'a, 'b, A: Allocator> Measured for WalkedGraph<'a, 'b, A> {
 /// Returns what a tally counts of an object: its row, its size, and how many of its identifiers name no object.
 // Inlined, like all that a visit reports: otherwise a call would write its three words and its caller read them again.
 #[inline(always)]
-fn scanned(row: RowKey, bytes: u64, unresolved: u64) -> Scanned
+fn scanned(row: RowKey, bytes: u64, unresolved: u64) -> ScannedObject
     ensures { result ≡ record { row = numbers.row_number row; bytes = bytes; unresolved = unresolved } }
 {
-    Scanned {
+    ScannedObject {
         row: row.number(),
         bytes,
         unresolved,
@@ -65,17 +65,17 @@ impl<'a, A: Allocator + Sync> Reads for Visit<'a, A> {
 
     ghost read_so_far = { scanned_in };
 
-    fn read(&self) -> Scanned {
+    fn read(&self) -> ScannedObject {
         scanned(self.row(), self.bytes(), self.unresolved())
     }
 }
 
-impl<'a, A: Allocator + Sync, I: IdSource + Send> Reads for Named<'a, A, I> {
+impl<'a, A: Allocator + Sync, I: IdSource + Send> Reads for Targets<'a, A, I> {
     ghost use Rattle.drain.specs.working.Measures.{scanned_in};
 
     ghost read_so_far = { scanned_in };
 
-    fn read(&self) -> Scanned {
+    fn read(&self) -> ScannedObject {
         scanned(self.row(), self.bytes(), self.unresolved())
     }
 }

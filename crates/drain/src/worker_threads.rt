@@ -13,10 +13,10 @@ use crate::job::Job;
 use crate::marked::RunFault;
 use crate::measured::Measured;
 use crate::paired_worker::{Opened, PairedWorker};
-use crate::ready::Ready;
+use crate::prepared_leader::PreparedLeader;
 use crate::start_hook::StartHook;
 use crate::supplies::Supplies;
-use crate::tallied::Tallied;
+use crate::tallied_worker::TalliedWorker;
 use crate::tally::Tally;
 use crate::walk::Walk;
 use buffer_pool::{Pool, Worker};
@@ -37,7 +37,7 @@ pub struct Duty<A: Allocator, V> {
     pub graph: Snapshot<V>,
 }
 
-impl<A: Allocator, V: Measured> Promise<Result<Tallied<A>, Stop>> for Duty<A, V> {
+impl<A: Allocator, V: Measured> Promise<Result<TalliedWorker<A>, Stop>> for Duty<A, V> {
     ghost use Rattle.std.specs.Prelude.{IfOk};
     ghost use Rattle.drain.specs.working.AtWork.{IsThrough};
     ghost use Rattle.drain.specs.working.Tallying.{HasTallied};
@@ -47,29 +47,29 @@ impl<A: Allocator, V: Measured> Promise<Result<Tallied<A>, Stop>> for Duty<A, V>
 }
 
 /// The thread of a worker that was started.
-pub type Started<A, V> = PromisedHandle<Result<Tallied<A>, Stop>, Duty<A, V>>;
+pub type StartedWorker<A, V> = PromisedHandle<Result<TalliedWorker<A>, Stop>, Duty<A, V>>;
 
 /// Does the work of worker `number`: it scans until it has nothing left, and stays until all are idle or it has waited
 /// long enough. It has nothing to do if there are not two empty buffers for it.
 fn work<T: Wait, A: Allocator + Copy, V: Walk, G: Gate, S>(
     rt: &T,
     job: &Job<'_, A, V, G, S>,
-    begun: Tallied<A>,
+    begun: TalliedWorker<A>,
     number: u32,
-) -> Result<Tallied<A>, Stop>
+) -> Result<TalliedWorker<A>, Stop>
     requires may { MayWork V.count V.roots V.pairs V.measure job.now begun.worker begun.tally }
     ensures through { IfOk result (λ t. IsThrough begun.worker t.worker) }
     ensures tally { IfOk result (λ t. HasTallied (V.measure job.now.graph.now) t.worker t.tally) }
     ensures worked { IfOk result (HasWorked job.now.workers begun.worker) }
 {
-    let Tallied { worker, mut tally } = begun;
+    let TalliedWorker { worker, mut tally } = begun;
     let mut paired = match PairedWorker::open(rt, job.alloc, job.pool, worker)? {
         Opened::Paired(paired) => paired,
-        Opened::Unpaired(worker) => return Ok(Tallied { worker, tally }),
+        Opened::Unpaired(worker) => return Ok(TalliedWorker { worker, tally }),
     };
     paired.work_off(rt, job, number, &mut tally)?;
     let worker = paired.close(rt, job.pool)?;
-    Ok(Tallied { worker, tally })
+    Ok(TalliedWorker { worker, tally })
 }
 
 /// Starts the thread of worker `number`. `Err(RunFault::WorkerRefused)` if the hook or the system refuses it.
@@ -77,9 +77,9 @@ fn start<'s, E, T, A, V, G, S>(
     rt: &'s T,
     scope: &'s Scope<'s, E>,
     job: &'s Job<'s, A, V, G, S>,
-    begun: Tallied<A>,
+    begun: TalliedWorker<A>,
     number: u32,
-) -> Result<Started<A, V>, RunFault>
+) -> Result<StartedWorker<A, V>, RunFault>
 where
     T: Wait + Sync,
     A: Allocator + Copy + Send + Sync + 's,
@@ -98,7 +98,7 @@ where
         begun: Snapshot::of(&begun.worker),
         graph: Snapshot::of(job.graph),
     };
-    let run = move || -> Result<Tallied<A>, Stop>
+    let run = move || -> Result<TalliedWorker<A>, Stop>
         requires may { MayWork V.count V.roots V.pairs V.measure job.now begun.worker begun.tally }
         ensures { IfOk result (λ t. IsThrough begun.worker t.worker
             × HasTallied (V.measure job.entry.now.graph.now) t.worker t.tally) }
@@ -114,7 +114,7 @@ where
 #[derive(Drop)]
 struct Starting<A: Allocator, V: Measured> {
     leader: Worker<A>,
-    threads: Vec<Started<A, V>, A>,
+    threads: Vec<StartedWorker<A, V>, A>,
     tallies: Vec<Tally<A>, A>,
 }
 
@@ -158,7 +158,7 @@ where
     let Some(tally) = tallies.pop() else {
         unreachable!();
     };
-    let thread = start(rt, scope, job, Tallied { worker, tally }, number)?;
+    let thread = start(rt, scope, job, TalliedWorker { worker, tally }, number)?;
     threads.push_reserved(thread);
     Ok(Starting {
         leader,
@@ -202,9 +202,9 @@ where
 /// stopped, with the fault of that worker.
 pub fn join_all<T: Threads, A: Allocator, V: Measured>(
     rt: &T,
-    threads: Vec<Started<A, V>, A>,
-    back: Vec<Tallied<A>, A>,
-) -> Result<Vec<Tallied<A>, A>, RunFault>
+    threads: Vec<StartedWorker<A, V>, A>,
+    back: Vec<TalliedWorker<A>, A>,
+) -> Result<Vec<TalliedWorker<A>, A>, RunFault>
     requires room { (vec_len back ≡ 0) × (vec_len threads ≤ vec_capacity back) }
     ensures count { IfOk result (λ l. vec_len l ≡ vec_len threads) }
     ensures back { IfOk result (λ l. (graph : _) (leader : Holder) → ((number : ℕ) (t : _) → number < vec_len threads
@@ -221,13 +221,13 @@ pub fn join_all<T: Threads, A: Allocator, V: Measured>(
 
 /// A leader whose workers have ended: it has joined none of them yet.
 #[derive(Drop)]
-pub(crate) struct Ran<A: Allocator> {
+pub(crate) struct RunWorkers<A: Allocator> {
     /// The leader with its pair.
     pub(crate) paired: PairedWorker<A>,
     /// The tally of what the leader itself finished.
     pub(crate) tally: Tally<A>,
     /// The workers that are through.
-    pub(crate) back: Vec<Tallied<A>, A>,
+    pub(crate) back: Vec<TalliedWorker<A>, A>,
 }
 
 /// Runs the workers of a leader that has given its objects to others. Returns the leader, its tally, and the workers
@@ -236,8 +236,8 @@ pub(crate) struct Ran<A: Allocator> {
 pub(crate) fn run_workers<T, A, V, G, S>(
     rt: &T,
     job: &Job<'_, A, V, G, S>,
-    ready: Ready<A, V>,
-) -> Result<Ran<A>, RunFault>
+    ready: PreparedLeader<A, V>,
+) -> Result<RunWorkers<A>, RunFault>
 where
     T: Threads + Wait + Sync,
     A: Allocator + Copy + Send + Sync,
@@ -262,7 +262,7 @@ where
     ensures count { IfOk result (λ s. vec_len s.back ≡ job.now.workers) }
     ensures back { IfOk result (λ s. AreBackUnder (V.measure job.now.graph.now) s.paired.worker s.back.items) }
 {
-    let Ready { paired, supplies } = ready;
+    let PreparedLeader { paired, supplies } = ready;
     let PairedWorker {
         worker: leader,
         pair,
@@ -276,7 +276,7 @@ where
     let (worker, back) = thread::scope(
         thread::scope_env(),
         rt,
-        move |scope| -> Result<(Worker<A>, Vec<Tallied<A>, A>), RunFault>
+        move |scope| -> Result<(Worker<A>, Vec<TalliedWorker<A>, A>), RunFault>
             requires may { MayRun V.count V.roots V.pairs V.measure job.now leader (vec_len threads)
                 (vec_capacity threads) (vec_len back) (vec_capacity back) tallies.items (vec_len tallies) }
             ensures leads { IfOk result (λ s. Leads leader s.0) }
@@ -297,7 +297,7 @@ where
         },
     )?;
     let paired = PairedWorker { worker, pair };
-    Ok(Ran {
+    Ok(RunWorkers {
         paired,
         tally,
         back,

@@ -7,7 +7,7 @@ ghost use Rattle.drain.specs.working.Tallying.{HasTallied};
 
 use buffer_pool::{Edges, Pool, Worker};
 use drain::RunFault;
-use drain::inside::{Duty, Measured, Started, Tallied, Tally, join_all};
+use drain::inside::{Duty, Measured, StartedWorker, TalliedWorker, Tally, join_all};
 use std::alloc::Global;
 use std::snapshot::Snapshot;
 use std::sync::Wait;
@@ -51,9 +51,9 @@ impl Measured for Nothing {
 fn answer<'s, E, V: Measured + Sync>(
     scope: &'s Scope<'s, E>,
     graph: &'s V,
-    begun: Tallied<Global>,
+    begun: TalliedWorker<Global>,
     stop: Option<Stop>,
-) -> Result<Started<Global, V>, RunFault>
+) -> Result<StartedWorker<Global, V>, RunFault>
     requires free { IsFree begun.worker }
     requires tally { HasTallied (V.measure graph.now) begun.worker begun.tally }
     ensures owes { IfOk result (λ t. t.promise.begun.value ≡ begun.worker) }
@@ -63,7 +63,7 @@ fn answer<'s, E, V: Measured + Sync>(
         begun: Snapshot::of(&begun.worker),
         graph: Snapshot::of(graph),
     };
-    let run = move || -> Result<Tallied<Global>, Stop>
+    let run = move || -> Result<TalliedWorker<Global>, Stop>
         requires free { IsFree begun.worker }
         requires tally { HasTallied (V.measure graph.now) begun.worker begun.tally }
         ensures { IfOk result (λ t. IsThrough begun.worker t.worker
@@ -89,7 +89,7 @@ fn answer_all<'s, E, V: Measured + Sync>(
     pool: &Pool<Global>,
     leader: Worker<Global>,
     stops: &[Option<Stop>],
-) -> Result<(Worker<Global>, Vec<Started<Global, V>>), RunFault>
+) -> Result<(Worker<Global>, Vec<StartedWorker<Global, V>>), RunFault>
     requires pool { leader.pool ≡ pool.now }
     requires share { length stops.now < leader.book.account.share }
     ensures leads { IfOk result (λ s. Leads leader s.0) }
@@ -104,7 +104,7 @@ fn answer_all<'s, E, V: Measured + Sync>(
         let (rest, worker) = pool.split(leader, 1);
         leader = rest;
         let tally = Tally::new(alloc, graph.rows())?;
-        let begun = Tallied { worker, tally };
+        let begun = TalliedWorker { worker, tally };
         let thread = answer(scope, graph, begun, stops[number])?;
         threads.push_reserved(thread);
     }
@@ -128,7 +128,7 @@ fn told<T: Threads + Wait, V: Measured + Sync>(
     let outcome = thread::scope(
         thread::scope_env(),
         rt,
-        move |scope| -> Result<Vec<Tallied<Global>>, RunFault>
+        move |scope| -> Result<Vec<TalliedWorker<Global>>, RunFault>
             requires pool { leader.pool ≡ pool.now }
             requires share { length stops.now < leader.book.account.share }
             requires room { (vec_len back ≡ 0) × (length stops.now ≤ vec_capacity back) }

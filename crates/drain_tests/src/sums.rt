@@ -3,7 +3,7 @@
 ghost use Rattle.std.specs.Prelude.{◌≡◌, ◌≤◌, ◌^◌, IfOk, length};
 ghost use Rattle.drain.specs.working.Tallying.{HasSmallSums};
 
-use drain::inside::{Scanned, Sum, Tally};
+use drain::inside::{ScannedObject, Sum, Tally};
 use std::alloc::{AllocError, Global};
 use std::test::Fail;
 
@@ -41,7 +41,7 @@ fn told(tally: &Tally<Global>) -> Told {
 /// Returns the tally of all largest objects but one, with that one added.
 fn told_of_one_more(alloc: Global) -> Result<Told, AllocError> {
     let mut tally = of_largest(alloc, OBJECTS - 1)?;
-    tally.add(Scanned {
+    tally.add(ScannedObject {
         row: 0,
         bytes: BYTES,
         unresolved: UNRESOLVED,

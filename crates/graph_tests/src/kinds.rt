@@ -1,7 +1,7 @@
 //! Visits by the kind of the object: where its identifiers stand, and that its class is known without a look-up.
 
 use crate::graphs::graph_of;
-use heap_graph::{ByKind, Graph, IdSource, Named, RowKey, Skip, Visit};
+use heap_graph::{ByKind, Graph, IdSource, Targets, RowKey, Skip, Visit};
 use std::alloc::{AllocError, Allocator, Global};
 use std::test::Fail;
 use std::thread::Threads;
@@ -37,7 +37,7 @@ const PARTS: [Parts; 4] = [
 ];
 
 /// Whether a walk has this row and these bytes, gives these objects and then none, and counts so many that name none.
-fn walks<A: Allocator, I: IdSource>(rest: Named<'_, A, I>, wanted: &Parts) -> bool {
+fn walks<A: Allocator, I: IdSource>(rest: Targets<'_, A, I>, wanted: &Parts) -> bool {
     let (_, _, objects, row, bytes, unresolved) = *wanted;
     let mut rest = rest;
     let told = rest.row() == row && rest.bytes() == bytes;

@@ -46,12 +46,12 @@ static OTHERS: [&str; 13] = [
 
 /// Tests whether `skip` has the entries `names`.
 fn has_entries<A: Allocator>(skip: &Skip<'_, A>, names: &[Names]) -> bool {
-    for (pair, (class, field)) in skip.pairs().iter().zip(names) {
-        if pair.class() != class.as_bytes() || pair.field() != field.as_bytes() {
+    for (entry, (class, field)) in skip.entries().iter().zip(names) {
+        if entry.class() != class.as_bytes() || entry.field() != field.as_bytes() {
             return false;
         }
     }
-    skip.pairs().len() == names.len()
+    skip.entries().len() == names.len()
 }
 
 /// Tests whether `text` is read as a list of the entries `names`. `Err` says how it is refused.
@@ -83,7 +83,7 @@ fn list_of(alloc: Global, entries: u32) -> Result<String, AllocError> {
 
 /// Tests whether the last entry of `skip` is `field` of `class`.
 fn ends_with<A: Allocator>(skip: &Skip<'_, A>, class: &[u8], field: &[u8]) -> bool {
-    match skip.pairs().last() {
+    match skip.entries().last() {
         Some(last) => last.class() == class && last.field() == field,
         None => false,
     }
@@ -95,7 +95,7 @@ fn read_of(alloc: Global, entries: u32) -> Result<(usize, bool), SkipRefusal> {
         return Err(SkipRefusal::OutOfMemory);
     };
     let skip = Skip::new(alloc, &text)?;
-    Ok((skip.pairs().len(), ends_with(&skip, b"Class63", b"field63")))
+    Ok((skip.entries().len(), ends_with(&skip, b"Class63", b"field63")))
 }
 
 #[test]
@@ -114,7 +114,7 @@ struct Reading<'a> {
 impl Call for Reading<'_> {
     fn is_right(&self, heap: &LimitedHeap<Global>) -> bool {
         match Skip::new(heap, self.text) {
-            Ok(skip) => skip.pairs().len() == self.entries,
+            Ok(skip) => skip.entries().len() == self.entries,
             Err(refusal) => refusal == SkipRefusal::OutOfMemory && heap.refusals() > 0,
         }
     }
@@ -147,7 +147,7 @@ fn memory_refused_in_turn(rt: HostRuntime) -> Result<(), Fail> {
 
 /// Tests whether the empty list has no entries.
 fn none_is_empty<A: Allocator>(alloc: A) -> bool {
-    Skip::none(alloc).pairs().is_empty()
+    Skip::none(alloc).entries().is_empty()
 }
 
 #[test]

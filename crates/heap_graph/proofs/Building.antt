@@ -13,7 +13,7 @@ use Rattle.heap_graph.proofs.Counting.{few_in_dump, few_of_records}
 use Rattle.heap_graph.proofs.HeldLists.{are_lists, held_lists}
 use Rattle.heap_graph.proofs.UnresolvedLaws.{few_held, roots_unresolved}
 use Rattle.heap_graph.proofs.Sizes.{id_size_range}
-use Rattle.heap_graph.proofs.Targets.{same_unresolved, same_targets}
+use Rattle.heap_graph.proofs.TargetLaws.{same_unresolved, same_targets}
 use Rattle.heap_graph.proofs.Wholeness.{is_whole}
 
 -- ---- what stands in the bytes, seen by a view of them

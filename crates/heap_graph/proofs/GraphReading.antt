@@ -6,7 +6,7 @@ use Rattle.heap_graph.proofs.Words.{references_of, row_at, subst, sym, ℕ, ◌+
 use Rattle.heap_graph.specs.Walks.{step_in}
 use Rattle.heap_graph.specs.working.Scans.{IsScanOf}
 use Rattle.heap_graph.proofs.Answering.{bytes_here, held_here, references_here, row_here}
-use Rattle.heap_graph.proofs.Targets.{same_targets}
+use Rattle.heap_graph.proofs.TargetLaws.{same_targets}
 use Rattle.heap_graph.proofs.Walking.{targets_of_steps}
 
 module _ {A : Type 0} {o : Objects A} {plan : Plan A} {roots : List ℕ} {classes : List ClassEntry} {unresolved : ℕ}

@@ -33,7 +33,7 @@ pub mod EntryLaws
 pub mod NameLookups
 pub mod ClassLaws
 pub mod Sizes
-pub mod Targets
+pub mod TargetLaws
 pub mod HeldLists
 pub mod UnresolvedLaws
 pub mod Walking

@@ -6,7 +6,7 @@ use Rattle.heap_graph.proofs.Words.{refl, root_ids, slice_get-get_or, suc, sum_b
 use Rattle.heap_graph.proofs.Words.{unresolved_among, unresolved_roots, zero, ℕ, ⊎_elim, ◌+◌, ◌^◌, ◌∙◌, ◌∷◌, ◌≡◌, ◌≤◌}
 use Rattle.heap_graph.proofs.Firsts.{slice_get_of}
 use Rattle.heap_graph.proofs.HeldLists.{HoldLists}
-use Rattle.heap_graph.proofs.Targets.{same_unresolved}
+use Rattle.heap_graph.proofs.TargetLaws.{same_unresolved}
 
 -- ---- a sum over lists, by their numbers
 

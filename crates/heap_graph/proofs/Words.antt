@@ -74,8 +74,8 @@ pub use Rattle.heap_graph.specs.declared.classes.ClassPlace.{ClassPlace}
 pub use Rattle.heap_graph.specs.declared.classes.chains.Step.{Step}
 pub use Rattle.heap_graph.specs.declared.classes.fate.Fate.{Fate}
 pub use Rattle.heap_graph.specs.declared.classes.fate.Layout.{Layout}
-pub use Rattle.heap_graph.specs.declared.field_places.ClassPlan.{ClassPlan}
-pub use Rattle.heap_graph.specs.declared.field_places.Plan.{Plan}
+pub use Rattle.heap_graph.specs.declared.plan.ClassPlan.{ClassPlan}
+pub use Rattle.heap_graph.specs.declared.plan.Plan.{Plan}
 pub use Rattle.heap_graph.specs.declared.objects.Objects.{Objects}
 pub use Rattle.heap_graph.specs.declared.objects.indexing.Indexed.{Indexed}
 pub use Rattle.heap_graph.specs.declared.refusal.LinkFault.{LinkFault}

@@ -1,7 +1,7 @@
 //! The graph of the objects of a dump.
 
 mod build;
-mod parts;
+mod classes_and_roots;
 
 ghost use Rattle.std.specs.Prelude.{All, ◌+◌, ◌<◌, ◌^◌, ◌≡◌, ◌≤◌, map, option_copied};
 ghost use Rattle.hprof_grammar.specs.Dump.{limit};
@@ -12,10 +12,10 @@ ghost use Rattle.heap_graph.specs.Walks.{ids_in, unresolved_left, references_in,
 ghost use Rattle.heap_graph.specs.working.GraphOf.{GraphOf, GraphOf-prop};
 
 use crate::class_entry::ClassEntry;
-use crate::field_places::Plan;
+use crate::plan::Plan;
 use crate::objects::Objects;
 use crate::row::{FIXED_ROWS, RowKey};
-use crate::skip::SkipPair;
+use crate::skip::SkipEntry;
 use crate::successors::Successors;
 use crate::visit::Visit;
 use std::alloc::Allocator;
@@ -33,7 +33,7 @@ pub struct Graph<'a, A: Allocator> {
     /// The number of root identifiers that are not 0 and name no object.
     unresolved: u64,
     /// The fields that are not followed, as clauses see them.
-    skip: Snapshot<&'a [SkipPair<'a>]>,
+    skip: Snapshot<&'a [SkipEntry<'a>]>,
     /// The graph of the bytes and of the list. There is at most one.
     ghost graph: { GraphOf objects.view.bytes skip.value.now } by { GraphOf-prop objects.view.bytes skip.value.now },
 }

@@ -19,11 +19,11 @@
 
 mod class_entry;
 mod classes;
-mod field_places;
+mod plan;
 mod graph;
 mod held;
 mod laws;
-mod named;
+mod targets;
 mod names;
 mod objects;
 mod refusal;
@@ -37,10 +37,10 @@ mod visit;
 
 pub use graph::Graph;
 pub use laws::{always_linked_or_fault, an_empty_list_skips_nothing, one_graph, one_skip_list};
-pub use named::{IdSource, Named, NamedElements, NamedFields, NamedNone};
+pub use targets::{IdSource, Targets, ElementTargets, FieldTargets, NoTargets};
 pub use refusal::{LinkFault, LinkRefusal};
 pub use row::RowKey;
 pub use rule::LinkRule;
-pub use skip::{Skip, SkipPair, SkipRefusal};
+pub use skip::{Skip, SkipEntry, SkipRefusal};
 pub use successors::Successors;
 pub use visit::{ByKind, Visit};

@@ -10,7 +10,7 @@ mod met;
 mod refusal;
 
 pub(crate) use class_skips::ClassSkips;
-pub use entry::SkipPair;
+pub use entry::SkipEntry;
 use entry::{entry_of, first_piece};
 pub use refusal::SkipRefusal;
 use std::alloc::Allocator;
@@ -22,7 +22,7 @@ const MOST_ENTRIES: usize = 64;
 /// Fields that are not followed, each by the text that names its declaring class and the string of its own name.
 #[derive(Drop)]
 pub struct Skip<'t, A: Allocator> {
-    pairs: Vec<SkipPair<'t>, A>,
+    entries: Vec<SkipEntry<'t>, A>,
 }
 
 impl<'t, A: Allocator> Model for Skip<'t, A> {
@@ -31,7 +31,7 @@ impl<'t, A: Allocator> Model for Skip<'t, A> {
 
     ghost Value = { List SkipEntry };
 
-    ghost view = { λ skip. skip.pairs.items };
+    ghost view = { λ skip. skip.entries.items };
 }
 
 /// Tests whether a list of `entries` entries has room for another one.
@@ -48,7 +48,7 @@ impl<'t, A: Allocator> Skip<'t, A> {
         ensures { result ≡ [] }
     {
         Skip {
-            pairs: Vec::new(alloc),
+            entries: Vec::new(alloc),
         }
     }
 
@@ -59,18 +59,18 @@ impl<'t, A: Allocator> Skip<'t, A> {
         ensures list { IfOk result (λ skip. SpellsSkips text.now skip) }
         ensures bad { result ≡ Err SkipRefusal.BadOptions → (list : List SkipEntry) → SpellsSkips text.now list → ⊥ }
     {
-        let mut pairs = Vec::new(alloc);
+        let mut entries = Vec::new(alloc);
         let mut rest = text;
-        while has_room(pairs.len()) {
+        while has_room(entries.len()) {
             let (piece, more) = first_piece(rest);
-            let Some(pair) = entry_of(piece) else {
+            let Some(entry) = entry_of(piece) else {
                 return Err(SkipRefusal::BadOptions);
             };
-            if pairs.push(pair).is_err() {
+            if entries.push(entry).is_err() {
                 return Err(SkipRefusal::OutOfMemory);
             }
             let Some(behind) = more else {
-                return Ok(Skip { pairs });
+                return Ok(Skip { entries });
             };
             rest = behind;
         }
@@ -78,9 +78,9 @@ impl<'t, A: Allocator> Skip<'t, A> {
     }
 
     /// Returns the entries, in the order of the text.
-    pub fn pairs(&self) -> &[SkipPair<'t>]
+    pub fn entries(&self) -> &[SkipEntry<'t>]
         ensures { result.now ≡ self.now }
     {
-        &self.pairs
+        &self.entries
     }
 }

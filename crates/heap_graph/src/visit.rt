@@ -3,7 +3,7 @@
 ghost use Rattle.heap_graph.specs.ByKind.{AreByKind};
 
 use crate::held::{HeldIds, Rest};
-use crate::named::{Named, NamedElements, NamedFields, NamedIds, NamedNone, NoIds};
+use crate::targets::{Targets, ElementTargets, FieldTargets, HeldTargets, NoTargets, NoIds};
 use crate::row::RowKey;
 use id_index::IdIndex;
 use std::alloc::Allocator;
@@ -18,7 +18,7 @@ pub struct Visit<'g, A: Allocator> {
     /// The class, if it is known without a look-up and was not returned yet.
     class: Option<u32>,
     /// The objects that the identifiers after it name.
-    rest: NamedIds<'g, A>,
+    rest: HeldTargets<'g, A>,
 }
 
 /// The class of an object, if it is known without a look-up, and the objects that the identifiers after it name, by
@@ -26,11 +26,11 @@ pub struct Visit<'g, A: Allocator> {
 #[derive(Drop)]
 pub enum ByKind<'g, A: Allocator> {
     /// There are no identifiers.
-    Nothing(Option<u32>, NamedNone<'g, A>),
+    Nothing(Option<u32>, NoTargets<'g, A>),
     /// The identifiers are in the fields of an instance.
-    Fields(Option<u32>, NamedFields<'g, A>),
+    Fields(Option<u32>, FieldTargets<'g, A>),
     /// The identifiers are the elements of an array.
-    Elements(Option<u32>, NamedElements<'g, A>),
+    Elements(Option<u32>, ElementTargets<'g, A>),
     /// Any other object. This has none of its references: a new visit yields them.
     Any,
 }
@@ -80,7 +80,7 @@ impl<'g, A: Allocator> Visit<'g, A> {
         Visit {
             index,
             class,
-            rest: Named::new(index, ids, row, bytes, 0),
+            rest: Targets::new(index, ids, row, bytes, 0),
         }
     }
 
@@ -126,7 +126,7 @@ impl<'g, A: Allocator> Visit<'g, A> {
         ensures { AreByKind self.entry result }
     {
         let Visit { class, rest, .. } = self;
-        let Named {
+        let Targets {
             index,
             ids,
             row,
@@ -135,15 +135,15 @@ impl<'g, A: Allocator> Visit<'g, A> {
         } = rest;
         match ids.rest {
             Rest::Nothing => {
-                let none = Named::new(index, NoIds {}, row, bytes, unresolved);
+                let none = Targets::new(index, NoIds {}, row, bytes, unresolved);
                 ByKind::Nothing(class, none)
             }
             Rest::Fields(ids) => {
-                let fields = Named::new(index, ids, row, bytes, unresolved);
+                let fields = Targets::new(index, ids, row, bytes, unresolved);
                 ByKind::Fields(class, fields)
             }
             Rest::Elements(ids) => {
-                let elements = Named::new(index, ids, row, bytes, unresolved);
+                let elements = Targets::new(index, ids, row, bytes, unresolved);
                 ByKind::Elements(class, elements)
             }
             _ => ByKind::Any,

@@ -154,10 +154,10 @@ fn answer_words<W: Write, E: Write>(
     ensures failures { failures_of out.new ≤ failures_of out.old + 1 }
 {
     match error.kind() {
-        ErrorKind::OutOfMemory => refused(err, &Refusal::OUT_OF_MEMORY),
+        ErrorKind::OutOfMemory => print_refusal(err, &Refusal::OUT_OF_MEMORY),
         ErrorKind::DisplayHelp | ErrorKind::DisplayVersion => {
             let Ok(text) = format!(in alloc; "{error}") else {
-                return refused(err, &Refusal::OUT_OF_MEMORY);
+                return print_refusal(err, &Refusal::OUT_OF_MEMORY);
             };
             let _ = out.write_whole(text.as_bytes());
             status::DONE
@@ -182,9 +182,9 @@ fn tell<E: Write>(err: &mut E, reason: &NoReport) -> u8
     ensures { result ≡ 1 }
 {
     match reason {
-        NoReport::Refused(refusal) => refused(err, refusal),
-        NoReport::Stopped(refusal, _) => refused(err, refusal),
-        NoReport::NotOpened(_) => refused(err, &Refusal::READ_FAULT),
+        NoReport::Refused(refusal) => print_refusal(err, refusal),
+        NoReport::Stopped(refusal, _) => print_refusal(err, refusal),
+        NoReport::NotOpened(_) => print_refusal(err, &Refusal::READ_FAULT),
     }
 }
 
@@ -202,7 +202,7 @@ fn explain<T: Files + AllocGlobal, E: Write>(rt: &T, err: &mut E, unreported: &U
 }
 
 /// Prints `refusal` in one line, and returns its exit status.
-pub fn refused<E: Write>(err: &mut E, refusal: &Refusal) -> u8
+pub fn print_refusal<E: Write>(err: &mut E, refusal: &Refusal) -> u8
     ensures { result ≡ 1 }
 {
     let _ = writeln!(err, "heapmark: {refusal}");

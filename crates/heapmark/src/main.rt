@@ -37,7 +37,7 @@ pub use refusal::Refusal;
 #[cfg(test)]
 mod tests;
 
-use command::{program_at_terminal, refuse_bytes, refused};
+use command::{program_at_terminal, refuse_bytes, print_refusal};
 use std::alloc::{AllocError, Global};
 use std::io::{ErrorKind, IsTerminal, Write};
 use std::process::ExitCode;
@@ -106,12 +106,12 @@ where
     let args = match args_of(line, rt.alloc()) {
         Ok(args) => args,
         Err(fault) if fault.kind() == ErrorKind::InvalidData => return refuse_bytes(err),
-        Err(_) => return refused(err, &Refusal::OUT_OF_MEMORY),
+        Err(_) => return print_refusal(err, &Refusal::OUT_OF_MEMORY),
     };
     match words_of(&args, rt.alloc()) {
         Ok(words) if is_terminal => program_at_terminal(rt, words.as_slice(), out, err),
         Ok(words) => program(rt, words.as_slice(), out, err),
-        Err(_) => refused(err, &Refusal::OUT_OF_MEMORY),
+        Err(_) => print_refusal(err, &Refusal::OUT_OF_MEMORY),
     }
 }
 

@@ -1,7 +1,7 @@
 //! Why a run has no report.
 
 mod codes;
-mod parts;
+mod from_parts;
 mod text;
 
 use thiserror::Error;

@@ -11,7 +11,7 @@ use Rattle.heap_graph.specs.ObjectGraph.{ObjectGraph, bytes_at, object_count}
 use Rattle.heap_graph.specs.Whole.{IsWhole, unresolved_at}
 use Rattle.hprof_grammar.specs.Dump.{limit}
 use Rattle.histogram.specs.declared.unmarked.Unmarked.{Unmarked}
-use Rattle.histogram.specs.working.Unmarked.{AddUp, AreObjects, both, counted, unmarked_from}
+use Rattle.histogram.specs.working.Unmarked.{AddUp, AreGraphObjects, both, totals_of, unmarked_from}
 
 -- ---- those of a range that pass a test
 
@@ -79,7 +79,8 @@ module _ (marks : List Bool) where
       (from : ℕ) → None ≡ find unmarked (range_with_len from (length marks - from)) → unmarked_from marks from ≡ []
   none_unmarked from none = none_pass unmarked (length marks - from) from none
 
-  pub unmarked_are_objects : (g : ObjectGraph) → length marks ≡ object_count g → AreObjects g (unmarked_from marks 0)
+  pub unmarked_are_objects : (g : ObjectGraph) → length marks ≡ object_count g
+      → AreGraphObjects g (unmarked_from marks 0)
   unmarked_are_objects g one_each = record {
     within = pass_within unmarked (length marks - 0) 0 (object_count g) (omega (arith, one_each));
     few =
@@ -105,26 +106,26 @@ all_behind P [] ys all = all
 all_behind P (x ∷ xs) ys all = all_behind P xs ys (All-tail P x (xs ++ ys) all)
 
 module _ (g : ObjectGraph) where
-  pub before_are_objects : (xs ys : List ℕ) → AreObjects g (xs ++ ys) → AreObjects g xs
+  pub before_are_objects : (xs ys : List ℕ) → AreGraphObjects g (xs ++ ys) → AreGraphObjects g xs
   before_are_objects xs ys are = record {
     within = all_before (λ o. o < object_count g) xs ys are.within;
     few = omega (arith, are.few, length-append xs ys);
   }
 
-  pub behind_are_objects : (xs ys : List ℕ) → AreObjects g (xs ++ ys) → AreObjects g ys
+  pub behind_are_objects : (xs ys : List ℕ) → AreGraphObjects g (xs ++ ys) → AreGraphObjects g ys
   behind_are_objects xs ys are = record {
     within = all_behind (λ o. o < object_count g) xs ys are.within;
     few = omega (arith, are.few, length-append xs ys);
   }
 
-  pub counted-append : (xs ys : List ℕ) → counted g (xs ++ ys) ≡ both (counted g xs) (counted g ys)
-  counted-append xs ys t = record {
+  pub totals_of-append : (xs ys : List ℕ) → totals_of g (xs ++ ys) ≡ both (totals_of g xs) (totals_of g ys)
+  totals_of-append xs ys t = record {
     count = length-append xs ys t;
     bytes = sum_by-append (bytes_at g) xs ys t;
     unresolved = sum_by-append (unresolved_at g) xs ys t;
   }
 
-  pub add_up : (xs ys : List ℕ) → IsWhole g → AreObjects g (xs ++ ys) → AddUp (counted g xs) (counted g ys)
+  pub add_up : (xs ys : List ℕ) → IsWhole g → AreGraphObjects g (xs ++ ys) → AddUp (totals_of g xs) (totals_of g ys)
   add_up xs ys whole are =
       let all = xs ++ ys in
       let count = length-append xs ys in
@@ -138,29 +139,30 @@ module _ (g : ObjectGraph) where
 
   -- so far the objects in front of these were counted
   abbrev pub HasCounted : List ℕ → List ℕ → Unmarked → Type 0
-  HasCounted all rest left = (done : List ℕ) × (done ++ rest ≡ all) × (left ≡ counted g done)
+  HasCounted all rest left = (done : List ℕ) × (done ++ rest ≡ all) × (left ≡ totals_of g done)
 
   -- those that come next were counted, too
   module _ (all rest some after : List ℕ) (left one : Unmarked) (has : HasCounted all rest left)
-      (is : rest ≡ some ++ after) (told : one ≡ counted g some) where
+      (is : rest ≡ some ++ after) (told : one ≡ totals_of g some) where
     together : has.0 ++ some ++ after ≡ all
     together = append_assoc has.0 some after ∙ ap (λ r. has.0 ++ r) (sym is) ∙ has.1
 
-    sum : both left one ≡ counted g (has.0 ++ some)
-    sum = (λ t. both (has.2 t) (told t)) ∙ sym (counted-append has.0 some)
+    sum : both left one ≡ totals_of g (has.0 ++ some)
+    sum = (λ t. both (has.2 t) (told t)) ∙ sym (totals_of-append has.0 some)
 
     pub counted_more : (new : Unmarked) → new ≡ both left one → HasCounted all after new
     counted_more new now = (has.0 ++ some, together, now ∙ sum)
 
-    done_are_objects : AreObjects g all → AreObjects g (has.0 ++ some)
-    done_are_objects are = before_are_objects (has.0 ++ some) after (subst (AreObjects g) (sym together) are)
+    done_are_objects : AreGraphObjects g all → AreGraphObjects g (has.0 ++ some)
+    done_are_objects are = before_are_objects (has.0 ++ some) after (subst (AreGraphObjects g) (sym together) are)
 
-    pub more_add_up : IsWhole g → AreObjects g all → AddUp left one
+    pub more_add_up : IsWhole g → AreGraphObjects g all → AddUp left one
     more_add_up whole are = rw (has.2, told) (add_up has.0 some whole (done_are_objects are))
 
   pub next_are_objects :
       (all rest some after : List ℕ) (left : Unmarked) → HasCounted all rest left → rest ≡ some ++ after
-      → AreObjects g all → AreObjects g some
+      → AreGraphObjects g all → AreGraphObjects g some
   next_are_objects all rest some after left has is are =
       let together : has.0 ++ (some ++ after) ≡ all = ap (λ r. has.0 ++ r) (sym is) ∙ has.1 in
-      before_are_objects some after (behind_are_objects has.0 (some ++ after) (subst (AreObjects g) (sym together) are))
+      before_are_objects some after (behind_are_objects has.0 (some ++ after) (subst (AreGraphObjects g) (sym together)
+          are))

@@ -6,7 +6,7 @@ ghost use Rattle.heap_graph.specs.ObjectGraph.{object_count};
 ghost use Rattle.heap_graph.specs.Whole.{unresolved_among};
 ghost use Rattle.hprof_grammar.specs.TeamLimits.{HasFewParts};
 ghost use Rattle.histogram.specs.Histogram.{total, unmarked_objects};
-ghost use Rattle.histogram.specs.working.Unmarked.{AddUp, AreObjects, both, counted};
+ghost use Rattle.histogram.specs.working.Unmarked.{AddUp, AreGraphObjects, both, totals_of};
 
 use crate::unmarked_numbers::UnmarkedNumbers;
 use drain::Marked;
@@ -37,7 +37,7 @@ impl Unmarked {
     /// Counts `object`, by one walk over it.
     fn of<A: Allocator>(graph: &Graph<'_, A>, object: u32) -> Unmarked
         requires { object < object_count graph.now }
-        ensures { result ≡ counted graph.now (object ∷ []) }
+        ensures { result ≡ totals_of graph.now (object ∷ []) }
     {
         let mut visit = graph.visit(object);
         while visit.next().is_some() {}
@@ -75,7 +75,7 @@ pub(crate) fn count_unmarked<
     ensures unresolved { result.unresolved ≡ unresolved_among graph.now (unmarked_objects graph.now marks.now.marks) }
 {
     let unmarked = u64::from(graph.len()).saturating_sub(marks.len());
-    if team.shares(unmarked as usize) {
+    if team.splits(unmarked as usize) {
         if let Ok(left) = count_in_batches(team, alloc, graph, marks) {
             return left;
         }
@@ -91,7 +91,7 @@ fn count_in_batches<T: Threads + Sync, A: Allocator + Copy, B: Allocator + Sync,
     marks: &Marked<C>,
 ) -> Result<Unmarked, AllocError>
     requires { length marks.now.marks ≡ object_count graph.now }
-    ensures { IfOk result (λ left. left ≡ counted graph.now (unmarked_objects graph.now marks.now.marks)) }
+    ensures { IfOk result (λ left. left ≡ totals_of graph.now (unmarked_objects graph.now marks.now.marks)) }
 {
     // Called for its clause `whole`: a graph has few objects, so no sum overflows.
     let _objects = graph.len();
@@ -108,7 +108,7 @@ fn count_in_batches<T: Threads + Sync, A: Allocator + Copy, B: Allocator + Sync,
 /// Counts the objects that are not marked, one object after the other.
 fn count_in_turn<A: Allocator, B: Allocator>(graph: &Graph<'_, A>, marks: &Marked<B>) -> Unmarked
     requires { length marks.now.marks ≡ object_count graph.now }
-    ensures { result ≡ counted graph.now (unmarked_objects graph.now marks.now.marks) }
+    ensures { result ≡ totals_of graph.now (unmarked_objects graph.now marks.now.marks) }
 {
     // Called for its clause `whole`: a graph has few objects, so no sum overflows.
     let _objects = graph.len();
@@ -129,8 +129,8 @@ fn count_in_parts<T: Threads + Sync, A: Allocator + Sync>(
 ) -> Unmarked
     requires size { 0 < size }
     requires few { HasFewParts team.now.threads (length numbers.now) size }
-    requires objects { AreObjects graph.now numbers.now }
-    ensures { result ≡ counted graph.now numbers.now }
+    requires objects { AreGraphObjects graph.now numbers.now }
+    ensures { result ≡ totals_of graph.now numbers.now }
 {
     if numbers.len() <= size {
         return count(graph, numbers);
@@ -139,13 +139,13 @@ fn count_in_parts<T: Threads + Sync, A: Allocator + Sync>(
     let _objects = graph.len();
     let (first, others) = numbers.split_at(size);
     let front = move || -> Unmarked
-        requires { AreObjects graph.now first.now }
-        ensures { result ≡ counted graph.entry.now first.entry.now }
+        requires { AreGraphObjects graph.now first.now }
+        ensures { result ≡ totals_of graph.entry.now first.entry.now }
     { count(graph, first) };
     let back = move || -> Unmarked
         requires { IsSync T.row × IsSync A.row × (0 < size)
-            × HasFewParts team.now.threads (length others.now) size × AreObjects graph.now others.now }
-        ensures { result ≡ counted graph.entry.now others.entry.now }
+            × HasFewParts team.now.threads (length others.now) size × AreGraphObjects graph.now others.now }
+        ensures { result ≡ totals_of graph.entry.now others.entry.now }
     { count_in_parts(team, graph, others, size) };
     let (front, back) = join(team, front, back);
     front.and(back)
@@ -153,8 +153,8 @@ fn count_in_parts<T: Threads + Sync, A: Allocator + Sync>(
 
 /// Counts the objects `numbers`.
 fn count<A: Allocator>(graph: &Graph<'_, A>, numbers: &[u32]) -> Unmarked
-    requires { AreObjects graph.now numbers.now }
-    ensures { result ≡ counted graph.now numbers.now }
+    requires { AreGraphObjects graph.now numbers.now }
+    ensures { result ≡ totals_of graph.now numbers.now }
 {
     // Called for its clause `whole`: a graph has few objects, so no sum overflows.
     let _objects = graph.len();

@@ -1,9 +1,9 @@
 -- Parts that are joined one behind another.
-use Rattle.hprof_grammar.proofs.Words.{AddsAll, AddsRecords, AddsRecordsFrom, Before, Bool, IsPart, List, SnapshotState}
-use Rattle.hprof_grammar.proofs.Words.{Part, Places, Seam, [], ap, arith, drop, drop-drop, drop_of_length-le, eqb}
-use Rattle.hprof_grammar.proofs.Words.{eqb-true, false, is_done, length, length-drop, not, nothing_of, refl, same_true}
-use Rattle.hprof_grammar.proofs.Words.{sameb, subst, sym, take, take-append-drop, the_type, true, with_places, ℕ, ◌&&◌}
-use Rattle.hprof_grammar.proofs.Words.{◌++◌, ◌+◌, ◌-◌, ◌<◌, ◌^◌, ◌∙◌, ◌≡◌, ◌≤◌}
+use Rattle.hprof_grammar.proofs.Words.{AddsAll, AddsRecords, AddsRecordsFrom, Before, Bool, IsReadPart, List}
+use Rattle.hprof_grammar.proofs.Words.{SnapshotState, Part, Places, Seam, [], ap, arith, drop, drop-drop}
+use Rattle.hprof_grammar.proofs.Words.{drop_of_length-le, eqb, eqb-true, false, is_done, length, length-drop, not}
+use Rattle.hprof_grammar.proofs.Words.{nothing_of, refl, same_true, sameb, subst, sym, take, take-append-drop, the_type}
+use Rattle.hprof_grammar.proofs.Words.{true, with_places, ℕ, ◌&&◌, ◌++◌, ◌+◌, ◌-◌, ◌<◌, ◌^◌, ◌∙◌, ◌≡◌, ◌≤◌}
 use Rattle.hprof_grammar.proofs.RecordSteps.{read_apart, records_begin, records_join}
 
 both_hold : (x y : Bool) → not (x && y) ≡ false → (x ≡ true) × (y ≡ true)
@@ -35,7 +35,7 @@ none_joined text s dump e = record {
 
 -- a part that begins at that seam joins them
 pub part_joins : {A : Type 0} {text : List ℕ} {s : ℕ} {seam : Seam} {dump newer : Places} (part : Part A)
-    → Reaches text s seam dump → IsPart text s part → part.from ≡ seam → newer ≡ with_places dump part.dump
+    → Reaches text s seam dump → IsReadPart text s part → part.from ≡ seam → newer ≡ with_places dump part.dump
     → length text < 2 ^ 32 → Reaches text s part.to newer
 part_joins {A} {text} {s} {seam} {dump} {newer} part was is begins e room =
     let from = part.from.place in

@@ -83,7 +83,7 @@ pub use Rattle.hprof_grammar.specs.working.Joining.{FrameFault, HasHeader, HasRe
 pub use Rattle.hprof_grammar.specs.working.Joining.{nothing_of, with_loaded, with_places, with_record, with_records}
 pub use Rattle.hprof_grammar.specs.working.Joining.{with_string, with_subs}
 pub use Rattle.hprof_grammar.specs.working.Joining.FrameFault.{wrong_heap, wrong_length, wrong_order}
-pub use Rattle.hprof_grammar.specs.working.Parts.{IsPart}
+pub use Rattle.hprof_grammar.specs.working.Parts.{IsReadPart}
 pub use Rattle.hprof_grammar.specs.working.Reading.{as_at, behind, block_at, body_at, class_dump_at, constant_at}
 pub use Rattle.hprof_grammar.specs.working.Reading.{counted_at, flaw_code, frame_at, instance_at, list_at, lone_root}
 pub use Rattle.hprof_grammar.specs.working.Reading.{member_at, number_at, numbers_at, object_array_at}

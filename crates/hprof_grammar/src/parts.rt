@@ -3,7 +3,7 @@
 
 ghost use Rattle.std.specs.Prelude.{All, IfSome, drop, ◌+◌, ◌<◌, ◌≡◌, ◌≤◌, ◌^◌, length};
 ghost use Rattle.hprof_grammar.specs.working.Joining.{AddsAll, HasHeader, nothing_of};
-ghost use Rattle.hprof_grammar.specs.working.Parts.{IsPart, MayBePart};
+ghost use Rattle.hprof_grammar.specs.working.Parts.{IsReadPart, MayBePart};
 
 use crate::cuts::{Cut, FIRST_SEAM, Seam, cut_records};
 use crate::dump::Dump;
@@ -28,7 +28,7 @@ pub struct Part<A: Allocator> {
 fn read_part<A: Allocator + Copy>(alloc: A, bytes: &[u8], id_size: u8, cut: Cut) -> Option<Part<A>>
     requires low { 1 ≤ id_size }
     requires high { id_size ≤ 8 }
-    ensures { IfSome result (λ part. IsPart bytes.now id_size part) }
+    ensures { IfSome result (λ part. IsReadPart bytes.now id_size part) }
 {
     let records = bytes.get(cut.from.place as usize..cut.to as usize)?;
     let mut dump = Dump::new(alloc, id_size);
@@ -85,7 +85,7 @@ pub fn read_in_parts<T: Threads + Sync, A: Allocator + Copy + Send + Sync>(
     requires header { HasHeader id_size bytes.now }
     ensures { IfSome result (λ dump. AddsAll (drop 31 bytes.now) (nothing_of id_size) dump) }
 {
-    if !team.shares(bytes.len() / BYTES_OF_AN_OBJECT) {
+    if !team.splits(bytes.len() / BYTES_OF_AN_OBJECT) {
         return None;
     }
     let records = bytes.get(FIRST_RECORD as usize..)?;
@@ -95,7 +95,7 @@ pub fn read_in_parts<T: Threads + Sync, A: Allocator + Copy + Send + Sync>(
     }
     let read = |cut: Cut| -> Option<Part<A>>
         requires { (1 ≤ id_size) × (id_size ≤ 8) }
-        ensures { IfSome result (λ part. IsPart bytes.entry.now id_size part) }
+        ensures { IfSome result (λ part. IsReadPart bytes.entry.now id_size part) }
     { read_part(alloc, bytes, id_size, cut) };
     let Ok(parts) = thread::map_vec(team, cuts, &read) else {
         return None;

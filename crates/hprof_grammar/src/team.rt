@@ -69,7 +69,7 @@ impl<'r, T> Team<'r, T> {
     ghost use Rattle.hprof_grammar.specs.TeamLimits.{HasFewParts, HasManyParts};
 
     /// Tests whether work on `objects` objects is done in parts.
-    pub fn shares(&self, objects: usize) -> bool
+    pub fn splits(&self, objects: usize) -> bool
         ensures { result ≡ (nat_lt 1 self.now.threads && nat_le self.now.fewest objects) }
     {
         self.threads > 1 && objects >= self.fewest as usize

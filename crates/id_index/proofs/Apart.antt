@@ -1,5 +1,5 @@
 -- Runs that are apart stay so in another order, and ascending runs of a page stand in the order of their objects.
-use Rattle.id_index.proofs.Words.{AreApart, AreInTurn, DoPagesRise, IsApart, IsPermutation, IsPermutation-keeps}
+use Rattle.id_index.proofs.Words.{AreInTurn, ArePairwiseApart, DoPagesRise, IsApart, IsPermutation, IsPermutation-keeps}
 use Rattle.id_index.proofs.Words.{IsSorted, IsStrictWeakOrder, List, Run, ap, arith, cases_eq, cases_lt, count_ones}
 use Rattle.id_index.proofs.Words.{end_of, false, inl, inr, is_lt, length, length-swap, nat_cmp_total, nat_tests, no_run}
 use Rattle.id_index.proofs.Words.{on_total, page_in, ranks_by, refl, run_cmp, run_in, sorted_far, subst, swap}
@@ -10,7 +10,7 @@ turned : (x y : Run) → IsApart x y → IsApart y x
 turned x y (inl before) = inr before
 turned x y (inr behind) = inl behind
 
-pub apart_in_turn : (runs : List Run) → AreInTurn runs → AreApart runs
+pub apart_in_turn : (runs : List Run) → AreInTurn runs → ArePairwiseApart runs
 apart_in_turn runs turn i j differ left right =
     elim (cases_lt i j) [
       | inl less ↦ inl (turn i j less right)
@@ -41,8 +41,8 @@ came_from runs a b i in_a in_b in_i =
       ]
     ]
 
-swap_apart : (runs : List Run) (a b : ℕ) → a < length runs → b < length runs → AreApart runs
-    → AreApart (swap runs a b)
+swap_apart : (runs : List Run) (a b : ℕ) → a < length runs → b < length runs → ArePairwiseApart runs
+    → ArePairwiseApart (swap runs a b)
 swap_apart runs a b in_a in_b apart i j differ in_i in_j =
     let len : length (swap runs a b) ≡ length runs = length-swap runs a b in
     let (k, in_k, at_i, from_i) = came_from runs a b i in_a in_b (omega (arith, in_i, len)) in
@@ -51,9 +51,9 @@ swap_apart runs a b in_a in_b apart i j differ in_i in_j =
     subst (λ (x : Run). IsApart x (run_in (swap runs a b) j)) (sym at_i)
     (subst (λ (y : Run). IsApart (run_in runs k) y) (sym at_j) (apart k m other in_k in_m))
 
-pub apart_moved : (xs ys : List Run) → IsPermutation xs ys → AreApart xs → AreApart ys
+pub apart_moved : (xs ys : List Run) → IsPermutation xs ys → ArePairwiseApart xs → ArePairwiseApart ys
 apart_moved xs ys same apart =
-    IsPermutation-keeps xs AreApart apart (λ runs a b in_a in_b it. swap_apart runs a b in_a in_b it) ys same
+    IsPermutation-keeps xs ArePairwiseApart apart (λ runs a b in_a in_b it. swap_apart runs a b in_a in_b it) ys same
 
 run_order : IsStrictWeakOrder (λ (x y : Run). is_lt (run_cmp x y))
 run_order = ranks_by (then_total (then_total (on_total (λ (l : Run). l.page) nat_cmp_total)
@@ -97,7 +97,7 @@ first_ends x y order (inr behind) same =
       ]
     ]
 
-pub ends_in_turn : (runs : List Run) (i j : ℕ) → IsSorted run_cmp runs → AreApart runs → i < j
+pub ends_in_turn : (runs : List Run) (i j : ℕ) → IsSorted run_cmp runs → ArePairwiseApart runs → i < j
     → j < length runs → page_in runs i ≡ page_in runs j
     → end_of (run_in runs i) ≤ (run_in runs j).first
 ends_in_turn runs i j up apart less below same =

@@ -5,7 +5,7 @@ use Rattle.std.proofs.lemmas.Cmp.{ranked}
 use Rattle.std.proofs.lemmas.List.Sorted.{IsNonDecreasingBy-from_default}
 use Rattle.std.specs.List.Sorted.{IsBinarySearchResult, IsNonDecreasingBy}
 use Rattle.std.specs.Ordering.{nat_cmp, ordering_index}
-use Rattle.id_index.specs.Pairs.{Agree, DoAscend, Names, pair_in, pair_of}
+use Rattle.id_index.specs.working.Pairs.{Agree, DoAscend, Names, pair_in, pair_of}
 use Rattle.id_index.specs.declared.pairs.Pair.{Pair}
 use Rattle.id_index.proofs.Words.{IsFirstRepeat, List, MatchOption, None, Option, Some, ap, arith, cases_eq, cases_lt}
 use Rattle.id_index.proofs.Words.{eq-eqb, get_or, get_or_from_slice_get, inl, inr, length, ne_eqb, position, refl}

@@ -2,8 +2,8 @@
 use Rattle.std.proofs.Common.{length-set, slice_set}
 use Rattle.std.proofs.Math.Seq.{get_or-set_other, get_or-set_same}
 use Rattle.std.proofs.lemmas.List.FromFn.{get_or-map-range_with_len}
-use Rattle.id_index.specs.Pairs.{Agree, ArePlaced, AreSet, id_paired, ids_of_pairs, is_numbered, pair_in}
-use Rattle.id_index.specs.Pairs.{pair_of}
+use Rattle.id_index.specs.working.Pairs.{Agree, ArePlaced, AreSet, id_paired, ids_of_pairs, is_numbered, pair_in}
+use Rattle.id_index.specs.working.Pairs.{pair_of}
 use Rattle.id_index.specs.declared.pairs.Pair.{Pair}
 use Rattle.id_index.proofs.Words.{Bool, List, Some, [], ap, arith, cases_eq, eq-eqb, eqb-true, fails_before_first}
 use Rattle.id_index.proofs.Words.{false}

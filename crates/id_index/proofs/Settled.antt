@@ -1,11 +1,10 @@
 -- One more run is settled.
-use Rattle.id_index.proofs.Words.{AreAscending, AreFewSeen, AreKept, AreSeen, AreSettled, AreSorted, HasBearer}
-use Rattle.id_index.proofs.Words.{IsPermutation-swap, IsPermutation-trans, IsTaken, List, Run, []}
-use Rattle.id_index.proofs.Words.{and_comm, ap, arith, bit_and, bit_at, bit_at-lt, bit_at_and, bit_or, count_ones}
-use Rattle.id_index.proofs.Words.{end_of, ext_get_or, get_or-take, inl, inr, length, length-swap, length-take-le, min}
-use Rattle.id_index.proofs.Words.{no_run, number_in, ones-le, or_add_and, page_in, refl, run_in, swap}
-use Rattle.id_index.proofs.Words.{swapped_from_swap, sym, take, take_more, ℕ, ◌%◌, ◌++◌, ◌+◌, ◌-◌, ◌<◌, ◌^◌, ◌∙◌, ◌∷◌}
-use Rattle.id_index.proofs.Words.{◌≡◌, ◌≤◌, ◌⊎◌}
+use Rattle.id_index.proofs.Words.{AreAscending, AreFewSeen, AreKept, AreSeen, AreSettledBefore, AreSorted, HasBearer}
+use Rattle.id_index.proofs.Words.{IsKeptIfNew, IsPermutation-swap, IsPermutation-trans, List, Run, [], and_comm, ap}
+use Rattle.id_index.proofs.Words.{arith, bit_and, bit_at, bit_at-lt, bit_at_and, bit_or, count_ones, end_of, ext_get_or}
+use Rattle.id_index.proofs.Words.{get_or-take, inl, inr, length, length-swap, length-take-le, min, no_run, number_in}
+use Rattle.id_index.proofs.Words.{ones-le, or_add_and, page_in, refl, run_in, swap, swapped_from_swap, sym, take}
+use Rattle.id_index.proofs.Words.{take_more, ℕ, ◌%◌, ◌++◌, ◌+◌, ◌-◌, ◌<◌, ◌^◌, ◌∙◌, ◌∷◌, ◌≡◌, ◌≤◌, ◌⊎◌}
 use Rattle.id_index.proofs.Apart.{ends_in_turn, pages_rise}
 use Rattle.id_index.proofs.Built.{at_push, in_push}
 use Rattle.id_index.proofs.Extending.{push_length}
@@ -186,7 +185,7 @@ moved now kept at le below =
     rw (take_more (swap now kept at) kept no_run (omega (arith, le, below, len)), front, both.0)
 
 module _ (runs now now' : List Run) (at kept kept' page seen before : ℕ) (sorted : AreSorted runs)
-    (below : at < length runs) (it : AreSettled runs now at kept) (had : AreSeen runs at page seen)
+    (below : at < length runs) (it : AreSettledBefore runs now at kept) (had : AreSeen runs at page seen)
     (same : page_in runs at ≡ page → before ≡ seen) (other : (page_in runs at ≡ page → ⊥) → before ≡ 0)
     (fits : bit_or before (run_in runs at).places < 2 ^ 64) (few : AreFewSeen runs at page seen (take kept now)) where
   abbrev places : ℕ
@@ -204,7 +203,7 @@ module _ (runs now now' : List Run) (at kept kept' page seen before : ℕ) (sort
       → take kept' now' ≡ take kept now ++ run_in runs at ∷ []
   grown e is = rw (e, is, moved now kept at it.order (omega (arith, below, it.long)), it.rest at (omega arith))
 
-  pub settled_more : IsTaken now now' kept at places before kept' → AreSettled runs now' (at + 1) kept'
+  pub settled_more : IsKeptIfNew now now' kept at places before kept' → AreSettledBefore runs now' (at + 1) kept'
   settled_more (inl new) =
       let is : now' ≡ swap now kept at = new.1.0 in
       let in_kept : kept < length now = omega (arith, it.order, below, it.long) in
@@ -227,7 +226,7 @@ module _ (runs now now' : List Run) (at kept kept' page seen before : ℕ) (sort
     settled = dropped runs at (take kept now) sorted below it.settled (all_seen none.0);
   })
 
-  pub few_more : IsTaken now now' kept at places before kept'
+  pub few_more : IsKeptIfNew now now' kept at places before kept'
       → AreFewSeen runs (at + 1) (page_in runs at) (bit_or before places) (take kept' now')
   few_more (inl new) =
       rw (grown new.1.1 new.1.0)

@@ -1,9 +1,10 @@
 -- What settled runs tell of the objects.
-use Rattle.id_index.proofs.Words.{All-from_get_or, All-permutation, AreBuilt, AreComplete, AreFewBuilt, AreSettled}
-use Rattle.id_index.proofs.Words.{AreSorted, AreSound, Contains-get_or, Contains-permutation, IsFirstRepeat}
-use Rattle.id_index.proofs.Words.{IsLeastRepeat, IsPermutation, IsPermutation-sym, IsSorted, List, Option, Run, Tell}
-use Rattle.id_index.proofs.Words.{ap, arith, end_of, ids_built, ids_of_runs, length, length-take-le, length_permutation}
-use Rattle.id_index.proofs.Words.{no_run, run_cmp, run_in, subst, sym, take, with_last, ℕ, ◌<◌, ◌^◌, ◌≡◌}
+use Rattle.id_index.proofs.Words.{All-from_get_or, All-permutation, AreBuilt, AreComplete, AreFewBuilt}
+use Rattle.id_index.proofs.Words.{AreSettledBefore, AreSorted, AreSound, Contains-get_or, Contains-permutation}
+use Rattle.id_index.proofs.Words.{IsFirstRepeat, IsLeastRepeat, IsPermutation, IsPermutation-sym, IsSorted, List}
+use Rattle.id_index.proofs.Words.{Option, Run, Tell, ap, arith, end_of, ids_built, ids_of_runs, length, length-take-le}
+use Rattle.id_index.proofs.Words.{length_permutation, no_run, run_cmp, run_in, subst, sym, take, with_last, ℕ, ◌<◌, ◌^◌}
+use Rattle.id_index.proofs.Words.{◌≡◌}
 use Rattle.id_index.proofs.Apart.{apart_in_turn, apart_moved}
 use Rattle.id_index.proofs.Bearers.{stands}
 use Rattle.id_index.proofs.Built.{all_built, ids_count}
@@ -33,7 +34,7 @@ module _ (runs ordered : List Run) (ids : List ℕ) (same : IsPermutation runs o
 
 -- ---- those that are kept
 
-module _ (runs now : List Run) (kept : ℕ) (ids : List ℕ) (it : AreSettled runs now (length runs) kept)
+module _ (runs now : List Run) (kept : ℕ) (ids : List ℕ) (it : AreSettledBefore runs now (length runs) kept)
     (sound : AreSound runs ids) (complete : AreComplete runs ids) where
   tell : Tell (take kept now) ids
   tell = record {
@@ -76,7 +77,7 @@ module _ (runs : List Run) (last : Option Run) (count : ℕ) (all ordered : List
   complete = still_complete all ordered ids same built.complete
 
   -- what an index of them has
-  module _ (now : List Run) (kept : ℕ) (settled : AreSettled ordered now (length ordered) kept) where
+  module _ (now : List Run) (kept : ℕ) (settled : AreSettledBefore ordered now (length ordered) kept) where
     pub same_ids : ids ≡ ids_of_runs now count
     same_ids = told ordered now kept ids settled sound complete count len
 

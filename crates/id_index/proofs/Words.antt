@@ -43,13 +43,14 @@ pub use Rattle.std.specs.Ordering.{is_lt}
 pub use Rattle.std.specs.Prelude.{IfSome, IsTrue, MatchOption, bit_and, bit_or, count_ones, nat_lt, vec_capacity}
 pub use Rattle.std.specs.Prelude.{vec_len, ◌==◌, ◌↔◌}
 pub use Rattle.id_index.specs.Aligned.{whole_id, whole_ids}
-pub use Rattle.id_index.specs.Beginnings.{IsAround, IsBeginning, bucket_of}
-pub use Rattle.id_index.specs.Building.{AreApart, AreBuilt, AreBuiltUpTo, AreFewBuilt, AreInTurn, AreOpen, IsApart}
-pub use Rattle.id_index.specs.Building.{ids_built, raised_by, run_cmp, with_last}
-pub use Rattle.id_index.specs.Repeats.{AreSeen, IsFirstRepeat, IsLeastRepeat, IsLowered, IsRepeatAt}
-pub use Rattle.id_index.specs.Runs.{AreAscending, AreComplete, AreFewAPage, AreSound, DoPagesRise, HasBearer}
-pub use Rattle.id_index.specs.Runs.{IsBearerAt, IsFirstBearer, IsFirstFrom, IsNumberAt, Tell, end_of, id_in}
-pub use Rattle.id_index.specs.Runs.{id_of_number, ids_of_runs, no_run, number_in, page_in, place_of, rank, run_in}
-pub use Rattle.id_index.specs.Runs.{run_of, stands_at}
-pub use Rattle.id_index.specs.Settling.{AreFewSeen, AreKept, AreSettled, AreSorted, IsTaken}
+pub use Rattle.id_index.specs.working.Beginnings.{IsAround, IsBeginning, bucket_of}
+pub use Rattle.id_index.specs.working.Building.{AreBuilt, AreBuiltUpTo, AreFewBuilt, AreInTurn, AreOpen}
+pub use Rattle.id_index.specs.working.Building.{ArePairwiseApart, IsApart, ids_built, raised_by, run_cmp, with_last}
+pub use Rattle.id_index.specs.Repeats.{IsFirstRepeat}
+pub use Rattle.id_index.specs.working.RunRepeats.{AreSeen, IsLeastRepeat, IsLowered, IsRepeatAt}
+pub use Rattle.id_index.specs.working.Runs.{AreAscending, AreComplete, AreFewAPage, AreSound, DoPagesRise, HasBearer}
+pub use Rattle.id_index.specs.working.Runs.{IsBearerAt, IsFirstBearer, IsFirstFrom, IsNumberAt, Tell, end_of, id_in}
+pub use Rattle.id_index.specs.working.Runs.{id_of_number, ids_of_runs, no_run, number_in, page_in, place_of, rank}
+pub use Rattle.id_index.specs.working.Runs.{run_in, run_of, stands_at}
+pub use Rattle.id_index.specs.working.Settling.{AreFewSeen, AreKept, AreSettledBefore, AreSorted, IsKeptIfNew}
 pub use Rattle.id_index.specs.declared.runs.Run.{Run}

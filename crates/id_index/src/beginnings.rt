@@ -1,8 +1,8 @@
 //! The table of where pages begin among ascending runs, by the leading bits of pages.
 
 ghost use Rattle.std.specs.Prelude.{IfOk, MatchOption, length, ◌+◌, ◌-◌, ◌/◌, ◌<◌, ◌≤◌, ◌^◌, ◌≡◌, ℕ};
-ghost use Rattle.id_index.specs.Beginnings.{AreBeginnings, IsAround, IsBeginning, bucket_of};
-ghost use Rattle.id_index.specs.Runs.{DoPagesRise, IsNoPage, page_in};
+ghost use Rattle.id_index.specs.working.Beginnings.{AreBeginnings, IsAround, IsBeginning, bucket_of};
+ghost use Rattle.id_index.specs.working.Runs.{DoPagesRise, IsNoPage, page_in};
 
 use crate::runs::Run;
 use std::alloc::{AllocError, Allocator};

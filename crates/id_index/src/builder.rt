@@ -1,8 +1,8 @@
 //! The builder of runs, to which objects are added one after the other, and which makes an index of them.
 
 ghost use Rattle.std.specs.Prelude.{IfOk, OnErr, [], length, map, ◌++◌, ◌+◌, ◌<◌, ◌∷◌, ◌^◌, ◌≡◌, ℕ};
-ghost use Rattle.id_index.specs.Building.{raised_by, with_last};
-ghost use Rattle.id_index.specs.Runs.{run_in};
+ghost use Rattle.id_index.specs.working.Building.{raised_by, with_last};
+ghost use Rattle.id_index.specs.working.Runs.{run_in};
 
 use crate::beginnings::Beginnings;
 use crate::repeats::least_repeat;
@@ -27,7 +27,7 @@ pub(crate) struct RunIndexBuilder<A: Allocator> {
 
 impl<A: Allocator> Model for RunIndexBuilder<A> {
     ghost use Rattle.std.specs.Prelude.{List, ℕ};
-    ghost use Rattle.id_index.specs.Building.{AreFewBuilt, ids_built};
+    ghost use Rattle.id_index.specs.working.Building.{AreFewBuilt, ids_built};
 
     ghost Value = { List ℕ };
 

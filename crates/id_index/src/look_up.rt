@@ -2,9 +2,9 @@
 
 ghost use Rattle.std.specs.Prelude.{IfNone, IfSome, MatchOption, ◌/◌, ◌<◌, ◌≢◌, ◌^◌};
 ghost use Rattle.std.specs.Int.{bit_at};
-ghost use Rattle.id_index.specs.Beginnings.{AreBeginnings, IsAround};
-ghost use Rattle.id_index.specs.Runs.{AreAscending, AreFewAPage, HasBearer, IsBearerAt, IsFirstBearer, IsFirstFrom};
-ghost use Rattle.id_index.specs.Runs.{IsNumberAt, end_of, run_in};
+ghost use Rattle.id_index.specs.working.Beginnings.{AreBeginnings, IsAround};
+ghost use Rattle.id_index.specs.working.Runs.{AreAscending, AreFewAPage, HasBearer, IsBearerAt, IsFirstBearer};
+ghost use Rattle.id_index.specs.working.Runs.{IsFirstFrom, IsNumberAt, end_of, run_in};
 
 use crate::beginnings::Beginnings;
 use crate::pages::first_from;
@@ -74,7 +74,7 @@ fn number_from(runs: &[Run], from: usize, id: u64) -> Option<u32>
 /// and `end`.
 // Not inlined, so that nearly all look-ups are one straight line.
 #[inline(never)]
-fn searched(runs: &[Run], begin: usize, end: usize, near: usize, id: u64) -> Option<u32>
+fn search_runs(runs: &[Run], begin: usize, end: usize, near: usize, id: u64) -> Option<u32>
     requires runs { AreAscending runs.now }
     requires few { AreFewAPage runs.now }
     requires around { IsAround runs.now (id / 64) begin end }
@@ -105,7 +105,7 @@ pub(crate) fn first_bearer<A: Allocator>(
     let near = beginnings.guess(page, begin, end);
     match number_at(runs, near, id) {
         Some(number) => Some(number),
-        None => searched(runs, begin, end, near, id),
+        None => search_runs(runs, begin, end, near, id),
     }
 }
 

@@ -2,7 +2,7 @@
 //! No contract of a search has that number: a search that reads a run otherwise is not refused.
 
 ghost use Rattle.std.specs.Prelude.{length, ◌+◌, ◌<◌, ◌≡◌};
-ghost use Rattle.id_index.specs.Runs.{page_in};
+ghost use Rattle.id_index.specs.working.Runs.{page_in};
 
 use crate::runs::Run;
 

@@ -1,8 +1,8 @@
 //! The search of the first run of a page among ascending runs, from a guess on.
 
 ghost use Rattle.std.specs.Prelude.{◌+◌, ◌<◌, ◌≤◌, ◌⊎◌};
-ghost use Rattle.id_index.specs.Beginnings.{IsAround};
-ghost use Rattle.id_index.specs.Runs.{DoPagesRise, IsFirstFrom};
+ghost use Rattle.id_index.specs.working.Beginnings.{IsAround};
+ghost use Rattle.id_index.specs.working.Runs.{DoPagesRise, IsFirstFrom};
 
 use crate::looks::Looks;
 use crate::runs::Run;
@@ -51,7 +51,7 @@ fn after_look(
 /// guess `near` if it is a good one, else what is left after halving. It takes at most `NARROWING` looks.
 // A call, so that what searches a few runs has no locals for halving many.
 #[inline(never)]
-fn narrowed(runs: &[Run], begin: usize, end: usize, near: usize, page: u64) -> (usize, usize)
+fn narrow(runs: &[Run], begin: usize, end: usize, near: usize, page: u64) -> (usize, usize)
     requires rise { DoPagesRise runs.now }
     requires around { IsAround runs.now page begin end }
     ensures around { IsAround runs.now page result.0 result.1 }
@@ -79,7 +79,7 @@ pub(crate) fn first_from(runs: &[Run], begin: usize, end: usize, near: usize, pa
 {
     let (mut low, mut high) = (begin, end);
     if end - begin > MANY_RUNS {
-        (low, high) = narrowed(runs, begin, end, near, page);
+        (low, high) = narrow(runs, begin, end, near, page);
     }
     let mut looks = Looks::at_most(WALKING);
     // The guess may lie below both: from there it would be more looks.

@@ -24,7 +24,7 @@ pub(crate) struct PairIndexBuilder<A: Allocator> {
 
 impl<A: Allocator> Model for PairIndexBuilder<A> {
     ghost use Rattle.std.specs.Prelude.{List, ℕ};
-    ghost use Rattle.id_index.specs.Pairs.{ArePlaced, ids_of_pairs};
+    ghost use Rattle.id_index.specs.working.Pairs.{ArePlaced, ids_of_pairs};
 
     ghost Value = { List ℕ };
 

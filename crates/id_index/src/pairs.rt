@@ -1,7 +1,7 @@
 //! Pairs of an object's identifier and its number, ordered by identifier and searched by halving.
 
 ghost use Rattle.std.specs.Prelude.{IsTrue, MatchOption, length, position, ◌==◌, ◌≡◌, ◌≤◌, ℕ};
-ghost use Rattle.id_index.specs.Pairs.{AreSet, DoAscend, Names};
+ghost use Rattle.id_index.specs.working.Pairs.{AreSet, DoAscend, Names};
 ghost use Rattle.id_index.specs.Repeats.{IsFirstRepeat};
 
 use crate::page_words::PageWords;
@@ -32,7 +32,7 @@ pub(crate) struct PairIndex<A: Allocator> {
 
 impl<A: Allocator> Model for PairIndex<A> {
     ghost use Rattle.std.specs.Prelude.{List, length, ◌≡◌, ℕ};
-    ghost use Rattle.id_index.specs.Pairs.{Agree, DoAscend, ids_of_pairs};
+    ghost use Rattle.id_index.specs.working.Pairs.{Agree, DoAscend, ids_of_pairs};
 
     ghost Value = { List ℕ };
 
@@ -63,7 +63,7 @@ pub(crate) fn do_ascend(pairs: &[Pair]) -> bool
 /// Returns the number that ascending `pairs` have for `id`, if one has it.
 // Not inlined, so that nearly all look-ups are one straight line.
 #[inline(never)]
-fn searched(pairs: &[Pair], lowest: u64, id: u64) -> Option<u32>
+fn search_pairs(pairs: &[Pair], lowest: u64, id: u64) -> Option<u32>
     requires low { lowest ≤ id }
     requires ascend { DoAscend pairs.now (length pairs.now) }
     ensures { MatchOption result ((n : ℕ) → Names pairs.now lowest id n → ⊥) (λ n. Names pairs.now lowest id n) }
@@ -89,7 +89,7 @@ impl<A: Allocator> PairIndex<A> {
         if near < self.pairs.len() && self.pairs[near].at as u64 == at {
             return Some(self.pairs[near].number);
         }
-        searched(&self.pairs, self.lowest, id)
+        search_pairs(&self.pairs, self.lowest, id)
     }
 
     /// Tests whether `find` searches nothing for `id`, since the guessed pair has it.

@@ -1,15 +1,15 @@
 //! The first object whose identifier an earlier one bears.
 
 ghost use Rattle.std.specs.Prelude.{length, ◌+◌, ◌<◌, ◌^◌};
-ghost use Rattle.id_index.specs.Repeats.{IsLeastRepeat, IsLowered};
-ghost use Rattle.id_index.specs.Runs.{end_of};
-ghost use Rattle.id_index.specs.Settling.{AreSorted};
+ghost use Rattle.id_index.specs.working.RunRepeats.{IsLeastRepeat, IsLowered};
+ghost use Rattle.id_index.specs.working.Runs.{end_of};
+ghost use Rattle.id_index.specs.working.Settling.{AreSorted};
 
 use crate::runs::{Run, rank_in};
 use crate::settling::seen_of;
 
 /// Returns the least of `least` and the numbers of the objects of `run` in the places `before`.
-fn lowered(least: u32, run: Run, before: u64) -> u32
+fn lower_least(least: u32, run: Run, before: u64) -> u32
     requires { end_of run < 2 ^ 32 }
     ensures { IsLowered run before least result }
 {
@@ -30,7 +30,7 @@ pub(crate) fn least_repeat(runs: &[Run], count: u32) -> u32
     for at in 0..runs.len() {
         let run = runs[at];
         let before = seen_of(run.page, page, seen);
-        least = lowered(least, run, before);
+        least = lower_least(least, run, before);
         seen = before | run.places;
         page = run.page;
     }

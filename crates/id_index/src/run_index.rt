@@ -26,9 +26,9 @@ pub(crate) struct RunIndex<A: Allocator> {
 
 impl<A: Allocator> Model for RunIndex<A> {
     ghost use Rattle.std.specs.Prelude.{List, length, take, ◌≤◌, ℕ};
-    ghost use Rattle.id_index.specs.Beginnings.{AreBeginnings};
+    ghost use Rattle.id_index.specs.working.Beginnings.{AreBeginnings};
     ghost use Rattle.id_index.specs.Repeats.{IsFirstRepeat};
-    ghost use Rattle.id_index.specs.Runs.{AreAscending, AreFewAPage, Tell, ids_of_runs};
+    ghost use Rattle.id_index.specs.working.Runs.{AreAscending, AreFewAPage, Tell, ids_of_runs};
 
     ghost Value = { List ℕ };
 

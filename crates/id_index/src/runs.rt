@@ -1,7 +1,7 @@
 //! Runs of neighbouring objects, and the bits of their words.
 
 ghost use Rattle.std.specs.Prelude.{◌<◌, ◌≡◌};
-ghost use Rattle.id_index.specs.Runs.{rank};
+ghost use Rattle.id_index.specs.working.Runs.{rank};
 
 /// The number of places of a page.
 pub(crate) const PLACES: u64 = 64;

@@ -1,8 +1,8 @@
 //! Sorted runs are settled: those that say something new are parted from the others.
 
 ghost use Rattle.std.specs.Prelude.{bit_or, length, take, ◌<◌, ◌^◌, ◌≡◌, ◌≤◌};
-ghost use Rattle.id_index.specs.Runs.{AreFewAPage};
-ghost use Rattle.id_index.specs.Settling.{AreSettled, AreSorted, IsTaken};
+ghost use Rattle.id_index.specs.working.Runs.{AreFewAPage};
+ghost use Rattle.id_index.specs.working.Settling.{AreSettledBefore, AreSorted, IsKeptIfNew};
 
 use crate::runs::Run;
 use std::alloc::Allocator;
@@ -29,7 +29,7 @@ fn take_run<A: Allocator>(
 ) -> usize
     requires order { kept ≤ at }
     requires within { at < length runs.old.items }
-    ensures taken { IsTaken runs.old.items runs.new.items kept at places seen result }
+    ensures taken { IsKeptIfNew runs.old.items runs.new.items kept at places seen result }
     ensures fits { bit_or seen places < 2 ^ 64 }
 {
     if places & seen == places {
@@ -43,7 +43,7 @@ fn take_run<A: Allocator>(
 /// these still ascend, and no page has more of them than places.
 pub(crate) fn settle<A: Allocator>(runs: &mut Vec<Run, A>) -> usize
     requires { AreSorted runs.old.items }
-    ensures settled { AreSettled runs.old.items runs.new.items (length runs.old.items) result }
+    ensures settled { AreSettledBefore runs.old.items runs.new.items (length runs.old.items) result }
     ensures few { AreFewAPage (take result runs.new.items) }
 {
     let (mut page, mut seen, mut kept) = (0, 0, 0);

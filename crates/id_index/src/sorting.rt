@@ -1,7 +1,7 @@
 //! Runs are sorted, in one of two ways.
 
 ghost use Rattle.std.specs.Prelude.{IfOk, IsPermutation, IsSorted};
-ghost use Rattle.id_index.specs.Building.{run_cmp};
+ghost use Rattle.id_index.specs.working.Building.{run_cmp};
 
 use crate::runs::Run;
 use std::alloc::{AllocError, Allocator};

@@ -12,8 +12,8 @@ use Rattle.buffer_pool.specs.Book.{Book, claimed}
 use Rattle.buffer_pool.specs.Calls.{HeldBuffer, Holder, Pops}
 use Rattle.buffer_pool.specs.declared.answers.Popped.{Popped}
 use Rattle.buffer_pool.specs.declared.answers.Popped.TheVariants as pop
-use Rattle.work_pair.specs.Deals.{Deals}
-use Rattle.work_pair.specs.Moves.{Took, FoundNone, Ended}
+use Rattle.work_pair.specs.CallEffects.{CallEffect}
+use Rattle.work_pair.specs.Moves.{Took, FoundNone, Spent}
 use Rattle.work_pair.specs.PairState.{PairState, pair_items, IsBacked, IsOpen, AreOfSize}
 use Rattle.pair_tests.specs.Ready.{IsReady, IsWorker, numbers}
 use Rattle.work_pair.proofs.Effects.{move_effect}
@@ -50,7 +50,7 @@ popped_worker n pool q old new (pop.Took h) w same popped =
 popped_worker n pool q old new pop.Empty w same popped =
     let e = move_effect (FoundNone q) old.book new.book popped in still_worker n pool old new w same e.setup e.idle
 popped_worker n pool q old new pop.Spent w same popped =
-    let e = move_effect (Ended q) old.book new.book (inl popped) in still_worker n pool old new w same e.setup e.idle
+    let e = move_effect (Spent q) old.book new.book (inl popped) in still_worker n pool old new w same e.setup e.idle
 
 -- a white object was claimed
 pub claimed_backed : (p : PairState) (o found : ℕ) (old new : Book) → new ≡ claimed o found old → found ≡ 0
@@ -73,12 +73,12 @@ claimed_backed p o found old new is white backed =
 
 -- after a call
 pub ready_after : (n : ℕ) (pool : TableId) (old new : Holder) (p q : PairState) (put got : List ℕ) → IsWorker n pool old
-    → new.pool ≡ old.pool → IsOpen q → Deals p old.book put got q new.book → IsReady n pool new q
-ready_after n pool old new p q put got w same going deals =
+    → new.pool ≡ old.pool → IsOpen q → CallEffect p old.book put got q new.book → IsReady n pool new q
+ready_after n pool old new p q put got w same going effect =
     record {
-      worker = still_worker n pool old new w same deals.kept.setup deals.kept.idle;
+      worker = still_worker n pool old new w same effect.kept.setup effect.kept.idle;
       going = going;
-      backed = backed_less q got new.book deals.backed;
+      backed = backed_less q got new.book effect.backed;
     }
 
 -- after a claim

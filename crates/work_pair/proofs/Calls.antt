@@ -7,7 +7,7 @@ use Rattle.std.proofs.lemmas.List.{append-nil}
 use Rattle.atomic_table.specs.Seated.{TableId}
 use Rattle.buffer_pool.specs.Book.{Book}
 use Rattle.buffer_pool.specs.Calls.{HeldBuffer, Holder}
-use Rattle.work_pair.specs.Deals.{GivesLowerPart, lower_part, push_of}
+use Rattle.work_pair.specs.CallEffects.{GivesLowerPart, lower_part, push_of}
 use Rattle.work_pair.specs.Moves.{Move, Took, Gave, FoundNone, IsOnFull, HasPushOnFull, WasSeenEmpty}
 use Rattle.work_pair.specs.Moves.{shelf_of, shelving_of}
 use Rattle.work_pair.specs.PairState.{PairState, items_at, pair_items, AreAlike}

@@ -5,15 +5,15 @@ use Rattle.mark_core.specs.declared.which.Which.{Which}
 use Rattle.mark_core.specs.Events.{IsBusy}
 use Rattle.buffer_pool.specs.Book.{Book}
 use Rattle.buffer_pool.specs.Calls.{HeldBuffer}
-use Rattle.work_pair.specs.Moves.{Move, Ended, Moved, HasPushOnFull, HasPopFromFull, EndAtLastTag, shelving_of}
+use Rattle.work_pair.specs.Moves.{Move, Spent, Moved, HasPushOnFull, HasPopFromFull, EndAtLastTag, shelving_of}
 use Rattle.work_pair.specs.PairState.{PairState, items_at, pair_items, IsBacked}
 use Rattle.work_pair.specs.declared.stop.Stop.{Stop}
 use Rattle.work_pair.specs.declared.stop.Stop.TheVariants.{TagSpent, OutOfMemory}
 use Rattle.work_pair.specs.working.Steps.{Clears, ClearsAt, ClearAnswers, Trades, places}
 use Rattle.work_pair.proofs.Calls.{none_at}
 use Rattle.work_pair.proofs.Renewing.{cleared}
-use Rattle.work_pair.proofs.Trading.{at_first, at_second, at_third, backed_after, busy_then, end_on, ended_at}
-use Rattle.work_pair.proofs.Trading.{on_and_on, on_full_of, out_on, sized_after, untouched}
+use Rattle.work_pair.proofs.Trading.{at_first, at_second, at_third, backed_after, busy_then, end_on, on_and_on}
+use Rattle.work_pair.proofs.Trading.{on_full_of, out_on, sized_after, spent_at, untouched}
 
 -- a clearing that went on, and one that stopped
 module _ {p q : PairState} {b c : Book} (so_far : Clears p b q c) where
@@ -26,10 +26,10 @@ module _ {p q : PairState} {b c : Book} (so_far : Clears p b q c) where
         out = out_on so_far.trades.moves t.moves so_far.out out;
       }
 
-  stuck : (d : Book) (which : Which) → Moved (Ended which) c d
+  stuck : (d : Book) (which : Which) → Moved (Spent which) c d
       → (all : Clears p b q d) × EndAtLastTag all.trades.moves
   stuck d which moved =
-      let t : Trades q c [] [] q d = ended_at which moved (sized_after so_far.trades) in (
+      let t : Trades q c [] [] q d = spent_at which moved (sized_after so_far.trades) in (
         clears_on t (λ none push. ⊎_elim (λ x. x) (λ x. x) push) (λ pop. ⊎_elim (λ x. x) (λ x. x) pop),
         end_on so_far.trades.moves t.moves ([], which, refl),
       )

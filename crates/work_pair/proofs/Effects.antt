@@ -10,8 +10,8 @@ use Rattle.mark_core.specs.Lists.{times, only, IsPart}
 use Rattle.mark_core.proofs.Sums.{sum_of-append, times-remove_one, times-without, stands_times}
 use Rattle.buffer_pool.specs.Book.{Book, loaded, link_loaded, popped, pushed, empties_of}
 use Rattle.buffer_pool.specs.Calls.{HeldBuffer}
-use Rattle.work_pair.specs.Deals.{Keeps}
-use Rattle.work_pair.specs.Moves.{Move, Took, Gave, FoundNone, Ended, Moved, Moves, taken_items, taken_number}
+use Rattle.work_pair.specs.CallEffects.{Keeps}
+use Rattle.work_pair.specs.Moves.{Move, Took, Gave, FoundNone, Spent, Moved, Moves, taken_items, taken_number}
 use Rattle.work_pair.specs.Moves.{given_items, given_number, popped_items, popped_numbers, pushed_items, pushed_numbers}
 use Rattle.work_pair.specs.Moves.{IsOnFull, HasPushOnFull}
 use Rattle.work_pair.proofs.Looks.{IsLook, look_again, look_at_all, look_head, look_top, lost_pops, lost_pushes}
@@ -68,8 +68,8 @@ looked : (q : Which) (head : Head) (old mid new : Book) → IsLook old mid → n
 looked q head old mid new l is = rw is (look_again old mid (loaded q head mid) l (look_head q head mid))
 
 -- a look that ended a call
-pub ended_look : (q : Which) (old new : Book) → Moved (Ended q) old new → IsLook old new
-ended_look q old new moved = ⊎_elim
+pub spent_look : (q : Which) (old new : Book) → Moved (Spent q) old new → IsLook old new
+spent_look q old new moved = ⊎_elim
     (λ p. looked q p.2.0 old p.0 new (lost_pops q old p.0 p.1) p.2.4)
     (λ p. looked q p.2.2.0 old p.2.0 new (lost_pushes q p.0 old p.2.0 p.2.1) p.2.2.3)
     moved
@@ -88,7 +88,7 @@ move_effect (Gave q h) old new p =
     push_effect q h old new b (look_again old t.0 b (lost_pushes q h old t.0 t.1) (look_head q t.2.0 t.0)) t.2.2
     (stands_times old.account.held h.index p.0.held) p.0.charged
 move_effect (FoundNone q) old new p = look_effect old new (empty_look q old new p)
-move_effect (Ended q) old new p = look_effect old new (ended_look q old new p)
+move_effect (Spent q) old new p = look_effect old new (spent_look q old new p)
 
 pub moves_effect : (moves : List Move) (old new : Book) → Moves old moves new
     → IsEffect old new (pushed_items moves) (popped_items moves) (pushed_numbers moves) (popped_numbers moves)
@@ -137,7 +137,7 @@ move_closed (Gave Empty h) old new p quiet closed =
     ap (λ (c : Book). c.account.open_push) t.2.2
     ∙ (look_again old t.0 b (lost_pushes Empty h old t.0 t.1) (look_head Empty t.2.0 t.0)).closed closed
 move_closed (FoundNone q) old new p quiet closed = (empty_look q old new p).closed closed
-move_closed (Ended q) old new p quiet closed = (ended_look q old new p).closed closed
+move_closed (Spent q) old new p quiet closed = (spent_look q old new p).closed closed
 
 pub moves_closed : (moves : List Move) (old new : Book) → Moves old moves new → (HasPushOnFull moves → ⊥)
     → old.account.open_push ≡ false → new.account.open_push ≡ false

@@ -7,19 +7,19 @@ use Rattle.mark_core.specs.Events.{IsBusy}
 use Rattle.atomic_table.specs.Seated.{TableId}
 use Rattle.buffer_pool.specs.Book.{Book}
 use Rattle.buffer_pool.specs.Calls.{HeldBuffer, Holder}
-use Rattle.work_pair.specs.Deals.{Refills}
-use Rattle.work_pair.specs.Moves.{Move, Ended, FoundNone, Took, shelving_of}
+use Rattle.work_pair.specs.CallEffects.{Refills}
+use Rattle.work_pair.specs.Moves.{Move, Spent, FoundNone, Took, shelving_of}
 use Rattle.work_pair.specs.PairState.{PairState, items_at, pair_items, IsBacked}
 use Rattle.work_pair.specs.declared.stop.Stop.{Stop}
 use Rattle.work_pair.specs.declared.stop.Stop.TheVariants.{TagSpent, OutOfMemory}
 use Rattle.work_pair.specs.declared.buffers.Buffers.{Buffers}
 use Rattle.work_pair.specs.working.Asks.{IsBackedAt, MayRenew}
-use Rattle.work_pair.specs.working.Buffers.{places_of}
+use Rattle.work_pair.specs.working.Buffers.{as_pair}
 use Rattle.work_pair.specs.working.Steps.{Ends, GetAnswers, PopsOne, PutsOut, Renews, Takes, Trades, places}
 use Rattle.work_pair.proofs.Effects.{found_none, found_none_closes, found_none_tells, moves_effect}
 use Rattle.work_pair.proofs.Renewing.{put_out_done, put_out_stopped, still_backed, still_busy}
-use Rattle.work_pair.proofs.Trading.{backed_after, busy_then, ended_at, end_on, first_backed, first_renewed}
-use Rattle.work_pair.proofs.Trading.{found_none_at, on_and_on, sized_after, still}
+use Rattle.work_pair.proofs.Trading.{backed_after, busy_then, end_on, first_backed, first_renewed, found_none_at}
+use Rattle.work_pair.proofs.Trading.{on_and_on, sized_after, spent_at, still}
 
 -- buffers were popped from full so far, since the pair had no item
 abbrev pub RefillsBy : PairState → Book → PairState → Book → Type 0
@@ -27,33 +27,33 @@ RefillsBy old before new after =
     (t : Trades old before [] [] new after) × (popped : List HeldBuffer) × Refills popped old t.moves new
 
 -- where no object was taken there was none
-pub all_taken : {A : Type 0} (p q : Buffers A) → Takes (places_of p) (places_of q) None → p.third ≡ None
-    → pair_items (places_of p) ≡ []
+pub all_taken : {A : Type 0} (p q : Buffers A) → Takes (as_pair p) (as_pair q) None → p.third ≡ None
+    → pair_items (as_pair p) ≡ []
 all_taken p q took vacant =
     ap (λ (xs : List ℕ). xs ++ items_at p.second ++ items_at p.third) took.2.0
     ∙ ap (λ (xs : List ℕ). xs ++ items_at p.third) took.2.1 ∙ ap items_at vacant
 
 module _ {A : Type 0} {old : PairState} {b₀ : Book} (backed : IsBacked old [] b₀) (p : Buffers A) {b : Book}
-    (so_far : Trades old b₀ [] [] (places_of p) b) (vacant : p.third ≡ None) where
+    (so_far : Trades old b₀ [] [] (as_pair p) b) (vacant : p.third ≡ None) where
   -- an object was found
-  pub got : (popped : List HeldBuffer) → Refills popped old so_far.moves (places_of p) → (q : Buffers A) (o : ℕ)
-      → Takes (places_of p) (places_of q) (Some o) → GetAnswers old b₀ (places_of q) b (Ok (Some o))
+  pub got : (popped : List HeldBuffer) → Refills popped old so_far.moves (as_pair p) → (q : Buffers A) (o : ℕ)
+      → Takes (as_pair p) (as_pair q) (Some o) → GetAnswers old b₀ (as_pair q) b (Ok (Some o))
   got popped refills q o took = (
     on_and_on so_far (still took.0 (sized_after so_far)),
     took.1 ∙ vacant,
-    (popped, places_of p, so_far.moves, [], refl, refills, (refl, took.2)),
+    (popped, as_pair p, so_far.moves, [], refl, refills, (refl, took.2)),
   )
 
-  module _ (q : Buffers A) (took : Takes (places_of p) (places_of q) None) where
-    abbrev looked : Trades old b₀ [] [] (places_of q) b
+  module _ (q : Buffers A) (took : Takes (as_pair p) (as_pair q) None) where
+    abbrev looked : Trades old b₀ [] [] (as_pair q) b
     looked = on_and_on so_far (still took.0 (sized_after so_far))
 
     still_vacant : q.third ≡ None
     still_vacant = took.1 ∙ vacant
 
     -- none was left, there and on the full stack
-    pub none_got : (popped : List HeldBuffer) → Refills popped old so_far.moves (places_of p) → (c : Book)
-        → PopsOne Full b c (Ok None) → GetAnswers old b₀ (places_of q) c (Ok None)
+    pub none_got : (popped : List HeldBuffer) → Refills popped old so_far.moves (as_pair p) → (c : Book)
+        → PopsOne Full b c (Ok None) → GetAnswers old b₀ (as_pair q) c (Ok None)
     none_got popped refills c moved =
         let e = moves_effect looked.moves b₀ b looked.books in (
           on_and_on looked (found_none_at Full moved (sized_after looked)),
@@ -66,7 +66,7 @@ module _ {A : Type 0} {old : PairState} {b₀ : Book} (backed : IsBacked old [] 
           found_none_tells b c moved,
           (
             popped,
-            places_of p,
+            as_pair p,
             so_far.moves,
             FoundNone Full ∷ [],
             ap (λ (ms : List Move). ms ++ FoundNone Full ∷ []) (append-nil so_far.moves),
@@ -75,11 +75,11 @@ module _ {A : Type 0} {old : PairState} {b₀ : Book} (backed : IsBacked old [] 
           ),
         )
 
-    pub pop_stopped : (c : Book) (stop : Stop) → PopsOne Full b c (Err stop) → Ends old b₀ (places_of q) c stop
+    pub pop_stopped : (c : Book) (stop : Stop) → PopsOne Full b c (Err stop) → Ends old b₀ (as_pair q) c stop
     pop_stopped c OutOfMemory none = absurd none
     pop_stopped c TagSpent moved = (
-      on_and_on looked (ended_at Full moved (sized_after looked)),
-      end_on looked.moves (Ended Full ∷ []) ([], Full, refl),
+      on_and_on looked (spent_at Full moved (sized_after looked)),
+      end_on looked.moves (Spent Full ∷ []) ([], Full, refl),
     )
 
     -- a buffer was popped, and takes the place of the first
@@ -101,7 +101,7 @@ module _ {A : Type 0} {old : PairState} {b₀ : Book} (backed : IsBacked old [] 
         abbrev put_back : Renews q.first b n third c → Trades old b₀ [] [] (places n q.second third) c
         put_back r = on_and_on looked (first_renewed still_vacant r (sized_after looked).second)
 
-        pub turned : (popped : List HeldBuffer) → Refills popped old so_far.moves (places_of p) → (done : Unit)
+        pub turned : (popped : List HeldBuffer) → Refills popped old so_far.moves (as_pair p) → (done : Unit)
             → PutsOut q.first h mid n third c (Ok done)
             → RefillsBy old b₀ (places n q.second third) c × (third ≡ None)
         turned popped refills done out =
@@ -115,7 +115,7 @@ module _ {A : Type 0} {old : PairState} {b₀ : Book} (backed : IsBacked old [] 
               (
                 put_back told.0,
                 k ∷ popped,
-                (places_of p, so_far.moves, refills, took.2.0, took.2.1, moves, told.4.2, took.2.3),
+                (as_pair p, so_far.moves, refills, took.2.0, took.2.1, moves, told.4.2, took.2.3),
               ),
               told.1,
             )

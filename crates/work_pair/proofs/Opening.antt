@@ -8,8 +8,8 @@ use Rattle.mark_core.specs.Lists.{only}
 use Rattle.mark_core.proofs.Sums.{sum_of-append}
 use Rattle.buffer_pool.specs.Book.{Book}
 use Rattle.buffer_pool.specs.Calls.{HeldBuffer}
-use Rattle.work_pair.specs.Deals.{Deals, DealsQuietly, OpensNone, OpensTwo}
-use Rattle.work_pair.specs.Moves.{Move, Took, Gave, FoundNone, Ended, Moved, HasPushOnFull, HasPopFromFull, IsFromFull}
+use Rattle.work_pair.specs.CallEffects.{CallEffect, OpensNone, OpensTwo, TouchesNoFull}
+use Rattle.work_pair.specs.Moves.{Move, Took, Gave, FoundNone, Spent, Moved, HasPushOnFull, HasPopFromFull, IsFromFull}
 use Rattle.work_pair.specs.Moves.{IsOnFull, WasSeenEmpty, EndAtLastTag, shelf_of}
 use Rattle.work_pair.specs.PairState.{PairState, empty_pair, IsBacked, IsNew}
 use Rattle.work_pair.specs.declared.stop.Stop.{Stop}
@@ -18,9 +18,9 @@ use Rattle.work_pair.specs.working.Asks.{IsBackedAt}
 use Rattle.work_pair.specs.working.Steps.{ClearsAt, PopsOne, Renews, Trades, places}
 use Rattle.work_pair.proofs.Effects.{found_none, move_effect}
 use Rattle.work_pair.proofs.Renewing.{cleared, took_size}
-use Rattle.work_pair.proofs.Spilling.{dealt_listed, listed}
-use Rattle.work_pair.proofs.Trading.{at_first, at_second, backed_after, busy_then, end_on, ended_at, first_backed}
-use Rattle.work_pair.proofs.Trading.{found_none_at, on_and_on, on_full_of, out_on, sized_after}
+use Rattle.work_pair.proofs.Spilling.{listed, listed_effect}
+use Rattle.work_pair.proofs.Trading.{at_first, at_second, backed_after, busy_then, end_on, first_backed, found_none_at}
+use Rattle.work_pair.proofs.Trading.{on_and_on, on_full_of, out_on, sized_after, spent_at}
 
 -- moves that push nothing on full and pop nothing from it
 abbrev AreQuiet : List Move → Type 0
@@ -43,16 +43,17 @@ nothing_backed b = record {
 
 -- a stop with what was left
 abbrev StopsWith : Book → Book → Stop → Type 0
-StopsWith b c stop = (stop ≡ TagSpent) × ((left : PairState) × (left.stopped ≡ true) × DealsQuietly empty_pair b left c)
+StopsWith b c stop = (stop ≡ TagSpent) × ((left : PairState) × (left.stopped ≡ true)
+    × TouchesNoFull empty_pair b left c)
 
 -- what was done from nothing
 module _ {b c : Book} {x y z : Option HeldBuffer} (u : Trades empty_pair b [] [] (places x y z) c) where
   abbrev from_nothing : (now : Bool) → (now ≡ true → EndAtLastTag u.moves)
-      → Deals empty_pair b [] [] (listed (places x y z) [] now false) c
-  from_nothing now ends = dealt_listed refl refl (λ o. refl) (nothing_backed b) u ends
+      → CallEffect empty_pair b [] [] (listed (places x y z) [] now false) c
+  from_nothing now ends = listed_effect refl refl (λ o. refl) (nothing_backed b) u ends
 
   abbrev quietly : (now : Bool) → (now ≡ true → EndAtLastTag u.moves) → AreQuiet u.moves
-      → DealsQuietly empty_pair b (listed (places x y z) [] now false) c
+      → TouchesNoFull empty_pair b (listed (places x y z) [] now false) c
   quietly now ends quiet = (from_nothing now ends, quiet.0, quiet.1)
 
   stops_with : AreQuiet u.moves → EndAtLastTag u.moves → StopsWith b c TagSpent
@@ -80,21 +81,21 @@ took_quiet h = alone (Took Empty h) (λ x. x) (λ x. x)
 none_quiet : AreQuiet (FoundNone Empty ∷ [])
 none_quiet = alone (FoundNone Empty) (λ x. x) (λ x. x)
 
-ended_quiet : (q : Which) → AreQuiet (Ended q ∷ [])
-ended_quiet q = alone (Ended q) (λ x. x) (λ x. x)
+spent_quiet : (q : Which) → AreQuiet (Spent q ∷ [])
+spent_quiet q = alone (Spent q) (λ x. x) (λ x. x)
 
 module _ (b : Book) where
   pub first_stopped : (c : Book) (stop : Stop) → PopsOne Empty b c (Err stop) → StopsWith b c stop
   first_stopped c OutOfMemory none = absurd none
   first_stopped c TagSpent moved =
-      let u : Trades empty_pair b [] [] empty_pair c = ended_at Empty moved (nothing_backed b).sized in
-      stops_with u (ended_quiet Empty) ([], Empty, refl)
+      let u : Trades empty_pair b [] [] empty_pair c = spent_at Empty moved (nothing_backed b).sized in
+      stops_with u (spent_quiet Empty) ([], Empty, refl)
 
   module _ (c : Book) (moved : PopsOne Empty b c (Ok None)) where
     abbrev missing : Trades empty_pair b [] [] empty_pair c
     missing = found_none_at Empty moved (nothing_backed b).sized
 
-    pub first_missing : DealsQuietly empty_pair b empty_pair c × WasSeenEmpty Empty b c
+    pub first_missing : TouchesNoFull empty_pair b empty_pair c × WasSeenEmpty Empty b c
     first_missing = (quietly missing false (λ x. cc) none_quiet, found_none Empty b c moved)
 
     pub first_unfound : OpensNone b c
@@ -113,8 +114,8 @@ module _ (b : Book) where
     pub second_stopped : (c : Book) (stop : Stop) → PopsOne Empty mid c (Err stop) → StopsWith b c stop
     second_stopped c OutOfMemory none = absurd none
     second_stopped c TagSpent moved =
-        let last : Trades just mid [] [] just c = ended_at Empty moved (sized_after one) in
-        stops_with (on_and_on one last) (quiet_on one.moves last.moves (took_quiet h) (ended_quiet Empty))
+        let last : Trades just mid [] [] just c = spent_at Empty moved (sized_after one) in
+        stops_with (on_and_on one last) (quiet_on one.moves last.moves (took_quiet h) (spent_quiet Empty))
         (end_on one.moves last.moves ([], Empty, refl))
 
     -- there was a second one
@@ -123,7 +124,7 @@ module _ (b : Book) where
       pair = on_and_on one (at_second (taken k mid c more) (sized_after one))
 
       pub both_taken : IsNew (places (Some h) (Some k) None)
-          × DealsQuietly empty_pair b (places (Some h) (Some k) None) c
+          × TouchesNoFull empty_pair b (places (Some h) (Some k) None) c
       both_taken = (
         record {
           going = record { going = refl; third = refl };
@@ -162,7 +163,7 @@ module _ (b : Book) where
         given r = on_and_on two (at_first r all_backed.sized)
 
         pub given_back : (done : Unit) → ClearsAt (Some h) c n d (Ok done)
-            → DealsQuietly empty_pair b empty_pair d × WasSeenEmpty Empty b d
+            → TouchesNoFull empty_pair b empty_pair d × WasSeenEmpty Empty b d
         given_back done told =
             let r = cleared (Some h) c d told.1 in
             let e₁ = move_effect (Took Empty h) b mid took in
@@ -195,6 +196,6 @@ module _ (b : Book) where
         pub back_stopped : (stop : Stop) → ClearsAt (Some h) c n d (Err stop) → StopsWith b d stop
         back_stopped OutOfMemory none_such = absurd none_such
         back_stopped TagSpent told =
-            let last : Trades just c [] [] just d = ended_at told.1.0 told.1.1 all_backed.sized in
-            stops_with (on_and_on two last) (quiet_on two.moves last.moves two_quiet (ended_quiet told.1.0))
+            let last : Trades just c [] [] just d = spent_at told.1.0 told.1.1 all_backed.sized in
+            stops_with (on_and_on two last) (quiet_on two.moves last.moves two_quiet (spent_quiet told.1.0))
             (end_on two.moves last.moves ([], told.1.0, refl))

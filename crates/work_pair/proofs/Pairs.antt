@@ -8,8 +8,8 @@ use Rattle.atomic_table.specs.Seated.{TableId}
 use Rattle.mark_core.specs.Events.{IsBusy}
 use Rattle.buffer_pool.specs.Book.{Book}
 use Rattle.buffer_pool.specs.Calls.{HeldBuffer, Holder}
-use Rattle.work_pair.specs.Deals.{Balances, Deals, DealsOut, Disposes, Gets, GetsBy, PublishesBoth, Puts, Refills}
-use Rattle.work_pair.specs.Deals.{ShelvesAll}
+use Rattle.work_pair.specs.CallEffects.{Balances, CallEffect, Disposes, Gets, GetsBy, PopsNoneFromFull, PublishesBoth}
+use Rattle.work_pair.specs.CallEffects.{Puts, Refills, ShelvesAll}
 use Rattle.work_pair.specs.Moves.{Move, FoundNone, EndAtLastTag, WasSeenEmpty}
 use Rattle.work_pair.specs.PairState.{PairState, buffered_items, pair_items, empty_pair, AreAlike, IsBacked, IsOpen}
 use Rattle.work_pair.specs.declared.buffers.Buffers.{Buffers}
@@ -17,16 +17,16 @@ use Rattle.work_pair.specs.declared.pair.Pair.TheInside.{Inside}
 use Rattle.work_pair.specs.declared.stop.Stop.{Stop}
 use Rattle.work_pair.specs.declared.stop.Stop.TheVariants.{TagSpent, OutOfMemory}
 use Rattle.work_pair.specs.working.Asks.{MayTrade}
-use Rattle.work_pair.specs.working.Buffers.{places_of}
+use Rattle.work_pair.specs.working.Buffers.{as_pair}
 use Rattle.work_pair.specs.working.Steps.{BalanceAnswers, Clears, ClearAnswers, Ends, EndsOut, FindsNone, GetAnswers}
 use Rattle.work_pair.specs.working.Steps.{PublishAnswers, PutAnswers, Trades, places}
 use Rattle.work_pair.proofs.Renewing.{out_alone}
-use Rattle.work_pair.proofs.Spilling.{beside, dealt_listed, listed, listed_sum, spilled, unspilled}
+use Rattle.work_pair.proofs.Spilling.{beside, listed, listed_effect, listed_sum, spilled, unspilled}
 use Rattle.work_pair.proofs.Trading.{backed_less, untouched}
 
 -- a pair as a contract sees it
 abbrev pub seen_as : {A : Type 0} → Inside A → PairState
-seen_as i = listed (places_of i.buffers) i.spill i.stopped i.starved
+seen_as i = listed (as_pair i.buffers) i.spill i.stopped i.starved
 
 -- what was popped from full does not depend on the list
 refills_of : (p q : PairState) → p.first ≡ q.first → p.second ≡ q.second → (popped : List HeldBuffer)
@@ -36,27 +36,27 @@ refills_of p q f s (h ∷ popped) moves new r =
     (r.0, r.1, refills_of p q f s popped r.1 r.0 r.2, r.3, r.4, r.5, r.6, r.7)
 
 by_rule : {A : Type 0} (i : Inside A) (q : PairState) (moves : List Move) (r : Option ℕ)
-    → GetsBy (places_of i.buffers) moves r q → GetsBy (seen_as i) moves r q
+    → GetsBy (as_pair i.buffers) moves r q → GetsBy (seen_as i) moves r q
 by_rule i q moves r told = (
   told.0,
   told.1,
   told.2,
   told.3,
   told.4,
-  refills_of (places_of i.buffers) (seen_as i) refl refl told.0 told.2 told.1 told.5,
+  refills_of (as_pair i.buffers) (seen_as i) refl refl told.0 told.2 told.1 told.5,
   told.6,
 )
 
 -- the first place is as it was, so what the buffers tell from there on is told from their places before
 pub put_from : {A : Type 0} (m : Buffers A) {first : Option HeldBuffer} → first ≡ m.first → (object : ℕ) (b : Book)
     (q : PairState) (c : Book) (r : Result Bool Stop) → PutAnswers object (places first m.second m.third) b q c r
-    → PutAnswers object (places_of m) b q c r
+    → PutAnswers object (as_pair m) b q c r
 put_from m same object b q c r told =
     subst (λ (f : Option HeldBuffer). PutAnswers object (places f m.second m.third) b q c r) same told
 
 pub got_from : {A : Type 0} (m : Buffers A) {first : Option HeldBuffer} → first ≡ m.first → (b : Book) (q : PairState)
     (c : Book) (r : Result (Option ℕ) Stop) → GetAnswers (places first m.second m.third) b q c r
-    → GetAnswers (places_of m) b q c r
+    → GetAnswers (as_pair m) b q c r
 got_from m same b q c r told =
     subst (λ (f : Option HeldBuffer). GetAnswers (places f m.second m.third) b q c r) same told
 
@@ -66,11 +66,11 @@ module _ {A : Type 0} {v : PairState} (i : Inside A) (is : seen_as i ≡ v) wher
   seen backed = rw is backed
 
   -- what the buffers are asked
-  pub inner : {put : List ℕ} {b : Book} → IsBacked v put b → IsBacked (places_of i.buffers) put b
+  pub inner : {put : List ℕ} {b : Book} → IsBacked v put b → IsBacked (as_pair i.buffers) put b
   inner backed = beside refl (seen backed)
 
   pub may_trade : {w : Holder} {pool : TableId} {put : List ℕ} → w.pool ≡ pool → IsOpen v → IsBacked v put w.book
-      → IsBusy w.book.account → MayTrade w pool (places_of i.buffers) put
+      → IsBusy w.book.account → MayTrade w pool (as_pair i.buffers) put
   may_trade same going backed busy =
       record {
         same = same;
@@ -88,27 +88,27 @@ module _ {A : Type 0} {v : PairState} (i : Inside A) (is : seen_as i ≡ v) wher
 
   -- the last object of the list was got
   pub takes_last : (m : List ℕ) (o : ℕ) → i.spill ≡ m ++ o ∷ [] → IsOpen v → (b : Book) → IsBacked v [] b
-      → Deals v b [] (o ∷ []) (listed (places_of i.buffers) m i.stopped i.starved) b
+      → CallEffect v b [] (o ∷ []) (listed (as_pair i.buffers) m i.stopped i.starved) b
   takes_last m o l_is going b backed =
-      let u : Trades (places_of i.buffers) b [] [] (places_of i.buffers) b = untouched (inner backed).sized in
-      rw (← is) (dealt_listed refl refl (λ x. omega (arith, unspilled m o x, ap (times x) l_is)) (seen backed) u
+      let u : Trades (as_pair i.buffers) b [] [] (as_pair i.buffers) b = untouched (inner backed).sized in
+      rw (← is) (listed_effect refl refl (λ x. omega (arith, unspilled m o x, ap (times x) l_is)) (seen backed) u
       (not_ended going u.moves))
 
   module _ (b : Book) (q : Buffers A) (c : Book) where
     -- the buffers were traded, and the list stayed
     abbrev trades : {m put got : List ℕ} {now starving : Bool} → m ≡ i.spill → IsBacked v put b
-        → (u : Trades (places_of i.buffers) b put got (places_of q) c) → (now ≡ true → EndAtLastTag u.moves)
-        → Deals (seen_as i) b put got (listed (places_of q) m now starving) c
-    trades m_is backed = dealt_listed refl refl (λ o. omega (arith, ap (times o) m_is)) (seen backed)
+        → (u : Trades (as_pair i.buffers) b put got (as_pair q) c) → (now ≡ true → EndAtLastTag u.moves)
+        → CallEffect (seen_as i) b put got (listed (as_pair q) m now starving) c
+    trades m_is backed = listed_effect refl refl (λ o. omega (arith, ap (times o) m_is)) (seen backed)
 
     -- an object was put
     module _ (going : IsOpen v) (object : ℕ) (backed : IsBacked v (object ∷ []) b) {done : Bool}
-        (answer : PutAnswers object (places_of i.buffers) b (places_of q) c (Ok done)) where
-      answered : (which : Bool) → done ≡ which → PutAnswers object (places_of i.buffers) b (places_of q) c (Ok which)
+        (answer : PutAnswers object (as_pair i.buffers) b (as_pair q) c (Ok done)) where
+      answered : (which : Bool) → done ≡ which → PutAnswers object (as_pair i.buffers) b (as_pair q) c (Ok which)
       answered which done_is =
-          subst (λ (d : Bool). PutAnswers object (places_of i.buffers) b (places_of q) c (Ok d)) done_is answer
+          subst (λ (d : Bool). PutAnswers object (as_pair i.buffers) b (as_pair q) c (Ok d)) done_is answer
 
-      pub puts : done ≡ true → Puts v b object (listed (places_of q) i.spill i.stopped i.starved) c
+      pub puts : done ≡ true → Puts v b object (listed (as_pair q) i.spill i.stopped i.starved) c
       puts done_is =
           let a = answered true done_is in
           rw (← is) (
@@ -120,39 +120,39 @@ module _ {A : Type 0} {v : PairState} (i : Inside A) (is : seen_as i ≡ v) wher
 
       -- no empty buffer was found for it: it went to the list, or stayed with the worker
       module _ (done_is : done ≡ false) (m : List ℕ) where
-        abbrev none : FindsNone (places_of i.buffers) b (places_of q) c
+        abbrev none : FindsNone (as_pair i.buffers) b (as_pair q) c
         none = answered false done_is
 
-        pub spills : m ≡ i.spill ++ object ∷ [] → Puts v b object (listed (places_of q) m i.stopped i.starved) c
+        pub spills : m ≡ i.spill ++ object ∷ [] → Puts v b object (listed (as_pair q) m i.stopped i.starved) c
         spills m_is =
             rw (← is) (
-              dealt_listed refl refl (λ o. omega (arith, spilled i.spill object o, ap (times o) m_is))
+              listed_effect refl refl (λ o. omega (arith, spilled i.spill object o, ap (times o) m_is))
                   (seen backed) none.0 (not_ended going none.0.moves),
               inr (m_is, none.2),
               out_alone none.0.moves none.2,
               inr (inl none.2),
             )
 
-        pub starves : m ≡ i.spill → (deals : Deals v b [] [] (listed (places_of q) m i.stopped true) c)
-            × (deals.moves ≡ FoundNone Empty ∷ [])
+        pub starves : m ≡ i.spill → (effect : CallEffect v b [] [] (listed (as_pair q) m i.stopped true) c)
+            × (effect.moves ≡ FoundNone Empty ∷ [])
         starves m_is =
             rw (← is) (
               trades m_is (backed_less v (object ∷ []) b backed) none.0 (not_ended going none.0.moves),
               none.2,
             )
 
-        pub still_open : IsOpen (listed (places_of q) m i.stopped true)
+        pub still_open : IsOpen (listed (as_pair q) m i.stopped true)
         still_open = record { going = still_going going; third = none.1 }
 
-        pub as_before : m ≡ i.spill → AreAlike v (listed (places_of q) m i.stopped true)
+        pub as_before : m ≡ i.spill → AreAlike v (listed (as_pair q) m i.stopped true)
         as_before m_is =
             rw (← is) (record {
               items = λ o. omega (
                 arith,
                 none.3.items o,
                 ap (times o) m_is,
-                listed_sum o (places_of i.buffers) i.spill i.stopped i.starved refl,
-                listed_sum o (places_of q) m i.stopped true refl,
+                listed_sum o (as_pair i.buffers) i.spill i.stopped i.starved refl,
+                listed_sum o (as_pair q) m i.stopped true refl,
               );
               buffers = none.3.buffers;
             })
@@ -160,8 +160,8 @@ module _ {A : Type 0} {v : PairState} (i : Inside A) (is : seen_as i ≡ v) wher
     module _ (backed : IsBacked v [] b) where
       -- the buffers were balanced, or published
       module _ (going : IsOpen v) (done : Unit) where
-        pub balances : BalanceAnswers (places_of i.buffers) b (places_of q) c (Ok done)
-            → Balances v b (listed (places_of q) i.spill i.stopped i.starved) c
+        pub balances : BalanceAnswers (as_pair i.buffers) b (as_pair q) c (Ok done)
+            → Balances v b (listed (as_pair q) i.spill i.stopped i.starved) c
         balances told =
             rw (← is) (
               trades refl backed told.0 (not_ended going told.0.moves),
@@ -170,14 +170,14 @@ module _ {A : Type 0} {v : PairState} (i : Inside A) (is : seen_as i ≡ v) wher
               told.4,
             )
 
-        pub publishes : PublishAnswers (places_of i.buffers) b (places_of q) c (Ok done)
-            → PublishesBoth v b (listed (places_of q) i.spill i.stopped i.starved) c
+        pub publishes : PublishAnswers (as_pair i.buffers) b (as_pair q) c (Ok done)
+            → PublishesBoth v b (listed (as_pair q) i.spill i.stopped i.starved) c
         publishes told =
             rw (← is) (trades refl backed told.0 (not_ended going told.0.moves), told.4)
 
       -- a call was stopped that popped nothing from full
-      pub stops : (stop : Stop) → EndsOut (places_of i.buffers) b (places_of q) c stop
-          → (stop ≡ TagSpent) × (true ≡ true) × DealsOut v b (listed (places_of q) i.spill true i.starved) c
+      pub stops : (stop : Stop) → EndsOut (as_pair i.buffers) b (as_pair q) c stop
+          → (stop ≡ TagSpent) × (true ≡ true) × PopsNoneFromFull v b (listed (as_pair q) i.spill true i.starved) c
       stops TagSpent told = (
         refl,
         refl,
@@ -187,65 +187,65 @@ module _ {A : Type 0} {v : PairState} (i : Inside A) (is : seen_as i ≡ v) wher
 
       -- an object was to be got from the buffers, and the list stayed
       module _ (m : List ℕ) (m_is : m ≡ i.spill) where
-        gets : {now : Bool} {got : List ℕ} (u : Trades (places_of i.buffers) b [] got (places_of q) c)
-            → (now ≡ true → EndAtLastTag u.moves) → Deals v b [] got (listed (places_of q) m now i.starved) c
+        gets : {now : Bool} {got : List ℕ} (u : Trades (as_pair i.buffers) b [] got (as_pair q) c)
+            → (now ≡ true → EndAtLastTag u.moves) → CallEffect v b [] got (listed (as_pair q) m now i.starved) c
         gets u ends = rw (← is) (trades m_is backed u ends)
 
-        pub get_stops : (stop : Stop) → Ends (places_of i.buffers) b (places_of q) c stop
-            → (stop ≡ TagSpent) × (true ≡ true) × Deals v b [] [] (listed (places_of q) m true i.starved) c
+        pub get_stops : (stop : Stop) → Ends (as_pair i.buffers) b (as_pair q) c stop
+            → (stop ≡ TagSpent) × (true ≡ true) × CallEffect v b [] [] (listed (as_pair q) m true i.starved) c
         get_stops TagSpent told = (refl, refl, gets told.0 (λ stopped. told.1))
         get_stops OutOfMemory none = absurd none
 
         module _ (going : IsOpen v) where
-          pub got_told : (r : Option ℕ) → GetAnswers (places_of i.buffers) b (places_of q) c (Ok r)
-              → IfSome r (λ o. Deals v b [] (o ∷ []) (listed (places_of q) m i.stopped i.starved) c)
+          pub got_told : (r : Option ℕ) → GetAnswers (as_pair i.buffers) b (as_pair q) c (Ok r)
+              → IfSome r (λ o. CallEffect v b [] (o ∷ []) (listed (as_pair q) m i.stopped i.starved) c)
           got_told (Some o) told = gets told.0 (not_ended going told.0.moves)
           got_told None told = tt
 
           -- by the rule, which knows of no list
-          pub gets_told : (r : Option ℕ) → GetAnswers (places_of i.buffers) b (places_of q) c (Ok r)
-              → Gets v b r (listed (places_of q) m i.stopped i.starved) c
+          pub gets_told : (r : Option ℕ) → GetAnswers (as_pair i.buffers) b (as_pair q) c (Ok r)
+              → Gets v b r (listed (as_pair q) m i.stopped i.starved) c
           gets_told (Some o) told =
               rw (← is) (
                 trades m_is backed told.0 (not_ended going told.0.moves),
-                by_rule i (places_of q) told.0.moves (Some o) told.2,
+                by_rule i (as_pair q) told.0.moves (Some o) told.2,
               )
           gets_told None told =
               rw (← is) (
                 trades m_is backed told.0 (not_ended going told.0.moves),
-                by_rule i (places_of q) told.0.moves None told.6,
+                by_rule i (as_pair q) told.0.moves None told.6,
               )
 
-          pub none_told : m ≡ [] → (r : Option ℕ) → GetAnswers (places_of i.buffers) b (places_of q) c (Ok r)
-              → IfNone r (Deals v b [] [] (listed (places_of q) m i.stopped i.starved) c
-              × (pair_items (listed (places_of q) m i.stopped i.starved) ≡ []) × WasSeenEmpty Full b c)
+          pub none_told : m ≡ [] → (r : Option ℕ) → GetAnswers (as_pair i.buffers) b (as_pair q) c (Ok r)
+              → IfNone r (CallEffect v b [] [] (listed (as_pair q) m i.stopped i.starved) c
+              × (pair_items (listed (as_pair q) m i.stopped i.starved) ≡ []) × WasSeenEmpty Full b c)
           none_told empty (Some o) told = tt
           none_told empty None told = (
             gets told.0 (not_ended going told.0.moves),
-            ap (λ (k : List ℕ). k ++ buffered_items (places_of q)) empty ∙ told.2,
+            ap (λ (k : List ℕ). k ++ buffered_items (as_pair q)) empty ∙ told.2,
             told.3,
           )
 
   -- the pair is backed without its list as well
-  given_up : (b : Book) → IsBacked v [] b → IsBacked (listed (places_of i.buffers) [] i.stopped i.starved) [] b
-  given_up b backed = beside {p = listed (places_of i.buffers) [] i.stopped i.starved} refl (seen backed)
+  given_up : (b : Book) → IsBacked v [] b → IsBacked (listed (as_pair i.buffers) [] i.stopped i.starved) [] b
+  given_up b backed = beside {p = listed (as_pair i.buffers) [] i.stopped i.starved} refl (seen backed)
 
   -- the buffers were given back one after the other
   pub shelves : (b : Book) → IsBacked v [] b → (c : Book) (done : Unit)
-      → ClearAnswers (places_of i.buffers) b empty_pair c (Ok done) → ShelvesAll v b c
+      → ClearAnswers (as_pair i.buffers) b empty_pair c (Ok done) → ShelvesAll v b c
   shelves b backed c done told =
       rw (← is) (
-        dealt_listed refl refl (λ o. refl) (given_up b backed) told.0.trades (λ stopped. absurd (false≢true stopped)),
+        listed_effect refl refl (λ o. refl) (given_up b backed) told.0.trades (λ stopped. absurd (false≢true stopped)),
         told.1,
       )
 
   -- the buffers were given back, and the list was given up before
   pub disposes : (b : Book) → IsBacked v [] b → (q : PairState) (c : Book) → q.spill ≡ [] → (now starving : Bool)
-      (m : List ℕ) → m ≡ [] → (cleared : Clears (places_of i.buffers) b q c)
+      (m : List ℕ) → m ≡ [] → (cleared : Clears (as_pair i.buffers) b q c)
       → (now ≡ true → EndAtLastTag cleared.trades.moves) → Disposes v b (listed q m now starving) c
   disposes b backed q c bare now starving m m_is cleared ends =
       rw (← is) (
-        dealt_listed refl bare (λ o. omega (arith, ap (times o) m_is)) (given_up b backed) cleared.trades ends,
+        listed_effect refl bare (λ o. omega (arith, ap (times o) m_is)) (given_up b backed) cleared.trades ends,
         cleared.quiet,
         cleared.out,
       )

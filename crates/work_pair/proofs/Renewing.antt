@@ -11,10 +11,10 @@ use Rattle.mark_core.specs.World.{Setup}
 use Rattle.mark_core.proofs.Sums.{only-same, times_stands, sum_of-append}
 use Rattle.buffer_pool.specs.Book.{Book}
 use Rattle.buffer_pool.specs.Calls.{HeldBuffer, Holder}
-use Rattle.work_pair.specs.Deals.{lower_part, upper_half}
-use Rattle.work_pair.specs.Moves.{Move, Took, Gave, FoundNone, Ended, Moved, Moves, IsFilled, AreFilled}
-use Rattle.work_pair.specs.Moves.{HasPushOnFull, IsFromFull, IsOnFull, HasPopFromFull}
-use Rattle.work_pair.specs.Moves.{popped_items, popped_numbers, pushed_items, pushed_numbers, shelf_of, shelving_of}
+use Rattle.work_pair.specs.CallEffects.{lower_part, upper_half}
+use Rattle.work_pair.specs.Moves.{Move, Took, Gave, FoundNone, Spent, Moved, Moves, IsFilled, AreFilled, HasPushOnFull}
+use Rattle.work_pair.specs.Moves.{IsFromFull, IsOnFull, HasPopFromFull, popped_items, popped_numbers, pushed_items}
+use Rattle.work_pair.specs.Moves.{pushed_numbers, shelf_of, shelving_of}
 use Rattle.work_pair.specs.PairState.{items_at, buffer_number, IsOfSize}
 use Rattle.work_pair.specs.declared.stop.Stop.{Stop}
 use Rattle.work_pair.specs.declared.stop.Stop.TheVariants.{TagSpent, OutOfMemory}
@@ -129,7 +129,7 @@ module _ {w : Holder} {pool : TableId} {place third : Option HeldBuffer} (may : 
     pub stopped_at_once : (stop : Stop) → PopsOne Empty w.book c (Err stop)
         → RenewAnswers half Empty place w.book place third c (Err stop)
     stopped_at_once TagSpent moved =
-        (unchanged (Ended Empty) moved (refl, refl, tt), ([], Empty, refl), λ pop. ⊎_elim (λ x. x) (λ x. x) pop)
+        (unchanged (Spent Empty) moved (refl, refl, tt), ([], Empty, refl), λ pop. ⊎_elim (λ x. x) (λ x. x) pop)
     stopped_at_once OutOfMemory none = absurd none
 
 -- what is pushed of a buffer and what stands there next are what stood there and what was popped
@@ -243,7 +243,7 @@ module _ (half : Bool) (q : Which) (h : HeldBuffer) (mid : Book) {old : Option H
     put_out_stopped TagSpent out =
         let r : Renews old b (pushed_part half old) (Some (next_of half old h)) c =
         record {
-          moves = Took q h ∷ Ended out.2.0 ∷ [];
+          moves = Took q h ∷ Spent out.2.0 ∷ [];
           books = (mid, took, (c, out.2.1, refl));
           items = λ o. omega (arith, shared o, sum_of-append (only o) h.items []);
           buffers = λ i. omega (

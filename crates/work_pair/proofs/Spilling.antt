@@ -5,7 +5,7 @@ use Rattle.mark_core.proofs.Sums.{sum_of-append}
 use Rattle.buffer_pool.specs.Book.{Book}
 use Rattle.work_pair.specs.Moves.{EndAtLastTag}
 use Rattle.work_pair.specs.PairState.{PairState, pair_items, IsBacked}
-use Rattle.work_pair.specs.Deals.{Deals}
+use Rattle.work_pair.specs.CallEffects.{CallEffect}
 use Rattle.work_pair.specs.working.Steps.{Trades}
 use Rattle.work_pair.proofs.Effects.{moves_effect, moves_closed}
 use Rattle.work_pair.proofs.Trading.{items_sum, sized_after}
@@ -37,12 +37,12 @@ beside {p} {l} {put} {was} {hungry} bare backed =
     }
 
 -- a trade of the buffers, told of the pair, whose list may have taken in what was put, or given what was got
-abbrev pub dealt_listed : {p q : PairState} {l m took gave put got : List ℕ} {was hungry now starving : Bool}
+abbrev pub listed_effect : {p q : PairState} {l m took gave put got : List ℕ} {was hungry now starving : Bool}
     {b c : Book} → p.spill ≡ [] → q.spill ≡ []
     → ((o : ℕ) → times o m + times o got + times o took ≡ times o l + times o put + times o gave)
     → IsBacked (listed p l was hungry) put b → (u : Trades p b took gave q c) → (now ≡ true → EndAtLastTag u.moves)
-    → Deals (listed p l was hungry) b put got (listed q m now starving) c
-dealt_listed {p} {q} {l} {m} {put} {got} {was} {hungry} {now} {starving} {b} {c} p_bare q_bare even backed u ends =
+    → CallEffect (listed p l was hungry) b put got (listed q m now starving) c
+listed_effect {p} {q} {l} {m} {put} {got} {was} {hungry} {now} {starving} {b} {c} p_bare q_bare even backed u ends =
     let e = moves_effect u.moves b c u.books in
     let sized = sized_after u in
     record {

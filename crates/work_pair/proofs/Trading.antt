@@ -8,7 +8,7 @@ use Rattle.mark_core.specs.World.{Setup}
 use Rattle.mark_core.proofs.Sums.{sum_of-append}
 use Rattle.buffer_pool.specs.Book.{Book}
 use Rattle.buffer_pool.specs.Calls.{HeldBuffer}
-use Rattle.work_pair.specs.Moves.{Move, FoundNone, Ended, Moved, Moves, popped_items, popped_numbers, pushed_items}
+use Rattle.work_pair.specs.Moves.{Move, FoundNone, Spent, Moved, Moves, popped_items, popped_numbers, pushed_items}
 use Rattle.work_pair.specs.Moves.{pushed_numbers, taken_items, taken_number, given_items, given_number, AreFilled}
 use Rattle.work_pair.specs.Moves.{IsFilled, HasPushOnFull, HasPopFromFull, EndAtLastTag}
 use Rattle.work_pair.specs.PairState.{PairState, buffered_items, items_at, buffer_number, pair_items, numbers_of}
@@ -61,7 +61,7 @@ pub out_on : (ms ns : List Move) → (HasPopFromFull ms → ⊥) → (HasPopFrom
 out_on ms ns no_m no_n pop = ⊎_elim no_m no_n (from_full_of ms ns pop)
 
 pub end_on : (ms ns : List Move) → EndAtLastTag ns → EndAtLastTag (ms ++ ns)
-end_on ms ns e = (ms ++ e.0, e.1, ap (λ (xs : List Move). ms ++ xs) e.2 ∙ sym (append_assoc ms e.0 (Ended e.1 ∷ [])))
+end_on ms ns e = (ms ++ e.0, e.1, ap (λ (xs : List Move). ms ++ xs) e.2 ∙ sym (append_assoc ms e.0 (Spent e.1 ∷ [])))
 
 -- what is told of moves, one list after the other: their items and their numbers
 module _ (told : Move → List ℕ) (all : List Move → List ℕ) (none : all [] ≡ [])
@@ -284,5 +284,5 @@ module _ {p : PairState} {b c : Book} (q : Which) where
   abbrev pub found_none_at : Moved (FoundNone q) b c → AreOfSize b.setup.size p → Trades p b [] [] p c
   found_none_at moved = looks (FoundNone q) moved (refl, refl, tt)
 
-  abbrev pub ended_at : Moved (Ended q) b c → AreOfSize b.setup.size p → Trades p b [] [] p c
-  ended_at moved = looks (Ended q) moved (refl, refl, tt)
+  abbrev pub spent_at : Moved (Spent q) b c → AreOfSize b.setup.size p → Trades p b [] [] p c
+  spent_at moved = looks (Spent q) moved (refl, refl, tt)

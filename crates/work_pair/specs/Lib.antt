@@ -1,4 +1,4 @@
 pub mod PairState
 pub mod Moves
-pub mod Deals
+pub mod CallEffects
 pub mod working

@@ -15,14 +15,14 @@ pub data Move : Type 0 where
   -- a pop saw the stack empty
   FoundNone : Which → Move
   -- a pop or a push loaded the stack's last tag
-  Ended : Which → Move
+  Spent : Which → Move
 
 -- the effect of a move on the book of the worker that makes it
 abbrev pub Moved : Move → Book → Book → Type 0
 Moved (Took q h) old new = Pops q old new (pop.Took h)
 Moved (Gave q h) old new = MayPush q h old × Pushes q h old new try_push.Done
 Moved (FoundNone q) old new = Pops q old new pop.Empty
-Moved (Ended q) old new = Pops q old new pop.Spent ⊎ ((h : HeldBuffer) × MayPush q h old
+Moved (Spent q) old new = Pops q old new pop.Spent ⊎ ((h : HeldBuffer) × MayPush q h old
     × Pushes q h old new (try_push.Spent h))
 
 -- moves one after the other
@@ -45,13 +45,13 @@ abbrev pub taken_items : Move → List ℕ
 taken_items (Took q h) = h.items
 taken_items (Gave q h) = []
 taken_items (FoundNone q) = []
-taken_items (Ended q) = []
+taken_items (Spent q) = []
 
 abbrev pub taken_number : Move → List ℕ
 taken_number (Took q h) = h.index ∷ []
 taken_number (Gave q h) = []
 taken_number (FoundNone q) = []
-taken_number (Ended q) = []
+taken_number (Spent q) = []
 
 abbrev pub popped_items : List Move → List ℕ
 popped_items [] = []
@@ -66,13 +66,13 @@ abbrev pub given_items : Move → List ℕ
 given_items (Took q h) = []
 given_items (Gave q h) = h.items
 given_items (FoundNone q) = []
-given_items (Ended q) = []
+given_items (Spent q) = []
 
 abbrev pub given_number : Move → List ℕ
 given_number (Took q h) = []
 given_number (Gave q h) = h.index ∷ []
 given_number (FoundNone q) = []
-given_number (Ended q) = []
+given_number (Spent q) = []
 
 abbrev pub pushed_items : List Move → List ℕ
 pushed_items [] = []
@@ -88,7 +88,7 @@ IsFilled (Took q h) = Unit {0}
 IsFilled (Gave Full h) = h.items ≢ []
 IsFilled (Gave Empty h) = Unit {0}
 IsFilled (FoundNone q) = Unit {0}
-IsFilled (Ended q) = Unit {0}
+IsFilled (Spent q) = Unit {0}
 
 abbrev pub AreFilled : List Move → Type 0
 AreFilled [] = Unit {0}
@@ -100,7 +100,7 @@ IsOnFull (Took q h) = ⊥
 IsOnFull (Gave Full h) = Unit {0}
 IsOnFull (Gave Empty h) = ⊥
 IsOnFull (FoundNone q) = ⊥
-IsOnFull (Ended q) = ⊥
+IsOnFull (Spent q) = ⊥
 
 abbrev pub HasPushOnFull : List Move → Type 0
 HasPushOnFull [] = ⊥
@@ -112,7 +112,7 @@ IsFromFull (Took Full h) = Unit {0}
 IsFromFull (Took Empty h) = ⊥
 IsFromFull (Gave q h) = ⊥
 IsFromFull (FoundNone q) = ⊥
-IsFromFull (Ended q) = ⊥
+IsFromFull (Spent q) = ⊥
 
 abbrev pub HasPopFromFull : List Move → Type 0
 HasPopFromFull [] = ⊥
@@ -120,7 +120,7 @@ HasPopFromFull (move ∷ moves) = IsFromFull move ⊎ HasPopFromFull moves
 
 -- the last move loaded a last tag
 abbrev pub EndAtLastTag : List Move → Type 0
-EndAtLastTag moves = (before : List Move) × (q : Which) × (moves ≡ before ++ Ended q ∷ [])
+EndAtLastTag moves = (before : List Move) × (q : Which) × (moves ≡ before ++ Spent q ∷ [])
 
 -- during a call the worker loaded the stack's head and found no buffer
 abbrev pub WasSeenEmpty : Which → Book → Book → Type 0

@@ -26,7 +26,7 @@ impl<A: Allocator> Buffers<A> {
     ghost use Rattle.mark_core.specs.Events.{IsBusy};
     ghost use Rattle.work_pair.specs.PairState.{HasRoomAt, IsBacked, pair_items};
     ghost use Rattle.work_pair.specs.working.Asks.{MayTrade};
-    ghost use Rattle.work_pair.specs.working.Buffers.{places_of};
+    ghost use Rattle.work_pair.specs.working.Buffers.{as_pair};
     ghost use Rattle.work_pair.specs.working.Steps.{ClearAnswers, GetsObject, PutsObject, Takes};
 
     /// Puts `object` into the second buffer, which becomes the first, or into an empty one. The first buffer has no
@@ -40,9 +40,9 @@ impl<A: Allocator> Buffers<A> {
         worker: &mut Worker<A>,
         object: u32,
     ) -> Result<bool, Stop>
-        requires may { MayTrade worker.old pool.now (places_of self.old) (object ∷ []) }
+        requires may { MayTrade worker.old pool.now (as_pair self.old) (object ∷ []) }
         requires full { HasRoomAt self.old.first → ⊥ }
-        ensures { PutsObject (HasRoomAt self.old.second) object (places_of self.old) worker.old (places_of self.new)
+        ensures { PutsObject (HasRoomAt self.old.second) object (as_pair self.old) worker.old (as_pair self.new)
             worker.new result }
     {
         swap(&mut self.first, &mut self.second);
@@ -57,7 +57,7 @@ impl<A: Allocator> Buffers<A> {
 
     /// Takes an object from the first buffer, or from the second, which becomes the first.
     fn take(&mut self) -> Option<u32>
-        ensures { Takes (places_of self.old) (places_of self.new) result }
+        ensures { Takes (as_pair self.old) (as_pair self.new) result }
     {
         if let Some(object) = take_at(&mut self.first) {
             return Some(object);
@@ -76,8 +76,8 @@ impl<A: Allocator> Buffers<A> {
         pool: &Pool<A>,
         worker: &mut Worker<A>,
     ) -> Result<Option<u32>, Stop>
-        requires { MayTrade worker.old pool.now (places_of self.old) [] }
-        ensures { GetsObject (places_of self.old) worker.old (places_of self.new) worker.new result }
+        requires { MayTrade worker.old pool.now (as_pair self.old) [] }
+        ensures { GetsObject (as_pair self.old) worker.old (as_pair self.new) worker.new result }
     {
         for _ in rt.forever() {
             if let Some(object) = self.take() {
@@ -99,10 +99,10 @@ impl<A: Allocator> Buffers<A> {
         worker: &mut Worker<A>,
     ) -> Result<(), Stop>
         requires pool { worker.old.pool ≡ pool.now }
-        requires backed { IsBacked (places_of self.old) [] worker.old.book }
-        requires busy { pair_items (places_of self.old) ≢ [] → IsBusy worker.old.book.account }
+        requires backed { IsBacked (as_pair self.old) [] worker.old.book }
+        requires busy { pair_items (as_pair self.old) ≢ [] → IsBusy worker.old.book.account }
         ensures pool { worker.new.pool ≡ worker.old.pool }
-        ensures clears { ClearAnswers (places_of self.old) worker.old.book (places_of self.new) worker.new.book result }
+        ensures clears { ClearAnswers (as_pair self.old) worker.old.book (as_pair self.new) worker.new.book result }
     {
         clear_at(rt, pool, worker, &mut self.first)?;
         clear_at(rt, pool, worker, &mut self.second)?;

@@ -52,8 +52,8 @@ impl<A: Allocator> Pair<A> {
     ghost use Rattle.std.specs.Prelude.{IfErr, IfNone, IfOk, IfSome, IsOk, OnOk, length};
     ghost use Rattle.mark_core.specs.Events.{IsBusy};
     ghost use Rattle.mark_core.specs.declared.which.Which.TheVariants.{Empty, Full};
-    ghost use Rattle.work_pair.specs.Deals.{Balances, Deals, DealsOut, DealsQuietly, Disposes, Gets, HasMore};
-    ghost use Rattle.work_pair.specs.Deals.{OpensNone, OpensTwo, PublishesBoth, Puts, ShelvesAll};
+    ghost use Rattle.work_pair.specs.CallEffects.{Balances, CallEffect, Disposes, Gets, HasMore, OpensNone, OpensTwo};
+    ghost use Rattle.work_pair.specs.CallEffects.{PopsNoneFromFull, PublishesBoth, Puts, ShelvesAll, TouchesNoFull};
     ghost use Rattle.work_pair.specs.Moves.{FoundNone, WasSeenEmpty};
     ghost use Rattle.work_pair.specs.PairState.{AreAlike, HasRoom, HasStopped, IsBacked, IsNew, IsOpen, PairState};
     ghost use Rattle.work_pair.specs.PairState.{buffered_items, count_at, pair_items, empty_pair};
@@ -96,14 +96,14 @@ impl<A: Allocator> Pair<A> {
         requires pool { worker.old.pool ≡ pool.now }
         requires busy { IsBusy worker.old.book.account }
         ensures pool { worker.new.pool ≡ worker.old.pool }
-        ensures opened { IfOk result (λ r. IfSome r (λ p. IsNew p × DealsQuietly empty_pair worker.old.book p
+        ensures opened { IfOk result (λ r. IfSome r (λ p. IsNew p × TouchesNoFull empty_pair worker.old.book p
             worker.new.book)) }
         ensures two { IfOk result (λ r. IfSome r (λ p. OpensTwo worker.old.book p worker.new.book)) }
-        ensures none { IfOk result (λ r. IfNone r (DealsQuietly empty_pair worker.old.book empty_pair worker.new.book
+        ensures none { IfOk result (λ r. IfNone r (TouchesNoFull empty_pair worker.old.book empty_pair worker.new.book
             × WasSeenEmpty Empty worker.old.book worker.new.book)) }
         ensures not_found { IfOk result (λ r. IfNone r (OpensNone worker.old.book worker.new.book)) }
         ensures spent { IfErr result (λ s. (s ≡ TagSpent) × ((left : PairState) × (left.stopped ≡ true)
-            × DealsQuietly empty_pair worker.old.book left worker.new.book)) }
+            × TouchesNoFull empty_pair worker.old.book left worker.new.book)) }
     {
         let Some(first) = pop_one(rt, pool, worker, Which::Empty)? else {
             return Ok(None);
@@ -138,11 +138,11 @@ impl<A: Allocator> Pair<A> {
         ensures going { OnOk result (IsOpen self.new) }
         ensures room { HasRoom self.old → (worker.new ≡ worker.old) × IsOk result }
         ensures fed { OnOk result (self.new.starved ≡ self.old.starved) }
-        ensures back { IfErr result (λ e. (e.0 ≡ object) × (self.new.spill ≡ self.old.spill) × DealsOut self.old
+        ensures back { IfErr result (λ e. (e.0 ≡ object) × (self.new.spill ≡ self.old.spill) × PopsNoneFromFull self.old
             worker.old.book self.new worker.new.book) }
         ensures no_memory { IfErr result (λ e. e.1 ≡ OutOfMemory → IsOpen self.new × AreAlike self.old self.new
-            × (self.new.starved ≡ true) × ((deals : Deals self.old worker.old.book [] [] self.new worker.new.book)
-            × (deals.moves ≡ FoundNone Empty ∷ []))) }
+            × (self.new.starved ≡ true) × ((effect : CallEffect self.old worker.old.book [] [] self.new worker.new.book)
+            × (effect.moves ≡ FoundNone Empty ∷ []))) }
         ensures spent { IfErr result (λ e. e.1 ≡ TagSpent → (self.new.stopped ≡ true) × (self.new.starved
             ≡ self.old.starved)) }
     {
@@ -174,9 +174,9 @@ impl<A: Allocator> Pair<A> {
         requires backed { IsBacked self.old [] worker.old.book }
         requires busy { IsBusy worker.old.book.account }
         ensures pool { worker.new.pool ≡ worker.old.pool }
-        ensures got { IfOk result (λ r. IfSome r (λ o. Deals self.old worker.old.book [] (o ∷ []) self.new
+        ensures got { IfOk result (λ r. IfSome r (λ o. CallEffect self.old worker.old.book [] (o ∷ []) self.new
             worker.new.book)) }
-        ensures none { IfOk result (λ r. IfNone r (Deals self.old worker.old.book [] [] self.new worker.new.book
+        ensures none { IfOk result (λ r. IfNone r (CallEffect self.old worker.old.book [] [] self.new worker.new.book
             × (pair_items self.new ≡ []) × WasSeenEmpty Full worker.old.book worker.new.book)) }
         ensures gets { self.old.spill ≡ [] → IfOk result (λ r. Gets self.old worker.old.book r self.new
             worker.new.book) }
@@ -188,7 +188,7 @@ impl<A: Allocator> Pair<A> {
         ensures closed { IfOk result (λ r. IfNone r (worker.new.book.account.open_push ≡ false)) }
         ensures found { IfOk result (λ r. IfNone r (worker.new.book.account.found ≡ true)) }
         ensures going { OnOk result (IsOpen self.new) }
-        ensures spent { IfErr result (λ s. (s ≡ TagSpent) × (self.new.stopped ≡ true) × Deals self.old
+        ensures spent { IfErr result (λ s. (s ≡ TagSpent) × (self.new.stopped ≡ true) × CallEffect self.old
             worker.old.book [] [] self.new worker.new.book) }
     {
         if let Some(object) = self.spill.pop() {
@@ -223,7 +223,7 @@ impl<A: Allocator> Pair<A> {
         ensures few { (HasMore self.old → ⊥) → (self.new ≡ self.old) × (worker.new ≡ worker.old) × IsOk result }
         ensures spill { (self.new.spill ≡ self.old.spill) × (self.new.starved ≡ self.old.starved) }
         ensures going { OnOk result (IsOpen self.new) }
-        ensures spent { IfErr result (λ s. (s ≡ TagSpent) × (self.new.stopped ≡ true) × DealsOut self.old
+        ensures spent { IfErr result (λ s. (s ≡ TagSpent) × (self.new.stopped ≡ true) × PopsNoneFromFull self.old
             worker.old.book self.new worker.new.book) }
     {
         match self.buffers.balance(rt, pool, worker) {
@@ -250,13 +250,13 @@ impl<A: Allocator> Pair<A> {
         ensures pool { worker.new.pool ≡ worker.old.pool }
         ensures none_left { OnOk result (WasSeenEmpty Empty worker.old.book worker.new.book ⊎ (buffered_items self.new
             ≡ [])) }
-        ensures published { OnOk result (Deals self.old worker.old.book [] [] self.new worker.new.book) }
+        ensures published { OnOk result (CallEffect self.old worker.old.book [] [] self.new worker.new.book) }
         ensures publishes { OnOk result (PublishesBoth self.old worker.old.book self.new worker.new.book) }
         ensures nothing { buffered_items self.old ≡ [] → (self.new ≡ self.old) × (worker.new ≡ worker.old)
             × IsOk result }
         ensures spill { (self.new.spill ≡ self.old.spill) × (self.new.starved ≡ self.old.starved) }
         ensures going { OnOk result (IsOpen self.new) }
-        ensures spent { IfErr result (λ s. (s ≡ TagSpent) × (self.new.stopped ≡ true) × DealsOut self.old
+        ensures spent { IfErr result (λ s. (s ≡ TagSpent) × (self.new.stopped ≡ true) × PopsNoneFromFull self.old
             worker.old.book self.new worker.new.book) }
     {
         match self.buffers.publish(rt, pool, worker) {

@@ -8,7 +8,7 @@ use Rattle.buffer_pool.specs.Book.{empties_of}
 use Rattle.buffer_pool.specs.Calls.{Holder}
 use Rattle.drain.specs.declared.paired_worker.Opened.{Opened}
 use Rattle.drain.specs.declared.paired_worker.Opened.TheVariants as opened
-use Rattle.work_pair.specs.Deals.{OpensNone, OpensTwo}
+use Rattle.work_pair.specs.CallEffects.{OpensNone, OpensTwo}
 use Rattle.work_pair.specs.PairState.{AreOfSize, IsOpen, PairState, buffered_items, pair_items, numbers_of}
 
 -- The setup `e` has these objects, roots and references of a graph.

@@ -2,7 +2,7 @@
 use Rattle.std.specs.Prelude.{All, List, get_or, ℕ, ◌+◌, ◌<◌, ◌≡◌}
 use Rattle.buffer_pool.specs.Book.{new_book}
 use Rattle.buffer_pool.specs.Calls.{Holder}
-use Rattle.drain.specs.declared.tallied.Tallied.{Tallied}
+use Rattle.drain.specs.declared.tallied_worker.TalliedWorker.{TalliedWorker}
 use Rattle.drain.specs.declared.tally.Tally.{Tally}
 use Rattle.drain.specs.declared.worker_threads.Duty.{Duty}
 use Rattle.drain.specs.working.AtWork.{IsFree, Leads}
@@ -33,5 +33,5 @@ pub record IsBackUnder {A : Type 0} (m : Measure) (leader w : Holder) (t : Tally
   pub tally : HasTallied m w t
 
 -- each worker in `back` is back
-abbrev pub AreBackUnder : {A : Type 0} → Measure → Holder → List (Tallied A) → Type 0
+abbrev pub AreBackUnder : {A : Type 0} → Measure → Holder → List (TalliedWorker A) → Type 0
 AreBackUnder m leader back = All (λ t. IsBackUnder m leader t.worker t.tally) back

@@ -1,11 +1,11 @@
 -- The conditions when a worker begins its job, while it scans, and when a leader runs its workers.
 use Rattle.std.specs.Prelude.{Bool, List, None, [], false, true, ℕ, ◌++◌, ◌<◌, ◌≡◌, ◌≤◌, ◌⊎◌, ◌∷◌}
 use Rattle.buffer_pool.specs.Calls.{Holder}
-use Rattle.work_pair.specs.Deals.{Gets, OpensNone, OpensTwo, ShelvesAll}
+use Rattle.work_pair.specs.CallEffects.{Gets, OpensNone, OpensTwo, ShelvesAll}
 use Rattle.drain.specs.declared.job.Job.{Job}
 use Rattle.drain.specs.declared.paired_worker.PairedWorker.{PairedWorker}
 use Rattle.drain.specs.declared.recently_seen.RecentlySeen.{RecentlySeen}
-use Rattle.drain.specs.declared.tallied.Tallied.{Tallied}
+use Rattle.drain.specs.declared.tallied_worker.TalliedWorker.{TalliedWorker}
 use Rattle.drain.specs.declared.tally.Tally.{Tally}
 use Rattle.drain.specs.working.AtWork.{IsAtWork, IsFree, IsSetupOf, WorksOn}
 use Rattle.drain.specs.working.Idle.{HasFoundMore, HasWaited, IsAwake}
@@ -81,7 +81,7 @@ HasWorkedOff {A} workers old new =
     × FindsNone last mid × (new.pair ≡ mid.pair) × HasWaited workers 1024 mid.worker.book new.worker.book
 
 -- the worker opened a pair of two buffers, worked off what it found, and gave the buffers back; or there were not two
-abbrev pub HasWorked : {A : Type 0} → ℕ → Holder → Tallied A → Type 0
+abbrev pub HasWorked : {A : Type 0} → ℕ → Holder → TalliedWorker A → Type 0
 HasWorked {A} workers begun t =
     ((opened : PairedWorker A) × (last : PairedWorker A)
     × OpensTwo begun.book opened.pair opened.worker.book × HasWorkedOff workers opened last

@@ -3,7 +3,7 @@ use Rattle.heap_graph.specs.ObjectGraph.{ObjectGraph, bytes_at, row_at}
 use Rattle.heap_graph.specs.RowNumbers.{row_count, row_number}
 use Rattle.heap_graph.specs.Whole.{unresolved_at}
 use Rattle.heap_graph.specs.Walks.{Visited}
-use Rattle.drain.specs.declared.scanned.Scanned.{Scanned}
+use Rattle.drain.specs.declared.scanned_object.ScannedObject.{ScannedObject}
 use Rattle.drain.specs.working.Tallies.{Measure}
 
 abbrev pub measure_of : ObjectGraph → Measure
@@ -15,5 +15,5 @@ measure_of g = record {
 }
 
 -- what a visit has read of its object so far
-abbrev pub scanned_in : Visited → Scanned
+abbrev pub scanned_in : Visited → ScannedObject
 scanned_in v = record { row = row_number v.row; bytes = v.bytes; unresolved = v.unresolved }

@@ -3,7 +3,7 @@ use Rattle.std.specs.Prelude.{Bool, List, [], false, length, true, ℕ, ◌++◌
 use Rattle.mark_core.specs.declared.which.Which.TheVariants.{Full}
 use Rattle.buffer_pool.specs.Book.{Book}
 use Rattle.buffer_pool.specs.Calls.{Sees}
-use Rattle.work_pair.specs.Deals.{Balances, Puts}
+use Rattle.work_pair.specs.CallEffects.{Balances, Puts}
 use Rattle.work_pair.specs.PairState.{PairState}
 
 -- the last spilled object was taken off the list and put into the pair again

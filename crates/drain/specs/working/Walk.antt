@@ -2,9 +2,9 @@
 use Rattle.std.specs.Prelude.{All, Contains, List, None, Option, option_to_list, ℕ, ◌++◌, ◌+◌, ◌<◌, ◌≡◌, ◌↔◌}
 use Rattle.std.specs.Iterator.{AlwaysYields, Count, IsFinite, Yields}
 use Rattle.heap_graph.specs.Walks.{Visited, references_left, unresolved_left}
-use Rattle.drain.specs.declared.scanned.Scanned.{Scanned}
+use Rattle.drain.specs.declared.scanned_object.ScannedObject.{ScannedObject}
 use Rattle.heap_graph.specs.RowNumbers.{row_number}
-use Rattle.drain.specs.working.Scans.{IsScanOf}
+use Rattle.drain.specs.working.Scans.{MatchesMeasure}
 use Rattle.drain.specs.working.Tallies.{Measure}
 
 -- `v` is a visit of the object `o`: it yields exactly the objects that `o` refers to, all below `count`, and reads its
@@ -23,10 +23,10 @@ HasEnded {S} steps start end = (given : List ℕ) × (last : S) × Yields steps 
 -- The class, if it is known, and the objects that the iterator `s` then yields are exactly those that `o` refers to.
 -- Then the calls end, and what is read of the object is complete.
 pub record IsGiven {S : Type 0} (callable : S → Type 0) (steps : S → Option ℕ → S → Type 0) (left : S → Count)
-    (read : S → Scanned) (refers : ℕ → Type 0) (m : Measure) (o : ℕ) (class : Option ℕ) (s : S) : Type 0 where
+    (read : S → ScannedObject) (refers : ℕ → Type 0) (m : Measure) (o : ℕ) (class : Option ℕ) (s : S) : Type 0 where
   pub can : callable s
   pub objects : List ℕ
   pub gives : AlwaysYields steps (λ x. x) s objects
   pub finite : IsFinite (left s)
   pub exact : (x : ℕ) → Contains (option_to_list class ++ objects) x ↔ refers x
-  pub ends : (end : S) → HasEnded steps s end → IsScanOf m o (read end)
+  pub ends : (end : S) → HasEnded steps s end → MatchesMeasure m o (read end)

@@ -39,10 +39,10 @@ impl<A: Allocator> PairedWorker<A> {
         ensures worked { OnOk result (HasWorkedOff job.now.workers self.old self.new) }
     {
         let mut seen = RecentlySeen::new();
-        self.share(rt, job.pool)?;
+        self.offer(rt, job.pool)?;
         for _ in rt.forever() {
             if self.scan_next(rt, job, number, &mut seen, tally)? {
-                // As `share` does, but a turn in which nothing is given tests no byte after it.
+                // As `offer` does, but a turn in which nothing is given tests no byte after it.
                 if self.others_want(job.pool) {
                     self.give(rt, job.pool)?;
                 }

@@ -3,7 +3,7 @@
 use crate::gate::Gate;
 use crate::job::Job;
 use crate::paired_worker::PairedWorker;
-use crate::tallied::Tallied;
+use crate::tallied_worker::TalliedWorker;
 use crate::tally::Tally;
 use crate::walk::Walk;
 use buffer_pool::{Pool, Worker};
@@ -52,7 +52,7 @@ impl<A: Allocator> PairedWorker<A> {
 
     /// Opens a pair for `leader`, or a bare one if there are not two empty buffers, claims `roots`, and gives them to
     /// others. Returns the leader with its pair.
-    pub(crate) fn begun<R: Wait>(
+    pub(crate) fn open_and_begin<R: Wait>(
         rt: &R,
         alloc: A,
         pool: &Pool<A>,
@@ -81,7 +81,7 @@ impl<A: Allocator> PairedWorker<A> {
         rt: &R,
         job: &Job<'_, A, V, G, S>,
         tally: Tally<A>,
-    ) -> Result<Tallied<A>, Stop>
+    ) -> Result<TalliedWorker<A>, Stop>
         requires { IsOnJob V.count V.roots V.pairs V.measure job.now [] self tally }
         ensures through { IfOk result (λ t. IsThrough self.worker t.worker) }
         ensures tally { IfOk result (λ t. HasTallied (V.measure job.now.graph.now) t.worker t.tally) }
@@ -90,6 +90,6 @@ impl<A: Allocator> PairedWorker<A> {
         let mut tally = tally;
         paired.drain(rt, job, job.workers, &mut tally)?;
         let worker = paired.close(rt, job.pool)?;
-        Ok(Tallied { worker, tally })
+        Ok(TalliedWorker { worker, tally })
     }
 }

@@ -8,8 +8,8 @@ use Rattle.heap_graph.specs.Heap.{class_named}
 use Rattle.heap_graph.specs.working.ClassTable.{ids_of}
 use Rattle.heap_graph.specs.working.IdPlaces.{id_places, size_together}
 use Rattle.heap_graph.specs.declared.objects.Objects.{Objects}
-use Rattle.heap_graph.specs.declared.field_places.ClassPlan.{ClassPlan}
-use Rattle.heap_graph.specs.declared.field_places.Plan.{Plan}
+use Rattle.heap_graph.specs.declared.plan.ClassPlan.{ClassPlan}
+use Rattle.heap_graph.specs.declared.plan.Plan.{Plan}
 use Rattle.heap_graph.specs.declared.row.RowKey.{RowKey}
 use Rattle.heap_graph.specs.declared.row.RowKey.TheVariants as keys
 use Rattle.heap_graph.specs.working.Resolving.{target_in}

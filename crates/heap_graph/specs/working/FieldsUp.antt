@@ -6,7 +6,7 @@ use Rattle.std.proofs.Common.{refl, subst, sym, ◌∙◌}
 use Rattle.std.proofs.Math.Path.{Σ_path, to_path_p}
 use Rattle.heap_graph.specs.declared.classes.fate.Fate.{Fate}
 use Rattle.heap_graph.specs.declared.classes.fate.Fate.TheVariants as fates
-use Rattle.heap_graph.specs.declared.field_places.ClassPlan.{ClassPlan}
+use Rattle.heap_graph.specs.declared.plan.ClassPlan.{ClassPlan}
 use Rattle.heap_graph.specs.working.ClassPlans.{HasIdPlaces, id_places_of, plan_at}
 use Rattle.heap_graph.specs.working.IdPlaces.{ids_at}
 

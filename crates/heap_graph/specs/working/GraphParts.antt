@@ -9,7 +9,7 @@ use Rattle.heap_graph.specs.Roots.{root_ids}
 use Rattle.heap_graph.specs.Skips.{SkipEntry, is_skipped}
 use Rattle.heap_graph.specs.declared.class_entry.ClassEntry.{ClassEntry}
 use Rattle.heap_graph.specs.declared.objects.Objects.{Objects}
-use Rattle.heap_graph.specs.declared.field_places.Plan.{Plan}
+use Rattle.heap_graph.specs.declared.plan.Plan.{Plan}
 use Rattle.heap_graph.specs.working.ClassPlans.{IsPlanOf}
 use Rattle.heap_graph.specs.working.Refinement.{named_class}
 

@@ -10,7 +10,7 @@ use Rattle.heap_graph.specs.working.HeldIds.{AreLinkedOf}
 use Rattle.heap_graph.specs.working.ClassFates.{HaveFatesOf}
 use Rattle.heap_graph.specs.declared.class_entry.ClassEntry.{ClassEntry}
 use Rattle.heap_graph.specs.declared.objects.Objects.{Objects}
-use Rattle.heap_graph.specs.declared.field_places.Plan.{Plan}
+use Rattle.heap_graph.specs.declared.plan.Plan.{Plan}
 
 abbrev pub named_class : ClassEntry → NamedClass
 named_class c = record { id = c.id; text = option_copied c.text }

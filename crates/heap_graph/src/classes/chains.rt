@@ -58,7 +58,7 @@ impl<'d, A: Allocator> Classes<'d, A> {
         ensures { (heap : List SubRecord) (super : ℕ) → AreClassesOf self.now heap
             → IsUnderOf self.now heap number super → IsAboveOf self.now heap super result }
     {
-        let superclass = self.view.superclass(self.entry(number).place);
+        let superclass = self.view.superclass(self.class_place(number).place);
         if superclass == 0 {
             return Above::Nothing;
         }

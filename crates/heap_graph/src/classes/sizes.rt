@@ -22,7 +22,7 @@ impl<'d, A: Allocator> Classes<'d, A> {
             → IsChainAtOf self.now heap number c rest → IsFirstOf self.now heap rest above
             → IsFirstOf self.now heap (c ∷ rest) result }
     {
-        if self.entry(number).size == 0 {
+        if self.class_place(number).size == 0 {
             return above;
         }
         Some(number)
@@ -37,7 +37,7 @@ impl<'d, A: Allocator> Classes<'d, A> {
             → IsChainAtOf self.now heap number c rest → IsLayoutAtOf self.now heap rest above
             → IsLayoutAtOf self.now heap (c ∷ rest) result }
     {
-        let bytes = self.entry(number).size + above.size;
+        let bytes = self.class_place(number).size + above.size;
         Layout {
             size: bytes.min(MOST_SIZE),
             first: self.first_of(number, above.first),

@@ -145,8 +145,8 @@ impl<'d, A: Allocator> Classes<'d, A> {
         self.table.get(number).0
     }
 
-    /// Returns the entry of class `number`.
-    pub(crate) fn entry(&self, number: u32) -> ClassPlace
+    /// Returns where the dump of class `number` is, and its size.
+    pub(crate) fn class_place(&self, number: u32) -> ClassPlace
         requires { number < length self.now.table.entries }
         ensures { (e : TableEntry) → slice_get self.now.table.entries number ≡ Some e → result ≡ e.1 }
     {

@@ -15,13 +15,13 @@ ghost use Rattle.heap_graph.specs.working.ReadObjects.{IsReadOf};
 ghost use Rattle.heap_graph.specs.working.ClassFates.{HaveFatesOf};
 
 use crate::graph::Graph;
-use crate::graph::parts::{Named, Rooted, find_roots, name_classes};
+use crate::graph::classes_and_roots::{PlannedClasses, ResolvedRoots, find_roots, name_classes};
 use crate::names::Names;
 use crate::objects::Objects;
 use crate::objects::class_table::class_table;
 use crate::objects::indexing::index_of;
 use crate::refusal::LinkRefusal;
-use crate::skip::{Skip, SkipPair};
+use crate::skip::{Skip, SkipEntry};
 use hprof_grammar::{Dump, Team, View, dump_is_placed, stands_within};
 use std::alloc::{AllocError, Allocator};
 use std::snapshot::Snapshot;
@@ -75,9 +75,9 @@ impl<'a, A: Allocator + Copy> Graph<'a, A> {
     /// Puts together the graph of linked objects from its classes in `named` and its roots in `rooted`.
     fn of(
         objects: Objects<'a, A>,
-        named: Named<'a, A>,
-        rooted: Rooted<A>,
-        skip: &'a [SkipPair<'a>],
+        named: PlannedClasses<'a, A>,
+        rooted: ResolvedRoots<A>,
+        skip: &'a [SkipEntry<'a>],
     ) -> Graph<'a, A>
         requires { (text : List ℕ) × (dump : Places) × (is : IsDumpOf text dump) × IsReadOf text dump is objects
             × AreNamedOf is.records skip.now objects named.plan named.classes.items
@@ -101,7 +101,7 @@ impl<'a, A: Allocator + Copy> Graph<'a, A> {
         objects: Objects<'a, A>,
         names: &Names<'a, '_>,
         root_places: &[u32],
-        skip: &'a [SkipPair<'a>],
+        skip: &'a [SkipEntry<'a>],
     ) -> Result<Graph<'a, A>, AllocError>
         requires { (text : List ℕ) × (dump : Places) × (is : IsDumpOf text dump)
             × IsReadOf text dump is objects × AreNamesOf names.now is.records
@@ -144,7 +144,7 @@ impl<'a, A: Allocator + Copy + Send + Sync> Graph<'a, A> {
             strings: dump.strings(),
             loaded: dump.loaded(),
         };
-        match Graph::assemble(alloc, objects, &names, dump.roots(), skip.pairs()) {
+        match Graph::assemble(alloc, objects, &names, dump.roots(), skip.entries()) {
             Ok(graph) => return Ok(graph),
             Err(_) => return Err(LinkRefusal::OutOfMemory),
         }

@@ -3,7 +3,7 @@
 ghost use Rattle.std.specs.Prelude.{drop, length, take, ◌<◌, ◌≡◌, ◌≤◌};
 ghost use Rattle.heap_graph.specs.working.FieldsUp.{Up, Up-prop};
 
-use crate::field_places::Plan;
+use crate::plan::Plan;
 use crate::objects::Objects;
 use std::alloc::Allocator;
 use std::marker::Model;

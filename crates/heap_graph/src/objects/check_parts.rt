@@ -55,7 +55,7 @@ impl<'d, A: Allocator + Copy + Send + Sync> Objects<'d, A> {
     {
         let repeat = self.index.first_repeat();
         let places = self.places.as_slice();
-        if !team.shares(places.len()) {
+        if !team.splits(places.len()) {
             return self.check_part(0, places, repeat);
         }
         let size = team.part_of(places.len());

@@ -7,11 +7,11 @@ ghost use Rattle.heap_graph.specs.Heap.{heap_of};
 ghost use Rattle.heap_graph.specs.Skips.{is_skipped};
 ghost use Rattle.heap_graph.specs.working.PlacedNames.{AreNamesByIdOf};
 
-use crate::field_places::Plan;
+use crate::plan::Plan;
 use crate::names::NamesById;
 use crate::objects::Objects;
 use crate::resolving::target;
-use crate::skip::{ClassSkips, SkipPair};
+use crate::skip::{ClassSkips, SkipEntry};
 use std::alloc::{AllocError, Allocator};
 
 impl<'d, A: Allocator> Objects<'d, A> {
@@ -23,7 +23,7 @@ impl<'d, A: Allocator> Objects<'d, A> {
         &self,
         alloc: B,
         names: &NamesById<'_, '_, B>,
-        skip: &[SkipPair<'_>],
+        skip: &[SkipEntry<'_>],
     ) -> Result<Plan<B>, AllocError>
         requires fates { (heap : List SubRecord) × HaveFatesOf self.now heap }
         requires names { (records : List Record) × AreNamesByIdOf names.now records }
@@ -39,7 +39,7 @@ impl<'d, A: Allocator> Objects<'d, A> {
         for number in 0..count {
             let id = self.classes.id(number as u32);
             let skips = ClassSkips::of(names, skip, id);
-            let place = self.classes.entry(number as u32).place;
+            let place = self.classes.class_place(number as u32).place;
             let object = target(&self.index, id);
             plan.push(&self.view, self.view.members(place), &skips, object)?;
         }

@@ -139,7 +139,7 @@ pub(crate) fn gather<T: Threads + Sync, B: Allocator + Copy + Send + Sync>(
     requires { MayGather view.now places.now bits 0 places.now }
     ensures { IsGathering view.now places.now bits 0 places.now result }
 {
-    if team.shares(places.len()) {
+    if team.splits(places.len()) {
         if let Ok(gathered) = gather_in_parts(team, alloc, view, places, bits) {
             return Ok(gathered);
         }

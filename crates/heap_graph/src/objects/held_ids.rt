@@ -5,7 +5,7 @@ ghost use Rattle.hprof_grammar.specs.Standing.{Stands};
 ghost use Rattle.hprof_grammar.specs.SubRecord.{Class, Instance, Member, ObjectArray, SubRecord};
 ghost use Rattle.hprof_grammar.specs.SubRecord.SubRecord.{class_dump, instance_dump, object_array_dump};
 
-use crate::field_places::Plan;
+use crate::plan::Plan;
 use crate::held::{ClassIds, FieldIds, HeldIds, Rest};
 use crate::objects::Objects;
 use std::alloc::Allocator;

@@ -151,7 +151,7 @@ fn ends_of<T: Threads + Sync, B: Allocator + Copy + Send + Sync>(
 ) -> Option<Ends>
     requires { MayGather view.now places.now bits 0 places.now }
 {
-    if team.shares(places.len()) {
+    if team.splits(places.len()) {
         if let Ok(ends) = ends_in_parts(team, alloc, view, places, bits) {
             return ends;
         }
@@ -218,7 +218,7 @@ fn noted<T: Threads + Sync, B: Allocator + Copy + Send + Sync>(
 ) -> Result<IdPlaces<B>, AllocError>
     requires { MayGather view.now places.now bits 0 places.now }
 {
-    if team.shares(places.len()) {
+    if team.splits(places.len()) {
         if let Ok(Some(noted)) = note_in_parts(team, alloc, view, places, bits, ends) {
             return Ok(noted);
         }

@@ -3,7 +3,7 @@
 ghost use Rattle.std.specs.Prelude.{Bool, List, length, ◌<◌};
 ghost use Rattle.hprof_grammar.specs.SubRecord.{Class, Member, SubRecord};
 
-use crate::field_places::Plan;
+use crate::plan::Plan;
 use crate::held::{HeldIds, Rest};
 use crate::objects::Objects;
 use crate::objects::bytes::{array_bytes, class_bytes, primitive_bytes};

@@ -10,7 +10,7 @@ ghost use Rattle.heap_graph.specs.working.ClassSkips.{names_class};
 ghost use Rattle.heap_graph.specs.working.PlacedNames.{AreNamesByIdOf};
 
 use crate::names::NamesById;
-use crate::skip::SkipPair;
+use crate::skip::SkipEntry;
 use crate::types::OBJECT_TYPE;
 use hprof_grammar::MemberField;
 use std::alloc::Allocator;
@@ -20,7 +20,7 @@ use std::alloc::Allocator;
 #[derive(Drop)]
 pub(crate) struct ClassSkips<'s, 'a, A: Allocator> {
     names: &'s NamesById<'s, 'a, A>,
-    entries: &'s [SkipPair<'s>],
+    entries: &'s [SkipEntry<'s>],
     class: Option<&'a [u8]>,
 }
 
@@ -35,7 +35,7 @@ pub(super) fn is_text(text: Option<&[u8]>, name: &[u8]) -> bool
 }
 
 /// Tests whether one of `entries` names the class whose text is `class`.
-fn any_names(entries: &[SkipPair<'_>], class: Option<&[u8]>) -> bool
+fn any_names(entries: &[SkipEntry<'_>], class: Option<&[u8]>) -> bool
     ensures { result ≡ list_any (names_class (option_copied class.entry)) entries.now }
 {
     for entry in entries {
@@ -53,7 +53,7 @@ impl<'s, 'a, A: Allocator> ClassSkips<'s, 'a, A> {
     /// fields need no comparison.
     pub(crate) fn of(
         names: &'s NamesById<'s, 'a, A>,
-        entries: &'s [SkipPair<'s>],
+        entries: &'s [SkipEntry<'s>],
         class: u64,
     ) -> Self
         requires { (records : List Record) × AreNamesByIdOf names.now records }
@@ -78,7 +78,7 @@ impl<'s, 'a, A: Allocator> ClassSkips<'s, 'a, A> {
     }
 
     /// Tests whether `entry` names the class, and the field whose name is the string `name`.
-    fn is_named(&self, entry: &SkipPair<'_>, name: u64) -> bool
+    fn is_named(&self, entry: &SkipEntry<'_>, name: u64) -> bool
         requires { (records : List Record) × AreNamesByIdOf self.now.names.now records }
         ensures { (records : List Record) → AreNamesByIdOf self.now.names.now records
             → result ≡ names_field records (option_copied self.now.class) name entry.now }

@@ -8,20 +8,20 @@ use std::marker::Model;
 
 /// A field that is not followed.
 #[derive(Drop)]
-pub struct SkipPair<'t> {
+pub struct SkipEntry<'t> {
     class: &'t [u8],
     field: &'t [u8],
 }
 
-impl<'t> Model for SkipPair<'t> {
+impl<'t> Model for SkipEntry<'t> {
     ghost use Rattle.heap_graph.specs.Skips.{SkipEntry};
 
     ghost Value = { SkipEntry };
 
-    ghost view = { λ pair. record { class = pair.class.now; field = pair.field.now } };
+    ghost view = { λ entry. record { class = entry.class.now; field = entry.field.now } };
 }
 
-impl<'t> SkipPair<'t> {
+impl<'t> SkipEntry<'t> {
     /// Returns the text that names the class that declares the field.
     pub fn class(&self) -> &'t [u8]
         ensures { result.now ≡ self.now.class }
@@ -50,7 +50,7 @@ pub(super) fn first_piece(text: &str) -> (&str, Option<&str>)
 
 /// Reads the entry that `piece` spells, which has no comma. Its last dot separates the class from the field. Returns
 /// `None` if there is no dot, or if the class or the field is empty.
-pub(super) fn entry_of(piece: &str) -> Option<SkipPair<'_>>
+pub(super) fn entry_of(piece: &str) -> Option<SkipEntry<'_>>
     requires { Contains piece.now 44 → ⊥ }
     ensures entry { IfSome result (λ e. IsEntry e × (entry_text e ≡ piece.now)) }
     ensures none { IfNone result ((e : SkipEntry) → IsEntry e → entry_text e ≡ piece.now → ⊥) }
@@ -59,7 +59,7 @@ pub(super) fn entry_of(piece: &str) -> Option<SkipPair<'_>>
     if class.is_empty() || field.is_empty() {
         return None;
     }
-    Some(SkipPair {
+    Some(SkipEntry {
         class: class.as_bytes(),
         field: field.as_bytes(),
     })

@@ -15,7 +15,7 @@ ghost use Rattle.heap_graph.specs.working.PlacedNames.{AreNamesByIdOf, AreNamesO
 
 use crate::names::{Names, NamesById};
 use crate::skip::class_skips::is_text;
-use crate::skip::{Skip, SkipPair};
+use crate::skip::{Skip, SkipEntry};
 use hprof_grammar::{Dump, Members, ObjectKind, View, dump_is_placed};
 use std::alloc::{AllocError, Allocator};
 use std::marker::Model;
@@ -73,7 +73,7 @@ impl<'a> DescribedClass<'a> {
     fn declares<A: Allocator>(
         &self,
         names: &NamesById<'_, '_, A>,
-        entry: &SkipPair<'_>,
+        entry: &SkipEntry<'_>,
     ) -> Result<bool, AllocError>
         requires { (records : List Record) × AreNamesByIdOf names.now records }
         ensures { IfOk result (λ declares. (records : List Record) → AreNamesByIdOf names.now records
@@ -113,7 +113,7 @@ fn described_classes<'a, A: Allocator, B: Allocator>(
 fn is_met<A: Allocator>(
     names: &NamesById<'_, '_, A>,
     classes: &[DescribedClass<'_>],
-    entry: &SkipPair<'_>,
+    entry: &SkipEntry<'_>,
 ) -> Result<bool, AllocError>
     requires { (records : List Record) × AreNamesByIdOf names.now records }
     ensures { IfOk result (λ met. (records : List Record) → AreNamesByIdOf names.now records
@@ -130,7 +130,7 @@ fn is_met<A: Allocator>(
 /// Returns for each of `entries` whether a class among the objects at `places` declares its field.
 fn met_among<B: Allocator + Copy>(
     alloc: B,
-    entries: &[SkipPair<'_>],
+    entries: &[SkipEntry<'_>],
     names: &Names<'_, '_>,
     places: &[u32],
 ) -> Result<Vec<bool, B>, AllocError>
@@ -169,6 +169,6 @@ impl<'t, A: Allocator> Skip<'t, A> {
             strings: dump.strings(),
             loaded: dump.loaded(),
         };
-        met_among(alloc, self.pairs(), &names, dump.objects())
+        met_among(alloc, self.entries(), &names, dump.objects())
     }
 }

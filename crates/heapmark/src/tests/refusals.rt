@@ -1,7 +1,7 @@
 //! The line that a refusal prints.
 
 use crate::Refusal;
-use crate::command::refused;
+use crate::command::print_refusal;
 use std::alloc::Global;
 
 /// The code and the name of each refusal.
@@ -39,7 +39,7 @@ fn each_code_has_its_name(rt: HostRuntime) {
 /// Returns the status of `refusal`, and whether just `want` is printed of it.
 fn told(alloc: Global, refusal: &Refusal, want: &str) -> (u8, bool) {
     let mut err = Vec::new(alloc);
-    let status = refused(&mut err, refusal);
+    let status = print_refusal(&mut err, refusal);
     (status, err.as_slice() == want.as_bytes())
 }
 

@@ -11,8 +11,8 @@ abbrev pub unmarked_from : List Bool → ℕ → List ℕ
 unmarked_from marks from = filter (λ o. not (slice_index_or marks o false)) (range_with_len from (length marks - from))
 
 -- the totals of these objects
-abbrev pub counted : ObjectGraph → List ℕ → Unmarked
-counted g numbers = record {
+abbrev pub totals_of : ObjectGraph → List ℕ → Unmarked
+totals_of g numbers = record {
   count = length numbers;
   bytes = sum_by (bytes_at g) numbers;
   unresolved = unresolved_among g numbers;
@@ -33,6 +33,6 @@ pub record AddUp (a b : Unmarked) : Type 0 where
   pub unresolved : a.unresolved + b.unresolved < 2 ^ 64
 
 -- objects of the graph, no more than it has
-pub record AreObjects (g : ObjectGraph) (numbers : List ℕ) : Type 0 where
+pub record AreGraphObjects (g : ObjectGraph) (numbers : List ℕ) : Type 0 where
   pub within : All (λ o. o < object_count g) numbers
   pub few : length numbers ≤ object_count g

@@ -4,7 +4,7 @@ use Rattle.hprof_grammar.specs.working.Joining.{AddsRecordsFrom, nothing_of}
 use Rattle.hprof_grammar.specs.declared.parts.Part.{Part}
 
 -- the text from one seam to the other is records, and the part has their places
-pub record IsPart {A : Type 0} (text : List ℕ) (s : ℕ) (part : Part A) : Type 0 where
+pub record IsReadPart {A : Type 0} (text : List ℕ) (s : ℕ) (part : Part A) : Type 0 where
   pub forward : part.from.place ≤ part.to.place
   pub within : part.to.place ≤ length text
   pub adds : AddsRecordsFrom part.from.place part.from.order
@@ -12,4 +12,4 @@ pub record IsPart {A : Type 0} (text : List ℕ) (s : ℕ) (part : Part A) : Typ
 
 -- the result of a thread
 abbrev pub MayBePart : {A : Type 0} → List ℕ → ℕ → Option (Part A) → Type 0
-MayBePart text s answer = IfSome answer (λ part. IsPart text s part)
+MayBePart text s answer = IfSome answer (λ part. IsReadPart text s part)

@@ -6,9 +6,9 @@ use Rattle.mark_core.specs.declared.which.Which.TheVariants.{Full, Empty}
 use Rattle.mark_core.specs.Lists.{times}
 use Rattle.buffer_pool.specs.Book.{Book}
 use Rattle.buffer_pool.specs.Calls.{HeldBuffer, Holder}
-use Rattle.work_pair.specs.Deals.{FillsNext, FindsNoOwn, GetsBy, Gives, HasMore, Publishes, PublishesPlace}
-use Rattle.work_pair.specs.Deals.{TakesOwn, lower_part, upper_half}
-use Rattle.work_pair.specs.Moves.{Move, Took, Gave, FoundNone, Ended, Moved, Moves, popped_items, popped_numbers}
+use Rattle.work_pair.specs.CallEffects.{FillsNext, FindsNoOwn, GetsBy, Gives, HasMore, Publishes, PublishesPlace}
+use Rattle.work_pair.specs.CallEffects.{TakesOwn, lower_part, upper_half}
+use Rattle.work_pair.specs.Moves.{Move, Took, Gave, FoundNone, Spent, Moved, Moves, popped_items, popped_numbers}
 use Rattle.work_pair.specs.Moves.{pushed_items, pushed_numbers, AreFilled, HasPushOnFull, HasPopFromFull, EndAtLastTag}
 use Rattle.work_pair.specs.Moves.{WasSeenEmpty, shelf_of, shelving_of}
 use Rattle.work_pair.specs.PairState.{PairState, items_at, buffer_number, pair_items, numbers_of, empty_pair, IsOfSize}
@@ -25,13 +25,13 @@ places first second third =
 abbrev pub PopsOne : Which → Book → Book → Result (Option HeldBuffer) Stop → Type 0
 PopsOne q old new (Ok (Some h)) = Moved (Took q h) old new
 PopsOne q old new (Ok None) = Moved (FoundNone q) old new
-PopsOne q old new (Err TagSpent) = Moved (Ended q) old new
+PopsOne q old new (Err TagSpent) = Moved (Spent q) old new
 PopsOne q old new (Err OutOfMemory) = ⊥
 
 -- one push
 abbrev pub Shelves : HeldBuffer → Book → Book → Result Unit HeldBuffer → Type 0
 Shelves h old new (Ok done) = Moved (Gave (shelf_of h.items) h) old new
-Shelves h old new (Err back) = (back ≡ h) × Moved (Ended (shelf_of h.items)) old new
+Shelves h old new (Err back) = (back ≡ h) × Moved (Spent (shelf_of h.items)) old new
 
 -- the buffer at a place, if there is one, was pushed
 abbrev pub Leaves : Option HeldBuffer → Book → Book → Type 0
@@ -44,13 +44,13 @@ abbrev pub PutsOut : Option HeldBuffer → HeldBuffer → Book → Option HeldBu
     → Result Unit Stop → Type 0
 PutsOut old next before new third after (Ok done) = (new ≡ Some next) × (third ≡ None) × Leaves old before after
 PutsOut old next before new third after (Err TagSpent) = (new ≡ old) × (third ≡ Some next) × ((q : Which)
-    × Moved (Ended q) before after)
+    × Moved (Spent q) before after)
 PutsOut old next before new third after (Err OutOfMemory) = ⊥
 
 -- the buffer at a place, if there is one, was pushed; or a last tag was loaded, and it is still there
 abbrev pub ClearsAt : Option HeldBuffer → Book → Option HeldBuffer → Book → Result Unit Stop → Type 0
 ClearsAt old before new after (Ok done) = (new ≡ None) × Leaves old before after
-ClearsAt old before new after (Err TagSpent) = (new ≡ old) × ((q : Which) × Moved (Ended q) before after)
+ClearsAt old before new after (Err TagSpent) = (new ≡ old) × ((q : Which) × Moved (Spent q) before after)
 ClearsAt old before new after (Err OutOfMemory) = ⊥
 
 -- a pair changed without its worker: objects were put and got, and the buffers are the same

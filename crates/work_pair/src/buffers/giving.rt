@@ -12,10 +12,10 @@ const FEW: u32 = 4;
 
 impl<A: Allocator> Buffers<A> {
     ghost use Rattle.std.specs.Prelude.{◌≡◌, [], IsOk};
-    ghost use Rattle.work_pair.specs.Deals.{HasMore};
+    ghost use Rattle.work_pair.specs.CallEffects.{HasMore};
     ghost use Rattle.work_pair.specs.PairState.{pair_items};
     ghost use Rattle.work_pair.specs.working.Asks.{MayTrade};
-    ghost use Rattle.work_pair.specs.working.Buffers.{places_of};
+    ghost use Rattle.work_pair.specs.working.Buffers.{as_pair};
     ghost use Rattle.work_pair.specs.working.Steps.{BalanceAnswers, PublishAnswers};
 
     /// Pushes the second buffer if it has items, or else the lower part of the first if it has more than [`FEW`].
@@ -25,11 +25,11 @@ impl<A: Allocator> Buffers<A> {
         pool: &Pool<A>,
         worker: &mut Worker<A>,
     ) -> Result<(), Stop>
-        requires { MayTrade worker.old pool.now (places_of self.old) [] }
+        requires { MayTrade worker.old pool.now (as_pair self.old) [] }
         ensures pool { worker.new.pool ≡ worker.old.pool }
-        ensures balances { BalanceAnswers (places_of self.old) worker.old.book (places_of self.new) worker.new.book
+        ensures balances { BalanceAnswers (as_pair self.old) worker.old.book (as_pair self.new) worker.new.book
             result }
-        ensures few { (HasMore (places_of self.old) → ⊥) → (places_of self.new ≡ places_of self.old)
+        ensures few { (HasMore (as_pair self.old) → ⊥) → (as_pair self.new ≡ as_pair self.old)
             × (worker.new ≡ worker.old) × IsOk result }
     {
         if len_at(&self.second) > 0 {
@@ -47,11 +47,11 @@ impl<A: Allocator> Buffers<A> {
         pool: &Pool<A>,
         worker: &mut Worker<A>,
     ) -> Result<(), Stop>
-        requires { MayTrade worker.old pool.now (places_of self.old) [] }
+        requires { MayTrade worker.old pool.now (as_pair self.old) [] }
         ensures pool { worker.new.pool ≡ worker.old.pool }
-        ensures publishes { PublishAnswers (places_of self.old) worker.old.book (places_of self.new) worker.new.book
+        ensures publishes { PublishAnswers (as_pair self.old) worker.old.book (as_pair self.new) worker.new.book
             result }
-        ensures nothing { pair_items (places_of self.old) ≡ [] → (places_of self.new ≡ places_of self.old)
+        ensures nothing { pair_items (as_pair self.old) ≡ [] → (as_pair self.new ≡ as_pair self.old)
             × (worker.new ≡ worker.old) × IsOk result }
     {
         publish_at(rt, pool, worker, &mut self.first, &mut self.third)?;

@@ -5,8 +5,8 @@ use Rattle.drain.proofs.Leading.{leads_on, several_busy}
 use Rattle.drain.proofs.Scanning.{same_setup}
 use Rattle.drain.proofs.leader.lead.Goals as goal
 
-pub make_ready-requires-clause-busy : goal.make_ready-requires-clause-busy
-make_ready-requires-clause-busy g c =
+pub prepare_leader-requires-clause-busy : goal.prepare_leader-requires-clause-busy
+prepare_leader-requires-clause-busy g c =
     let busy = several_busy c.args.leader (omega (arith, c.requires.share)) in
     search (rules, busy)
 

@@ -7,6 +7,7 @@ use Rattle.grammar_tests.proofs.fields.records.Goals as goal
 
 pub has_records-requires-clause-header : goal.has_records-requires-clause-header
 has_records-requires-clause-header g c =
+    -- the time stamp of the header: 1 in the high word, 2 in the low word
     (4294967298, header_seen c.new.result c.new.ensures.bytes c.new.ensures.size (lit< tt) refl)
 
 pub has_records-requires-clause-string : goal.has_records-requires-clause-string
@@ -21,6 +22,7 @@ has_records-requires-clause-loaded g c =
 
 pub has_records-requires-2-clause-header : goal.has_records-requires-2-clause-header
 has_records-requires-2-clause-header g c =
+    -- the time stamp of the header: 1 in the high word, 2 in the low word
     (4294967298, header_seen c.new-2.result c.new-2.ensures.bytes c.new-2.ensures.size (lit< tt) refl)
 
 pub has_records-requires-2-clause-string : goal.has_records-requires-2-clause-string

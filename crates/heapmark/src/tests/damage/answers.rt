@@ -3,6 +3,7 @@
 
 use super::Answer;
 
+/// The columns: place, first and last value, code of a refusal or 0, its place or the length of a report, mix.
 pub static ANSWERS: [Answer; 436] = [
     (0, 0, 255, 1, 0, 0),
     (1, 0, 255, 1, 0, 0),

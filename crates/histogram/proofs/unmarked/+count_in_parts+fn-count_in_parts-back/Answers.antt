@@ -1,7 +1,7 @@
 -- The first part and the others are all.
 use Rattle.std.proofs.Common.{◌≡◌, ◌++◌, ◌∙◌, ap, subst, sym, take-append-drop}
-use Rattle.histogram.specs.working.Unmarked.{AreObjects, both, counted}
-use Rattle.histogram.proofs.UnmarkedLaws.{add_up, counted-append}
+use Rattle.histogram.specs.working.Unmarked.{AreGraphObjects, both, totals_of}
+use Rattle.histogram.proofs.UnmarkedLaws.{add_up, totals_of-append}
 use Rattle.histogram.proofs.unmarked.+count_in_parts+fn-count_in_parts-back.Goals as goal
 
 pub and-requires : goal.and-requires
@@ -13,7 +13,7 @@ and-requires g t c =
     (λ k. c.split_at.ensures.front k ++ c.split_at.ensures.back k) ∙ take-append-drop c.args.size c.args.numbers.now
     in
     rw (c.join.ensures.first, c.join.ensures.second)
-    (add_up graph first others c.len-objects.ensures.whole (subst (AreObjects graph) (sym all) c.requires.objects))
+    (add_up graph first others c.len-objects.ensures.whole (subst (AreGraphObjects graph) (sym all) c.requires.objects))
 
 pub returns : goal.returns
 returns g t c =
@@ -25,5 +25,5 @@ returns g t c =
     in
     c.and.ensures
     ∙ (λ k. both (c.join.ensures.first k) (c.join.ensures.second k))
-    ∙ sym (counted-append graph first others)
-    ∙ ap (counted graph) all
+    ∙ sym (totals_of-append graph first others)
+    ∙ ap (totals_of graph) all

@@ -7,7 +7,7 @@ pub loop-at-preserved : goal.loop-at-preserved
 loop-at-preserved c = record {
   least = least_more c.args.runs.now c.loop-at.at c.loop-at.page c.loop-at.seen c.seen_of-before.result c.requires
       c.loop-at-test.true c.loop-at.invariant.seen c.seen_of-before.ensures.same c.seen_of-before.ensures.other
-      c.args.count c.loop-at.least c.lowered-least.result c.loop-at.invariant.least c.lowered-least.ensures;
+      c.args.count c.loop-at.least c.lower_least-least.result c.loop-at.invariant.least c.lower_least-least.ensures;
   seen = seen_more c.args.runs.now c.loop-at.at c.loop-at.page c.loop-at.seen c.seen_of-before.result c.requires
       c.loop-at-test.true c.loop-at.invariant.seen c.seen_of-before.ensures.same c.seen_of-before.ensures.other;
 }

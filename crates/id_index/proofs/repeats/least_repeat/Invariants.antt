@@ -1,5 +1,5 @@
 -- It is the least repeat among the runs before this index, and the places of the last one's page were seen.
-use Rattle.id_index.specs.Repeats.{AreSeen, IsLeastRepeat}
+use Rattle.id_index.specs.working.RunRepeats.{AreSeen, IsLeastRepeat}
 use Rattle.id_index.proofs.repeats.least_repeat.Given as goal
 
 abbrev pub invariant-loop-at : goal.invariant-loop-at

@@ -2,7 +2,7 @@
 use Rattle.std.proofs.Common.{◌≡◌, [], Option, ℕ, subst}
 use Rattle.std.specs.Prelude.{IfNone}
 use Rattle.mark_core.specs.declared.which.Which.TheVariants.{Full}
-use Rattle.work_pair.specs.Deals.{Deals}
+use Rattle.work_pair.specs.CallEffects.{CallEffect}
 use Rattle.work_pair.specs.Moves.{WasSeenEmpty}
 use Rattle.work_pair.specs.PairState.{buffered_items, pair_items}
 use Rattle.work_pair.proofs.Calls.{none_first}
@@ -13,6 +13,6 @@ returns-in-Ok-None-clause-none g c =
     let old = c.args.worker.now.book in
     let new = c.get.new.worker.book in
     let q = c.get.new.self in
-    let told = subst (λ (r : Option ℕ). IfNone r (Deals c.args.pair.now old [] [] q new × (pair_items q ≡ [])
+    let told = subst (λ (r : Option ℕ). IfNone r (CallEffect c.args.pair.now old [] [] q new × (pair_items q ≡ [])
     × WasSeenEmpty Full old new)) c.in-Ok-None.field-0-is c.in-Ok-None.ensures.none in
     none_first q.spill (buffered_items q) told.1

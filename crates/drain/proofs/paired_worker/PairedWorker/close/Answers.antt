@@ -1,6 +1,6 @@
 -- A pair without items has none spilled, and after it is disposed of the worker is free.
 use Rattle.drain.proofs.Words.{[], buffered_items, inl, none_first, none_last, refl}
-use Rattle.drain.proofs.AtHand.{dealt_goes_on, dealt_hand, gone_free, hand_without_spill}
+use Rattle.drain.proofs.AtHand.{goes_on_after, gone_free, hand_after, hand_without_spill}
 use Rattle.drain.proofs.paired_worker.PairedWorker.close.Goals as goal
 
 pub dispose-requires-clause-spill : goal.dispose-requires-clause-spill
@@ -22,7 +22,7 @@ returns-in-Ok-clause-through g c =
     let gone = c.in-Ok.ensures.gone in
     let none = c.requires.none in
     let was = hand_without_spill none.0 c.requires.hand in
-    let hand = dealt_hand old new gone.0 [] (record { going = refl; third = refl }) was in (
-      (dealt_goes_on old new gone.0 c.in-Ok.ensures.pool).came,
+    let hand = hand_after old new gone.0 [] (record { going = refl; third = refl }) was in (
+      (goes_on_after old new gone.0 c.in-Ok.ensures.pool).came,
       gone_free hand (gone.0.closed (gone.1 (none_last p.spill (buffered_items p) none.0)) none.1),
     )

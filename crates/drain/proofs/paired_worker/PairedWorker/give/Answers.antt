@@ -1,12 +1,12 @@
 -- What was put into buffers stays at hand, and what was balanced went on from there.
-use Rattle.drain.proofs.AtHand.{dealt_goes_on, goes_on_again}
+use Rattle.drain.proofs.AtHand.{goes_on_after, goes_on_again}
 use Rattle.drain.proofs.Outcomes.{on_ok}
 use Rattle.drain.proofs.paired_worker.PairedWorker.give.Goals as goal
 
 pub returns-clause-goes_on : goal.returns-clause-goes_on
 returns-clause-goes_on g c =
     on_ok c.balance.result c.balance.ensures.balances (λ told. goes_on_again c.in_ok-unspill.ensures.goes_on
-    (dealt_goes_on c.unspill.new.self.worker c.balance.new.worker told.0 c.balance.ensures.pool))
+    (goes_on_after c.unspill.new.self.worker c.balance.new.worker told.0 c.balance.ensures.pool))
 
 pub returns-clause-gives : goal.returns-clause-gives
 returns-clause-gives g c =

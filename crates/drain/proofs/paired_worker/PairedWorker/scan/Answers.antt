@@ -2,7 +2,7 @@
 -- tally takes it in.
 use Rattle.drain.proofs.Words.{Book, Contains, Contains-append_left, Contains-append_right, List, Setup, [], ap, arith}
 use Rattle.drain.proofs.Words.{option_to_list, subst, sym, ℕ, ◌∙◌, ◌∷◌}
-use Rattle.drain.specs.working.Scans.{IsScanOf}
+use Rattle.drain.specs.working.Scans.{MatchesMeasure}
 use Rattle.drain.proofs.AtHand.{all_claimable, claimed_and_finished, may_finish, more_claimed}
 use Rattle.drain.proofs.Scanning.{given_pairs, same_setup, same_tally, small_before}
 use Rattle.drain.proofs.paired_worker.PairedWorker.scan.Goals as goal
@@ -65,7 +65,7 @@ add-requires g c =
     let setup = same_setup done.works_on.came.setup on_job.setup in
     let few = rw setup.objects at c.recall_few_finished.ensures.few in
     let m = g.V.Measured.measure c.args.job.now.graph.now in
-    let scan = subst (IsScanOf m o) (sym c.read.ensures)
+    let scan = subst (MatchesMeasure m o) (sym c.read.ensures)
     (given.ends c.claim_all.new.objects c.in_ok-claim_all.ensures.ended) in
     record {
       row = omega (arith, scan.row, bounded.within o c.requires.below, on_job.tally.each);
@@ -85,7 +85,7 @@ returns-clause-scanned g c =
     let done = claimed_and_finished c.finish.new.worker on_job.at_work are c.finish.ensures.pool event in
     let m = g.V.Measured.measure c.args.job.now.graph.now in
     let before = c.args.self.now.worker.book.account.finished in
-    let scan = subst (IsScanOf m o) (sym c.read.ensures)
+    let scan = subst (MatchesMeasure m o) (sym c.read.ensures)
     (given.ends c.claim_all.new.objects c.in_ok-claim_all.ensures.ended) in
     record {
       goes_on = done.works_on;

@@ -1,7 +1,7 @@
 -- What was got from the list is put again, and the worker has at hand what it had.
-use Rattle.drain.proofs.Words.{Deals, Holder, IfSome, Some, [], ap, rules, subst, sym, ◌∙◌, ◌∷◌}
+use Rattle.drain.proofs.Words.{CallEffect, Holder, IfSome, Some, [], ap, rules, subst, sym, ◌∙◌, ◌∷◌}
 use Rattle.std.proofs.lemmas.Option.{same_Some}
-use Rattle.drain.proofs.AtHand.{backs, dealt}
+use Rattle.drain.proofs.AtHand.{at_work_after, backs}
 use Rattle.drain.proofs.Sharing.{last_of, puts_again, same_answer, spilled_items}
 use Rattle.drain.proofs.paired_worker.PairedWorker.unspill_one.Goals as goal
 
@@ -10,9 +10,10 @@ put-requires-clause-backed g c =
     let old = c.args.self.now.worker in
     let got = c.get.new.worker in
     let o = c.in-Some.object in
-    let deals = subst (λ r. IfSome r (λ x. Deals c.args.self.now.pair old.book [] (x ∷ []) c.get.new.self got.book))
+    let effect = subst (λ r. IfSome r (λ x. CallEffect c.args.self.now.pair old.book [] (x ∷ []) c.get.new.self
+        got.book))
     c.in-Some.is c.in_ok-object.ensures.got in
-    let at_work = dealt old got deals [] c.in_ok-object.ensures.going c.requires.at_work in
+    let at_work = at_work_after old got effect [] c.in_ok-object.ensures.going c.requires.at_work in
     backs (o ∷ []) [] at_work.hand
 
 pub unreachable-requires : goal.unreachable-requires

@@ -70,7 +70,7 @@ loop-preserved g c =
 
 pub returns-then-not-finds_more-clause-came : goal.returns-then-not-finds_more-clause-came
 returns-then-not-finds_more-clause-came g c =
-    came_again c.in_ok-share.ensures.goes_on.came
+    came_again c.in_ok-offer.ensures.goes_on.came
     (came_again c.loop.invariant.2
     (came_again c.in_ok-scan_next.ensures.scanned.goes_on.came c.if-not-finds_more.ensures.came))
 
@@ -79,10 +79,10 @@ returns-then-not-finds_more-clause-worked g c =
     let old = c.loop.self in
     let mid = c.scan_next.new.self in
     let end = c.finds_more.ensures in (
-      c.share.new.self,
+      c.offer.new.self,
       old,
       mid,
-      c.in_ok-share.ensures.shares,
+      c.in_ok-offer.ensures.shares,
       c.loop.invariant.4,
       subst (ScansNext old mid) c.if-branch.false c.in_ok-scan_next.ensures.scans,
       end.pair,
@@ -92,9 +92,9 @@ returns-then-not-finds_more-clause-worked g c =
 -- before the first turn
 pub loop-init : goal.loop-init
 loop-init g c =
-    let share = c.in_ok-share.ensures in
+    let share = c.in_ok-offer.ensures in
     let on_job = c.requires.on_job in
-    let now = c.share.new.self in (
+    let now = c.offer.new.self in (
       still_on_job on_job share.goes_on.came share.at_work (same_tally share.goes_on.finished on_job.tally),
       still_awake c.requires.awake (works share.goes_on),
       came_at_all now.worker,

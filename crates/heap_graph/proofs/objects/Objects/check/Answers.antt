@@ -4,13 +4,13 @@ use Rattle.std.proofs.lemmas.Result.{IfErr-at_err, IfErr-weaker, IfOk-at_ok, on_
 use Rattle.heap_graph.proofs.Parts.{all_linked, next_part, none_first, reaches}
 use Rattle.heap_graph.proofs.objects.Objects.check.Goals as goal
 
-pub returns-then-not-shares-clause-linked : goal.returns-then-not-shares-clause-linked
-returns-then-not-shares-clause-linked g c =
+pub returns-then-not-splits-clause-linked : goal.returns-then-not-splits-clause-linked
+returns-then-not-splits-clause-linked g c =
     on_ok_weaker c.check_part.result (λ fine heap are told. all_linked _ _ _ _ heap _ (omega arith) are
     (fine (omega arith) heap are told (none_first _ heap))) c.check_part.ensures.fine
 
-pub returns-then-not-shares-clause-fault : goal.returns-then-not-shares-clause-fault
-returns-then-not-shares-clause-fault g c =
+pub returns-then-not-splits-clause-fault : goal.returns-then-not-splits-clause-fault
+returns-then-not-splits-clause-fault g c =
     IfErr-weaker c.check_part.result _ _ (λ f fault heap are told. fault heap are told (none_first _ heap))
     c.check_part.ensures.fault
 

@@ -19,15 +19,16 @@ same_test records skip ids k id c is named =
 pub members-requires : goal.members-requires
 members-requires g c =
     let o = c.args.self.now in
-    stands_at o.view c.requires.fates.0 o.classes.table.entries c.loop-number.number c.entry-place.result
-    c.requires.fates.1.classes (omega (arith, c.loop-number-test.true, c.len-count.ensures)) c.entry-place.ensures
+    stands_at o.view c.requires.fates.0 o.classes.table.entries c.loop-number.number c.class_place-place.result
+    c.requires.fates.1.classes (omega (arith, c.loop-number-test.true, c.len-count.ensures)) c.class_place-place.ensures
 
 pub push-requires-clause-few : goal.push-requires-clause-few
 push-requires-clause-few g c =
     let o = c.args.self.now in
     let it =
-    stands_at o.view c.requires.fates.0 o.classes.table.entries c.loop-number.number c.entry-place.result
-    c.requires.fates.1.classes (omega (arith, c.loop-number-test.true, c.len-count.ensures)) c.entry-place.ensures in
+    stands_at o.view c.requires.fates.0 o.classes.table.entries c.loop-number.number c.class_place-place.result
+    c.requires.fates.1.classes (omega (arith, c.loop-number-test.true, c.len-count.ensures)) c.class_place-place.ensures
+        in
     let few : length it.0.members < 256 ^ 2 = (bounds it.1.is.formed).member_count in
     omega (arith, few, ap length (c.members.ensures it.0 it.1))
 
@@ -70,9 +71,9 @@ loop-number-preserved g c =
           c.loop-number.invariant.count (c.loop-number.invariant.each records told are)
           (λ d named. record {
             members_are = fields_read
-                o.view (heap_of records) o.classes.table.entries c.loop-number.number c.entry-place.result
+                o.view (heap_of records) o.classes.table.entries c.loop-number.number c.class_place-place.result
                 c.members.result told.classes (omega (arith, c.loop-number-test.true, c.len-count.ensures))
-                c.entry-place.ensures c.members.ensures d named;
+                c.class_place-place.ensures c.members.ensures d named;
             tests =
                 same_test records skip (ids_of o.classes.table.entries) c.loop-number.number id d c.id-id.ensures named;
           });

@@ -39,5 +39,5 @@ returns g c = IfOk-weaker c.met_among.result _ _
     are_seen c.args.bytes.now c.args.dump.now is c.new.result c.strings.result.now c.loaded.result.now
     c.objects.result.now c.new.ensures.bytes (c.new.ensures.size ∙ c.id_size.ensures) c.strings.ensures
     c.loaded.ensures c.objects.ensures (c.dump_is_placed.ensures c.args.bytes.now c.args.dump.now is) in
-    told is.records seen.0 seen.1 ∙ ap (λ (es : List SkipEntry). map (is_met is.records) es) c.pairs.ensures)
+    told is.records seen.0 seen.1 ∙ ap (λ (es : List SkipEntry). map (is_met is.records) es) c.entries.ensures)
     c.met_among.ensures

@@ -6,7 +6,7 @@ use Rattle.heap_graph.proofs.SkipCutting.{IsRead}
 use Rattle.heap_graph.proofs.skip.Skip.new.Given as goal
 
 abbrev pub invariant-loop-rest : goal.invariant-loop-rest
-invariant-loop-rest g l = shadow (Utf8 l.rest) × IsRead l.text l.pairs.items l.rest
+invariant-loop-rest g l = shadow (Utf8 l.rest) × IsRead l.text l.entries.items l.rest
 
 abbrev pub decreases-loop-rest : goal.decreases-loop-rest
-decreases-loop-rest g l = 64 - length l.pairs.items
+decreases-loop-rest g l = 64 - length l.entries.items

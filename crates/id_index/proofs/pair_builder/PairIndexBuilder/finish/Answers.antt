@@ -1,6 +1,6 @@
 -- Pairs that are all set and ascend are those of the objects that were pushed.
 use Rattle.id_index.proofs.Words.{ap, arith, length, refl, ℕ, ◌∙◌, ◌≡◌}
-use Rattle.id_index.specs.Pairs.{AreSet, DoAscend, ids_of_pairs}
+use Rattle.id_index.specs.working.Pairs.{AreSet, DoAscend, ids_of_pairs}
 use Rattle.id_index.proofs.Placing.{agree}
 use Rattle.id_index.proofs.pair_builder.PairIndexBuilder.finish.Goals as goal
 

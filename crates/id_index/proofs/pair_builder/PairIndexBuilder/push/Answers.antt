@@ -1,7 +1,7 @@
 -- The pair goes where none is set.
 use Rattle.id_index.proofs.Words.{List, [], ap, arith, get_or_read, length, sym, ℕ, ◌++◌, ◌+◌, ◌-◌, ◌<◌, ◌∙◌}
 use Rattle.id_index.proofs.Words.{◌∷◌, ◌≡◌}
-use Rattle.id_index.specs.Pairs.{pair_in, pair_of}
+use Rattle.id_index.specs.working.Pairs.{pair_in, pair_of}
 use Rattle.id_index.specs.declared.pairs.Pair.{Pair}
 use Rattle.id_index.proofs.Placing.{placed, placed_ids}
 use Rattle.id_index.proofs.pair_builder.PairIndexBuilder.push.Goals as goal

@@ -1,7 +1,7 @@
 -- The pairs and the identifiers agree. Where the guess is another pair, halving decides.
 use Rattle.id_index.proofs.Words.{List, None, Some, ap, arith, get_or_read, length, position, sym, ℕ, ◌<◌, ◌==◌, ◌∙◌}
 use Rattle.id_index.proofs.Words.{◌≡◌}
-use Rattle.id_index.specs.Pairs.{IsPairAt, ids_of_pairs, pair_in, pair_of}
+use Rattle.id_index.specs.working.Pairs.{IsPairAt, ids_of_pairs, pair_in, pair_of}
 use Rattle.id_index.specs.declared.pairs.Pair.{Pair}
 use Rattle.id_index.proofs.Pairing.{named_in}
 use Rattle.id_index.proofs.pairs.PairIndex.find.Goals as goal
@@ -35,5 +35,5 @@ pub returns : goal.returns
 returns g c =
     let i = c.self.inside in
     named_in i.pairs.items i.lowest c.self.invariant.ascend (ids_of_pairs i.pairs.items i.lowest (length i.pairs.items))
-    c.self.invariant.agree c.args.id c.searched.result (rw c.deref.ensures.value at c.searched.ensures)
+    c.self.invariant.agree c.args.id c.search_pairs.result (rw c.deref.ensures.value at c.search_pairs.ensures)
     ∙ ap (λ (ids : List ℕ). position (λ x. x == c.args.id) ids) c.self.view_is

@@ -1,6 +1,6 @@
 -- No two objects have one identifier.
 use Rattle.id_index.proofs.Words.{IsFirstRepeat, List, arith, length, length-map-range_with_len, subst, sym, ℕ, ◌≡◌}
-use Rattle.id_index.specs.Pairs.{id_paired, ids_of_pairs}
+use Rattle.id_index.specs.working.Pairs.{id_paired, ids_of_pairs}
 use Rattle.id_index.proofs.Pairing.{no_repeat}
 use Rattle.id_index.proofs.pairs.PairIndex.first_repeat.Goals as goal
 

@@ -4,7 +4,7 @@ use Rattle.std.proofs.Common.{◌≡◌, ◌≢◌, [], Ok, Some, refl, ◌∙�
 use Rattle.std.proofs.lemmas.Result.{err_from_is_err_and}
 use Rattle.mark_core.specs.declared.which.Which.TheVariants.{Full}
 use Rattle.work_pair.specs.PairState.{pair_items}
-use Rattle.work_pair.specs.working.Buffers.{places_of}
+use Rattle.work_pair.specs.working.Buffers.{as_pair}
 use Rattle.work_pair.specs.working.Steps.{PopsOne}
 use Rattle.work_pair.proofs.Getting.{all_taken, got, may_put_out, none_got, pop_stopped, put_stopped, turned}
 use Rattle.work_pair.proofs.Trading.{busy_then, untouched}
@@ -22,11 +22,11 @@ loop-init g c =
     }
 
 -- a look that found no object left none, and the buffer that was popped is the next one
-nothing_left : (g : given.Over) (c : In_default g) → pair_items (places_of c.loop.self) ≡ []
+nothing_left : (g : given.Over) (c : In_default g) → pair_items (as_pair c.loop.self) ≡ []
 nothing_left g c = all_taken c.loop.self c.take.new.self c.in_default.ensures c.loop.invariant.third
 
 -- so where the pair had objects no buffer was popped
-none_own : (g : given.Over) (c : In_default g) → pair_items (places_of c.args.self.now) ≢ [] → {P : Type 0} → P
+none_own : (g : given.Over) (c : In_default g) → pair_items (as_pair c.args.self.now) ≢ [] → {P : Type 0} → P
 none_own g c some = absurd ((c.loop.invariant.own some).1 (nothing_left g c))
 
 popped :

@@ -1,6 +1,6 @@
 -- The effect of a balance on the buffers, as one on the pair, whose list stays.
 use Rattle.std.proofs.Common.{◌∙◌, ap, refl, subst}
-use Rattle.work_pair.specs.Deals.{HasMore}
+use Rattle.work_pair.specs.CallEffects.{HasMore}
 use Rattle.work_pair.specs.PairState.{PairState}
 use Rattle.work_pair.proofs.Pairs.{balances, may_trade, stops}
 use Rattle.work_pair.proofs.Spilling.{listed}

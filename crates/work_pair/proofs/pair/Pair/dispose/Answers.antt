@@ -2,7 +2,7 @@
 use Rattle.std.proofs.Common.{◌∙◌, true, ap, refl, false, []}
 use Rattle.std.proofs.lemmas.Bool.{false≢true}
 use Rattle.work_pair.specs.PairState.{pair_items, empty_pair}
-use Rattle.work_pair.specs.working.Buffers.{places_of}
+use Rattle.work_pair.specs.working.Buffers.{as_pair}
 use Rattle.work_pair.proofs.Calls.{none_last}
 use Rattle.work_pair.proofs.Pairs.{clears_told, disposes, inner, shelves}
 use Rattle.work_pair.proofs.pair.Pair.dispose.Goals as goal
@@ -14,7 +14,7 @@ clear-requires-clause-backed g c =
 pub clear-requires-clause-busy : goal.clear-requires-clause-busy
 clear-requires-clause-busy g c some =
     let i = c.self.inside in
-    c.requires.busy (λ none. some (none_last i.spill (pair_items (places_of i.buffers))
+    c.requires.busy (λ none. some (none_last i.spill (pair_items (as_pair i.buffers))
     (ap pair_items c.self.view_is ∙ none)))
 
 pub returns-in-Ok-clause-gone : goal.returns-in-Ok-clause-gone
@@ -31,9 +31,9 @@ pub returns-in-Err-clause-spent : goal.returns-in-Err-clause-spent
 returns-in-Err-clause-spent g c =
     let i = c.self.inside in
     let b = c.args.worker.now.book in
-    let q = places_of c.clear.new.self in
+    let q = as_pair c.clear.new.self in
     let after = c.clear.new.worker.book in
-    let told = clears_told (places_of i.buffers) b q after c.in-Err.stop c.in-Err.ensures.clears in
+    let told = clears_told (as_pair i.buffers) b q after c.in-Err.stop c.in-Err.ensures.clears in
     let empty = c.clear-in-Err.ensures.items in (
       told.0,
       refl,

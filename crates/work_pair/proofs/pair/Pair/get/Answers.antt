@@ -4,7 +4,7 @@ use Rattle.std.proofs.Common.{◌∙◌, [], ◌∷◌, Err, Ok, Some, length, a
 use Rattle.std.proofs.lemmas.List.{append-nil}
 use Rattle.work_pair.specs.PairState.{PairState}
 use Rattle.work_pair.specs.declared.buffers.Buffers.{Buffers}
-use Rattle.work_pair.specs.working.Buffers.{places_of}
+use Rattle.work_pair.specs.working.Buffers.{as_pair}
 use Rattle.work_pair.proofs.Calls.{none_last}
 use Rattle.work_pair.proofs.Getting.{got}
 use Rattle.work_pair.proofs.Locals.{taken_first}
@@ -57,7 +57,7 @@ returns-in-Some-take_at-clause-gets g c none =
 pub returns-in-Ok-clause-got : goal.returns-in-Ok-clause-got
 returns-in-Ok-clause-got g c =
     let told = got_from c.self.inside.buffers c.in_default-take_at.ensures.1 c.args.worker.now.book
-    (places_of c.get_elsewhere.new.self) c.get_elsewhere.new.worker.book (Ok _) c.in-Ok.ensures.gets in
+    (as_pair c.get_elsewhere.new.self) c.get_elsewhere.new.worker.book (Ok _) c.in-Ok.ensures.gets in
     let m = c.pop.new.self in
     got_told c.self.inside c.self.view_is c.args.worker.now.book c.get_elsewhere.new.self
     c.get_elsewhere.new.worker.book c.requires.backed m (sym (c.in_default.ensures.items ∙ append-nil m))
@@ -72,7 +72,7 @@ returns-in-Some-clause-gets g c none =
 pub returns-in-Ok-clause-gets : goal.returns-in-Ok-clause-gets
 returns-in-Ok-clause-gets g c none =
     let told = got_from c.self.inside.buffers c.in_default-take_at.ensures.1 c.args.worker.now.book
-    (places_of c.get_elsewhere.new.self) c.get_elsewhere.new.worker.book (Ok _) c.in-Ok.ensures.gets in
+    (as_pair c.get_elsewhere.new.self) c.get_elsewhere.new.worker.book (Ok _) c.in-Ok.ensures.gets in
     let m = c.pop.new.self in
     gets_told c.self.inside c.self.view_is c.args.worker.now.book c.get_elsewhere.new.self
     c.get_elsewhere.new.worker.book c.requires.backed m (sym (c.in_default.ensures.items ∙ append-nil m))
@@ -81,7 +81,7 @@ returns-in-Ok-clause-gets g c none =
 pub returns-in-Ok-clause-none : goal.returns-in-Ok-clause-none
 returns-in-Ok-clause-none g c =
     let told = got_from c.self.inside.buffers c.in_default-take_at.ensures.1 c.args.worker.now.book
-    (places_of c.get_elsewhere.new.self) c.get_elsewhere.new.worker.book (Ok _) c.in-Ok.ensures.gets in
+    (as_pair c.get_elsewhere.new.self) c.get_elsewhere.new.worker.book (Ok _) c.in-Ok.ensures.gets in
     let m = c.pop.new.self in
     none_told c.self.inside c.self.view_is c.args.worker.now.book c.get_elsewhere.new.self
     c.get_elsewhere.new.worker.book c.requires.backed m (sym (c.in_default.ensures.items ∙ append-nil m))
@@ -90,7 +90,7 @@ returns-in-Ok-clause-none g c =
 pub returns-in-Err-clause-spent : goal.returns-in-Err-clause-spent
 returns-in-Err-clause-spent g c =
     let told = got_from c.self.inside.buffers c.in_default-take_at.ensures.1 c.args.worker.now.book
-    (places_of c.get_elsewhere.new.self) c.get_elsewhere.new.worker.book (Err _) c.in-Err.ensures.gets in
+    (as_pair c.get_elsewhere.new.self) c.get_elsewhere.new.worker.book (Err _) c.in-Err.ensures.gets in
     let m = c.pop.new.self in
     get_stops c.self.inside c.self.view_is c.args.worker.now.book c.get_elsewhere.new.self
     c.get_elsewhere.new.worker.book c.requires.backed m (sym (c.in_default.ensures.items ∙ append-nil m))

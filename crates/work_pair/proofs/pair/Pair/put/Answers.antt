@@ -2,12 +2,12 @@
 -- effect on the buffers becomes one on the pair. If there was no buffer for the object, it went to the list.
 use Rattle.std.proofs.Common.{◌≡◌, ℕ, true, [], ◌∷◌, ◌++◌, Err, Ok, ap, inl, refl}
 use Rattle.mark_core.specs.declared.which.Which.TheVariants.{Empty}
-use Rattle.work_pair.specs.Deals.{Deals, DealsOut, Puts}
+use Rattle.work_pair.specs.CallEffects.{CallEffect, PopsNoneFromFull, Puts}
 use Rattle.work_pair.specs.Moves.{FoundNone}
 use Rattle.work_pair.specs.PairState.{PairState, AreAlike, IsOpen}
 use Rattle.work_pair.specs.declared.stop.Stop.{Stop}
 use Rattle.work_pair.specs.declared.stop.Stop.TheVariants.{OutOfMemory}
-use Rattle.work_pair.specs.working.Buffers.{places_of}
+use Rattle.work_pair.specs.working.Buffers.{as_pair}
 use Rattle.work_pair.proofs.Locals.{put_first}
 use Rattle.work_pair.proofs.Pairs.{as_before, if_spilled, if_starved, may_trade, put_from, puts, spills, starves}
 use Rattle.work_pair.proofs.Pairs.{still_open, stops}
@@ -40,21 +40,21 @@ put_elsewhere-requires-clause-may g c =
 pub returns-in-Ok-true-clause-put : goal.returns-in-Ok-true-clause-put
 returns-in-Ok-true-clause-put g c =
     let told = put_from c.self.inside.buffers c.if-put_at.ensures.full c.args.object c.args.worker.now.book
-    (places_of c.put_elsewhere.new.self) c.put_elsewhere.new.worker.book (Ok _) c.in-Ok-true.ensures.puts in
+    (as_pair c.put_elsewhere.new.self) c.put_elsewhere.new.worker.book (Ok _) c.in-Ok-true.ensures.puts in
     puts c.self.inside c.self.view_is c.args.worker.now.book c.put_elsewhere.new.self c.put_elsewhere.new.worker.book
     c.requires.going c.args.object c.requires.backed told c.in-Ok-true.field-0-test
 
 pub returns-in-Ok-false-clause-put : goal.returns-in-Ok-false-clause-put
 returns-in-Ok-false-clause-put g c =
     let answer = put_from c.self.inside.buffers c.if-put_at.ensures.full c.args.object c.args.worker.now.book
-    (places_of c.put_elsewhere.new.self) c.put_elsewhere.new.worker.book (Ok _) c.in-Ok-false.ensures.puts in
+    (as_pair c.put_elsewhere.new.self) c.put_elsewhere.new.worker.book (Ok _) c.in-Ok-false.ensures.puts in
     let i = c.self.inside in
     let b = c.args.worker.now.book in
     let after = c.put_elsewhere.new.worker.book in
     let object = c.args.object in
     let items = i.spill ++ object ∷ [] in
     if_spilled c.spill_over.result c.spill_over.new.self
-    (listed (places_of c.put_elsewhere.new.self) items i.stopped i.starved)
+    (listed (as_pair c.put_elsewhere.new.self) items i.stopped i.starved)
     (λ (w : PairState). Puts c.args.self.now b object w after) c.spill_over.ensures.spilled
     (spills i c.self.view_is b c.put_elsewhere.new.self after c.requires.going object c.requires.backed
     answer c.in-Ok-false.field-0-test items refl)
@@ -62,31 +62,31 @@ returns-in-Ok-false-clause-put g c =
 pub returns-in-Ok-false-clause-back : goal.returns-in-Ok-false-clause-back
 returns-in-Ok-false-clause-back g c =
     let answer = put_from c.self.inside.buffers c.if-put_at.ensures.full c.args.object c.args.worker.now.book
-    (places_of c.put_elsewhere.new.self) c.put_elsewhere.new.worker.book (Ok _) c.in-Ok-false.ensures.puts in
+    (as_pair c.put_elsewhere.new.self) c.put_elsewhere.new.worker.book (Ok _) c.in-Ok-false.ensures.puts in
     let i = c.self.inside in
     let b = c.args.worker.now.book in
     let after = c.put_elsewhere.new.worker.book in
     let told = starves i c.self.view_is b c.put_elsewhere.new.self after c.requires.going c.args.object
     c.requires.backed answer c.in-Ok-false.field-0-test i.spill refl in
     if_starved c.spill_over.result c.spill_over.new.self
-    (listed (places_of c.put_elsewhere.new.self) i.spill i.stopped true) (c.args.object, OutOfMemory)
+    (listed (as_pair c.put_elsewhere.new.self) i.spill i.stopped true) (c.args.object, OutOfMemory)
     (λ (e : ℕ × Stop) (w : PairState). (e.0 ≡ c.args.object) × (w.spill ≡ c.args.self.now.spill)
-    × DealsOut c.args.self.now b w after) c.spill_over.ensures.starved
+    × PopsNoneFromFull c.args.self.now b w after) c.spill_over.ensures.starved
     (refl, ap (λ (w : PairState). w.spill) c.self.view_is, (told.0, out_alone told.0.moves told.1))
 
 pub returns-in-Ok-false-clause-no_memory : goal.returns-in-Ok-false-clause-no_memory
 returns-in-Ok-false-clause-no_memory g c =
     let answer = put_from c.self.inside.buffers c.if-put_at.ensures.full c.args.object c.args.worker.now.book
-    (places_of c.put_elsewhere.new.self) c.put_elsewhere.new.worker.book (Ok _) c.in-Ok-false.ensures.puts in
+    (as_pair c.put_elsewhere.new.self) c.put_elsewhere.new.worker.book (Ok _) c.in-Ok-false.ensures.puts in
     let i = c.self.inside in
     let b = c.args.worker.now.book in
     let q = c.put_elsewhere.new.self in
     let after = c.put_elsewhere.new.worker.book in
     let items = i.spill in
-    if_starved c.spill_over.result c.spill_over.new.self (listed (places_of q) items i.stopped true)
+    if_starved c.spill_over.result c.spill_over.new.self (listed (as_pair q) items i.stopped true)
     (c.args.object, OutOfMemory)
     (λ (e : ℕ × Stop) (w : PairState). e.1 ≡ OutOfMemory → IsOpen w × AreAlike c.args.self.now w × (w.starved ≡ true)
-    × ((deals : Deals c.args.self.now b [] [] w after) × (deals.moves ≡ FoundNone Empty ∷ [])))
+    × ((effect : CallEffect c.args.self.now b [] [] w after) × (effect.moves ≡ FoundNone Empty ∷ [])))
     c.spill_over.ensures.starved
     (λ starved. (
       still_open i c.self.view_is b q after c.requires.going c.args.object c.requires.backed
@@ -101,7 +101,7 @@ returns-in-Ok-false-clause-no_memory g c =
 pub returns-in-Err-clause-back : goal.returns-in-Err-clause-back
 returns-in-Err-clause-back g c =
     let answer = put_from c.self.inside.buffers c.if-put_at.ensures.full c.args.object c.args.worker.now.book
-    (places_of c.put_elsewhere.new.self) c.put_elsewhere.new.worker.book (Err _) c.in-Err.ensures.puts in
+    (as_pair c.put_elsewhere.new.self) c.put_elsewhere.new.worker.book (Err _) c.in-Err.ensures.puts in
     let b = c.args.worker.now.book in
     let backed = backed_less c.args.self.now (c.args.object ∷ []) b c.requires.backed in
     let told = stops c.self.inside c.self.view_is b c.put_elsewhere.new.self c.put_elsewhere.new.worker.book backed

@@ -1,9 +1,0 @@
--- What is left has the first run of the page, each look leaves less of it, and there are looks for all halvings.
-use Rattle.id_index.proofs.Words.{IsAround, ◌*◌, ◌-◌, ◌^◌, ◌≤◌}
-use Rattle.id_index.proofs.pages.narrowed.Given as goal
-
-abbrev pub invariant-loop-high : goal.invariant-loop-high
-invariant-loop-high l = IsAround l.runs l.page l.low l.high × (l.high - l.low ≤ 64 * 2 ^ l.looks.left)
-
-abbrev pub decreases-loop-high : goal.decreases-loop-high
-decreases-loop-high l = l.high - l.low

@@ -1,0 +1,7 @@
+-- Words that only private clauses use.
+pub mod Runs
+pub mod Beginnings
+pub mod Building
+pub mod Settling
+pub mod Pairs
+pub mod RunRepeats

@@ -1,0 +1,33 @@
+-- Where the pages of ascending runs begin, by their leading bits.
+use Rattle.std.specs.Prelude.{List, length, slice_index, ◌+◌, ◌-◌, ◌/◌, ◌<◌, ◌^◌, ◌≡◌, ◌≤◌, ℕ}
+use Rattle.id_index.specs.declared.beginnings.Beginnings.{Beginnings}
+use Rattle.id_index.specs.declared.runs.Run.{Run}
+use Rattle.id_index.specs.working.Runs.{page_in}
+
+-- the distance of a page from the least, without its lowest bits
+abbrev pub bucket_of : ℕ → ℕ → ℕ → ℕ
+bucket_of least shift page = (page - least) / 2 ^ shift
+
+-- the runs before that index are in buckets before this one, and no others
+pub record IsBeginning (runs : List Run) (least shift bucket at : ℕ) : Type 0 where
+  pub within : at ≤ length runs
+  pub before : (k : ℕ) → k < at → bucket_of least shift (page_in runs k) < bucket
+  pub behind : (k : ℕ) → at ≤ k → k < length runs → bucket ≤ bucket_of least shift (page_in runs k)
+
+-- for each bucket where its runs begin, and one more beginning; about one for each two runs
+pub record AreBeginnings {A : Type 0} (runs : List Run) (b : Beginnings A) : Type 0 where
+  pub shifted : b.shift < 64
+  pub low : (k : ℕ) → k < length runs → b.least ≤ page_in runs k
+  pub high : (k : ℕ) → k < length runs → page_in runs k ≤ b.least + b.span
+  pub fits : b.least + b.span < 2 ^ 64
+  pub count : length b.starts.items ≡ b.span / 2 ^ b.shift + 2
+  pub few : length b.starts.items ≤ length runs / 2 + 3
+  pub each : (bucket : ℕ) → bucket < length b.starts.items →
+      IsBeginning runs b.least b.shift bucket (slice_index b.starts.items bucket)
+
+-- before the first of these indexes pages are smaller, and from the second on they are not
+pub record IsAround (runs : List Run) (page begin end : ℕ) : Type 0 where
+  pub order : begin ≤ end
+  pub within : end ≤ length runs
+  pub before : (k : ℕ) → k < begin → page_in runs k < page
+  pub behind : (k : ℕ) → end ≤ k → k < length runs → page ≤ page_in runs k
