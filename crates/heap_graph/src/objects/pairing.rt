@@ -179,7 +179,7 @@ fn note_part<B: Allocator>(
     Ok(noted)
 }
 
-/// Like [`noted`], in as many parts as the team has threads, but in none that has fewer objects than there are pages:
+/// Like [`noted_places`], in as many parts as the team has threads, but in none that has fewer objects than there are pages:
 /// so what is noted takes no more than the pairs will. Returns `None` if there is no part.
 fn note_in_parts<T: Threads + Sync, B: Allocator + Copy + Send + Sync>(
     team: &Team<'_, T>,
@@ -208,7 +208,7 @@ fn note_in_parts<T: Threads + Sync, B: Allocator + Copy + Send + Sync>(
 
 /// Returns the places of the identifiers of the objects at `places`. They are noted in parts if there are many, and in
 /// one part also if an allocation for several fails.
-fn noted<T: Threads + Sync, B: Allocator + Copy + Send + Sync>(
+fn noted_places<T: Threads + Sync, B: Allocator + Copy + Send + Sync>(
     team: &Team<'_, T>,
     alloc: B,
     view: &View<'_>,
@@ -276,6 +276,6 @@ pub(super) fn paired<T: Threads + Sync, B: Allocator + Copy + Send + Sync>(
     if !are_close(bits, ends.least, ends.greatest, places.len() as u32) {
         return Ok(None);
     }
-    let noted = noted(team, alloc, view, places, bits, ends)?;
+    let noted = noted_places(team, alloc, view, places, bits, ends)?;
     placed(alloc, view, places, bits, noted)
 }
