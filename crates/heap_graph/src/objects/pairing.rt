@@ -179,8 +179,8 @@ fn note_part<B: Allocator>(
     Ok(noted)
 }
 
-/// Like [`noted_places`], in as many parts as the team has threads, but in none that has fewer objects than there are pages:
-/// so what is noted takes no more than the pairs will. Returns `None` if there is no part.
+/// Like [`noted_places`], in as many parts as the team has threads, but in none that has fewer objects than there are
+/// pages: so what is noted takes no more than the pairs will. Returns `None` if there is no part.
 fn note_in_parts<T: Threads + Sync, B: Allocator + Copy + Send + Sync>(
     team: &Team<'_, T>,
     alloc: B,
