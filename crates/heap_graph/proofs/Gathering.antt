@@ -12,7 +12,7 @@ use Rattle.std.proofs.lemmas.Result.{IfOk-at_ok}
 use Rattle.hprof_grammar.specs.Dump.{id_of}
 use Rattle.id_index.specs.declared.index.LowBits.{LowBits}
 use Rattle.heap_graph.specs.declared.objects.gathering.Gathered.{Gathered}
-use Rattle.heap_graph.specs.working.GatheredParts.{AreJoined, AreOfFirst, IsGathering}
+use Rattle.heap_graph.specs.working.GatheredParts.{AreJoined, AreOfFirst, IsOfPart}
 use Rattle.heap_graph.proofs.Adding.{keys_more}
 use Rattle.heap_graph.proofs.Parts.{next_part, reaches}
 
@@ -111,11 +111,8 @@ module _ {A : Type 0} (v : Sight) (places : List ℕ) (bits : LowBits) where
   -- ---- the answers of the parts, in order
 
   -- that is an answer for the part of that number
-  pub record IsAnswer (size n : ℕ) (answer : Answer A) : Type 0 where
-    pub part : List ℕ
-    pub within : n * size + length part ≤ length places
-    pub long : length part ≡ min size (length places - n * size)
-    pub gives : IsGathering v places bits (n * size) part answer
+  abbrev pub IsAnswer : ℕ → ℕ → Answer A → Type 0
+  IsAnswer size n answer = IsOfPart v places bits size n answer
 
   -- so many answers are left, for the parts from that number on
   abbrev pub AreLeft : ℕ → ℕ → ℕ → List (Answer A) → Type 0

@@ -1,6 +1,6 @@
 -- What is gathered from objects part by part.
-use Rattle.std.specs.Prelude.{IfOk, List, MatchOption, Option, Result, length, map, take, ◌++◌, ◌+◌, ◌<◌, ◌^◌, ◌≡◌}
-use Rattle.std.specs.Prelude.{◌≢◌, ◌≤◌, ℕ}
+use Rattle.std.specs.Prelude.{IfOk, List, MatchOption, Option, Result, get_or, length, map, min, take, ◌++◌, ◌+◌, ◌<◌}
+use Rattle.std.specs.Prelude.{◌%◌, ◌*◌, ◌-◌, ◌/◌, ◌^◌, ◌≡◌, ◌≢◌, ◌≤◌, ℕ}
 use Rattle.std.specs.declared.alloc.AllocError.{AllocError}
 use Rattle.hprof_grammar.specs.Dump.{id_of}
 use Rattle.hprof_grammar.specs.Standing.{Sight, StandInTurn, Stands}
@@ -51,3 +51,20 @@ pub record AreJoined {A : Type 0} (old next new : Gathered A) : Type 0 where
   pub shift : new.ids.shift ≡ old.ids.shift
   pub low : new.ids.low ≡ old.ids.low
   pub class_dumps : new.class_dumps.items ≡ old.class_dumps.items ++ next.class_dumps.items
+
+-- the result of the part with number `n`, where each part has `size` places, and the last one perhaps fewer
+pub record IsOfPart {A : Type 0} (v : Sight) (places : List ℕ) (bits : LowBits) (size n : ℕ)
+    (result : Result (Option (Gathered A)) AllocError) : Type 0 where
+  pub part : List ℕ
+  pub within : n * size + length part ≤ length places
+  pub long : length part ≡ min size (length places - n * size)
+  pub gives : IsGathering v places bits (n * size) part result
+
+-- the results of all such parts of the places
+pub record AreOfParts {A : Type 0} (v : Sight) (places : List ℕ) (bits : LowBits) (size : ℕ)
+    (results : List (Result (Option (Gathered A)) AllocError)) : Type 0 where
+  pub may : MayGather v places bits 0 places
+  pub some : 0 < size
+  pub count : length results ≡ length places / size + min 1 (length places % size)
+  pub each : (n : ℕ) (d : Result (Option (Gathered A)) AllocError) → n < length results
+      → IsOfPart v places bits size n (get_or results n d)

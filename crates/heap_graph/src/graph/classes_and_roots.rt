@@ -7,9 +7,9 @@ ghost use Rattle.hprof_grammar.specs.Standing.{StandInTurn, Stands};
 ghost use Rattle.hprof_grammar.specs.SubRecord.{SubRecord};
 ghost use Rattle.heap_graph.specs.Heap.{heap_of};
 ghost use Rattle.heap_graph.specs.working.ClassFates.{HaveFatesOf};
-ghost use Rattle.heap_graph.specs.working.GraphParts.{AreNamedOf, AreRootsOf};
+ghost use Rattle.heap_graph.specs.working.GraphParts.{AreNamedOf, ArePartsOf, AreRootsOf, MayHaveParts};
 ghost use Rattle.heap_graph.specs.working.HeldIds.{AreLinkedOf};
-ghost use Rattle.heap_graph.specs.working.PlacedNames.{AreNamesOf};
+ghost use Rattle.heap_graph.specs.working.PlacedNames.{AreNamesByIdOf, AreNamesOf};
 
 use crate::class_entry::ClassEntry;
 use crate::plan::Plan;
@@ -33,8 +33,33 @@ pub(crate) struct ResolvedRoots<A: Allocator> {
     pub(crate) unresolved: u64,
 }
 
+/// The classes and the roots of a graph.
+#[derive(Drop)]
+pub(crate) struct Parts<'a, A: Allocator> {
+    pub(crate) named: PlannedClasses<'a, A>,
+    pub(crate) rooted: ResolvedRoots<A>,
+}
+
+/// Looks up the texts that name the classes of `objects` in `by_id`, and plans the classes.
+fn look_up_names<'a, A: Allocator + Copy>(
+    alloc: A,
+    objects: &Objects<'a, A>,
+    by_id: &NamesById<'_, 'a, A>,
+    skip: &[SkipEntry<'_>],
+) -> Result<PlannedClasses<'a, A>, AllocError>
+    requires fates { (heap : List SubRecord) × HaveFatesOf objects.now heap }
+    requires names { (records : List Record) × AreNamesByIdOf by_id.now records }
+    ensures { IfOk result (λ n. (records : List Record) → AreLinkedOf objects.now (heap_of records)
+        → HaveFatesOf objects.now (heap_of records) → AreNamesByIdOf by_id.now records
+        → AreNamedOf records skip.now objects.now n.plan n.classes.items) }
+{
+    let plan = objects.plan(alloc, by_id, skip)?;
+    let classes = objects.classes(alloc, by_id)?;
+    Ok(PlannedClasses { plan, classes })
+}
+
 /// Reads the names and the plans of the classes of `objects`. The index of the names is dropped at the end.
-pub(crate) fn name_classes<'a, A: Allocator + Copy>(
+fn name_classes<'a, A: Allocator + Copy>(
     alloc: A,
     objects: &Objects<'a, A>,
     names: &Names<'a, '_>,
@@ -47,13 +72,11 @@ pub(crate) fn name_classes<'a, A: Allocator + Copy>(
         → AreNamedOf records skip.now objects.now n.plan n.classes.items) }
 {
     let by_id = NamesById::new(alloc, names)?;
-    let plan = objects.plan(alloc, &by_id, skip)?;
-    let classes = objects.classes(alloc, &by_id)?;
-    Ok(PlannedClasses { plan, classes })
+    look_up_names(alloc, objects, &by_id, skip)
 }
 
 /// Finds the objects that the roots at `places` name.
-pub(crate) fn find_roots<A: Allocator + Copy>(
+fn find_roots<A: Allocator + Copy>(
     alloc: A,
     objects: &Objects<'_, A>,
     places: &[u32],
@@ -67,4 +90,23 @@ pub(crate) fn find_roots<A: Allocator + Copy>(
     let mut roots = Vec::new(alloc);
     let unresolved = resolve(&objects.index, &ids, &mut roots)?;
     Ok(ResolvedRoots { roots, unresolved })
+}
+
+/// Reads the parts of the graph of `objects`: its classes, with the texts that name them in `names`, and its roots,
+/// which are at `root_places`.
+pub(crate) fn read_parts<'a, A: Allocator + Copy>(
+    alloc: A,
+    objects: &Objects<'a, A>,
+    names: &Names<'a, '_>,
+    root_places: &[u32],
+    skip: &[SkipEntry<'_>],
+) -> Result<Parts<'a, A>, AllocError>
+    requires { (records : List Record) × MayHaveParts records objects.now names.now root_places.now }
+    ensures { IfOk result (λ p. (records : List Record)
+        → MayHaveParts records objects.now names.now root_places.now
+        → ArePartsOf records skip.now objects.now p) }
+{
+    let named = name_classes(alloc, objects, names, skip)?;
+    let rooted = find_roots(alloc, objects, root_places)?;
+    Ok(Parts { named, rooted })
 }

@@ -1,9 +1,11 @@
 //! The classes of a dump, with the texts that name them.
 
-ghost use Rattle.std.specs.Prelude.{IfOk, List, length, map, ◌<◌, ◌^◌, ◌≡◌};
+ghost use Rattle.std.specs.Prelude.{IfOk, List, length, map, option_copied, slice_index, ◌<◌, ◌^◌, ◌≡◌};
 ghost use Rattle.hprof_grammar.specs.Record.{Record};
+ghost use Rattle.heap_graph.specs.ClassNames as named;
 ghost use Rattle.heap_graph.specs.Heap.{heap_of};
 ghost use Rattle.heap_graph.specs.ObjectGraph.{named_classes};
+ghost use Rattle.heap_graph.specs.working.ClassList.{ids_of};
 
 use crate::class_entry::ClassEntry;
 use crate::names::NamesById;
@@ -15,6 +17,23 @@ impl<'d, A: Allocator> Objects<'d, A> {
     ghost use Rattle.heap_graph.specs.working.PlacedNames.{AreNamesByIdOf};
     ghost use Rattle.heap_graph.specs.working.Refinement.{named_class};
     ghost use Rattle.heap_graph.specs.working.ClassFates.{HaveFatesOf};
+
+    /// Returns class `number`, with the text that names it in `names`.
+    fn class_entry<'a, B: Allocator>(
+        &self,
+        names: &NamesById<'_, 'a, B>,
+        number: u32,
+    ) -> ClassEntry<'a>
+        requires below { number < length self.now.classes.table.entries }
+        requires names { (records : List Record) × AreNamesByIdOf names.now records }
+        ensures id { result.id ≡ slice_index (ids_of self.now.classes.table.entries) number }
+        ensures text { (records : List Record) → AreNamesByIdOf names.now records
+            → option_copied result.text ≡ named.class_text records result.id }
+    {
+        let id = self.classes.id(number);
+        let text = names.class_text(id);
+        ClassEntry { id, text }
+    }
 
     /// Returns the classes in the order of their dumps, with the texts that name them in `names`.
     pub(crate) fn classes<'a, B: Allocator + Copy>(
@@ -31,9 +50,7 @@ impl<'d, A: Allocator> Objects<'d, A> {
         let count = self.classes.table.len();
         let mut classes = Vec::with_capacity(alloc, count)?;
         for number in 0..count {
-            let id = self.classes.id(number as u32);
-            let text = names.class_text(id);
-            classes.push(ClassEntry { id, text })?;
+            classes.push(self.class_entry(names, number as u32))?;
         }
         Ok(classes)
     }

@@ -1,11 +1,11 @@
 //! The identifiers of objects and the numbers of their class dumps are gathered from their places, part by part.
 
-ghost use Rattle.hprof_grammar.specs.Standing.{StandInTurn, Stands};
+ghost use Rattle.hprof_grammar.specs.Standing.{Sight, StandInTurn, Stands};
 ghost use Rattle.hprof_grammar.specs.SubRecord.{SubRecord};
 ghost use Rattle.std.specs.Prelude.{IfOk, List, [], length, ◌++◌, ◌+◌, ◌<◌, ◌^◌, ◌≡◌, ℕ};
 ghost use Rattle.heap_graph.specs.Heap.{objects};
 ghost use Rattle.heap_graph.specs.working.ClassNumbers.{AreClassNumbers};
-ghost use Rattle.heap_graph.specs.working.GatheredParts.{AreJoined, IsGathering, MayGather};
+ghost use Rattle.heap_graph.specs.working.GatheredParts.{AreJoined, AreOfParts, IsGathering, MayGather};
 
 use hprof_grammar::{ObjectKind, Team, View};
 use id_index::{IdIndexBuilder, LowBits};
@@ -99,8 +99,29 @@ fn gather_part<B: Allocator + Copy>(
     Ok(Some(gathered))
 }
 
-/// What the objects at these places give, if all their identifiers have those lowest bits. They are gathered in as many
-/// parts as the team has threads, and these are joined in order.
+/// Joins `parts`, the results of the parts of all places, in order. Returns `None` if an identifier of a part has other
+/// lowest bits than `bits`.
+fn join_parts<B: Allocator + Copy>(
+    alloc: B,
+    bits: LowBits,
+    parts: Vec<Result<Option<Gathered<B>>, AllocError>, B>,
+) -> Result<Option<Gathered<B>>, AllocError>
+    requires { (v : Sight) × (places : List ℕ) × (size : ℕ) × AreOfParts v places bits size parts.items }
+    ensures { (v : Sight) (places : List ℕ) (size : ℕ) → AreOfParts v places bits size parts.items
+        → IsGathering v places bits 0 places result }
+{
+    let mut all = Gathered::new(alloc, bits);
+    for part in parts {
+        match part? {
+            Some(gathered) => all.append(gathered)?,
+            None => return Ok(None),
+        }
+    }
+    Ok(Some(all))
+}
+
+/// Gathers the objects at `places` in as many parts as the team has threads, and joins the parts in order. Returns
+/// `None` if an identifier has other lowest bits than `bits`.
 fn gather_in_parts<T: Threads + Sync, B: Allocator + Copy + Send + Sync>(
     team: &Team<'_, T>,
     alloc: B,
@@ -117,14 +138,7 @@ fn gather_in_parts<T: Threads + Sync, B: Allocator + Copy + Send + Sync>(
         ensures { IsGathering view.entry.now places.entry.now bits start part.entry.now result }
     { gather_part(alloc, view, places, start, part, bits) };
     let parts = thread::map_chunks(team, alloc, places, size, &gather)?;
-    let mut all = Gathered::new(alloc, bits);
-    for part in parts {
-        match part? {
-            Some(gathered) => all.append(gathered)?,
-            None => return Ok(None),
-        }
-    }
-    Ok(Some(all))
+    join_parts(alloc, bits, parts)
 }
 
 /// What the objects at these places give, if all their identifiers have those lowest bits: where there are many they

@@ -54,3 +54,6 @@ next_step-requires-clause-each g c =
 
 pub next_step-requires-clause-heap : goal.next_step-requires-clause-heap
 next_step-requires-clause-heap g c = (c.requires.heap.0, c.requires.heap.1)
+
+pub up-init : goal.up-init
+up-init g c = record { stays = λ k it. it; climbs = λ heap are start. start }

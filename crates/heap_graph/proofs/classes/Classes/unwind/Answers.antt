@@ -1,8 +1,10 @@
 -- The last class of the path stands right below what has the fate, so its own fate follows, and so on down.
-use Rattle.heap_graph.proofs.Words.{AreFatesOf, List, [], arith, length, rules, subst, ℕ, ◌<◌, ◌≡◌}
+use Rattle.heap_graph.proofs.Words.{AreFatesOf, Contains, List, [], arith, inl, length, rules, subst, ℕ, ⊎_elim, ◌<◌}
+use Rattle.heap_graph.proofs.Words.{◌≡◌}
 use Rattle.heap_graph.proofs.ClassTableLaws.{same_count}
 use Rattle.heap_graph.proofs.ClimbLaws.{back_fates, back_known, back_top, last_under}
 use Rattle.heap_graph.proofs.FateLaws.{stay_known}
+use Rattle.heap_graph.proofs.PathLaws.{contains_none}
 use Rattle.heap_graph.proofs.classes.Classes.unwind.Goals as goal
 
 pub fate_below-fate-requires-clause-below : goal.fate_below-fate-requires-clause-below
@@ -44,6 +46,23 @@ loop-number-preserved g c =
           _ (λ super under fate. c.fate_below-fate.ensures.fate heap super are under fate)
           c.fate_below-fate.ensures.settled;
     }
+
+pub loop-number-init : goal.loop-number-init
+loop-number-init g c = record {
+  stays = λ k it. it;
+  settled = λ k it. inl it;
+  fates = λ heap are known top. known;
+  top = λ heap are known top. top;
+}
+
+pub returns-clause-stays : goal.returns-clause-stays
+returns-clause-stays g c = c.loop-number.invariant.stays
+
+pub returns-clause-known : goal.returns-clause-known
+returns-clause-known g c = λ k it.
+    let empty : c.loop-number.path.items ≡ [] = search rules in ⊎_elim
+    (λ left. absurd (contains_none k (subst (λ (p : List ℕ). Contains p k) empty left)))
+    (λ known. known) (c.loop-number.invariant.settled k it)
 
 pub returns-clause-fates : goal.returns-clause-fates
 returns-clause-fates g c = λ heap are fates top.

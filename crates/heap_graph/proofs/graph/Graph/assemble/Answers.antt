@@ -1,6 +1,8 @@
--- What was found of the objects is of the records of the dump.
-use Rattle.heap_graph.specs.Heap.{heap_of}
+-- The parts of the linked objects are read of the records of their dump.
 use Rattle.heap_graph.proofs.graph.Graph.assemble.Goals as goal
+
+pub read_parts-requires : goal.read_parts-requires
+read_parts-requires g c = (c.requires.2.records, c.requires.4)
 
 pub of-requires : goal.of-requires
 of-requires g c = (
@@ -8,6 +10,5 @@ of-requires g c = (
   c.requires.1,
   c.requires.2,
   c.requires.3,
-  c.in_ok-named.ensures c.requires.2.records c.requires.3.linked c.requires.3.fates c.requires.4,
-  c.in_ok-rooted.ensures (heap_of c.requires.2.records) c.requires.3.linked c.requires.5,
+  c.in-Ok.ensures c.requires.2.records c.requires.4,
 )

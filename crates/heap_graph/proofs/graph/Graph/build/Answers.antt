@@ -1,59 +1,55 @@
--- The places are those of the dump, so what the tests say of the objects there is said of the dump's heap.
-use Rattle.heap_graph.proofs.Words.{IsPlaced, IsReadOf, Places, SubRecordStandsAt, [], ap, filter, heap_of, is_root}
-use Rattle.heap_graph.proofs.Words.{◌∙◌, ◌≡◌}
-use Rattle.heap_graph.proofs.Building.{are_linked, are_names, has_fault, seen_by}
+-- What is read of the objects is of the dump, and so are its names and its roots.
+use Rattle.heap_graph.proofs.Words.{IsGraphOfText, IsPlaced, List, Places, SkipEntry, SubRecordStandsAt, [], ap, arith}
+use Rattle.heap_graph.proofs.Words.{filter, heap_of, is_root, subst, ℕ, ◌∙◌, ◌≡◌}
+use Rattle.heap_graph.proofs.Building.{are_names, seen_by}
+use Rattle.heap_graph.proofs.Sizes.{id_size_range}
 use Rattle.heap_graph.proofs.graph.Graph.build.Goals as goal
 
-pub check-requires : goal.check-requires
-check-requires g c =
-    let bounds = c.type_bounds in
-    let are = c.in-Ok.ensures.objects.are c.requires in
-    let fates = c.in-Ok.ensures.fates c.requires in (
-      bounds.send-A,
-      (
-        bounds.sync-A,
-        (
-          bounds.sync-T,
-          (
-            bounds.frees-A-Allocator,
-            (heap_of c.requires.records, are, fates),
-          ),
-        ),
-      ),
+pub new-requires-clause-low : goal.new-requires-clause-low
+new-requires-clause-low g c =
+    omega (
+      arith,
+      c.id_size.ensures,
+      ap (λ (d : Places). d.id_size) c.in_ok-objects.ensures.rest,
+      (id_size_range c.args.dump.id_size c.requires.spells.id_size).0,
     )
 
-pub returns-in-Err-check-clause-fault : goal.returns-in-Err-check-clause-fault
-returns-in-Err-check-clause-fault g c =
-    has_fault c.args.bytes.now c.args.dump c.requires c.in-Ok.objects.view.id_size c.in-Ok.objects.places.items
-    c.in-Err-check.fault c.in-Ok.ensures.objects.size_is c.in-Ok.ensures.objects.places_are
-    (c.in-Err-check.ensures.fault (heap_of c.requires.records) (c.in-Ok.ensures.objects.are c.requires)
-    (c.in-Ok.ensures.fates c.requires))
+pub new-requires-clause-high : goal.new-requires-clause-high
+new-requires-clause-high g c =
+    omega (
+      arith,
+      c.id_size.ensures,
+      ap (λ (d : Places). d.id_size) c.in_ok-objects.ensures.rest,
+      (id_size_range c.args.dump.id_size c.requires.spells.id_size).1,
+    )
 
 pub assemble-requires : goal.assemble-requires
 assemble-requires g c =
     let placed : IsPlaced c.args.bytes.now c.args.dump c.requires.records =
     c.dump_is_placed.ensures c.args.bytes.now c.args.dump c.requires in
-    let rest : c.take_objects.new.dump ≡ record c.args.dump { objects = [] } = c.in-Ok.ensures.rest in
-    let read : IsReadOf c.args.bytes.now c.args.dump c.requires c.in-Ok.objects = record {
-      bytes_are = c.in-Ok.ensures.objects.bytes_are;
-      size_is = c.in-Ok.ensures.objects.size_is;
-      linked = are_linked c.args.bytes.now c.args.dump c.requires c.in-Ok.objects.view c.in-Ok.objects.places.items
-          c.in-Ok.objects.index c.in-Ok.ensures.objects.bytes_are c.in-Ok.ensures.objects.size_is
-          (c.in-Ok.ensures.objects.are c.requires)
-          (c.in_default.ensures.linked (heap_of c.requires.records) (c.in-Ok.ensures.objects.are c.requires)
-          (c.in-Ok.ensures.fates c.requires));
-      fates = c.in-Ok.ensures.fates c.requires;
-    } in (
+    let rest : c.linked_objects.new.dump ≡ record c.args.dump { objects = [] } = c.in_ok-objects.ensures.rest in
+    let read = c.in_ok-objects.ensures.objects c.requires in (
       c.args.bytes.now,
       c.args.dump,
       c.requires,
       read,
-      are_names c.args.bytes.now c.args.dump c.requires c.new.result c.strings.result.now c.loaded.result.now
-          c.new.ensures.bytes (c.new.ensures.size ∙ c.id_size.ensures ∙ ap (λ (d : Places). d.id_size) rest)
-          (c.strings.ensures ∙ ap (λ (d : Places). d.strings) rest)
-          (c.loaded.ensures ∙ ap (λ (d : Places). d.loaded) rest) placed,
-      seen_by SubRecordStandsAt c.in-Ok.objects.view c.args.bytes.now c.args.dump.id_size c.roots.result.now
-          c.args.dump.roots
-          (filter is_root (heap_of c.requires.records)) c.in-Ok.ensures.objects.bytes_are
-          c.in-Ok.ensures.objects.size_is (c.roots.ensures ∙ ap (λ (d : Places). d.roots) rest) placed.roots,
+      record {
+        linked = read.linked;
+        fates = read.fates;
+        names_are = are_names c.args.bytes.now c.args.dump c.requires c.new.result c.strings.result.now
+            c.loaded.result.now
+            c.new.ensures.bytes (c.new.ensures.size ∙ c.id_size.ensures ∙ ap (λ (d : Places). d.id_size) rest)
+            (c.strings.ensures ∙ ap (λ (d : Places). d.strings) rest)
+            (c.loaded.ensures ∙ ap (λ (d : Places). d.loaded) rest) placed;
+        roots_stand = seen_by SubRecordStandsAt c.in_ok-objects.objects.view c.args.bytes.now c.args.dump.id_size
+            c.roots.result.now c.args.dump.roots
+            (filter is_root (heap_of c.requires.records)) read.bytes_are
+            read.size_is (c.roots.ensures ∙ ap (λ (d : Places). d.roots) rest) placed.roots;
+      },
     )
+
+pub returns-in-Ok-clause-graph : goal.returns-in-Ok-clause-graph
+returns-in-Ok-clause-graph g c =
+    subst (λ (list : List SkipEntry). IsGraphOfText c.args.bytes.now list c.in-Ok.graph) c.pairs.ensures
+    (subst (λ (text : List ℕ). IsGraphOfText text c.pairs.result.now c.in-Ok.graph)
+    (c.in_ok-objects.ensures.objects c.requires).bytes_are c.in-Ok.ensures)

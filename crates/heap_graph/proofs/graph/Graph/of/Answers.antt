@@ -19,18 +19,18 @@ invariant_of-result-2 g c =
     let records = c.requires.2.records in
     let skip : List SkipEntry = c.of.result.value.now in
     let same : skip ≡ c.args.skip.now = (λ i. (c.of.ensures i).now) in
-    let named : AreNamedOf records skip c.args.objects c.args.named.plan c.args.named.classes.items =
-    subst (λ (list : List SkipEntry). AreNamedOf records list c.args.objects c.args.named.plan
-    c.args.named.classes.items) (sym same) c.requires.4 in
+    let named : AreNamedOf records skip c.args.objects c.args.parts.named.plan c.args.parts.named.classes.items =
+    subst (λ (list : List SkipEntry). AreNamedOf records list c.args.objects c.args.parts.named.plan
+    c.args.parts.named.classes.items) (sym same) c.requires.4.named in
     given_graph c.args.objects.view.bytes skip
-    (StandFor c.args.objects c.args.named.plan c.args.rooted.roots.items c.args.named.classes.items
-    c.args.rooted.unresolved skip)
+    (StandFor c.args.objects c.args.parts.named.plan c.args.parts.rooted.roots.items c.args.parts.named.classes.items
+    c.args.parts.rooted.unresolved skip)
     (graph_read c.args.objects c.requires.0 c.requires.1 c.requires.2 skip c.requires.3)
     (text_graph_made c.args.objects c.requires.0 c.requires.1 c.requires.2 skip c.requires.3)
-    (stand_for c.args.objects c.args.named.plan records c.args.rooted.roots.items c.args.named.classes.items
-    c.args.rooted.unresolved skip (c.stands_within.ensures c.args.objects.view)
+    (stand_for c.args.objects c.args.parts.named.plan records c.args.parts.rooted.roots.items
+    c.args.parts.named.classes.items c.args.parts.rooted.unresolved skip (c.stands_within.ensures c.args.objects.view)
     (few_roots_in_dump c.requires.0 c.requires.1 c.requires.2) c.requires.3.linked c.requires.3.fates named
-    c.requires.5) _ (search rules)
+    c.requires.4.rooted) _ (search rules)
 
 pub returns : goal.returns
 returns g c =

@@ -1,6 +1,6 @@
 -- At the places stand the objects of one heap, so index, table and fates, made one from another, are all of it.
-use Rattle.heap_graph.proofs.Words.{AreClasses, ArePlacesOf, HaveFates, Sight, arith, heap_of, subst, sym, ◌∙◌, ◌≡◌}
-use Rattle.heap_graph.proofs.Building.{are_indexed, few_objects, objects_stand, same_sight, size_in_range}
+use Rattle.heap_graph.proofs.Words.{ArePlacesOf, HaveFates, Sight, arith, heap_of, subst, sym, ◌∙◌, ◌≡◌}
+use Rattle.heap_graph.proofs.Building.{are_indexed, objects_stand, same_sight, size_in_range}
 use Rattle.heap_graph.proofs.Counting.{few_placed}
 use Rattle.heap_graph.proofs.graph.build.read_objects.Goals as goal
 
@@ -46,12 +46,18 @@ new-requires-clause-low g c = (size_in_range _ _ _ _ c.requires.1).0
 pub new-requires-clause-high : goal.new-requires-clause-high
 new-requires-clause-high g c = (size_in_range _ _ _ _ c.requires.1).1
 
-pub class_table-requires-clause-low : goal.class_table-requires-clause-low
-class_table-requires-clause-low g c =
+pub settled_classes-requires-clause-low : goal.settled_classes-requires-clause-low
+settled_classes-requires-clause-low g c =
     omega (arith, c.new.ensures.size, (size_in_range _ _ _ _ c.requires.1).0)
 
-pub class_table-requires-clause-heap : goal.class_table-requires-clause-heap
-class_table-requires-clause-heap g c =
+pub settled_classes-requires-clause-few : goal.settled_classes-requires-clause-few
+settled_classes-requires-clause-few g c =
+    few_placed _ _ c.requires.1.is c.deref-2.result.now
+    (c.dump_is_placed.ensures c.args.bytes.now c.requires.0 c.requires.1.is)
+    (c.deref-2.ensures.value ∙ c.requires.1.places_are)
+
+pub settled_classes-requires-clause-heap : goal.settled_classes-requires-clause-heap
+settled_classes-requires-clause-heap g c =
     let are : ArePlacesOf c.args.bytes.now c.args.id_size c.deref-2.result.now c.requires.0 =
     record {
       is = c.requires.1.is;
@@ -64,26 +70,6 @@ class_table-requires-clause-heap g c =
           c.new-view.ensures.size c.new.ensures.bytes c.new.ensures.size
           (c.deref.ensures.value ∙ sym c.deref-2.ensures.value) c.in_ok-indexed.ensures,
     )
-
-pub settle_all-requires : goal.settle_all-requires
-settle_all-requires g c =
-    let are : ArePlacesOf c.args.bytes.now c.args.id_size c.deref-2.result.now c.requires.0 =
-    record {
-      is = c.requires.1.is;
-      size_is = c.requires.1.size_is;
-      places_are = c.deref-2.ensures.value ∙ c.requires.1.places_are;
-    } in
-    let placed = c.dump_is_placed.ensures c.args.bytes.now c.requires.0 are.is in
-    record {
-      few = omega (arith, c.in_ok-classes.ensures.few, few_objects _ _ _ _ are placed);
-      heap = (
-        heap_of are.is.records,
-        c.in_ok-classes.ensures.classes (heap_of are.is.records)
-            (are_indexed _ _ _ _ are placed c.new-view.result c.new.result c.in_ok-indexed.indexed c.deref.result.now
-            c.new-view.ensures.bytes c.new-view.ensures.size c.new.ensures.bytes c.new.ensures.size
-            (c.deref.ensures.value ∙ sym c.deref-2.ensures.value) c.in_ok-indexed.ensures),
-      );
-    }
 
 pub returns-clause-objects : goal.returns-clause-objects
 returns-clause-objects g c = λ dump are. record {
@@ -104,19 +90,13 @@ returns-clause-fates g c = λ dump from.
     let are : ArePlacesOf c.args.bytes.now c.args.id_size c.deref-2.result.now dump =
     record { is = from.is; size_is = from.size_is; places_are = c.deref-2.ensures.value ∙ from.places_are } in
     let placed = c.dump_is_placed.ensures c.args.bytes.now dump are.is in
-    let same : c.in_ok-classes.classes.view ≡ c.new-view.result =
-    c.in_ok-classes.ensures.view
-    ∙ same_sight c.new.result c.new-view.result (c.new.ensures.bytes ∙ sym c.new-view.ensures.bytes)
+    let same : c.new.result ≡ c.new-view.result =
+    same_sight c.new.result c.new-view.result (c.new.ensures.bytes ∙ sym c.new-view.ensures.bytes)
     (c.new.ensures.size ∙ sym c.new-view.ensures.size) in
-    let entries = c.in_ok-classes.classes.table.entries in
-    let classes : AreClasses c.in_ok-classes.classes.view (heap_of are.is.records) entries =
-    c.in_ok-classes.ensures.classes (heap_of are.is.records)
+    subst
+    (λ (v : Sight). HaveFates v (heap_of are.is.records) c.in_ok-settled.settled.classes.table.entries
+    c.in_ok-settled.settled.fates.items) same
+    (c.in_ok-settled.ensures (heap_of are.is.records)
     (are_indexed _ _ _ _ are placed c.new-view.result c.new.result c.in_ok-indexed.indexed c.deref.result.now
     c.new-view.ensures.bytes c.new-view.ensures.size c.new.ensures.bytes c.new.ensures.size
-    (c.deref.ensures.value ∙ sym c.deref-2.ensures.value) c.in_ok-indexed.ensures) in
-    subst (λ (v : Sight). HaveFates v (heap_of are.is.records) entries c.in_ok-fates.fates.items) same
-    (record {
-      classes = classes;
-      settled = c.in_ok-fates.ensures (heap_of are.is.records) classes;
-      few = omega (arith, c.in_ok-classes.ensures.few, few_objects _ _ _ _ are placed);
-    })
+    (c.deref.ensures.value ∙ sym c.deref-2.ensures.value) c.in_ok-indexed.ensures))

@@ -1,24 +1,21 @@
--- By their identifiers the names are those of the records, so what is planned and read by them is of these.
+-- By their identifiers the names are those of the records, so what is looked up by them is of these.
+use Rattle.heap_graph.proofs.Words.{AreLinkedOf, AreNamedOf, AreNamesByIdOf, AreNamesOf, HaveFatesOf, IfOk-weaker}
+use Rattle.heap_graph.proofs.Words.{List, Record, heap_of}
 use Rattle.heap_graph.proofs.graph.classes_and_roots.name_classes.Goals as goal
 
-pub classes-requires-clause-names : goal.classes-requires-clause-names
-classes-requires-clause-names g c =
+pub look_up_names-requires-clause-names : goal.look_up_names-requires-clause-names
+look_up_names-requires-clause-names g c =
     (c.requires.names.0, c.in_ok-by_id.ensures c.requires.names.0 c.requires.names.1)
+
+pub look_up_names-requires-clause-fates : goal.look_up_names-requires-clause-fates
+look_up_names-requires-clause-fates g c = c.requires.fates
 
 pub returns : goal.returns
-returns g c = λ records linked fates names.
-    let by_id = c.in_ok-by_id.ensures records names in
-    record {
-      planned = c.in_ok-plan.ensures records fates by_id;
-      classes_are = c.in_ok-classes.ensures records linked fates by_id;
-    }
-
-pub plan-requires-clause-fates : goal.plan-requires-clause-fates
-plan-requires-clause-fates g c = c.requires.fates
-
-pub plan-requires-clause-names : goal.plan-requires-clause-names
-plan-requires-clause-names g c =
-    (c.requires.names.0, c.in_ok-by_id.ensures c.requires.names.0 c.requires.names.1)
-
-pub classes-requires-clause-few : goal.classes-requires-clause-few
-classes-requires-clause-few g c = c.requires.fates.1.few
+returns g c =
+    let o = c.args.objects.now in IfOk-weaker c.look_up_names.result
+    (λ n. (records : List Record) → AreLinkedOf o (heap_of records) → HaveFatesOf o (heap_of records)
+    → AreNamesByIdOf c.in_ok-by_id.by_id records → AreNamedOf records c.args.skip.now o n.plan n.classes.items)
+    (λ n. (records : List Record) → AreLinkedOf o (heap_of records) → HaveFatesOf o (heap_of records)
+    → AreNamesOf c.args.names.now records → AreNamedOf records c.args.skip.now o n.plan n.classes.items)
+    (λ n named records linked fates names. named records linked fates (c.in_ok-by_id.ensures records names))
+    c.look_up_names.ensures

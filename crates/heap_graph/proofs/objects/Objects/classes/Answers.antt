@@ -12,9 +12,9 @@ pub loop-number-preserved : goal.loop-number-preserved
 loop-number-preserved g c = λ records names.
     one_more_named records (ids_of c.args.self.now.classes.table.entries) c.loop-number.number
     c.loop-number.classes.items c.push.new.self.items
-    (record { id = c.id-id.result; text = c.class_text-text.result })
+    c.class_entry.result
     (omega (arith, same_count c.args.self.now.classes.table.entries, c.loop-number-test.true, c.len-count.ensures))
-    c.id-id.ensures (c.class_text-text.ensures records names) c.in_ok-push.ensures.items
+    c.class_entry.ensures.id (c.class_entry.ensures.text records names) c.in_ok-push.ensures.items
     (c.loop-number.invariant records names)
 
 pub returns : goal.returns

@@ -38,3 +38,10 @@ returns-clause-classes g c = λ heap are.
     (all_classes c.args.view c.loop-number.classes.view c.loop-number.invariant.view _ heap c.args.indexed.now _
     c.deref-number-items.ensures.value c.loop-number.classes.table.entries c.loop-number.number-index are
     c.loop-number-test.false (c.loop-number.invariant.among heap are)) (omega (arith, are.are.stand.count)))
+
+pub returns-clause-few : goal.returns-clause-few
+returns-clause-few g c =
+    let (heap, are) = c.requires.heap in
+    (all_classes c.args.view c.loop-number.classes.view c.loop-number.invariant.view _ heap c.args.indexed.now _
+    c.deref-number-items.ensures.value c.loop-number.classes.table.entries c.loop-number.number-index are
+    c.loop-number-test.false (c.loop-number.invariant.among heap are)).few

@@ -1,8 +1,13 @@
 -- At the next place stands the next object: its identifier follows those so far, and it is noted if it is a class dump.
 use Rattle.heap_graph.proofs.Words.{HasGathered, arith, subst, ℕ}
-use Rattle.heap_graph.proofs.Gathering.{one_more}
+use Rattle.heap_graph.proofs.Gathering.{nothing, one_more}
 use Rattle.heap_graph.proofs.Standings.{id_there}
 use Rattle.heap_graph.proofs.objects.gathering.gather_part.Goals as goal
+
+pub loop-number-init : goal.loop-number-init
+loop-number-init g c = nothing c.args.view.now c.args.places.now c.args.bits c.new-gathered.result c.args.start
+    c.new-gathered.ensures.ids c.new-gathered.ensures.class_dumps c.new-gathered.ensures.shift
+    c.new-gathered.ensures.low
 
 pub loop-number-preserved : goal.loop-number-preserved
 loop-number-preserved g c =

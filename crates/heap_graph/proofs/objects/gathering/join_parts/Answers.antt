@@ -1,0 +1,74 @@
+-- Each part follows those before it: joined in order they are what all objects give.
+use Rattle.heap_graph.proofs.Words.{HasGathered, arith, subst, sym, ℕ, ◌+◌, ◌∙◌}
+use Rattle.heap_graph.proofs.Gathering.{all_left, all_parts, answered, next_answer, nothing, one_more_part, others_left}
+use Rattle.heap_graph.proofs.Gathering.{unanswered}
+use Rattle.heap_graph.proofs.objects.gathering.join_parts.Goals as goal
+
+pub new-all-requires-clause-shifted : goal.new-all-requires-clause-shifted
+new-all-requires-clause-shifted g c = c.requires.3.may.shifted
+
+pub new-all-requires-clause-low : goal.new-all-requires-clause-low
+new-all-requires-clause-low g c = c.requires.3.may.low
+
+pub loop-part-init : goal.loop-part-init
+loop-part-init g c = λ v places size are.
+    let given = c.into_iter-part-iterator.ensures.into_iter_gives in (
+      0,
+      omega (arith, are.count, given.1, c.args.parts.ok),
+      all_left v places c.args.bits size _ _ _ given.0
+          (λ k d below. are.each k d (omega (arith, below, given.1, c.args.parts.ok))),
+      subst (λ (m : ℕ). HasGathered v places c.args.bits 0 m c.new-all.result) (omega arith)
+          (nothing v places c.args.bits c.new-all.result 0 c.new-all.ensures.ids c.new-all.ensures.class_dumps
+          c.new-all.ensures.shift c.new-all.ensures.low),
+    )
+
+pub append-requires-clause-shift : goal.append-requires-clause-shift
+append-requires-clause-shift g c =
+    let (v, places, size, are) = c.requires in
+    let (n, count, left, had) = c.loop-part.invariant v places size are in
+    let step = c.in-Some.ensures.steps in
+    let it = next_answer _ _ _ _ n _ _ _ _ step.0 left (omega (arith, step.1)) in
+    let has = answered _ _ _ _ n _ _ _ it c.in_ok-gathered.was c.in-Some-2.is in
+    has.shift ∙ sym had.shift
+
+pub append-requires-clause-low : goal.append-requires-clause-low
+append-requires-clause-low g c =
+    let (v, places, size, are) = c.requires in
+    let (n, count, left, had) = c.loop-part.invariant v places size are in
+    let step = c.in-Some.ensures.steps in
+    let it = next_answer _ _ _ _ n _ _ _ _ step.0 left (omega (arith, step.1)) in
+    let has = answered _ _ _ _ n _ _ _ it c.in_ok-gathered.was c.in-Some-2.is in
+    has.low ∙ sym had.low
+
+pub append-requires-clause-few : goal.append-requires-clause-few
+append-requires-clause-few g c =
+    let (v, places, size, are) = c.requires in
+    let (n, count, left, had) = c.loop-part.invariant v places size are in
+    let step = c.in-Some.ensures.steps in
+    let it = next_answer _ _ _ _ n _ _ _ _ step.0 left (omega (arith, step.1)) in
+    let has = answered _ _ _ _ n _ _ _ it c.in_ok-gathered.was c.in-Some-2.is in
+    omega (arith, had.many, has.many, it.within, are.may.may.few)
+
+pub loop-part-preserved : goal.loop-part-preserved
+loop-part-preserved g c = λ v places size are.
+    let (n, count, left, had) = c.loop-part.invariant v places size are in
+    let step = c.in-Some.ensures.steps in
+    let it = next_answer _ _ _ _ n _ _ _ _ step.0 left (omega (arith, step.1)) in
+    let has = answered _ _ _ _ n _ _ _ it c.in_ok-gathered.was c.in-Some-2.is in (
+      n + 1,
+      omega (arith, count, step.1),
+      others_left _ _ _ _ n _ _ _ _ step.0 left _ step.1,
+      one_more_part _ _ _ _ n _ _ _ it.part it.within it.long had has c.in_ok-append-in-Some-2.ensures,
+    )
+
+pub returns-in-None-2 : goal.returns-in-None-2
+returns-in-None-2 g c = λ v places size are.
+    let (n, count, left, had) = c.loop-part.invariant v places size are in
+    let step = c.in-Some.ensures.steps in
+    let it = next_answer _ _ _ _ n _ _ _ _ step.0 left (omega (arith, step.1)) in
+    unanswered _ _ _ _ n _ _ it c.in_ok-gathered.was c.in-None-2.is
+
+pub returns : goal.returns
+returns g c = λ v places size are.
+    let (n, count, left, had) = c.loop-part.invariant v places size are in
+    all_parts _ _ _ _ n _ are.some (omega (arith, count, c.in-None.ensures.steps.0)) had
