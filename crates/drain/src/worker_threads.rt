@@ -62,14 +62,11 @@ fn work<T: Wait, A: Allocator + Copy, V: Walk, G: Gate, S>(
     ensures tally { IfOk result (λ t. HasTallied (V.measure job.now.graph.now) t.worker t.tally) }
     ensures worked { IfOk result (HasWorked job.now.workers begun.worker) }
 {
-    let TalliedWorker { worker, mut tally } = begun;
-    let mut paired = match PairedWorker::open(rt, job.alloc, job.pool, worker)? {
-        Opened::Paired(paired) => paired,
-        Opened::Unpaired(worker) => return Ok(TalliedWorker { worker, tally }),
-    };
-    paired.work_off(rt, job, number, &mut tally)?;
-    let worker = paired.close(rt, job.pool)?;
-    Ok(TalliedWorker { worker, tally })
+    let TalliedWorker { worker, tally } = begun;
+    match PairedWorker::open(rt, job.alloc, job.pool, worker)? {
+        Opened::Paired(paired) => paired.work(rt, job, number, tally),
+        Opened::Unpaired(worker) => Ok(TalliedWorker { worker, tally }),
+    }
 }
 
 /// Starts the thread of worker `number`. `Err(RunFault::WorkerRefused)` if the hook or the system refuses it.
@@ -219,6 +216,52 @@ pub fn join_all<T: Threads, A: Allocator, V: Measured>(
     Ok(back)
 }
 
+/// Starts the thread of each worker and waits for all of them. Returns the leader and, in the place of `back`, the
+/// workers that are through.
+fn run_in_scope<T, A, V, G, S>(
+    rt: &T,
+    job: &Job<'_, A, V, G, S>,
+    starting: Starting<A, V>,
+    back: Vec<TalliedWorker<A>, A>,
+) -> Result<(Worker<A>, Vec<TalliedWorker<A>, A>), RunFault>
+where
+    T: Threads + Wait + Sync,
+    A: Allocator + Copy + Send + Sync,
+    V: Walk,
+    G: Gate,
+    S: StartHook,
+    requires may { MayRun V.count V.roots V.pairs V.measure job.now starting.leader (vec_len starting.threads)
+        (vec_capacity starting.threads) (vec_len back) (vec_capacity back) starting.tallies.items
+        (vec_len starting.tallies) }
+    ensures leads { IfOk result (λ s. Leads starting.leader s.0) }
+    ensures finished { IfOk result (λ s. s.0.book.account.finished ≡ starting.leader.book.account.finished) }
+    ensures share { IfOk result (λ s. s.0.book.account.share + job.now.workers
+        ≡ starting.leader.book.account.share) }
+    ensures count { IfOk result (λ s. vec_len s.1 ≡ job.now.workers) }
+    ensures back { IfOk result (λ s. AreBackUnder (V.measure job.now.graph.now) s.0 s.1.items) }
+{
+    thread::scope(
+        thread::scope_env(),
+        rt,
+        move |scope| -> Result<(Worker<A>, Vec<TalliedWorker<A>, A>), RunFault>
+            requires may { MayRun V.count V.roots V.pairs V.measure job.now starting.leader (vec_len starting.threads)
+                (vec_capacity starting.threads) (vec_len back) (vec_capacity back) starting.tallies.items
+                (vec_len starting.tallies) }
+            ensures leads { IfOk result (λ s. Leads starting.leader s.0) }
+            ensures finished { IfOk result (λ s. s.0.book.account.finished
+                ≡ starting.leader.book.account.finished) }
+            ensures share { IfOk result (λ s. s.0.book.account.share + job.entry.now.workers
+                ≡ starting.leader.book.account.share) }
+            ensures count { IfOk result (λ s. vec_len s.1 ≡ job.entry.now.workers) }
+            ensures back { IfOk result (λ s. AreBackUnder (V.measure job.entry.now.graph.now) s.0 s.1.items) }
+        {
+            let started = start_all(rt, scope, job, starting)?;
+            let back = join_all(rt, started.threads, back)?;
+            Ok((started.leader, back))
+        },
+    )
+}
+
 /// A leader whose workers have ended: it has joined none of them yet.
 #[derive(Drop)]
 pub(crate) struct RunWorkers<A: Allocator> {
@@ -262,40 +305,24 @@ where
     ensures count { IfOk result (λ s. vec_len s.back ≡ job.now.workers) }
     ensures back { IfOk result (λ s. AreBackUnder (V.measure job.now.graph.now) s.paired.worker s.back.items) }
 {
-    let PreparedLeader { paired, supplies } = ready;
-    let PairedWorker {
-        worker: leader,
-        pair,
-    } = paired;
-    let Supplies {
-        threads,
-        back,
-        tallies,
-        tally,
-    } = supplies;
-    let (worker, back) = thread::scope(
-        thread::scope_env(),
-        rt,
-        move |scope| -> Result<(Worker<A>, Vec<TalliedWorker<A>, A>), RunFault>
-            requires may { MayRun V.count V.roots V.pairs V.measure job.now leader (vec_len threads)
-                (vec_capacity threads) (vec_len back) (vec_capacity back) tallies.items (vec_len tallies) }
-            ensures leads { IfOk result (λ s. Leads leader s.0) }
-            ensures finished { IfOk result (λ s. s.0.book.account.finished ≡ leader.book.account.finished) }
-            ensures share { IfOk result (λ s. s.0.book.account.share + job.entry.now.workers
-                ≡ leader.book.account.share) }
-            ensures count { IfOk result (λ s. vec_len s.1 ≡ job.entry.now.workers) }
-            ensures back { IfOk result (λ s. AreBackUnder (V.measure job.entry.now.graph.now) s.0 s.1.items) }
-        {
-            let starting = Starting {
-                leader,
-                threads,
-                tallies,
-            };
-            let started = start_all(rt, scope, job, starting)?;
-            let back = join_all(rt, started.threads, back)?;
-            Ok((started.leader, back))
+    let PreparedLeader {
+        paired: PairedWorker {
+            worker: leader,
+            pair,
         },
-    )?;
+        supplies: Supplies {
+            threads,
+            back,
+            tallies,
+            tally,
+        },
+    } = ready;
+    let starting = Starting {
+        leader,
+        threads,
+        tallies,
+    };
+    let (worker, back) = run_in_scope(rt, job, starting, back)?;
     let paired = PairedWorker { worker, pair };
     Ok(RunWorkers {
         paired,

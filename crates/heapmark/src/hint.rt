@@ -2,9 +2,10 @@
 
 mod beginning;
 mod file_hint;
+mod option_hint;
 pub(crate) mod records;
 
-ghost use Rattle.std.specs.Prelude.{◌≡◌, ◌↔◌, ◌+◌, ◌*◌, IsSome, IsTrue};
+ghost use Rattle.std.specs.Prelude.{◌≡◌, ◌↔◌, ◌*◌, IsSome, IsTrue};
 ghost use Rattle.std.specs.Io.KnownBytes.{Keeps};
 ghost use Rattle.heapmark.specs.working.Hint.{HasHint};
 ghost use Rattle.heapmark.specs.working.NoReport.{HasTooFewBuffers};
@@ -12,10 +13,11 @@ ghost use Rattle.heapmark.specs.working.NoReport.{HasTooFewBuffers};
 use crate::refusal::Refusal;
 use crate::reopened::open_again;
 use crate::shown::Shown;
-use beginning::{Beginning, Packer, Version};
+use beginning::Beginning;
 use command_line::Arguments;
 use file_hint::FileHint;
 use hprof_grammar::LIMIT;
+use option_hint::{OptionHint, least_buffers};
 use records::record_end;
 use std::io::{Read, Write};
 use std::rt::Files;
@@ -26,18 +28,8 @@ use std::{fmt, fs, io};
 pub(crate) enum Hint<'a> {
     /// What is wrong with this file.
     File(Shown<'a>, FileHint),
-    /// This file was compressed by this program.
-    Packed(Shown<'a>, Packer),
-    /// This file is a dump of this other version of the format.
-    OtherVersion(Shown<'a>, Version),
-    /// This first tag leaves too few tags.
-    FirstTag(u64),
-    /// A thread of this number of workers could not be started.
-    Threads(u32),
-    /// This number of buffers is too low for this number of workers.
-    Buffers(u32, u32),
-    /// The text of the fields to be skipped lists none.
-    Fields,
+    /// What is wrong with an option.
+    Option(OptionHint),
 }
 
 /// Prints in one line what can be done about `refusal`, or nothing if no hint is known. `length` is the number of bytes
@@ -65,7 +57,7 @@ fn hint_of<'a, T: Files + AllocGlobal>(
 ) -> Option<Hint<'a>>
     ensures codes { IsSome result → HasHint refusal.now.code }
     ensures buffers { refusal.now.code ≡ 21 → HasTooFewBuffers arguments.now
-        → result ≡ Some (Hint.Buffers arguments.now.buffers arguments.now.workers) }
+        → result ≡ Some (Hint.Option (OptionHint.Buffers arguments.now.buffers arguments.now.workers)) }
 {
     let Arguments {
         file,
@@ -77,7 +69,7 @@ fn hint_of<'a, T: Files + AllocGlobal>(
     } = *arguments;
     let shown = Shown(file);
     match refusal.code {
-        1 => Some(hint_of_beginning(rt, file)),
+        1 => Some(Hint::File(shown, hint_of_beginning(rt, file))),
         3 => Some(Hint::File(shown, FileHint::EndsEarly)),
         6 if is_in_last_record(rt, file, refusal.offset, length) => {
             Some(Hint::File(shown, FileHint::EndsEarly))
@@ -85,23 +77,24 @@ fn hint_of<'a, T: Files + AllocGlobal>(
         8 if is_at_end(refusal.offset, length) => Some(Hint::File(shown, FileHint::EndsEarly)),
         14 => Some(Hint::File(shown, hint_of_excess(refusal.offset))),
         15 => Some(Hint::File(shown, hint_of_memory(rt, file, workers))),
-        16 => Some(Hint::FirstTag(first_tag)),
-        18 => Some(Hint::Threads(workers)),
-        21 if u64::from(buffers) < least_buffers(workers) => Some(Hint::Buffers(buffers, workers)),
-        21 => Some(Hint::Fields),
+        16 => Some(Hint::Option(OptionHint::FirstTag(first_tag))),
+        18 => Some(Hint::Option(OptionHint::Threads(workers))),
+        21 if u64::from(buffers) < least_buffers(workers) => {
+            Some(Hint::Option(OptionHint::Buffers(buffers, workers)))
+        }
+        21 => Some(Hint::Option(OptionHint::Fields)),
         _ => None,
     }
 }
 
 /// Returns what can be done about a file that does not begin as a dump does.
-fn hint_of_beginning<'a, T: Files>(rt: &T, name: &'a str) -> Hint<'a> {
-    let shown = Shown(name);
+fn hint_of_beginning<T: Files>(rt: &T, name: &str) -> FileHint {
     match beginning_of(rt, name) {
-        Ok(Beginning::Empty) => Hint::File(shown, FileHint::Empty),
-        Ok(Beginning::Part) => Hint::File(shown, FileHint::EndsEarly),
-        Ok(Beginning::Version(version)) => Hint::OtherVersion(shown, version),
-        Ok(Beginning::Packed(packer)) => Hint::Packed(shown, packer),
-        Ok(Beginning::Other) | Err(_) => Hint::File(shown, FileHint::NoDump),
+        Ok(Beginning::Empty) => FileHint::Empty,
+        Ok(Beginning::Part) => FileHint::EndsEarly,
+        Ok(Beginning::Version(version)) => FileHint::OtherVersion(version),
+        Ok(Beginning::Packed(packer)) => FileHint::Packed(packer),
+        Ok(Beginning::Other) | Err(_) => FileHint::NoDump,
     }
 }
 
@@ -166,51 +159,11 @@ fn is_in_last_record<T: Files + AllocGlobal>(
     }
 }
 
-/// Returns the least number of buffers for `workers` workers: two for each, and two more.
-fn least_buffers(workers: u32) -> u64
-    ensures { result ≡ 2 * workers + 2 }
-{
-    2 * u64::from(workers) + 2
-}
-
 impl fmt::Display for Hint<'_> {
     fn fmt<W: fmt::Write>(&self, f: &mut fmt::Formatter<W>) -> fmt::Result {
         match *self {
-            Hint::File(file, hint) => {
-                let text = hint.text();
-                write!(f, "{file}: {text}")
-            }
-            Hint::Packed(file, packer) => {
-                let unpacker = packer.unpacker();
-                write!(f, "{file}: compressed: {unpacker} it first")
-            }
-            Hint::OtherVersion(file, version) => write!(
-                f,
-                "{file}: HPROF of version {version}; only 1.0.2 is read, as `jcmd PID GC.heap_dump FILE` writes it"
-            ),
-            Hint::FirstTag(tag) => write!(
-                f,
-                "--first-tag {tag}: too few tags are left after it: leave the option out"
-            ),
-            Hint::Threads(1) => write!(
-                f,
-                "--workers 1: the system starts no thread: see ulimit -u and ulimit -v"
-            ),
-            Hint::Threads(workers) => write!(
-                f,
-                "--workers {workers}: the system starts no more threads: try fewer, or see ulimit -u and ulimit -v"
-            ),
-            Hint::Buffers(buffers, workers) => {
-                let least = least_buffers(workers);
-                write!(
-                    f,
-                    "--buffers {buffers}: too few for {workers} workers: give {least} at least"
-                )
-            }
-            Hint::Fields => write!(
-                f,
-                "--skip: give 1 to 64 entries with commas between, as java/lang/ref/Reference.referent"
-            ),
+            Hint::File(file, hint) => write!(f, "{file}: {hint}"),
+            Hint::Option(hint) => hint.fmt(f),
         }
     }
 }

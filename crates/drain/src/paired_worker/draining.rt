@@ -4,17 +4,22 @@ use crate::gate::Gate;
 use crate::job::Job;
 use crate::paired_worker::PairedWorker;
 use crate::recently_seen::RecentlySeen;
+use crate::tallied_worker::TalliedWorker;
 use crate::tally::Tally;
 use crate::walk::Walk;
+use buffer_pool::Pool;
 use std::alloc::Allocator;
 use std::sync::Wait;
 use work_pair::Stop;
 
 impl<A: Allocator> PairedWorker<A> {
-    ghost use Rattle.std.specs.Prelude.{◌≡◌, [], OnOk};
-    ghost use Rattle.drain.specs.working.AtWork.{CameFrom, HasAtHand, HasNoneLeft, IsAtWork, WorksOn};
+    ghost use Rattle.std.specs.Prelude.{◌≡◌, [], IfOk, OnOk};
+    ghost use Rattle.work_pair.specs.CallEffects.{ShelvesAll};
+    ghost use Rattle.drain.specs.declared.paired_worker.PairedWorker.{PairedWorker};
+    ghost use Rattle.drain.specs.working.AtWork.{CameFrom, HasAtHand, HasNoneLeft, IsAtWork, IsThrough, WorksOn};
     ghost use Rattle.drain.specs.working.Idle.{IsAwake};
     ghost use Rattle.drain.specs.working.Jobs.{HasWorkedOff, IsOnJob};
+    ghost use Rattle.drain.specs.working.Tallies.{Measure};
     ghost use Rattle.drain.specs.working.Tallying.{HasTallied};
 
     /// Scans until no object is left, and waits until all are idle or it waited long enough. Before it looks for an
@@ -51,6 +56,46 @@ impl<A: Allocator> PairedWorker<A> {
             }
         }
         unreachable!()
+    }
+
+    /// Works off what it finds, as worker `number`, and returns the buffers to the pool.
+    pub(crate) fn work<R: Wait, V: Walk, G: Gate, S>(
+        self,
+        rt: &R,
+        job: &Job<'_, A, V, G, S>,
+        number: u32,
+        tally: Tally<A>,
+    ) -> Result<TalliedWorker<A>, Stop>
+        requires on_job { IsOnJob V.count V.roots V.pairs V.measure job.now [] self tally }
+        requires awake { IsAwake self.worker }
+        ensures through { IfOk result (λ t. IsThrough self.worker t.worker) }
+        ensures tally { IfOk result (λ t. HasTallied (V.measure job.now.graph.now) t.worker t.tally) }
+        ensures worked { IfOk result (λ t. (last : PairedWorker A) × HasWorkedOff job.now.workers self last
+            × ShelvesAll last.pair last.worker.book t.worker.book) }
+    {
+        let mut paired = self;
+        let mut tally = tally;
+        paired.work_off(rt, job, number, &mut tally)?;
+        paired.leave(rt, job.pool, tally)
+    }
+
+    /// Returns the buffers of a pair without items to the pool, and returns its worker with `tally`.
+    pub(super) fn leave<R: Wait>(
+        self,
+        rt: &R,
+        pool: &Pool<A>,
+        tally: Tally<A>,
+    ) -> Result<TalliedWorker<A>, Stop>
+        requires pool { self.worker.pool ≡ pool.now }
+        requires hand { HasAtHand self.pair [] self.worker }
+        requires none { HasNoneLeft self.pair self.worker }
+        ensures through { IfOk result (λ t. IsThrough self.worker t.worker) }
+        ensures shelved { IfOk result (λ t. ShelvesAll self.pair self.worker.book t.worker.book) }
+        ensures tally { IfOk result (λ t. (m : Measure) → HasTallied m self.worker tally
+            → HasTallied m t.worker t.tally) }
+    {
+        let worker = self.close(rt, pool)?;
+        Ok(TalliedWorker { worker, tally })
     }
 
     /// Scans until no object is left.

@@ -89,7 +89,6 @@ impl<A: Allocator> PairedWorker<A> {
         let mut paired = self;
         let mut tally = tally;
         paired.drain(rt, job, job.workers, &mut tally)?;
-        let worker = paired.close(rt, job.pool)?;
-        Ok(TalliedWorker { worker, tally })
+        paired.leave(rt, job.pool, tally)
     }
 }

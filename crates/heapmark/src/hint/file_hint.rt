@@ -1,5 +1,8 @@
 //! What people can do about a file.
 
+use super::beginning::{Packer, Version};
+use std::fmt;
+
 /// What is wrong with a file, and what can be done about it.
 #[derive(Clone, Copy)]
 pub(crate) enum FileHint {
@@ -7,6 +10,10 @@ pub(crate) enum FileHint {
     Empty,
     /// It ends within a dump.
     EndsEarly,
+    /// It was compressed by this program.
+    Packed(Packer),
+    /// It is a dump of this other version of the format.
+    OtherVersion(Version),
     /// It is no dump of the format.
     NoDump,
     /// It has more bytes than a dump may have.
@@ -19,12 +26,21 @@ pub(crate) enum FileHint {
     MemoryOfWorkers,
 }
 
-impl FileHint {
-    /// Returns the text of the hint, without the name of the file.
-    pub(super) fn text(self) -> &'static str {
-        match self {
+impl fmt::Display for FileHint {
+    fn fmt<W: fmt::Write>(&self, f: &mut fmt::Formatter<W>) -> fmt::Result {
+        let text = match *self {
             FileHint::Empty => "empty: still being written, or on a full disk",
             FileHint::EndsEarly => "ends too early: still being written, or cut",
+            FileHint::Packed(packer) => {
+                let unpacker = packer.unpacker();
+                return write!(f, "compressed: {unpacker} it first");
+            }
+            FileHint::OtherVersion(version) => {
+                return write!(
+                    f,
+                    "HPROF of version {version}; only 1.0.2 is read, as `jcmd PID GC.heap_dump FILE` writes it"
+                );
+            }
             FileHint::NoDump => {
                 "no HPROF binary dump of version 1.0.2, as `jcmd PID GC.heap_dump FILE` writes it"
             }
@@ -41,6 +57,7 @@ impl FileHint {
                 "takes its own size in memory and more for each object: free some memory, \
                 or try --workers 1, which takes the least"
             }
-        }
+        };
+        f.write_str(text)
     }
 }

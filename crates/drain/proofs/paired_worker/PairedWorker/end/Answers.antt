@@ -1,12 +1,14 @@
--- The drained worker comes from the one that was passed, and closing the pair finishes nothing more.
+-- The drained worker comes from the one that was passed, and leaving finishes nothing more.
 use Rattle.drain.proofs.AtHand.{came_again}
-use Rattle.drain.proofs.Scanning.{same_tally}
+use Rattle.drain.proofs.Outcomes.{on_if_ok}
 use Rattle.drain.proofs.paired_worker.PairedWorker.end.Goals as goal
 
-pub returns-clause-through : goal.returns-clause-through
-returns-clause-through g c =
-    let closed = c.in_ok-worker.ensures.through in
-    (came_again c.in_ok-drain.ensures.goes_on.came closed.0, closed.1)
-
-pub returns-clause-tally : goal.returns-clause-tally
-returns-clause-tally g c = same_tally c.in_ok-worker.ensures.finished c.in_ok-drain.ensures.tally
+pub returns : goal.returns
+returns g c =
+    let drained = c.in_ok-drain.ensures in
+    let left = c.leave.ensures in
+    record {
+      through =
+          on_if_ok c.leave.result left.through (λ t through. (came_again drained.goes_on.came through.0, through.1));
+      tally = on_if_ok c.leave.result left.tally (λ t tallied. tallied _ drained.tally);
+    }

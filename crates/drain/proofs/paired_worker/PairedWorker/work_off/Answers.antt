@@ -89,6 +89,19 @@ returns-then-not-finds_more-clause-worked g c =
       end.waited c.if-not-finds_more.true,
     )
 
+pub returns-then-not-finds_more-clause-hand : goal.returns-then-not-finds_more-clause-hand
+returns-then-not-finds_more-clause-hand g c = c.finds_more.ensures.hand
+
+pub returns-then-not-finds_more-clause-tally : goal.returns-then-not-finds_more-clause-tally
+returns-then-not-finds_more-clause-tally g c =
+    same_tally c.finds_more.ensures.finished c.in_ok-scan_next.ensures.scanned.tally
+
+pub returns-then-not-finds_more-clause-none : goal.returns-then-not-finds_more-clause-none
+returns-then-not-finds_more-clause-none g c = c.finds_more.ensures.none
+
+pub returns-then-not-finds_more-clause-idle : goal.returns-then-not-finds_more-clause-idle
+returns-then-not-finds_more-clause-idle g c = c.finds_more.ensures.idle c.if-not-finds_more.true
+
 -- before the first turn
 pub loop-init : goal.loop-init
 loop-init g c =

@@ -1,5 +1,5 @@
 -- What the closure requires was given, in another order: after the conditions on what may be sent to threads.
-use Rattle.drain.proofs.worker_threads.fn.run_workers.scope+FnOnce.call_once.Goals as goal
+use Rattle.drain.proofs.worker_threads.fn.run_in_scope.scope+FnOnce.call_once.Goals as goal
 
 pub scope-requires : goal.scope-requires
 scope-requires g c =
