@@ -4,15 +4,12 @@ use crate::dumps::{graph_of, wide_array};
 use drain::inside::{StartHook, mark_where};
 use drain::{Gate, Marked, NoGate, Options, RunFault, mark};
 use heap_graph::{Graph, RowKey, Skip};
-use limited_heap::LimitedHeap;
+use limited_heap::{LimitedHeap, requests_of};
 use std::alloc::{Allocator, Global};
 use std::sync::Wait;
 use std::sync::atomic::{AtomicU64, Ordering};
 use std::test::Fail;
 use std::thread::Threads;
-
-/// More allocations than the set-up of a marking with few buffers makes.
-const MANY: u64 = 64;
 
 /// Returns the options for two workers, with room in the buffers for all that one of them finds: no worker's list has
 /// to grow.
@@ -56,75 +53,52 @@ impl StartHook for Calls {
     }
 }
 
-/// Returns a heap on which allocation number `request`, counted from 0, fails: only this one if `alone`, otherwise all
-/// after it too.
-fn heap_without(alloc: Global, request: u64, alone: bool) -> LimitedHeap<Global> {
-    match alone {
-        true => LimitedHeap::refusing(alloc, request),
-        false => LimitedHeap::new(alloc, request),
-    }
-}
-
-/// Marks `graph` on `heap`. Returns whether an allocation failed, and whether the result is right: all 62 objects and
-/// both workers, or, if an allocation failed, out of memory and no call at all.
+/// Marks `graph` on `heap`. Tests whether the result is right: all 62 objects and both workers, or, if an allocation
+/// failed, out of memory and no call at all.
 fn marks_over<T: Threads + Wait + Sync>(
     rt: &T,
     heap: &LimitedHeap<Global>,
     graph: &Graph<'_, Global>,
     options: &Options,
-) -> (bool, bool) {
+) -> bool {
     let calls = Calls::none();
     let marked = mark_where(rt, heap, graph, options, &calls, &calls).map(|marked| marked.len());
-    let refused = heap.refusals() > 0;
-    let right = match marked {
+    match marked {
         Ok(objects) => objects == 62 && calls.made() == (62, 2),
-        Err(fault) => refused && fault == RunFault::OutOfMemory && calls.made() == (0, 0),
-    };
-    (refused, right)
+        Err(fault) => heap.refusals() > 0
+            && fault == RunFault::OutOfMemory
+            && calls.made() == (0, 0),
+    }
 }
 
-/// Returns the number of allocations that marking `graph` takes. Before that each of them fails once, and all after it
-/// too unless `alone`. Returns `None` if a result is not right, as [`marks_over`] tests, or if the marking takes
-/// [`MANY`] allocations or more.
-fn marked_with<T: Threads + Wait + Sync>(
+/// Returns the number of allocations that marking `graph` takes, if each result is right while they fail in turn.
+fn requests_to_mark<T: Threads + Wait + Sync>(
     rt: &T,
     alloc: Global,
     graph: &Graph<'_, Global>,
     options: &Options,
-    alone: bool,
 ) -> Option<u64> {
-    for request in 0..MANY {
-        let heap = heap_without(alloc, request, alone);
-        match marks_over(rt, &heap, graph, options) {
-            (_, false) => return None,
-            (false, true) => return Some(request),
-            (true, true) => {}
-        }
-    }
-    None
+    requests_of(alloc, |heap| marks_over(rt, heap, graph, options))
 }
 
-/// Returns the number of allocations with which the wide array is marked: if all after a failed one fail too, and if
-/// only that one fails.
-fn array_marked_with<T: Threads + Wait + Sync>(
+/// Returns the same number for the wide array.
+fn requests_to_mark_array<T: Threads + Wait + Sync>(
     rt: &T,
     alloc: Global,
-) -> Result<(Option<u64>, Option<u64>), Fail> {
+) -> Result<Option<u64>, Fail> {
     let options = with_room()?;
     let dump = wide_array(alloc)?;
     let skip = Skip::none(alloc);
     let graph = graph_of(rt, alloc, dump.as_slice(), &skip)?;
-    let all_behind = marked_with(rt, alloc, &graph, &options, false);
-    let alone = marked_with(rt, alloc, &graph, &options, true);
-    Ok((all_behind, alone))
+    Ok(requests_to_mark(rt, alloc, &graph, &options))
 }
 
 #[test]
 fn want_of_memory_starts_no_thread(rt: HostRuntime) -> Result<(), Fail> {
-    let requests = array_marked_with(&rt, rt.alloc())?;
+    let requests = requests_to_mark_array(&rt, rt.alloc())?;
     // The words, the slots, six buffers, two blocks of the table, the threads, the returned workers, the tallies and
     // three of them.
-    assert_eq!(rt; requests, (Some(16), Some(16)));
+    assert_eq!(rt; requests, Some(16));
     Ok(())
 }
 
@@ -167,7 +141,7 @@ fn array_told<T: Threads + Wait + Sync>(
     let dump = wide_array(alloc)?;
     let skip = Skip::none(alloc);
     let graph = graph_of(rt, alloc, dump.as_slice(), &skip)?;
-    let requests = marked_with(rt, alloc, &graph, &options, false).unwrap_or(0);
+    let requests = requests_to_mark(rt, alloc, &graph, &options).unwrap_or(0);
     Ok(told_with(rt, alloc, &graph, &options, requests))
 }
 

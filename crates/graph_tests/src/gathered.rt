@@ -5,7 +5,7 @@
 use crate::graphs::gives;
 use heap_graph::{Graph, Skip};
 use hprof_grammar::{Team, read};
-use limited_heap::LimitedHeap;
+use limited_heap::{LimitedHeap, requests_of};
 use std::alloc::{AllocError, Allocator, Global};
 use std::test::Fail;
 use std::thread::Threads;
@@ -178,36 +178,22 @@ fn graphs_of_parts(rt: HostRuntime) -> Result<(), Fail> {
     Ok(())
 }
 
-/// Whether a team of four makes the right graph where so many requests for memory are granted, or memory is missing
-/// since one was refused.
+/// Tests whether a team of four makes the right graph on `heap`, or is out of memory after an allocation failed.
 fn is_right_or_refused<T: Threads + Sync>(
     rt: &T,
     alloc: Global,
+    heap: &LimitedHeap<Global>,
     ids: &[u32],
-    granted: u64,
 ) -> bool {
-    let heap = LimitedHeap::new(alloc, granted);
-    match is_right(rt, alloc, &heap, ids, 4) {
+    match is_right(rt, alloc, heap, ids, 4) {
         Some(right) => right,
         None => heap.refusals() > 0,
     }
 }
 
-/// More requests than a dump of nine objects takes.
-const MANY: u64 = 100;
-
-/// Returns the first number of granted requests with which the graph is wrong, if there is one. `u64::MAX` stands for
-/// all of them.
-fn first_wrong<T: Threads + Sync>(rt: &T, alloc: Global, ids: &[u32]) -> Option<u64> {
-    for granted in 0..MANY {
-        if !is_right_or_refused(rt, alloc, ids, granted) {
-            return Some(granted);
-        }
-    }
-    match is_right_or_refused(rt, alloc, ids, u64::MAX) {
-        true => return None,
-        false => return Some(u64::MAX),
-    }
+/// Returns the number of allocations that a team of four makes, if each result is right while they fail in turn.
+fn requests_in_parts<T: Threads + Sync>(rt: &T, alloc: Global, ids: &[u32]) -> Option<u64> {
+    requests_of(alloc, |heap| is_right_or_refused(rt, alloc, heap, ids))
 }
 
 #[test]
@@ -215,15 +201,16 @@ fn parts_or_want_of_memory(rt: HostRuntime) -> Result<(), Fail> {
     for order in [(3, 5), (15, 15)] {
         for odd in [4, MOST] {
             let ids = ids_of(rt.alloc(), order, MOST, odd)?;
-            let wrong = first_wrong(&rt, rt.alloc(), ids.as_slice());
-            assert_eq!(rt; wrong, None, "order {order:?}, number {odd} differs");
+            let requests = requests_in_parts(&rt, rt.alloc(), ids.as_slice());
+            assert!(rt; requests.is_some(), "order {order:?}, number {odd} differs");
         }
     }
     Ok(())
 }
 
-/// How many requests for memory one thread makes to read these objects and to make their graph. None where it is wrong.
-fn requests_of<T: Threads + Sync>(rt: &T, alloc: Global, ids: &[u32]) -> Option<u64> {
+/// Returns the number of allocations that one thread makes to read the objects `ids` and to make their graph, or `None`
+/// if that is wrong.
+fn requests_by_one<T: Threads + Sync>(rt: &T, alloc: Global, ids: &[u32]) -> Option<u64> {
     let heap = LimitedHeap::new(alloc, u64::MAX);
     match is_right(rt, alloc, &heap, ids, 1) {
         Some(true) => Some(u64::MAX - heap.requests_left()),
@@ -245,9 +232,9 @@ fn requests_by_bits<T: Threads + Sync>(
     }
     let odd = ids_of(alloc, order, MOST, MOST - 1)?;
     Ok([
-        requests_of(rt, alloc, &agree),
-        requests_of(rt, alloc, &others),
-        requests_of(rt, alloc, &odd),
+        requests_by_one(rt, alloc, &agree),
+        requests_by_one(rt, alloc, &others),
+        requests_by_one(rt, alloc, &odd),
     ])
 }
 
@@ -268,7 +255,7 @@ fn pairs_are_asked_for_at_once(rt: HostRuntime) -> Result<(), Fail> {
     let mut requests = [None, None];
     for (count, order) in [(0, 1), (15, 15)].into_iter().enumerate() {
         let ids = ids_of(rt.alloc(), order, MOST, MOST)?;
-        requests[count] = requests_of(&rt, rt.alloc(), &ids);
+        requests[count] = requests_by_one(&rt, rt.alloc(), &ids);
     }
     let [ascending, descending] = requests;
     assert!(rt;

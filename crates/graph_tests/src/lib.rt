@@ -1,13 +1,12 @@
-//! Tests of `heap_graph`, in a crate of their own, so that `heap_graph` is not proved again together with its tests.
-//! They use only its public calls. The crate exports nothing.
+//! Tests of `heap_graph`, and of `id_index` below it (`index`). They are in a crate of their own, so that the two are not
+//! proved again together with their tests, and use only public calls. The crate exports nothing.
 //!
 //! `worked` has dumps with their expected graphs, and `skipped` has dumps of which some fields are not followed.
 //! `chains` and `faults` have dumps that are not linked, with the first fault of each; `faults_in_parts` has large
 //! ones, and `gathered` small ones that are nevertheless gathered in parts. `graphs` calls everything that a graph
 //! offers, `walks` tests the number of remaining identifiers of a walk, `kinds` a visit by the kind of its object.
-//! `memory` lets each allocation fail in turn. `skips` has texts that are lists of fields, `met` the entries that name
-//! a field of a dump; `refused` lets the allocations of both fail. `texts` tests the texts of refusals, and `sizes` the
-//! size of a visit.
+//! `memory` lets each allocation fail in turn. `skips` has texts that are lists of fields, and `met` the entries that
+//! name a field of a dump. `texts` tests the texts of refusals, and `sizes` the size of a visit.
 
 #![tactic(auto)]
 
@@ -22,13 +21,13 @@ mod gathered;
 #[cfg(test)]
 mod graphs;
 #[cfg(test)]
+mod index;
+#[cfg(test)]
 mod kinds;
 #[cfg(test)]
 mod memory;
 #[cfg(test)]
 mod met;
-#[cfg(test)]
-mod refused;
 #[cfg(test)]
 mod sizes;
 #[cfg(test)]

@@ -7,15 +7,12 @@ use crate::walks::{MANY, long_array};
 use crate::worked::{WORKED, Worked};
 use heap_graph::{Graph, LinkFault, LinkRefusal, RowKey, Skip};
 use hprof_grammar::{Team, read};
-use limited_heap::LimitedHeap;
+use limited_heap::{LimitedHeap, requests_of};
 use std::alloc::{AllocError, Allocator, Global};
 use std::test::Fail;
 use std::thread::Threads;
 use test_dumps::Sub::{Class, Instance};
 use test_dumps::{Bytes, Record};
-
-/// More allocations than any call here makes.
-const MANY_REQUESTS: u64 = 512;
 
 /// Reads a whole dump, and builds its graph.
 fn build<'a, T: Threads + Sync, A: Allocator + Copy + Send + Sync>(
@@ -83,33 +80,8 @@ fn comes<T: Threads + Sync>(
     }
 }
 
-/// Lets each allocation fail in turn: as the only one if `alone` is set, otherwise with all after it. Returns the
-/// number of allocations if each result is right, or else `None`.
-fn requests_with<T: Threads + Sync>(
-    rt: &T,
-    alloc: Global,
-    bytes: &[u8],
-    skip: &Skip<'_, Global>,
-    wanted: &Wanted<'_>,
-    alone: bool,
-) -> Option<u64> {
-    for request in 0..MANY_REQUESTS {
-        let heap = match alone {
-            true => LimitedHeap::refusing(alloc, request),
-            false => LimitedHeap::new(alloc, request),
-        };
-        if !comes(rt, &heap, bytes, skip, wanted) {
-            return None;
-        }
-        if heap.refusals() == 0 {
-            return Some(request);
-        }
-    }
-    None
-}
-
-/// Lets each allocation fail in turn, with all after it and as the only one. Returns the number of allocations if each
-/// result is right and the number is the same both ways.
+/// Returns the number of allocations that it takes to come to what is `wanted`, if each result is right while they fail
+/// in turn.
 fn requests_until<T: Threads + Sync>(
     rt: &T,
     alloc: Global,
@@ -117,11 +89,7 @@ fn requests_until<T: Threads + Sync>(
     skip: &Skip<'_, Global>,
     wanted: &Wanted<'_>,
 ) -> Option<u64> {
-    let requests = requests_with(rt, alloc, bytes, skip, wanted, false);
-    if requests_with(rt, alloc, bytes, skip, wanted, true) != requests {
-        return None;
-    }
-    requests
+    requests_of(alloc, |heap| comes(rt, heap, bytes, skip, wanted))
 }
 
 /// Tests whether each result is right while the allocations fail in turn, and whether the allocations are just those

@@ -2,15 +2,13 @@
 
 use heap_graph::Skip;
 use hprof_grammar::{Team, read};
-use limited_heap::LimitedHeap;
-use std::alloc::Global;
+use limited_heap::{LimitedHeap, requests_of};
+use std::alloc::{AllocError, Global};
+use std::test::Fail;
 use std::thread::Threads;
 use test_dumps::Record::{Heap, Load, Text};
 use test_dumps::Sub::{Instance, Named, Root, Static};
 use test_dumps::{Bytes, Record};
-
-/// More allocations than any call here makes.
-const MANY: u64 = 512;
 
 /// A class `S`, and two classes named `T` below it; a class `V` with a static field `f`; a class that is loaded again
 /// as `U`, with a second string for its field's name; a class that is not loaded; and a class whose string is missing.
@@ -110,35 +108,22 @@ fn is_answered<T: Threads + Sync>(
     }
 }
 
-/// Lets each allocation fail in turn: as the only one if `alone` is set, otherwise with all after it. Returns the
-/// number of allocations if each result is right, or else `None`.
+/// Returns the number of allocations that it takes to read `list` and `CLASSES` and to find the entries that are met,
+/// if each result is right while they fail in turn.
 fn requests_to_answer<T: Threads + Sync>(
     rt: &T,
     alloc: Global,
     list: &str,
     want: &[bool],
-    alone: bool,
-) -> Option<u64> {
-    let dump = Bytes::dump(alloc, 4, CLASSES).ok()?;
-    for request in 0..MANY {
-        let heap = match alone {
-            true => LimitedHeap::refusing(alloc, request),
-            false => LimitedHeap::new(alloc, request),
-        };
-        if !is_answered(rt, &heap, dump.bytes.as_slice(), list, want) {
-            return None;
-        }
-        if heap.refusals() == 0 {
-            return Some(request);
-        }
-    }
-    None
+) -> Result<Option<u64>, AllocError> {
+    let dump = Bytes::dump(alloc, 4, CLASSES)?;
+    let bytes = dump.bytes.as_slice();
+    Ok(requests_of(alloc, |heap| is_answered(rt, heap, bytes, list, want)))
 }
 
 #[test]
-fn memory_refused_while_entries_are_met(rt: HostRuntime) {
-    for alone in [false, true] {
-        let requests = requests_to_answer(&rt, rt.alloc(), "T.count,T.f", &[true, false], alone);
-        assert!(rt; requests.is_some(), "alone: {alone}");
-    }
+fn memory_refused_while_entries_are_met(rt: HostRuntime) -> Result<(), Fail> {
+    let requests = requests_to_answer(&rt, rt.alloc(), "T.count,T.f", &[true, false])?;
+    assert!(rt; requests.is_some());
+    Ok(())
 }

@@ -1,8 +1,7 @@
 //! Texts that are lists of fields, and texts that are not.
 
-use crate::refused::{Call, requests_of};
 use heap_graph::{Skip, SkipRefusal};
-use limited_heap::LimitedHeap;
+use limited_heap::{LimitedHeap, requests_of};
 use std::alloc::{AllocError, Allocator, Global};
 use std::test::Fail;
 
@@ -104,26 +103,19 @@ fn at_most_64_entries(rt: HostRuntime) {
     assert_eq!(rt; read_of(rt.alloc(), 65), Err(SkipRefusal::BadOptions));
 }
 
-/// Reads a list of `entries` entries.
-#[derive(Drop)]
-struct Reading<'a> {
-    text: &'a str,
-    entries: usize,
-}
-
-impl Call for Reading<'_> {
-    fn is_right(&self, heap: &LimitedHeap<Global>) -> bool {
-        match Skip::new(heap, self.text) {
-            Ok(skip) => skip.entries().len() == self.entries,
-            Err(refusal) => refusal == SkipRefusal::OutOfMemory && heap.refusals() > 0,
-        }
+/// Tests whether `text` is read on `heap` as a list of `entries` entries, or is out of memory after an allocation
+/// failed.
+fn is_list_of(heap: &LimitedHeap<Global>, text: &str, entries: usize) -> bool {
+    match Skip::new(heap, text) {
+        Ok(skip) => skip.entries().len() == entries,
+        Err(refusal) => refusal == SkipRefusal::OutOfMemory && heap.refusals() > 0,
     }
 }
 
 /// Returns the number of allocations that it takes to read `text`, a list of `entries` entries, if each result is right
 /// while they fail in turn.
 fn requests_to_read(alloc: Global, text: &str, entries: usize) -> Option<u64> {
-    requests_of(alloc, &Reading { text, entries })
+    requests_of(alloc, |heap| is_list_of(heap, text, entries))
 }
 
 /// Returns the number of allocations that it takes to read a list of 64 entries, if each result is right while they

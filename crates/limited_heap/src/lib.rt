@@ -8,12 +8,14 @@
 //!     let mut list = Vec::with_capacity(&heap, 2)?;
 //!     assert_eq!(rt; (heap.requests_left(), heap.refusals()), (0, 0));
 //!
-//! The crate's README.md shows how a test refuses each request in turn. `specs/Limit.antt` defines which requests are
-//! granted.
+//! `requests_of` refuses each request of a call in turn; the crate's README.md shows how a test uses it.
+//! `specs/Limit.antt` defines which requests are granted.
 
 #![tactic(auto)]
 
 mod heap;
+mod in_turn;
 mod quota;
 
 pub use heap::LimitedHeap;
+pub use in_turn::requests_of;

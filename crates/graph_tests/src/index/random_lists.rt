@@ -2,9 +2,9 @@
 
 ghost use Rattle.std.specs.Prelude.{◌<◌};
 
-use crate::beside::answers_all;
-use crate::making::index_of;
-use crate::pairing::paired_index;
+use super::beside::answers_all;
+use super::making::index_of;
+use super::pairing::paired_index;
 use std::alloc::{AllocError, Global};
 use std::test::Fail;
 

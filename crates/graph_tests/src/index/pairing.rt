@@ -2,10 +2,9 @@
 
 ghost use Rattle.std.specs.Prelude.{IfOk, IfSome, length, ◌<◌, ◌^◌, ◌≡◌};
 
-use crate::beside::answers_all;
-use crate::refused::{Call, requests_of};
+use super::beside::answers_all;
 use id_index::{IdIndex, IdPairsBuilder, IdPlaces, LowBits, are_close};
-use limited_heap::LimitedHeap;
+use limited_heap::{LimitedHeap, requests_of};
 use std::alloc::{AllocError, Allocator, Global};
 
 /// Returns the least and the greatest of `ids`.
@@ -95,23 +94,16 @@ const PAIRED: [(&[u64], bool); 14] = [
     ),
 ];
 
-/// Makes an index by pairs.
-#[derive(Drop)]
-struct Pairing<'a> {
-    ids: &'a [u64],
-    serves: bool,
-}
-
-impl Call for Pairing<'_> {
-    fn is_right(&self, heap: &LimitedHeap<Global>) -> bool {
-        if self.ids.len() > 1000 {
-            return false;
-        }
-        match paired_index(heap, self.ids, 0) {
-            Ok(Some(index)) => self.serves && answers_all(&index, self.ids),
-            Ok(None) => !self.serves,
-            Err(AllocError) => heap.refusals() > 0,
-        }
+/// Tests whether the index by pairs of `ids` that is made on `heap` is as a search one by one, is none unless pairs
+/// serve, or is out of memory after an allocation failed. `serves` tells whether they do.
+fn is_right(heap: &LimitedHeap<Global>, ids: &[u64], serves: bool) -> bool {
+    if ids.len() > 1000 {
+        return false;
+    }
+    match paired_index(heap, ids, 0) {
+        Ok(Some(index)) => serves && answers_all(&index, ids),
+        Ok(None) => !serves,
+        Err(AllocError) => heap.refusals() > 0,
     }
 }
 
@@ -120,7 +112,7 @@ impl Call for Pairing<'_> {
 #[test]
 fn paired_as_one_by_one_or_out_of_memory(rt: HostRuntime) {
     for (ids, serves) in PAIRED {
-        let requests = requests_of(rt.alloc(), &Pairing { ids, serves });
+        let requests = requests_of(rt.alloc(), |heap| is_right(heap, ids, serves));
         assert!(rt; requests.is_some(), "{ids:?}");
     }
 }

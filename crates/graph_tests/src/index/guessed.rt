@@ -1,7 +1,7 @@
 //! Look-ups that are guessed, without a search.
 
-use crate::making::index_of;
-use crate::pairing::paired_index;
+use super::making::index_of;
+use super::pairing::paired_index;
 use id_index::IdIndex;
 use std::alloc::{AllocError, Allocator, Global};
 use std::test::Fail;

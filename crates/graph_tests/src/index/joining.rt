@@ -2,11 +2,10 @@
 
 ghost use Rattle.std.specs.Prelude.{IfOk, IfSome, length, ◌<◌, ◌^◌, ◌≡◌, ◌≤◌};
 
-use crate::beside::answers_all;
-use crate::lists::LISTS;
-use crate::refused::{Call, requests_of};
+use super::beside::answers_all;
+use super::lists::LISTS;
 use id_index::{IdIndex, IdIndexBuilder, LowBits};
-use limited_heap::LimitedHeap;
+use limited_heap::{LimitedHeap, requests_of};
 use std::alloc::{AllocError, Allocator, Global};
 
 /// These identifiers, if all have those lowest bits.
@@ -94,9 +93,9 @@ impl Joining<'_> {
             .iter()
             .any(|id| *id % (1 << bits.shift) != bits.low)
     }
-}
 
-impl Call for Joining<'_> {
+    /// Tests whether the joined index that is made on `heap` is as a search one by one, or is none if an identifier
+    /// differs, or is out of memory after an allocation failed.
     fn is_right(&self, heap: &LimitedHeap<Global>) -> bool {
         if self.ids.len() > 1000 || self.at > self.ids.len() {
             return false;
@@ -115,7 +114,8 @@ fn joined_as_one_by_one_or_want_of_memory(rt: HostRuntime) {
     for ids in LISTS {
         for at in 0..=ids.len() {
             for shift in [0, 3] {
-                let requests = requests_of(rt.alloc(), &Joining { ids, shift, at });
+                let joining = Joining { ids, shift, at };
+                let requests = requests_of(rt.alloc(), |heap| joining.is_right(heap));
                 assert!(rt; requests.is_some(), "{} identifiers cut at {at}", ids.len());
             }
         }

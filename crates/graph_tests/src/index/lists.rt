@@ -1,10 +1,9 @@
 //! Lists of identifiers, each as it comes from a dump.
 
-use crate::beside::{answers_all, finds, first_of};
-use crate::making::index_of;
-use crate::refused::{Call, requests_of};
+use super::beside::{answers_all, finds, first_of};
+use super::making::index_of;
 use id_index::IdIndex;
-use limited_heap::LimitedHeap;
+use limited_heap::{LimitedHeap, requests_of};
 use std::alloc::{AllocError, Allocator, Global};
 use std::test::Fail;
 
@@ -105,21 +104,15 @@ const NEIGHBOURS: [(u64, u64, usize); 16] = [
     (0x7f00_0000, u64::MAX - 511, 70),
 ];
 
-/// Makes an index.
-#[derive(Drop)]
-struct Indexing<'a> {
-    ids: &'a [u64],
-}
-
-impl Call for Indexing<'_> {
-    fn is_right(&self, heap: &LimitedHeap<Global>) -> bool {
-        if self.ids.len() > 1000 {
-            return false;
-        }
-        match index_of(heap, self.ids) {
-            Ok(index) => answers_all(&index, self.ids),
-            Err(AllocError) => heap.refusals() > 0,
-        }
+/// Tests whether the index of `ids` that is made on `heap` is as a search one by one, or is out of memory after an
+/// allocation failed.
+fn is_right(heap: &LimitedHeap<Global>, ids: &[u64]) -> bool {
+    if ids.len() > 1000 {
+        return false;
+    }
+    match index_of(heap, ids) {
+        Ok(index) => answers_all(&index, ids),
+        Err(AllocError) => heap.refusals() > 0,
     }
 }
 
@@ -127,7 +120,7 @@ impl Call for Indexing<'_> {
 #[test]
 fn as_one_by_one_or_want_of_memory(rt: HostRuntime) {
     for ids in LISTS {
-        let requests = requests_of(rt.alloc(), &Indexing { ids });
+        let requests = requests_of(rt.alloc(), |heap| is_right(heap, ids));
         assert!(rt; requests.is_some(), "{} identifiers", ids.len());
     }
 }
@@ -147,7 +140,7 @@ fn neighbours(alloc: Global, first: u64, step: u64, count: usize) -> Result<Vec<
 fn neighbours_or_want_of_memory(rt: HostRuntime) -> Result<(), Fail> {
     for (first, step, count) in NEIGHBOURS {
         let ids = neighbours(rt.alloc(), first, step, count)?;
-        let requests = requests_of(rt.alloc(), &Indexing { ids: &ids });
+        let requests = requests_of(rt.alloc(), |heap| is_right(heap, &ids));
         assert!(rt; requests.is_some(), "{count} from {first}");
     }
     Ok(())
