@@ -1,4 +1,4 @@
--- Pairs of bits of a word, and the effect of setting one pair.
+-- Pairs of bits of a word, and what setting one pair changes.
 use Rattle.std.proofs.Common.{◌≡◌, ◌≢◌, ◌⊎◌, ◌↔◌, ℕ, suc, ◌+◌, ◌-◌, ◌*◌, ◌/◌, ◌%◌, ◌^◌, ◌<◌, ◌≤◌, ◌==◌, max, IsTrue}
 use Rattle.std.proofs.Common.{if◌then◌else◌, bit_and, bit_or, ap, sym, ◌∙◌, inl, inr, ⊎_elim, eq-eqb, eqb-true, lt-ltb}
 use Rattle.std.proofs.Common.{le-ltb, pow_pos, pow_mono, pow-add, shr-shr, mod-eq_of_lt, mul-le-mul_right, suc-mul, w64}
@@ -10,14 +10,14 @@ use Rattle.std.specs.Int.{bit_at, bit_not}
 no_more : (x : ℕ) → x ≡ x + 0
 no_more x = omega arith
 
--- the bits of a number that was moved up by k places
+-- c * 2 ^ k has no bit set below place k, and has the bits of c from there on
 moved_below : (c k i : ℕ) → i < k → bit_at (c * 2 ^ k) i ≡ 0
 moved_below c k i low = ap (λ x. bit_at x i) (no_more (c * 2 ^ k)) ∙ bit_at_cat_low c k 0 i low ∙ bit_at-zero i
 
 moved_up : (c k i : ℕ) → k ≤ i → bit_at (c * 2 ^ k) i ≡ bit_at c (i - k)
 moved_up c k i from = ap (λ x. bit_at x i) (no_more (c * 2 ^ k)) ∙ bit_at_cat_high c k 0 i (pow_pos k) from
 
--- at the two places of the pair j
+-- the two places of pair j have the two low bits of c
 moved_low : (c j : ℕ) → bit_at (c * 2 ^ (2 * j)) (2 * j) ≡ bit_at c 0
 moved_low c j =
     let same : 2 * j - 2 * j ≡ 0 = omega arith in
@@ -28,7 +28,7 @@ moved_high c j =
     let same : 2 * j + 1 - 2 * j ≡ 1 = omega arith in
     moved_up c (2 * j) (2 * j + 1) (omega arith) ∙ ap (bit_at c) same
 
--- the places beside the pair j, as those of another pair are
+-- a place outside pair j, such as each place of another pair
 abbrev Beside : ℕ → ℕ → Type 0
 Beside j k = (k < 2 * j) ⊎ (2 * j + 2 ≤ k)
 
@@ -41,7 +41,7 @@ moved_beside c j k small (inl low) = moved_below c (2 * j) k low
 moved_beside c j k small (inr high) =
     moved_up c (2 * j) k (omega (arith, high)) ∙ bit_at_above c 2 (k - 2 * j) small (omega (arith, high))
 
--- after the bits of c were set at the pair j
+-- setting the bits of c at pair j raises that pair and leaves the places outside
 module _ (n c j : ℕ) where
   set_beside : (k : ℕ) → c < 4 → Beside j k → bit_at (bit_or n (c * 2 ^ (2 * j))) k ≡ bit_at n k
   set_beside k small apart = omega (arith, bit_at_or n (c * 2 ^ (2 * j)) k, moved_beside c j k small apart)
@@ -52,7 +52,7 @@ module _ (n c j : ℕ) where
   set_high : bit_at (bit_or n (c * 2 ^ (2 * j))) (2 * j + 1) ≡ max (bit_at n (2 * j + 1)) (bit_at c 1)
   set_high = bit_at_or n (c * 2 ^ (2 * j)) (2 * j + 1) ∙ ap (max (bit_at n (2 * j + 1))) (moved_high c j)
 
-  -- the mark at another pair
+  -- the mark of another pair is as it was
   pub mark_beside : (i : ℕ) → c < 4 → i ≢ j → pair_mark (bit_or n (c * 2 ^ (2 * j))) i ≡ pair_mark n i
   mark_beside i small other =
       λ t. mark_of (set_beside (2 * i) small (beside i j (2 * i) other (omega arith)) t)
@@ -65,7 +65,7 @@ mark_claimed n j known = omega (arith, known, set_low n 1 j, set_high n 1 j)
 pub mark_finished : (n j : ℕ) → pair_mark (bit_or n (3 * 2 ^ (2 * j))) j ≡ 2
 mark_finished n j = omega (arith, set_low n 3 j, set_high n 3 j)
 
--- bits of which the low one is set stand at one pair
+-- if the lowest bit of c is set, c at pair i equals c at pair j only if i is j
 pub one_pair : (c i j : ℕ) → c < 4 → bit_at c 0 ≡ 1 → c * 2 ^ (2 * i) ≡ c * 2 ^ (2 * j) → i ≡ j
 one_pair c i j small odd same = go (ℕ_discrete i j)
   where
@@ -76,7 +76,7 @@ one_pair c i j small odd same = go (ℕ_discrete i j)
         let there = moved_beside c j (2 * i) small (beside i j (2 * i) n (omega arith)) in
         absurd (omega (arith, here, ap (λ x. bit_at x (2 * i)) same, there))
 
--- the low bit, moved down, tells whether a mark other than 3 is white
+-- the low bit of a pair is 0 exactly if its mark is white, for a mark of at most 2
 pub low_tells :
     (n j place : ℕ) → place ≡ 2 * j → pair_mark n j ≤ 2
     → IsTrue (bit_and (n / 2 ^ place) 1 == 0) ↔ (pair_mark n j ≡ 0)
@@ -88,7 +88,7 @@ low_tells n j place is known = (
     low : bit_and (n / 2 ^ place) 1 ≡ bit_at n (2 * j)
     low = ap (λ p. bit_and (n / 2 ^ p) 1) is ∙ shr_and_one n (2 * j)
 
--- two bits at a pair of a word of 64 bits
+-- two bits at a pair fit into a word of 64 bits
 pub bits_fit : (c j : ℕ) → c < 4 → j < 32 → c * 2 ^ (2 * j) % 2 ^ 64 ≡ c * 2 ^ (2 * j)
 bits_fit c j small low =
     mod-eq_of_lt
@@ -105,7 +105,7 @@ bits_fit c j small low =
     less : (x y z : ℕ) → x + y ≤ 4 * y → z ≡ 4 * y → 0 < y → z ≤ 2 ^ 64 → x < 2 ^ 64
     less x y z a b d e = omega (arith, a, b, d, e)
 
--- a pair of bits read from a word
+-- two bits read at a pair are its mark
 pub pair_read : (n j bits : ℕ) → bits ≡ n / 2 ^ (2 * j) % 4 → pair_mark n j ≡ mark_of (bits % 2) (bits / 2)
 pair_read n j bits read = λ t. mark_of (low t) (high t)
   where
@@ -118,7 +118,7 @@ pair_read n j bits read = λ t. mark_of (low t) (high t)
     high : bit_at n (2 * j + 1) ≡ bits / 2
     high = omega (arith, read, up)
 
--- marks once cut: an object's is as it was, and what is marked is an object
+-- a cut leaves the mark of an object, and only an object is marked after it
 pub cut_object : (objects : ℕ) (f : ℕ → ℕ) (o : ℕ) → o < objects → cut_marks objects f o ≡ f o
 cut_object objects f o below = ap (λ t. if t then f o else 0) (lt-ltb o objects below)
 
@@ -129,7 +129,7 @@ pub marked_object : (objects : ℕ) (f : ℕ → ℕ) (o : ℕ) → 1 ≤ cut_ma
 marked_object objects f o some =
     ⊎_elim (λ below. below) (λ past. absurd (omega (arith, some, cut_past objects f o past))) (cases_lt o objects)
 
--- a word of 0 has white marks
+-- all marks of the word 0 are white
 pub white_pair : (j : ℕ) → pair_mark 0 j ≡ 0
 white_pair j = omega (arith, bit_at-zero (2 * j), bit_at-zero (2 * j + 1))
 
@@ -137,7 +137,7 @@ pub cut_white : (objects : ℕ) (f : ℕ → ℕ) (o : ℕ) → f o ≡ 0 → cu
 cut_white objects f o h =
     ⊎_elim (λ below. cut_object objects f o below ∙ h) (cut_past objects f o) (cases_lt o objects)
 
--- the bits of a word that are not set, from a pair on
+-- the bits that are not set in a word, from a pair on
 abbrev pub unset_from : ℕ → ℕ → ℕ
 unset_from w j = bit_not w64 w / 2 ^ (2 * j)
 
@@ -157,7 +157,7 @@ module _ (w j : ℕ) (fits : w < 2 ^ 64) where
   unset_in_word : (i : ℕ) → 2 * j + i < 64 → bit_at (unset_from w j) i ≡ 1 - bit_at w (2 * j + i)
   unset_in_word i below = unset_bit w j i ∙ bit_at_not w64 w (2 * j + i) fits below
 
-  -- a pair of which both bits are set is finished, and one of which a bit is not set is not
+  -- a pair is finished if both its bits are set, and is not if one of them is not set
   pub pair_finished :
       (k : ℕ) → j ≤ k → k < 32 → bit_at (unset_from w j) (2 * (k - j)) ≡ 0
       → bit_at (unset_from w j) (2 * (k - j) + 1) ≡ 0 → pair_mark w k ≡ 2

@@ -1,4 +1,4 @@
--- Claims and finishes keep the rule, and are the events of those names.
+-- Claims and finishes keep the rule, and are the events `Claim` and `Finish`.
 use Rattle.std.proofs.Common.{◌≡◌, ℕ, ◌+◌, ◌/◌, ◌%◌, ◌<◌, ◌≤◌, max, bit_or, [], ◌∷◌, map, List, Option, set}
 use Rattle.std.proofs.Common.{slice_index, ap, sym, refl, subst, subst₂, ◌∙◌, ⊎_elim, length-set, arith}
 use Rattle.buffer_pool.proofs.Words.{All-contains, none, TableId, State, Me, Step, Allows, step, keeps, head_of}
@@ -19,7 +19,7 @@ use Rattle.buffer_pool.proofs.TableWords.{raised_words}
 module _
     {B : Type 0} {r : Reading B} {e : Setup} {s : State (Option B) SeatView} {id : ℕ} {v : SeatView}
     (at : Seated r e s id v) (bare : v.out ≡ 0) where
-  -- the marking in which an object has this mark, and the seat this account
+  -- the marking in which object o has mark x and the seat has account a
   abbrev marked_now : ℕ → ℕ → Account → Marking
   marked_now o x a =
       record (marking_of r e s) {
@@ -27,7 +27,7 @@ module _
         accounts = set (marking_of r e s).accounts id a;
       }
 
-  -- the bits of c are set at the pair of an object, and the account of the seat changes
+  -- the rule holds after the bits of c were set at the pair of an object and the account of the seat changed
   marked :
       (o c x : ℕ) (u : SeatView) (kind : Kind) → c < 4 → o < e.objects → pair_mark (raised e s.words o c) (o % 32) ≡ x
       → u.out ≡ 0 → u.book.account.held ≡ v.book.account.held → u.book.setup ≡ v.book.setup
@@ -58,7 +58,7 @@ module _
           (marks_after e s.words o c x small below (omega (arith, at.rule.word_count, below)) becomes) refl
           (idle_beside_mark e s.words o c) (accounts_set s.views id w)
 
--- the pair of bits of an object says its mark, so it is not 10
+-- the pair of an object is its mark, so it is not 10
 pub mark_known :
     {B : Type 0} {r : Reading B} {e : Setup} {s : State (Option B) SeatView} (rule : Rule r e s) (o : ℕ) → o < e.objects
     → pair_mark (slice_index s.words (mark_word e o)) (o % 32) ≤ 2
@@ -67,7 +67,7 @@ mark_known {r = r} {e = e} {s = s} rule o below =
     let seen = cut_object e.objects (mark_in s.words (first_mark e)) o below in
     omega (arith, seen, linear e m.mark m.slots m.accounts (lawful rule).coloured o)
 
--- the word and the bits of an object's pair tell the object
+-- the word and the bits of a pair determine the object
 one_object :
     (first o p c : ℕ) → c < 4 → bit_at c 0 ≡ 1 → first + o / 32 ≡ first + p / 32 → pair_bits c o ≡ pair_bits c p → o ≡ p
 one_object first o p c small odd word bits =
@@ -141,7 +141,7 @@ module _ {B : Type 0} (r : Reading B) (e : Setup) (slots id : ℕ) (me : Me (Opt
             )),
       ))
 
--- the word of an object, as the table's setup has it, is there, and is that of the worker's setup
+-- the word of an object by the table's setup exists, and is the one by the worker's setup
 module _
     {B P : Type 0} {words : Shared (Option B) SeatView Key P} {seat : Seat (Option B) SeatView}
     (sits : SitsAt words seat) (sound : IsSound seat.table_id seat.me) (buffers o word : ℕ)
@@ -150,7 +150,7 @@ module _
   own_word = let slots = ap (λ (x : TableId). x.slots) sits.same in
       omega (arith, slots, sits.laid.slots, sound.laid.slots, is, at)
 
-  -- so a step that sets bits at the object's pair may be made there
+  -- so a step may set bits there
   pub sets_pair :
       (r : Reading B) (bits set : ℕ) → set ≡ pair_bits bits o → o < seat.me.0.book.setup.objects
       → (made : Step (Option B) → Me (Option B) SeatView → ℕ → Me (Option B) SeatView → Type 0)
@@ -167,7 +167,7 @@ module _
         (made (step words.table_id.slots x y 0 none) seat.me)) (sym (omega (arith, is, at))) (sym is_pair) may,
   )
 
--- what an account may claim is an object, and what it may finish as well
+-- what an account may claim or finish is an object
 pub claimable_within : (t : TableId) (e : Setup) (a : Account) (o : ℕ) → IsLaid t e → CanClaim e o a → o < e.objects
 claimable_within t e a o laid can = ⊎_elim (λ root. All-contains (λ x. x < e.objects) e.roots o laid.roots root)
     (λ next. (All-contains (λ (p : ℕ × ℕ). (p.0 < e.objects) × (p.1 < e.objects)) e.pairs

@@ -9,7 +9,7 @@ use Rattle.buffer_pool.proofs.Words.{mark_in, marks_in, pair_mark, first_mark, R
 use Rattle.buffer_pool.proofs.Bits.{cut_object, cut_past}
 use Rattle.buffer_pool.proofs.States.{stands}
 
--- of any marking with these marks, to which a list of events led
+-- `MarksTell` holds of a lawful marking with these marks, if the account has the whole share and nothing to work on
 tell :
     (b : Book) (marks : List ℕ) (last : Marking) (w : ℕ) → length marks ≡ b.setup.objects → Law b.setup last
     → StandsAt last.accounts w b.account → ((o : ℕ) → slice_index marks o ≡ last.mark o)
@@ -34,7 +34,7 @@ tell b marks last w count law own same all none_held none_charged =
     closed : IsClosed b.setup last w b.account
     closed = closes b.setup last law w b.account own all none_charged
 
-    -- with no open push the full stack has no buffer, so no object lies there
+    -- the full stack is empty if no push is open, so no object is on it
     emptied : b.account.open_push ≡ false → (o : ℕ) → 1 ≤ slice_index marks o → slice_index marks o ≡ 2
     emptied shut o one = omega (
       arith,
@@ -55,7 +55,7 @@ tell b marks last w count law own same all none_held none_charged =
             omega (arith, k.1)
 
 module _ (words : List ℕ) (first objects : ℕ) where
-  -- there is a mark for each object
+  -- each object has a mark
   pub marks_length : length (marks_in words first objects) ≡ objects
   marks_length = length-map-range_with_len (mark_in words first) 0 objects
 
@@ -128,7 +128,7 @@ module _ (words : List ℕ) (first objects : ℕ) where
       count : length (marks_in words first objects) ≡ v.book.setup.objects
       count = omega (arith, marks_length, number, ap (λ (g : Setup). g.objects) same)
 
-  -- so have the marks that contracts see
+  -- so do the marks that contracts see
   pub marks_count : (marks : List ℕ) → marks_in words first objects ≡ marks → length marks ≡ objects
   marks_count marks same =
       omega (arith, ap (λ (ms : List ℕ). length ms) same, marks_length)
@@ -138,7 +138,7 @@ module _ (words : List ℕ) (first objects : ℕ) where
       → object < objects
   object_below object marks same inside = omega (arith, inside, marks_count marks same)
 
-  -- the mark of an object, read from its word at the close
+  -- the mark of an object at the close is read from its word
   pub mark_there :
       (o place word : ℕ) → o < objects → o / 32 ≡ place → get_elem? words (first + place) ≡ some word
       → slice_index (marks_in words first objects) o ≡ pair_mark word (o % 32)

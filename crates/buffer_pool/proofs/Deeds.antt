@@ -1,4 +1,4 @@
--- The steps of the workers in parts of a story, and each view after one more event.
+-- The steps of a worker in parts of a story, and each view after one more event.
 use Rattle.std.proofs.Common.{◌≡◌, ◌≢◌, ℕ, ◌<◌, ◌==◌, Bool, if◌then◌else◌, true, false, List, [], ◌∷◌, ◌++◌, length}
 use Rattle.std.proofs.Common.{Option, Some, None, set, ap, sym, refl, subst, ◌∙◌, ⊎_elim, eq-eqb, ne_eqb, length-append}
 use Rattle.std.proofs.Common.{arith}
@@ -6,7 +6,7 @@ use Rattle.buffer_pool.proofs.Words.{false≢true, append_assoc, append-nil, som
 use Rattle.buffer_pool.proofs.Words.{Log, Did, LeadsToBook, deeds, free, AreViewsOf, IsTakenIn, IsViewOf, logged}
 use Rattle.buffer_pool.proofs.Words.{at_set}
 
--- of two stretches
+-- the deeds in two parts are those in the first, followed by those in the second
 pub deeds_on : (w : ℕ) (xs ys : List Event) → deeds w (xs ++ ys) ≡ deeds w xs ++ deeds w ys
 deeds_on w [] ys = refl
 deeds_on w (x ∷ xs) ys = go (x.worker == w) (deeds_on w xs ys)
@@ -17,14 +17,14 @@ deeds_on w (x ∷ xs) ys = go (x.worker == w) (deeds_on w xs ys)
     go true later = ap (λ ks. x.kind ∷ ks) later
     go false later = later
 
--- of one event
+-- the deed of a worker in its own event is the kind of the event
 pub one_deed : (w : ℕ) (event : Event) → event.worker ≡ w → deeds w (event ∷ []) ≡ event.kind ∷ []
 one_deed w event own = ap (λ t. if t then event.kind ∷ [] else []) (eq-eqb event.worker w own)
 
 pub no_deed : (w : ℕ) (event : Event) → event.worker ≢ w → deeds w (event ∷ []) ≡ []
 no_deed w event other = ap (λ t. if t then event.kind ∷ [] else []) (ne_eqb event.worker w other)
 
--- one stretch of a log after another
+-- a log continued by ks and then by ls is continued by both
 pub did_on : (a b c : Log) (ks ls : List Kind) → Did a ks b → Did b ls c → Did a (ks ++ ls) c
 did_on a b c ks ls first second = (
   first.0 ++ second.0,
@@ -36,7 +36,7 @@ did_on a b c ks ls first second = (
     later : deeds a.number second.0 ≡ ls
     later = ap (λ (x : Log). deeds x.number second.0) (sym first.1) ∙ second.2
 
--- three steps
+-- the same for three single steps
 pub did_three : (a b c d : Log) (x y z : Kind) → Did a (x ∷ []) b → Did b (y ∷ []) c → Did c (z ∷ []) d
     → Did a (x ∷ y ∷ z ∷ []) d
 did_three a b c d x y z first second third =
@@ -45,7 +45,7 @@ did_three a b c d x y z first second third =
 pub did_nothing : (a : Log) → Did a [] a
 did_nothing a = ([], ap (λ xs. record a { story = xs }) (sym (append-nil a.story)), refl)
 
--- a story and one event more, and the log of a worker that knows all of a story
+-- a story with one more event, and the log of a worker that knows a whole story
 abbrev pub and_then : List Event → ℕ → Kind → List Event
 and_then events w kind = events ++ record { worker = w; kind = kind } ∷ []
 
@@ -55,7 +55,7 @@ log_of w events = record { number = w; story = events }
 none_some : (n : ℕ) → ◌≡◌ {A = Option ℕ} None (Some n) → ⊥
 none_some n e = cc
 
--- what was taken in is so after one event more
+-- a story that was taken in still is after one more event
 pub taken_on :
     (events : List Event) (event : Event) (n : ℕ) (story : List Event) → IsTakenIn events n story
     → IsTakenIn (events ++ event ∷ []) n story
@@ -72,7 +72,7 @@ taken_on events event n story t =
     }
 
 module _ (events : List Event) (w : ℕ) (v : SeatView) (told : IsViewOf events w v) where
-  -- one event more, by another worker
+  -- the view holds after an event of another worker
   pub told_theirs : (event : Event) → event.worker ≢ w → IsViewOf (events ++ event ∷ []) w v
   told_theirs event other =
       record {
@@ -92,7 +92,7 @@ module _ (events : List Event) (w : ℕ) (v : SeatView) (told : IsViewOf events 
         ended = λ known n from. taken_on events event n v.taken (told.ended known n from);
       }
 
-  -- one event more, its own, which it notes
+  -- the view holds after an event of its own worker that the view notes
   pub told_mine : (event : Event) (u : SeatView) → v.named ≡ true → event.worker ≡ w → u.log ≡ v.log → u.named ≡ true
       → u.unsaid ≡ v.unsaid ++ event.kind ∷ []
       → (more : List Event) → events ++ event ∷ [] ≡ u.taken ++ more → ((n : ℕ) → u.from ≡ Some n → n ≢ w)
@@ -113,11 +113,11 @@ module _ (events : List Event) (w : ℕ) (v : SeatView) (told : IsViewOf events 
         ended = λ n. ended;
       }
 
-  -- its slot went home
+  -- the view holds after its slot went home
   pub told_free : IsViewOf events w (free v)
   told_free = grind arith
 
-  -- what it may tell when its log has the events up to now, and more: its noted deeds, and those among the more
+  -- once its log has all events and `more`, the worker did what it had noted and its deeds in `more`
   did_now : v.named ≡ true → (more : List Event) → Did v.log (v.unsaid ++ deeds w more) (log_of w (events ++ more))
   did_now known more = (
     told.since ++ more,
@@ -129,7 +129,8 @@ module _ (events : List Event) (w : ℕ) (v : SeatView) (told : IsViewOf events 
         ∙ ap (λ ks. ks ++ deeds w more) told.unsaid,
   )
 
-  -- it has one event of its own to tell, or none
+  -- if its log gets all events and one more of its own, a worker that had noted nothing did that one; if its log gets
+  -- all events, the worker did what it had noted
   pub did_one : v.named ≡ true → v.unsaid ≡ [] → (kind : Kind)
       → Did v.log (kind ∷ []) (log_of w (and_then events w kind))
   did_one known none_left kind =
@@ -142,7 +143,7 @@ module _ (events : List Event) (w : ℕ) (v : SeatView) (told : IsViewOf events 
       let all = did_now known [] in
       (all.0, ap (log_of w) (sym (append-nil events)) ∙ all.1, all.2 ∙ append-nil v.unsaid)
 
--- a view whose log has all events
+-- a view whose log has all events holds
 pub told_now : (events : List Event) (w : ℕ) (v : SeatView) → LeadsToBook (log_of w events) v.book
     → IsViewOf events w (logged (log_of w events) v)
 told_now events w v leads =
@@ -158,7 +159,7 @@ told_now events w v leads =
       ended = λ known n is. absurd (none_some n is);
     }
 
--- all views after one of them changed
+-- all views hold after one of them changed
 pub told_set :
     (events : List Event) (views : List SeatView) (w : ℕ) (v : SeatView)
     → ((k : ℕ) (u : SeatView) → k ≢ w → get_elem? views k ≡ some u → 0 < u.book.account.share → IsViewOf events k u)
@@ -173,7 +174,7 @@ told_set events views w v others own k u at there =
 
 -- the view of one worker changes
 module _ (events : List Event) (views : List SeatView) (told : AreViewsOf events views) (w : ℕ) (u : SeatView) where
-  -- an event of the worker happened, and its log has it
+  -- all views hold after an event of the worker that its log has
   pub told_step : (kind : Kind) → LeadsToBook (log_of w (and_then events w kind)) u.book
       → AreViewsOf (and_then events w kind) (set views w (logged (log_of w (and_then events w kind)) u))
   told_step kind leads =
@@ -181,7 +182,7 @@ module _ (events : List Event) (views : List SeatView) (told : AreViewsOf events
       (λ k x other at share. told_theirs events k x (told k x at share) (record { worker = w; kind = kind })
       (λ same. other (sym same))) (λ share. told_now (and_then events w kind) w u leads)
 
-  -- nothing happened, and the worker's log is up to date
+  -- all views hold after the worker's log was brought up to date
   pub told_seen : LeadsToBook (log_of w events) u.book → AreViewsOf events (set views w (logged (log_of w events) u))
   told_seen leads =
       told_set events views w (logged (log_of w events) u) (λ k x other at share. told k x at share)

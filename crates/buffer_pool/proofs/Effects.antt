@@ -1,5 +1,4 @@
--- The effect of an event on the accounts: they are as they were, or one changed, and in addition one may be new or may
--- have been joined.
+-- What an event does to the accounts: at most one changes, and in addition one may be added or joined to another.
 use Rattle.buffer_pool.proofs.Words.{Account, Claim, Fail, Finish, IdleDown, IdleUp, Join, Kind, List, Load, LoadIdle}
 use Rattle.buffer_pool.proofs.Words.{LoadLink, Marking, None, Option, Pop, Push, Some, Split, StoreLink, Which, []}
 use Rattle.buffer_pool.proofs.Words.{effect, look_of, no_share, part, set, stack_popped, ℕ, ◌++◌, ◌∷◌}

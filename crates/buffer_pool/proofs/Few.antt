@@ -1,10 +1,10 @@
 -- A worker's story leads to a lawful marking. Each of its finished objects is reachable, so it is an object, and none
--- was finished twice. So they are at most as many as there are objects, and their number is small.
+-- was finished twice. So their number is at most that of all objects.
 use Rattle.std.proofs.Common.{◌≡◌, ℕ, ◌<◌, ◌≤◌, [], ◌∷◌, length, arith}
 use Rattle.buffer_pool.proofs.Words.{All-contains, TableId, IsReachableIn, Law, Setup, times, has_each_once}
 use Rattle.buffer_pool.proofs.Words.{lawful_where, finished_few, Book, LeadsToBook, Log, IsLaid}
 
--- what a path of references leads to is an object
+-- each reachable number is an object
 reached_within : (t : TableId) (e : Setup) → IsLaid t e → (o : ℕ) → IsReachableIn e o → o < e.objects
 reached_within t e laid o ([], root) = All-contains (λ x. x < e.objects) e.roots o laid.roots root
 reached_within t e laid o (p ∷ back, leads) =

@@ -1,11 +1,11 @@
--- The first number of a range that passes a test comes after those that do not.
+-- The first number of a range that passes a test, searched number by number.
 use Rattle.std.proofs.Common.{◌≡◌, ℕ, zero, suc, ◌+◌, ◌-◌, ◌<◌, ◌≤◌, Bool, true, false, cond, find, Option, None, Some}
 use Rattle.std.proofs.Common.{ap, sym, ◌∙◌, ⊎_elim, arith}
 use Rattle.std.proofs.lemmas.Bool.{cases_lt}
 use Rattle.std.specs.List.{range_with_len}
 
 module _ (p : ℕ → Bool) where
-  -- from a number up to a bound
+  -- the first number that passes, from o up to but without n
   abbrev pub first_from : ℕ → ℕ → Option ℕ
   first_from o n = find p (range_with_len o (n - o))
 
@@ -14,7 +14,7 @@ module _ (p : ℕ → Bool) where
       let none : n - o ≡ 0 = omega (arith, past) in
       ap (λ m. find p (range_with_len o m)) none
 
-  -- at a number of the range
+  -- the search at a number of the range
   here : (o n : ℕ) → o < n → first_from o n ≡ cond (p o) (Some o) (first_from (o + 1) n)
   here o n below =
       let some : n - o ≡ suc (n - (o + 1)) = omega (arith, below) in

@@ -10,12 +10,12 @@ use Rattle.buffer_pool.proofs.Deeds.{deeds_on}
 abbrev IsGone : List Account → ℕ → Type 0
 IsGone accounts n = (a : Account) × StandsAt accounts n a × (a.share ≡ 0)
 
--- other accounts change
+-- it remains without a share when other accounts change
 gone_beside :
     (accounts : List Account) (n w : ℕ) (b : Account) → IsGone accounts n → n ≢ w → IsGone (set accounts w b) n
 gone_beside accounts n w b gone other = (gone.0, set_else accounts w n b other ∙ gone.1, gone.2)
 
--- it may be taken in again
+-- and when any account is emptied
 gone_emptied : (accounts : List Account) (n v : ℕ) → IsGone accounts n → IsGone (set accounts v no_share) n
 gone_emptied accounts n v gone = go (ℕ_discrete n v)
   where
@@ -36,7 +36,7 @@ effect_gone m n w a kind gone other =
       (beside b).2,
     )) (λ b v. gone_emptied (set m.accounts w b) n v (beside b)) kind
 
--- so it is not the one that does something
+-- the account that acts is not one without a share
 not_gone : (accounts : List Account) (n w : ℕ) (a : Account) → IsThere accounts w a → IsGone accounts n → n ≢ w
 not_gone accounts n w a there gone same =
     let one : a ≡ gone.0 = at_one accounts w a gone.0 there.0 (subst (λ k. StandsAt accounts k gone.0) same gone.1) in
@@ -52,7 +52,7 @@ gone_quiet e (event ∷ events) first last n run gone =
     ∙ gone_quiet e events (happens first event) last n run.1
     (effect_gone first n event.worker (account_at first.accounts event.worker) event.kind gone other)
 
--- after it was taken in it does nothing
+-- an account does nothing after it was joined
 quiet_after :
     (e : Setup) (before : List Event) (by n : ℕ) (later : List Event) (first last : Marking)
     → Run e first (before ++ record { worker = by; kind = Join n } ∷ later) last → deeds n later ≡ []
@@ -67,7 +67,7 @@ quiet_after e [] by n later first last run =
     gone_quiet e later (happens first (record { worker = by; kind = Join n })) last n run.1
     (no_share, set_here mine n no_share (at_below mine n can.1.0 there), refl)
 
--- so the story that was taken in is all that it did
+-- so the story that was taken in has all its steps
 pub ends_taken :
     (e : Setup) (events : List Event) (first last : Marking) (n : ℕ) (story : List Event) → Run e first events last
     → IsTakenIn events n story → EndsStory (record { number = n; story = story }) events

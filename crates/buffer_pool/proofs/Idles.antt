@@ -12,7 +12,7 @@ use Rattle.buffer_pool.proofs.Loads.{noted}
 use Rattle.buffer_pool.proofs.TableWords.{head_beside_idle, link_beside_idle, marks_beside_idle, idle_here}
 use Rattle.mark_core.specs.Events as may
 
--- a step that changes the idle word is an event that changes that word and the account alone
+-- a step that changes the idle word is an event that changes only that word and the account
 module _
     {B : Type 0} (r : Reading B) (e : Setup) (slots id : ℕ) (me : Me (Option B) SeatView) {t : TableId}
     (sound : IsSound t me) where
@@ -44,7 +44,7 @@ module _
       (counts_same at w counts ∙ sym (is_counted m (map view_counts s.views))) in
       (w, keeps, tt, rule, rests_after me at sound.settled kind b words (omega (arith, share, at.there)) rule))
 
--- so the idle word may be changed and loaded
+-- so the worker may change and load the idle word
 module _
     {B P : Type 0} {words : Shared (Option B) SeatView Key P} {seat : Seat (Option B) SeatView} (r : Reading B)
     (sits : SitsAt words seat) (sound : IsSound seat.table_id seat.me) where

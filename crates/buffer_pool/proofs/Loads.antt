@@ -1,4 +1,4 @@
--- Loads keep the rule, and say what was loaded. So do the steps that change nothing.
+-- Loads keep the rule and return what they loaded. Steps that change nothing keep it too.
 use Rattle.std.proofs.Common.{◌≡◌, ℕ, ◌+◌, ◌<◌, ◌≤◌, ◌==◌, List, [], ◌∷◌, length, map, Option, Some, set, slice_index}
 use Rattle.std.proofs.Common.{slice_set, ap, sym, refl, subst, ◌∙◌, arith}
 use Rattle.buffer_pool.proofs.Words.{none, either, TableId, State, Me, Allows, step, keeps, exchanged, Head, head_of}
@@ -16,14 +16,14 @@ use Rattle.buffer_pool.proofs.States.{nothing_out, written_again, own_setup, tol
 use Rattle.buffer_pool.proofs.Deeds.{did_none}
 use Rattle.buffer_pool.proofs.Gone.{ends_taken}
 
--- a stack has its own head word
+-- the two stacks have different head words
 pub same_head : (q p : Which) → head_word q ≡ head_word p → q ≡ p
 same_head Full Full e = refl
 same_head Full Empty e = let f : ◌≡◌ {A = ℕ} 0 16 = e in absurd (omega arith)
 same_head Empty Full e = let f : ◌≡◌ {A = ℕ} 16 0 = e in absurd (omega arith)
 same_head Empty Empty e = refl
 
--- what a load of a head changes in a book, and what not
+-- what a load of a head changes in a book, and what it does not
 pub record IsLoaded (q : Which) (h : Head) (b : Book) : Type 0 where
   pub account : (loaded q h b).account ≡ after_load q h b.account
   pub counts : counts_of (loaded q h b) ≡ count_load q h (counts_of b)
@@ -38,7 +38,7 @@ is_loaded Full h b =
 is_loaded Empty h b =
     record { account = refl; counts = refl; setup = refl; share = refl; held = refl; charge = refl }
 
--- and a load of a link
+-- what a load of a link does not change
 kept_linked : (q : Which) (l : Option ℕ) (b : Book)
     → ((link_loaded q l b).account.share ≡ b.account.share) × ((link_loaded q l b).account.held ≡ b.account.held)
 kept_linked Full l b = (refl, refl)
@@ -47,7 +47,7 @@ kept_linked Empty l b = (refl, refl)
 module _
     {B : Type 0} {r : Reading B} {e : Setup} {s : State (Option B) SeatView} {id : ℕ} {v : SeatView}
     (at : Seated r e s id v) (bare : v.out ≡ 0) where
-  -- the seat learns something, no slot moves, and no link changes
+  -- the rule holds after the seat noted something, if no slot moves and no link changes
   pub noticed :
       (words : List ℕ) (w : SeatView) → length words ≡ length s.words
       → ((i : ℕ) → i < e.buffers → slice_index words (link_word i) ≡ slice_index s.words (link_word i))
@@ -62,7 +62,7 @@ module _
         at.rule.rests k u h,
       )) setup reached
 
-  -- so where an event happened, which its log has
+  -- in particular after an event that its log has
   pub noted :
       (kind : Kind) → may.Allows e (marking_of r e s) id v.book.account kind → (words : List ℕ) (u : SeatView)
       → length words ≡ length s.words
@@ -77,7 +77,7 @@ module _
       noticed words (logged (log_after at kind) u) count links out held setup
       (happened at kind can words s.homes u setup marking counts)
 
--- what an account holds is the pool's, and what it answers for are objects, since their marks are not 0
+-- what an account holds are buffers of the pool, and what it is charged with are objects, since their marks are not 0
 each_within : {B : Type 0} {r : Reading B} {e : Setup} {s : State (Option B) SeatView} {id : ℕ} {v : SeatView}
     → Seated r e s id v → IsWithin v.book.setup v.book.account
 each_within {r = r} {e = e} {s = s} {id = id} {v = v} at =
@@ -150,7 +150,7 @@ module _ {B : Type 0} (r : Reading B) (e : Setup) (slots id : ℕ) (me : Me (Opt
         ),
       ))
 
-  -- an exchange of a word for itself
+  -- a compare-exchange of a word for itself notes the units of a split
   pub sets_aside : {t : TableId} (sound : IsSound t me) (word units : ℕ)
       → Allows (Rule r e) slots id me word (λ n. either (n == units) units n)
       (set_aside (step slots word units units none) me)
@@ -170,7 +170,7 @@ module _ {B : Type 0} (r : Reading B) (e : Setup) (slots id : ℕ) (me : Me (Opt
         (refl, (did.0, did.1, did.2 ∙ sound.settled.unsaid)),
       ))
 
-  -- a load that tells that the account has each thing once, all of it the pool's
+  -- a load shows that the account has each thing once, and only things of the pool
   pub settles : (word : ℕ) → Carries me → 0 < me.0.book.account.share
       → Allows (Rule r e) slots id me word (λ n. n) (settled (step slots word 0 0 none) me)
   settles word carries there = freed r e slots id word (λ n. n) (settled (step slots word 0 0 none) me) me carries there
@@ -198,7 +198,7 @@ module _ {B : Type 0} (r : Reading B) (e : Setup) (slots id : ℕ) (me : Me (Opt
         },
       ))
 
--- so the load of a link may be made at its word, by the play of the stack that it is
+-- so the link may be loaded at its word
 module _
     {B P : Type 0} {words : Shared (Option B) SeatView Key P} {seat : Seat (Option B) SeatView} (r : Reading B)
     (sits : SitsAt words seat) (sound : IsSound seat.table_id seat.me) where

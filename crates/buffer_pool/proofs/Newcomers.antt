@@ -1,4 +1,4 @@
--- No step is by a number that no account has yet, so the new worker of a split did nothing.
+-- No step is by a number that no account has yet, so the new worker of a split has done nothing.
 use Rattle.std.proofs.Common.{◌≡◌, ◌≢◌, ◌⊎◌, ℕ, zero, suc, ◌<◌, ◌≤◌, true, List, [], ◌∷◌, ◌++◌, length, Some, set, ap}
 use Rattle.std.proofs.Common.{sym, refl, subst, ◌∙◌, inl, inr, ⊎_elim, length-set, length-append, ne_eqb, cond, arith}
 use Rattle.buffer_pool.proofs.Words.{false≢true, append_assoc, some, some-injective, some-ne-none, get_elem?, Account}
@@ -11,7 +11,7 @@ use Rattle.buffer_pool.proofs.Deeds.{deeds_on, no_deed, taken_on, told_mine, tol
 same_some : (a b : ℕ) → Some a ≡ Some b → a ≡ b
 same_some a b e = cc
 
--- accounts never become fewer
+-- the number of accounts never falls
 effect_long : (m : Marking) (w : ℕ) (a : Account) (kind : Kind)
     → length m.accounts ≤ length (effect m w a kind).accounts
 effect_long m w a =
@@ -39,7 +39,7 @@ nothing_done e (event ∷ events) first last n run past =
     ap (λ t. cond t (event.kind ∷ deeds n events) (deeds n events)) (ne_eqb event.worker n other)
     ∙ nothing_done e events (happens first event) last n run.1 past
 
--- what stands in a list with one element more, and where
+-- an element of a list with one more at its end is in the list, or is the one at the end
 pub at_end : {X : Type 0} (xs : List X) (x u : X) (k : ℕ) → get_elem? (xs ++ x ∷ []) k ≡ some u
     → (get_elem? xs k ≡ some u) ⊎ ((k ≡ length xs) × (x ≡ u))
 at_end [] x u zero at = inr (refl, some-injective x u at)
@@ -52,7 +52,7 @@ module _ (events : List Event) (views : List SeatView) (told : AreViewsOf events
   own : IsViewOf events id v
   own = told id v is there
 
-  -- after a split: the worker that gave units notes it, and the new one has a number that nobody had
+  -- all views hold after a split: the old worker notes it, and the number of the new one has done nothing
   pub told_split :
       deeds (length views) events ≡ []
       → AreViewsOf (events ++ record { worker = id; kind = Split v.aside } ∷ [])
@@ -104,7 +104,7 @@ module _ (events : List Event) (views : List SeatView) (told : AreViewsOf events
             ended = λ named. absurd (false≢true named);
           }
 
-  -- after a join: the worker that took the other in notes it, and has the other's story
+  -- all views hold after a join: the worker notes it, and takes in the story of the other
   pub told_join :
       (other : ℕ) (w : SeatView) → other ≢ id → get_elem? views other ≡ some w → 0 < w.book.account.share
       → w.named ≡ true → w.unsaid ≡ []
@@ -129,7 +129,7 @@ module _ (events : List Event) (views : List SeatView) (told : AreViewsOf events
       joined_from : (n : ℕ) → Some w.log.number ≡ Some n → other ≡ n
       joined_from n from = sym (theirs.number theirs_known) ∙ same_some w.log.number n from
 
-      -- the other did nothing after its story, and then this worker took it in
+      -- the other did nothing between its story and the join
       taken_in : (n : ℕ) → Some w.log.number ≡ Some n → IsTakenIn later n w.log.story
       taken_in n from =
           subst (λ k. IsTakenIn later k w.log.story) (joined_from n from) (record {

@@ -1,4 +1,4 @@
--- An exchange of a head for the link of its buffer keeps the rule: it pops, or it has failed.
+-- An exchange of a head for the link of its buffer keeps the rule: it pops, or it fails.
 use Rattle.std.proofs.Common.{◌≡◌, ◌≢◌, ℕ, zero, suc, ◌<◌, ◌==◌, List, [], ◌∷◌, ◌++◌, map, Option, Some, None, set}
 use Rattle.std.proofs.Common.{slice_index, slice_set, ap, sym, refl, subst, ◌∙◌, Contains, length-set, arith}
 use Rattle.buffer_pool.proofs.Words.{none, some, some-ne-none, ℕ_discrete, get_elem?, either, State, Me, Allows, step}
@@ -19,7 +19,7 @@ use Rattle.buffer_pool.proofs.Loads.{noticed, same_head}
 use Rattle.buffer_pool.proofs.TableWords.{one_head, exchange_hit, exchange_miss, link_beside_head, links_beside_head}
 use Rattle.buffer_pool.proofs.TableWords.{marks_beside_head, heads_after, idle_beside_head}
 
--- items at home are those of a buffer
+-- items at home are those of a buffer there
 buffer_there : {B : Type 0} (r : Reading B) (homes : List (maybe.Option (Option B))) (i : ℕ) (items : List ℕ)
     → StandsAt (map (slot_of r) homes) i (Some items) → (b : B) × (get_elem? homes i ≡ some (some (Some b)))
     × (r.items b ≡ items)
@@ -29,7 +29,7 @@ buffer_there r (some None ∷ hs) zero items at = let f : ⊥ = cc in absurd f
 buffer_there r (some (Some b) ∷ hs) zero items at = (b, refl, cc)
 buffer_there r (h ∷ hs) (suc i) items at = buffer_there r hs i items at
 
--- a buffer at home
+-- a buffer that is at home
 module _
     {B : Type 0} {r : Reading B} {e : Setup} {s : State (Option B) SeatView} (rule : Rule r e s) (i : ℕ) (b : B)
     (home : get_elem? s.homes i ≡ some (some (Some b))) where
@@ -45,7 +45,7 @@ module _
       marked_object e.objects (mark_in s.words (first_mark e)) o
       (omega (arith, told, one, stands_times (r.items b) o here))
 
-  -- it has none where it is on the empty stack
+  -- it has no items if it is on the empty stack
   bare_on_empty : (q : Which) → (head_of (slice_index s.words (head_word q))).index ≡ Some i → q ≡ Empty
       → r.items b ≡ []
   bare_on_empty q top empty =
@@ -53,12 +53,12 @@ module _
       let one : Some (r.items b) ≡ Some [] =
       at_one (marking_of r e s).slots i (Some (r.items b)) (Some []) in_slot ((lawful rule).shelved.bare i on) in cc
 
--- where the head is the one loaded
+-- if the head is the loaded one
 module _
     {B : Type 0} {r : Reading B} {e : Setup} {s : State (Option B) SeatView} {id : ℕ} {v : SeatView}
     (at : Seated r e s id v) (bare : v.out ≡ 0) (q : Which) (i : ℕ)
     (top : (head_of (slice_index s.words (head_word q))).index ≡ Some i) where
-  -- the buffer on top of the stack lies at home
+  -- the buffer on top of the stack is at home
   top_home : (b : B) × (get_elem? s.homes i ≡ some (some (Some b)))
   top_home =
       let stacked = (lawful at.rule).shelved.stacked q i (on_top at.rule q i top).0 in
@@ -117,7 +117,7 @@ module _
             (subst (λ y. 0 < times y u.book.account.held) same mine)) ∙ at.rule.rests k u h j mine not_out),
       )
 
-      -- what the event leaves: the items of the account are those in the slot
+      -- the marking after the pop: the account gets the items of the slot
       taken : List ℕ → Marking
       taken items = record m {
         head = put_which q (after (m.head q) l) m.head;
@@ -131,7 +131,7 @@ module _
           ∙ ap (λ slot. taken (items_of slot)) (at_get_or m.slots i (Some (r.items b)) None (in_slot at.rule i b home))
 
 module _ {B : Type 0} (r : Reading B) (e : Setup) (slots id : ℕ) (me : Me (Option B) SeatView) where
-  -- what the play tells of the stack k, where the number found is n
+  -- what the step on stack k reports if it found the word n
   abbrev pop_told : ℕ → Which → ℕ → Me (Option B) SeatView → Type 0
   pop_told old k n after =
       (n ≡ old → (j : ℕ) → (head_of n).index ≡ Some j → (b : B) × HasTaken r k j (Some b) me after b)

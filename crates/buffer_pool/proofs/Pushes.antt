@@ -1,5 +1,5 @@
--- A store of a held buffer's link, and an exchange of a head for that buffer, keep the rule: the second pushes, or it
--- has failed.
+-- A store of a held buffer's link, and an exchange of a head for that buffer, keep the rule. The exchange pushes, or it
+-- fails.
 use Rattle.std.proofs.Common.{◌≡◌, ◌≢◌, ℕ, suc, ◌+◌, ◌<◌, ◌≤◌, ◌==◌, nat_lt, if◌then◌else◌, List, [], ◌∷◌, length}
 use Rattle.std.proofs.Common.{Option, Some, None, get_or, set, slice_index, slice_set, ap, sym, refl, subst, subst₂}
 use Rattle.std.proofs.Common.{◌∙◌, length-set, arith}
@@ -21,7 +21,7 @@ use Rattle.buffer_pool.proofs.TableWords.{marks_beside_head, heads_after, idle_b
 use Rattle.buffer_pool.proofs.TableWords.{head_below, head_beside_link, link_beside_link, link_here, marks_beside_link}
 use Rattle.buffer_pool.proofs.TableWords.{links_after}
 
--- the link word to an index of a buffer is at most the number of buffers
+-- the link word for a buffer is at most the number of buffers
 pub low_small : (index : Option ℕ) (buffers : ℕ) → ((i : ℕ) → index ≡ Some i → i < buffers) → low_of index ≤ buffers
 low_small None buffers below = omega arith
 low_small (Some i) buffers below = omega (arith, below i refl)
@@ -33,18 +33,18 @@ kept_pushed Full i items b = (refl, refl)
 kept_pushed Empty i items b = (refl, refl)
 
 module _ {B : Type 0} (m n : Me (Option B) SeatView) where
-  -- a seat that carries one slot, after the slot's value was exchanged
+  -- a seat carries the buffer in its slot after an exchange put it there
   pub carried_with : (i j : ℕ) (b : B) → n ≡ (m.0, (i, Some b) ∷ rest m.1) → m.1 ≡ (j, None) ∷ []
       → n ≡ (m.0, (i, Some b) ∷ [])
   carried_with i j b exchanged carried = exchanged
       ∙ ap {B = Me (Option B) SeatView} (λ (xs : List (ℕ × Option B)). (m.0, (i, Some b) ∷ rest xs)) carried
 
-  -- it still carries that slot after a step that left its slots as they were
+  -- it still carries that slot after a step that leaves its slots as they were
   pub still_carried : (i : ℕ) (b : B) → n.1 ≡ m.1 → m.1 ≡ (i, Some b) ∷ [] → n.1 ≡ (i, Some b) ∷ rest n.1
   still_carried i b same carried =
       let now = same ∙ carried in now ∙ ap (λ (xs : List (ℕ × Option B)). (i, Some b) ∷ rest xs) (sym now)
 
-  -- what a push told, of other names for what was pushed
+  -- a push under other names of the same buffer and items is the same push
   pub told_of :
       (o : Me (Option B) SeatView) (q : Which) (i j : ℕ) (xs ys : List ℕ) → m.0 ≡ n.0 → i ≡ j → xs ≡ ys
       → HasPushed q i xs m o → HasPushed q j ys n o
@@ -56,7 +56,7 @@ module _ {B : Type 0} (m n : Me (Option B) SeatView) where
         story = told.story;
       }
 
--- a slot that a seat carries alone is the one that it took
+-- if a seat carries one slot only, that is the one that it took
 one_carried : {B : Type 0} (i j : ℕ) (b c : B) → ◌≡◌ {A = List (ℕ × Option B)} ((i, Some b) ∷ [])
     ((j, Some c) ∷ []) → (i ≡ j) × (b ≡ c)
 one_carried {B = B} i j b c e =
@@ -69,7 +69,7 @@ module _
   below : i < e.buffers
   below = held_below at.rule id v at.is i mine
 
-  -- other seats hold other buffers, so a write at this one's slot leaves theirs
+  -- other seats hold other buffers, so a write at this seat's slot leaves theirs
   rests_beside : (h : maybe.Option (Option B)) (k : ℕ) (u : SeatView) → k ≢ id → get_elem? s.views k ≡ some u
       → Rests (set s.homes i h) u
   rests_beside h k u other is j theirs not_out =
@@ -79,7 +79,7 @@ module _
   abbrev stored_view : ℕ → SeatView
   stored_view x = record (logged (log_after at (StoreLink i (index_of x))) v) { out = suc i; out_link = x }
 
-  -- the link of a held buffer is stored, and its slot comes out
+  -- the rule holds after the link of a held buffer was stored and its slot was taken out
   stored_rule :
       (x : ℕ) → v.out ≡ 0 → x ≤ e.buffers
       → Rule r e (left s (set s.words (link_word i) x) (set s.homes i none) id (stored_view x))
@@ -145,7 +145,7 @@ module _
     push_view = record (logged (log_after at (Push q i (r.items b))) (free v))
         { book = pushed q i (r.items b) v.book }
 
-    -- the head is exchanged for the buffer, and its slot goes home with it
+    -- the rule holds after the head was exchanged for the buffer and its slot went home with it
     pushed_rule :
         (x : ℕ) → CanExchange (head_of (slice_index s.words (head_word q))) (look_of v.book.account q)
         → head_of x ≡ after (head_of (slice_index s.words (head_word q))) (Some i)
@@ -297,7 +297,7 @@ module _ {B : Type 0} (r : Reading B) (e : Setup) (slots id : ℕ) (me : Me (Opt
             ),
           )
 
--- so it may be made at the head's word, by the play of the stack that it is
+-- so the step may be made at the head's word
 module _
     {B P : Type 0} {words : Shared (Option B) SeatView Key P} {seat : Seat (Option B) SeatView} (r : Reading B)
     (sits : SitsAt words seat) where

@@ -7,7 +7,7 @@ use Rattle.buffer_pool.proofs.Words.{times-without, SeatView, Book, loaded, link
 use Rattle.buffer_pool.proofs.Words.{finished, IsWithin, IsBare, IsLaid, IsSound, RestsWith, rested, Log, LeadsToBook}
 use Rattle.buffer_pool.proofs.Words.{HasSaidAll, logged, slots_of}
 
--- what is in a list is below a bound, and so it is with one more that is below it, and with one removed
+-- all elements of a list are below a bound after one below it was added, or one was removed
 below_push : (xs : List ℕ) (x n : ℕ) → ((y : ℕ) → Contains xs y → y < n) → x < n → (y : ℕ) → Contains (xs ++ x ∷ []) y
     → y < n
 below_push xs x n all below y here = ⊎_elim (all y) (λ same. subst (λ z. z < n) same below) (stands_push xs x y here)
@@ -19,7 +19,7 @@ below_removed xs x n all mine y here =
     all y (times_stands xs y (omega (arith, times-remove_one y x xs mine)))
 
 module _ {B : Type 0} {t : TableId} {m : Me (Option B) SeatView} (sound : IsSound t m) where
-  -- nothing that is kept changed but the view's book
+  -- the seat is sound with another book that has the same setup and share and is within the setup
   sound_rested :
       (log : Log) (b : Book) → b.setup ≡ m.0.book.setup → b.account.share ≡ m.0.book.account.share
       → IsWithin m.0.book.setup b.account → LeadsToBook log b → IsSound t (rested m log b)
@@ -33,7 +33,7 @@ module _ {B : Type 0} {t : TableId} {m : Me (Option B) SeatView} (sound : IsSoun
         story = story;
       }
 
-  -- and of that book what the account holds and answers for
+  -- in particular if the account holds and is charged with the same
   pub sound_looked :
       (b : Book) → b.setup ≡ m.0.book.setup → b.account.share ≡ m.0.book.account.share
       → b.account.held ≡ m.0.book.account.held → b.account.charge ≡ m.0.book.account.charge → (log : Log)
@@ -100,7 +100,7 @@ module _ {B : Type 0} {t : TableId} {m : Me (Option B) SeatView} (sound : IsSoun
       charge o here = ⊎_elim (λ before. sound.within.charge o before) (λ item. objects o item)
           (stands_append m.0.book.account.charge items o here)
 
-  -- a buffer that was pushed is no longer held, and its items are no longer charged
+  -- a pushed buffer is no longer held, and its items are no longer charged
   pub sound_pushed :
       (q : Which) (i : ℕ) (items : List ℕ) → 0 < times i m.0.book.account.held
       → IsPart items m.0.book.account.charge → (log : Log) → LeadsToBook log (pushed q i items m.0.book)
@@ -122,7 +122,7 @@ module _ {B : Type 0} {t : TableId} {m : Me (Option B) SeatView} (sound : IsSoun
       go Full = sound_rested log (pushed Full i items m.0.book) refl refl (record { held = held; charge = charge })
       go Empty = sound_rested log (pushed Empty i items m.0.book) refl refl (record { held = held; charge = charge })
 
--- a seat is sound that is another one which its story makes sound
+-- a seat is sound if it is equal to one that its story makes sound
 pub sound_as :
     {B : Type 0} {t u : TableId} {m n : Me (Option B) SeatView} → (LeadsToBook n.0.log n.0.book → IsSound t n) → u ≡ t
     → m ≡ n → LeadsToBook m.0.log m.0.book → IsSound u m
@@ -130,7 +130,7 @@ sound_as {B} {t} {u} {m} {n} sound table same story =
     let moved = subst {A = Me (Option B) SeatView} (λ k. LeadsToBook k.0.log k.0.book) same story in
     subst (λ k. IsSound k m) (sym table) (subst (IsSound t) (sym same) (sound moved))
 
--- so is one that rests with a book with which each rest is
+-- so is a seat that rests with book b, if each seat that rests with b is
 pub sound_after :
     {B : Type 0} {t u : TableId} {m new : Me (Option B) SeatView} {b : Book} {kinds : List Kind}
     → ((log : Log) → LeadsToBook log b → IsSound t (rested m log b)) → u ≡ t → RestsWith m b kinds new → IsSound u new
@@ -141,7 +141,7 @@ pub bare_rested :
     {B : Type 0} {m new : Me (Option B) SeatView} {b : Book} {kinds : List Kind} → RestsWith m b kinds new → IsBare new
 bare_rested rests = subst IsBare (sym rests.same) (record { slots = refl; out = refl })
 
--- the slot of a held buffer is out: it came out, or an exchange failed while it was
+-- a seat is sound while the slot of a held buffer is out: after a store, or after a failed exchange
 pub sound_out :
     {B : Type 0} {t : TableId} {m : Me (Option B) SeatView} (sound : IsSound t m) (log : Log) (i : ℕ) (u : SeatView)
     → u.out ≡ suc i → u.book.setup ≡ m.0.book.setup → u.book.account.share ≡ m.0.book.account.share

@@ -1,4 +1,4 @@
--- A split of a worker, and a join of two, keep the rule.
+-- The split of a worker and the join of two keep the rule.
 use Rattle.std.proofs.Common.{◌≡◌, ◌≢◌, ℕ, ◌<◌, ◌≤◌, true, false, length, List, [], ◌∷◌, ◌++◌, map, Option, Some, None}
 use Rattle.std.proofs.Common.{set, ap, sym, refl, subst, ◌∙◌, ⊎_elim, arith}
 use Rattle.buffer_pool.proofs.Words.{map-append, some, dec_le, get_elem?, Me, State, Splits, Joins, TableId, at_map}
@@ -14,7 +14,7 @@ use Rattle.buffer_pool.proofs.States.{happened_told}
 use Rattle.buffer_pool.proofs.Deeds.{deeds_on, did_on}
 use Rattle.buffer_pool.proofs.Newcomers.{nothing_done, told_join, told_split}
 
--- what the rule says of one view
+-- what the rule requires of one view
 record Suits {B : Type 0} (e : Setup) (s : State (Option B) SeatView) (v : SeatView) : Type 0 where
   pub tied : IsTied s.words v
   pub rests : Rests s.homes v
@@ -24,7 +24,7 @@ module _ {B : Type 0} {r : Reading B} {e : Setup} {s : State (Option B) SeatView
   suits : (k : ℕ) (u : SeatView) → get_elem? s.views k ≡ some u → Suits e s u
   suits k u at = record { tied = rule.tied k u at; rests = rule.rests k u at; same_setup = rule.same_setup k u at }
 
-  -- the rule after views alone changed
+  -- the rule holds if only views change and each of them suits
   with_views :
       (views : List SeatView) → ((k : ℕ) (u : SeatView) → get_elem? views k ≡ some u → Suits e s u)
       → Reached r e (record { words = s.words; homes = s.homes; views = views })
@@ -76,7 +76,7 @@ module _ {B : Type 0} (r : Reading B) (e : Setup) (id : ℕ) (v : SeatView) wher
           (λ same. subst (Suits e s) same (holds_nothing rule (given_part v) refl refl (λ h. own_setup at)))
           (at_snoc (set s.views id (kept_part v)) (given_part v) u k here)
 
-      -- the new number is nobody's so far
+      -- the new number has done nothing so far
       nobody : deeds (length s.views) rule.reached.events ≡ []
       nobody =
           nothing_done e rule.reached.events (opening e e.first_tag) (marking_of r e s) (length s.views)
@@ -182,11 +182,11 @@ module _ {B : Type 0} (r : Reading B) (e : Setup) (id : ℕ) (v : SeatView) wher
             (told_join rule.reached.events s.views rule.reached.views id v is there known other w apart other_is
             theirs_there theirs_known theirs_said)
 
--- what holds of a seat holds of it under another name
+-- what holds of a seat holds of an equal one
 moved : {B : Type 0} {m n : Me (Option B) SeatView} (P : Me (Option B) SeatView → Type 0) → n ≡ m → P m → P n
 moved {B} P same = subst {A = Me (Option B) SeatView} P (sym {A = Me (Option B) SeatView} same)
 
--- the units of a split are as they were noted, and the worker knows its number
+-- the units are those that were noted for the split, and the worker knows its number
 pub noted_units :
     {B : Type 0} (m n : Me (Option B) SeatView) (log : Log) (units : ℕ)
     → n ≡ (record (logged log (free m.0)) { aside = units }, []) → 0 < units → units < m.0.book.account.share
@@ -195,7 +195,7 @@ noted_units m n log units is some_units less =
     moved (λ x. (0 < x.0.aside) × (x.0.aside < x.0.book.account.share) × (x.0.named ≡ true)) is
     (some_units, less, refl)
 
--- a seat whose log is up to date, over what it was before: it is sound and has the book that it had
+-- a seat whose log was brought up to date is sound and keeps its book
 sound_now :
     {B : Type 0} (t u : TableId) (m n : Me (Option B) SeatView) (b : Book) → u ≡ t
     → n ≡ (logged n.0.log (free m.0), []) → m.0.book ≡ b → IsLaid t b.setup → 0 < b.account.share
@@ -228,7 +228,7 @@ module _ {B : Type 0} {t u : TableId} {m two : Me (Option B) SeatView} (units : 
   given_is : {given : Me (Option B) SeatView} → given ≡ (given_part two.0, []) → given ≡ (given_part noted, [])
   given_is cut = cut ∙ ap (λ (x : Me (Option B) SeatView). (given_part x.0, [])) aside
 
-  -- what the loads after the cut ask
+  -- what the loads after the cut require
   pub kept_may : {kept : Me (Option B) SeatView} → kept ≡ (kept_part two.0, two.1) → units < m.0.book.account.share
       → Carries kept × (0 < kept.0.book.account.share)
   kept_may cut less = moved (λ x. Carries x × (0 < x.0.book.account.share)) (kept_is cut) (refl, omega (arith, less))
@@ -275,7 +275,7 @@ module _ {B : Type 0} {t u : TableId} {m two : Me (Option B) SeatView} (units : 
       is : given ≡ (given_part noted, [])
       is = given_is cut
 
-      -- the story of the first at the split is a beginning, and what it was before is a beginning of that
+      -- the story of the new worker begins with the story at the split
       first : (more : List Event) × (now.0.log.story ≡ log.story ++ more)
       first = subst {A = Me (Option B) SeatView} (λ x. (more : List Event) × (now.0.log.story ≡ x.0.taken ++ more)) is
           told.knows
@@ -317,18 +317,18 @@ module _ {B : Type 0} {t u : TableId} {m o freed both now : Me (Option B) SeatVi
             ∙ ap (λ n. deeds n after.0) (sym number) ∙ after.2,
       )
 
-  -- the seat is sound and has both books, it did the join alone, and it knows all that the other did
+  -- the seat is sound and has both books, it did nothing but the join, and its story has all that the other did
   pub has_joined :
       (IsSound u now × (now.0.book ≡ joined m.0.book o.0.book)) × Did m.0.log (Join o.0.log.number ∷ []) now.0.log
       × EndsStory o.0.log now.0.log.story
   has_joined = (has_both, did_join, ends_other)
 
--- its slot is where it was
+-- the seat carries the same slot
 pub carries_joined : {B : Type 0} (m o : Me (Option B) SeatView) {n : Me (Option B) SeatView}
     → n ≡ (joined_view m.0 o.0, m.1) → Carries m → Carries n
 carries_joined m o is carries = moved Carries is carries
 
--- where the two together have each thing once, they have nothing in common
+-- two accounts that have each thing once together have nothing in common
 pub apart_by : (a b : Account) → HasEachOnce (after_join a b) → AreApart a b
 apart_by a b each =
     record {

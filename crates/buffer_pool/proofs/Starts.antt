@@ -21,7 +21,7 @@ zeros zero i = refl
 zeros (suc n) zero = refl
 zeros (suc n) (suc i) = zeros n i
 
--- two heads among zeros: no link is laid
+-- the two heads among zeros are the first words, with no link laid
 pub heads_alone :
     (count tag x y : ℕ) → 32 ≤ count → head_of x ≡ first_heads tag Full → head_of y ≡ first_heads tag Empty
     → HasFirstWords count tag 1 (set (set (replicate count 0) 0 x) 16 y)
@@ -49,7 +49,7 @@ heads_alone count tag x y long full empty =
     elsewhere k full empty = get_or-set_other bare 16 k y 0 (λ f. empty (omega (arith, f)))
         ∙ get_or-set_other (replicate count 0) 0 k x 0 (λ f. full (omega (arith, f))) ∙ zeros count k
 
--- one more link is laid
+-- the first words with one more link laid
 pub link_laid : (count tag next at x : ℕ) (words : List ℕ) → HasFirstWords count tag next words → 0 < next
     → at ≡ 31 + next → at < count → x ≡ next + 1 → HasFirstWords count tag (next + 1) (set words at x)
 link_laid count tag next at x words first some_link place inside value =
@@ -68,7 +68,7 @@ link_laid count tag next at x words first some_link place inside value =
     here i same value = subst (λ k. slice_index (set words at x) k ≡ i + 2) same
         (get_or-set_same words at x 0 (omega (arith, first.word_count, inside)) ∙ value)
 
--- slots of new buffers are those of an opening marking
+-- the slots of new buffers are those of an opening marking
 module _ {B : Type 0} (r : Reading B) (size : ℕ) where
   slots_bare : (slots : List (Option B)) → All (IsFirstSlot r size) slots
       → map (slot_of r) (map some slots) ≡ replicate (length slots) (Some [])
@@ -89,7 +89,7 @@ module _ {B : Type 0} (r : Reading B) (size : ℕ) where
       sym (ap r.size one) ∙ t.3
   slots_sized (s ∷ ss) (suc i) b all at = slots_sized ss i b (λ k d low. all (suc k) d (omega (arith, low))) at
 
--- what holds of the one view holds of each
+-- P holds of each view if it holds of the only one
 only_one : (P : ℕ → SeatView → Type 0) (v : SeatView) → P 0 v → (w : ℕ) (u : SeatView) → get_elem? (v ∷ []) w ≡ some u
     → P w u
 only_one P v here zero u at = subst (P 0) (some-injective v u at) here
@@ -136,7 +136,7 @@ starts {B} r e words slots some_buffer first count all =
         ∙ sym (ap (λ t. if t then Some (i + 1) else None) (le-ltb (i + 1) e.buffers last)))
         (cases_lt (i + 1) e.buffers)
 
-    -- past the buffers both have no link
+    -- the links are those of an opening, and past the buffers there is none
     links : (i : ℕ) → cut e.buffers (λ k. index_of (slice_index words (link_word k))) i ≡ first_link e.buffers i
     links i = ⊎_elim (λ low. cut_below e.buffers link i low ∙ linked_first i low)
         (λ past. cut_past e.buffers link i past
@@ -156,7 +156,7 @@ starts {B} r e words slots some_buffer first count all =
         agrees (marking_of r e (opening words slots (first_view e))) (runs.opening e e.first_tag) first.heads links
         white (slots_bare r e.size slots all ∙ ap (λ n. replicate n (Some [])) count) first.idle refl
 
--- one more slot has its buffer
+-- each slot has its buffer after one more was pushed
 pub slot_pushed : {B : Type 0} (r : Reading B) (size : ℕ) (slots : List (Option B)) (b : B)
     → All (IsFirstSlot r size) slots → r.items b ≡ [] → r.size b ≡ size
     → All (IsFirstSlot r size) (slots ++ Some b ∷ [])
@@ -166,7 +166,7 @@ slot_pushed r size slots b all bare sized = All-append (IsFirstSlot r size) slot
     one zero d low = (b, refl, bare, sized)
     one (suc k) d low = absurd (omega (arith, low))
 
--- a table of these words and slots is laid for the setup
+-- a table with these words and slots is laid for the setup
 pub laid_first :
     (t : TableId) (e : Setup) (tag asked : ℕ) (words : List ℕ) (slots : ℕ) → t.words ≡ length words → t.slots ≡ slots
     → HasFirstWords (32 + e.buffers + mark_words e.objects) tag e.buffers words → slots ≡ e.buffers

@@ -1,4 +1,4 @@
--- Markings that agree, a list of events with one more, and the rule of a table after one seat's view changed.
+-- Markings that agree, a list of events with one more, and the rule after the view of one seat changed.
 use Rattle.std.proofs.Common.{◌≡◌, ◌≢◌, ℕ, zero, suc, ◌+◌, ◌<◌, ◌≤◌, nat_lt, if◌then◌else◌, List, [], ◌∷◌, length, map}
 use Rattle.std.proofs.Common.{Option, Some, None, true, set, slice_index, slice_set, ap, subst₂, sym, refl, subst, ◌∙◌}
 use Rattle.std.proofs.Common.{⊎_elim, length-set, lt-ltb, le-ltb, arith}
@@ -16,12 +16,12 @@ use mathlib.Core.Option as maybe
 use Rattle.mark_core.specs.Events as may
 use Rattle.buffer_pool.proofs.Deeds.{and_then, log_of, told_free, told_set, told_seen, told_step, did_one}
 
--- what a step leaves: these words and homes, and the seat's view is w
+-- the state after a step: `words` and `homes`, and view w at seat id
 abbrev pub left : {B : Type 0} → State (Option B) SeatView → List ℕ → List (maybe.Option (Option B)) → ℕ → SeatView
     → State (Option B) SeatView
 left s words homes id w = record { words = words; homes = homes; views = set s.views id w }
 
--- markings that agree in each part are one
+-- markings are equal if they agree in each part
 pub agrees :
     (m n : Marking) → ((q : Which) → m.head q ≡ n.head q) → ((i : ℕ) → m.link i ≡ n.link i)
     → ((o : ℕ) → m.mark o ≡ n.mark o)
@@ -36,7 +36,8 @@ agrees m n heads links marks slots idle accounts =
       accounts = accounts k;
     }
 
--- links once cut: a buffer's is as it was, and others are none; so two cuts are the same where buffers have the same
+-- a cut leaves the link of a buffer and has none past the buffers, so two cuts are the same if their buffers have the
+-- same links
 pub cut_below : (buffers : ℕ) (f : ℕ → Option ℕ) (i : ℕ) → i < buffers → cut buffers f i ≡ f i
 cut_below buffers f i below = ap (λ t. if t then f i else None) (lt-ltb i buffers below)
 
@@ -49,7 +50,7 @@ cut_same buffers f g same i =
     ⊎_elim (λ below. cut_below buffers f i below ∙ same i below ∙ sym (cut_below buffers g i below))
     (λ past. cut_past buffers f i past ∙ sym (cut_past buffers g i past)) (cases_lt i buffers)
 
--- a buffer's link may be written before or after
+-- a link of a buffer may be written before the cut or after it
 pub cut_put : (buffers : ℕ) (f : ℕ → Option ℕ) (i : ℕ) (x : Option ℕ) → i < buffers → (j : ℕ)
     → cut buffers (put i x f) j ≡ put i x (cut buffers f) j
 cut_put buffers f i x below j = go (ℕ_discrete j i)
@@ -60,7 +61,8 @@ cut_put buffers f i x below j = go (ℕ_discrete j i)
     go (no other) = ap (λ y. if nat_lt j buffers then y else None) (put_else i j x f other)
         ∙ sym (put_else i j x (cut buffers f) other)
 
--- the items at home in a slot after a write, and accounts and counts after one view changed
+-- a write of one home writes one slot of the marking, and a write of one view writes one account and one entry of the
+-- counts
 pub slots_set : {B : Type 0} (r : Reading B) (homes : List (maybe.Option (Option B))) (i : ℕ)
     (h : maybe.Option (Option B)) → map (slot_of r) (set homes i h) ≡ set (map (slot_of r) homes) i (slot_of r h)
 slots_set r = map-set (slot_of r)
@@ -76,11 +78,11 @@ counts_set = map-set view_counts
 pub nothing_out : (n : ℕ) → n ≡ 0 → (i : ℕ) → n ≡ suc i → ⊥
 nothing_out n z i s = omega (arith, z, s)
 
--- a seat whose log is up to date has said all
+-- a seat whose log was brought up to date has said all
 pub said_all : (log : Log) (v : SeatView) → HasSaidAll (logged log v)
 said_all log v = record { named = refl; unsaid = refl }
 
--- a word written again leaves the rule as it is
+-- writing the value of a word again keeps the rule
 pub written_again :
     {B : Type 0} {r : Reading B} {e : Setup} (s : State (Option B) SeatView) (id word : ℕ) (w : SeatView)
     → Rule r e (left s s.words s.homes id w)
@@ -90,24 +92,24 @@ written_again {r = r} {e = e} s id word w rule =
 
 -- a table that keeps the rule
 module _ {B : Type 0} {r : Reading B} {e : Setup} {s : State (Option B) SeatView} (rule : Rule r e s) where
-  -- what a list of events led to is lawful
+  -- the marking is lawful, as events led to it
   pub lawful : Law e (marking_of r e s)
   lawful = lawful_where e rule.reached.events (marking_of r e s) (map view_counts s.views) rule.some_buffer
       rule.reached.led
 
-  -- buffers at home have their size where one slot changed
+  -- the buffers at home have their size after one slot changed
   pub sized_set :
       (i : ℕ) (h : maybe.Option (Option B)) → ((b : B) → h ≡ some (Some b) → r.size b ≡ e.size) → (j : ℕ) (b : B)
       → get_elem? (set s.homes i h) j ≡ some (some (Some b)) → r.size b ≡ e.size
   sized_set i h here j b at = ⊎_elim (λ t. here b t.1) (λ t. rule.sized j b t.1)
       (at_set s.homes i j h (some (Some b)) at)
 
-  -- a buffer stands in one place
+  -- a buffer is in one place at most
   pub one_place : (i : ℕ)
       → times i (lawful.stack Full) + times i (lawful.stack Empty) + held_times i (map account_of s.views) ≤ 1
   one_place = let m = marking_of r e s in place_one e.buffers m.head m.link m.accounts lawful.stack lawful.owned
 
-  -- the buffer that a head names is on the stack, and is one
+  -- the buffer that a head names is on its stack, and is one of the pool's
   pub on_top : (q : Which) (i : ℕ) → (head_of (slice_index s.words (head_word q))).index ≡ Some i
       → (0 < times i (lawful.stack q)) × (i < e.buffers)
   on_top q i top =
@@ -115,7 +117,7 @@ module _ {B : Type 0} {r : Reading B} {e : Setup} {s : State (Option B) SeatView
       let on = top_stands e.buffers m.head m.link m.accounts lawful.stack lawful.owned q i top in
       (on, stacked_below e.buffers m.head m.link m.accounts lawful.stack lawful.owned q i on)
 
-  -- the account of a view, and the buffers that it holds: each is one, and its slot has no items
+  -- the account of a view is in the marking; each buffer that it holds is one of the pool's, and its slot has no items
   module _ (id : ℕ) (v : SeatView) (is : get_elem? s.views id ≡ some v) where
     pub stands : StandsAt (map account_of s.views) id v.book.account
     stands = at_map account_of s.views id v is
@@ -131,12 +133,12 @@ module _ {B : Type 0} {r : Reading B} {e : Setup} {s : State (Option B) SeatView
     pub held_away : (i : ℕ) → 0 < times i v.book.account.held → StandsAt (marking_of r e s).slots i None
     held_away i mine = let a = apart i mine in lawful.shelved.away i a.0 a.1 a.2
 
-    -- a stacked buffer is held by no account
+    -- no account holds a stacked buffer
     pub stacked_free : (q : Which) (i : ℕ) → 0 < times i (lawful.stack q) → 0 < times i v.book.account.held → ⊥
     stacked_free Full i on mine = let a = apart i mine in omega arith
     stacked_free Empty i on mine = let a = apart i mine in omega arith
 
-    -- a buffer that the account holds is no other's
+    -- no other account holds a buffer that this account holds
     pub held_alone : (k : ℕ) (u : SeatView) (i : ℕ) → k ≢ id → get_elem? s.views k ≡ some u
         → 0 < times i v.book.account.held → 0 < times i u.book.account.held → ⊥
     held_alone k u i other at mine theirs =
@@ -145,7 +147,7 @@ module _ {B : Type 0} {r : Reading B} {e : Setup} {s : State (Option B) SeatView
         stands (at_map account_of s.views k u at) in
         let one = one_place i in omega arith
 
--- a table keeps the rule, and the seat of this number has this view, with a share
+-- a state that keeps the rule, in which seat id has view v, with a share
 pub record Seated
     {B : Type 0} (r : Reading B) (e : Setup) (s : State (Option B) SeatView) (id : ℕ) (v : SeatView) : Type 0 where
   pub rule : Rule r e s
@@ -155,7 +157,7 @@ pub record Seated
 module _
     {B : Type 0} {r : Reading B} {e : Setup} {s : State (Option B) SeatView} {id : ℕ} {v : SeatView}
     (at : Seated r e s id v) where
-  -- all that happened up to now, and with one step more, as the log of the seat has it
+  -- the log of the seat with all events up to now, and with one more
   abbrev pub log_now : Log
   log_now = log_of id at.rule.reached.events
 
@@ -168,11 +170,11 @@ module _
   pub told : IsViewOf at.rule.reached.events id v
   told = at.rule.reached.views id v at.is at.there
 
-  -- of a seat that had said all that it did, the log after an event has that event
+  -- if a seat had said all, its log after an event continues by that event
   pub did_event : v.named ≡ true → v.unsaid ≡ [] → (kind : Kind) → Did v.log (kind ∷ []) (log_after kind)
   did_event = did_one at.rule.reached.events id v told
 
-  -- it has its new view
+  -- the seat has its new view
   pub seat_has : (w : SeatView) → get_elem? (set s.views id w) id ≡ some w
   seat_has w = set_here s.views id w (at_below s.views id v at.is)
 
@@ -180,7 +182,7 @@ module _
       → Rule r e (left s words homes id w) → 0 < w.book.account.share → Seated r e (left s words homes id w) id w
   seated_now words homes w rule share = record { rule = rule; is = seat_has w; there = share }
 
-  -- the rule after the seat's view became w
+  -- the rule holds after the seat's view became w
   pub changed :
       (words : List ℕ) (homes : List (maybe.Option (Option B))) (w : SeatView) → length words ≡ length s.words
       → length homes ≡ length s.homes
@@ -205,7 +207,7 @@ module _
         reached = reached;
       }
 
-  -- accounts and counts after the seat's view became one with the same account, or with the same counts
+  -- accounts are as they were if the new view has the same account, and counts if it has the same counts
   pub accounts_same : (w : SeatView) → w.book.account ≡ v.book.account
       → map account_of (set s.views id w) ≡ map account_of s.views
   accounts_same w same =
@@ -218,7 +220,7 @@ module _
       counts_set s.views id w ∙ ap (set (map view_counts s.views) id) same
       ∙ set_again (map view_counts s.views) id (view_counts v) (at_map view_counts s.views id v at.is)
 
-  -- the counts after one that the event changes
+  -- the counts after an event that changes those of the seat
   pub counts_changed :
       (w : SeatView) (f : Counts → Counts) → view_counts w ≡ f (view_counts v)
       → map view_counts (set s.views id w)
@@ -228,7 +230,7 @@ module _
       (at_map view_counts s.views id v at.is) in
       counts_set s.views id w ∙ ap (set (map view_counts s.views) id) (new ∙ ap f (sym was))
 
-  -- a story leads to the seat's book, where it leads to a table in which the seat has that book
+  -- a story leads to the seat's book if it leads to a table in which the seat has that book
   leads_here : (w : SeatView) (story : List Event) (t : State (Option B) SeatView) → t.views ≡ set s.views id w
       → w.book.setup ≡ v.book.setup → LeadTo e story (marking_of r e t) (map view_counts t.views)
       → LeadsToBook (log_of id story) w.book
@@ -242,7 +244,7 @@ module _
         at_map view_counts t.views id w here,
       )
 
-  -- an event of the seat happened: it may do this, and the table stands for what comes of it
+  -- after an event that the seat may do, the events with this one lead to the state after it
   module _
       (kind : Kind) (can : may.Allows e (marking_of r e s) id v.book.account kind) (t : State (Option B) SeatView)
       (marking : marking_of r e t ≡ effect (marking_of r e s) id v.book.account kind)
@@ -257,12 +259,12 @@ module _
         (leads_on e (record { worker = id; kind = kind }) at.rule.reached.events m (map view_counts s.views)
         at.rule.reached.led (v.book.account, (own, at.there), can))
 
-    -- each log is told
+    -- the state is reached if each view holds of that list
     pub happened_told : AreViewsOf (and_then at.rule.reached.events id kind) t.views → Reached r e t
     happened_told views =
         record { events = and_then at.rule.reached.events id kind; led = happened_led; views = views }
 
-  -- and the log of the seat has it
+  -- in particular if the log of the seat has the event
   pub happened :
       (kind : Kind) → may.Allows e (marking_of r e s) id v.book.account kind → (words : List ℕ)
       (homes : List (maybe.Option (Option B))) (u : SeatView) → u.book.setup ≡ v.book.setup
@@ -279,7 +281,7 @@ module _
       (told_step at.rule.reached.events s.views at.rule.reached.views id u kind
       (leads_here w (and_then at.rule.reached.events id kind) t refl setup led))
 
-  -- an exchange failed: only that is counted, and slots stay where they are
+  -- a failed exchange changes nothing but the count of failures
   pub missed_reached : (q : Which) (h : Head) → (look_of v.book.account q).head ≡ Some h
       → (head_of (slice_index s.words (head_word q)) ≡ h → ⊥)
       → Reached r e (left s s.words s.homes id (record (logged (log_after (Fail q)) v) { book = failed v.book }))
@@ -288,7 +290,7 @@ module _
       happened (Fail q) (h, last, other) s.words s.homes w refl
       (λ k. record (marking_of r e s) { accounts = accounts_same w refl k }) (counts_changed w count_failure refl)
 
-  -- nothing happened: the marking and the counts are the same
+  -- a state with the same marking and counts is reached by the same events
   pub nothing_happened :
       (t : State (Option B) SeatView) → marking_of r e t ≡ marking_of r e s
       → map view_counts t.views ≡ map view_counts s.views → AreViewsOf at.rule.reached.events t.views
@@ -313,13 +315,13 @@ module _
       (told_seen at.rule.reached.events s.views at.rule.reached.views id u
       (leads_here w at.rule.reached.events t refl (ap (λ (b : Book). b.setup) same) led))
 
-  -- the story of a seat that said all that it did leads to its book
+  -- the story of a seat that has said all leads to its book
   pub story_now : (words : List ℕ) (homes : List (maybe.Option (Option B))) (log : Log) (u : SeatView)
       → Rule r e (left s words homes id (logged log u)) → 0 < u.book.account.share → LeadsToBook log u.book
   story_now words homes log u rule share =
       (rule.reached.views id (logged log u) (seat_has (logged log u)) share).leads refl refl
 
-  -- a slot that is out goes home without its buffer, and the rule still holds
+  -- the state is reached after the slot that is out went home without its buffer
   given_reached : (homes : List (maybe.Option (Option B))) → map (slot_of r) homes ≡ map (slot_of r) s.homes
       → Reached r e (left s s.words homes id (free v))
   given_reached homes same =
@@ -362,11 +364,11 @@ module _
               (omega (arith, held_below at.rule id v at.is i mine, at.rule.slot_count)))
           go (no other) = set_else s.homes i j (some None) other ∙ elsewhere other
 
--- The first step of a call gives the slot back that is out, at no cost: what a seat with nothing out may do, each seat
+-- The first step of a call puts back the slot that is out, at no cost: so each seat may do what a seat with no slot out
 -- may do.
 module _ {B : Type 0} (r : Reading B) (e : Setup) (slots id word : ℕ) (f : ℕ → ℕ)
     (tells : ℕ → Me (Option B) SeatView → Type 0) where
-  -- the step may be made at this table by a seat that carries these slots
+  -- a seat that carries the slots `carried` may make the step at this table
   abbrev pub Goes : List (ℕ × Option B) → State (Option B) SeatView → Type 0
   Goes carried s = (w : SeatView) × (a : Act (Option B)) × Valid s.homes carried a
       × Rule r e (stepped s word (f (slice_index s.words word)) id carried w a)
@@ -410,7 +412,7 @@ module _ {B : Type 0} (r : Reading B) (e : Setup) (slots id word : ℕ) (f : ℕ
   freed me carries there allows = subst (λ c. Allows (Rule r e) slots id (me.0, c) word f tells) (sym carries)
       (freed_at me.0 me.0.out refl there allows)
 
--- a seat that had said all that it did rests with its new book after an event, where the rule holds then
+-- a seat that had said all rests with its new book after an event, if the rule holds then
 module _
     {B : Type 0} {r : Reading B} {e : Setup} {s : State (Option B) SeatView} {id : ℕ} (me : Me (Option B) SeatView)
     (at : Seated r e s id (free me.0)) (done : HasSaidAll me.0) where

@@ -7,16 +7,16 @@ use Rattle.buffer_pool.proofs.Words.{mark_in, pair_bits, pair_mark, first_mark, 
 use Rattle.buffer_pool.proofs.Words.{marks_of}
 use Rattle.buffer_pool.proofs.Bits.{cut_object, mark_beside}
 
--- a head has one word
+-- different words are different heads
 pub one_head : (m n : ℕ) → head_of m ≡ head_of n → m ≡ n
 one_head m n same = sym (restored m) ∙ ap word_of same ∙ restored n
 
--- a head's word is below the links
+-- the word of a head is below the links
 pub head_below : (q : Which) → head_word q < 32
 head_below Full = omega arith
 head_below Empty = omega arith
 
--- what a compare-exchange leaves
+-- a compare-exchange that finds the old word leaves the new one
 pub exchange_hit : (n old new : ℕ) → n ≡ old → either (n == old) new n ≡ new
 exchange_hit n old new hit = ap (λ b. either b new n) (eq-eqb n old hit)
 
@@ -24,11 +24,11 @@ pub exchange_miss : (n old new : ℕ) → n ≢ old → either (n == old) new n 
 exchange_miss n old new miss = ap (λ b. either b new n) (ne_eqb n old miss)
 
 module _ (e : Setup) (words : List ℕ) where
-  -- a word is as it was
+  -- the word k is as it was
   abbrev pub Keeps : List ℕ → ℕ → Type 0
   Keeps new k = slice_index new k ≡ slice_index words k
 
-  -- the mark of an object is as it was where its word is
+  -- the mark of an object is as it was if its word is
   same_mark : (new : List ℕ) (o : ℕ) → Keeps new (mark_word e o) → marks_of e new o ≡ marks_of e words o
   same_mark new o same = ap (λ y. if nat_lt o e.objects then pair_mark y (o % 32) else 0) same
 
@@ -118,7 +118,7 @@ module _ (e : Setup) (words : List ℕ) where
     link_beside_mark i below =
         get_or-set_other words (mark_word e o) (link_word i) raised 0 (λ h. omega (arith, h, below))
 
-    -- its mark is raised, and each other mark is as it was
+    -- the mark of the object is raised to x, and each other mark is as it was
     pub marks_after :
         (x : ℕ) → c < 4 → o < e.objects → mark_word e o < length words → pair_mark raised (o % 32) ≡ x
         → (p : ℕ) → marks_of e raised_words p ≡ put o x (marks_of e words) p
@@ -127,7 +127,7 @@ module _ (e : Setup) (words : List ℕ) where
         there : slice_index raised_words (mark_word e o) ≡ raised
         there = get_or-set_same words (mark_word e o) raised 0 below
 
-        -- another object's mark, in the same word or in another one
+        -- another object keeps its mark, in the same word or in another one
         beside : p ≢ o → Dec (p / 32 ≡ o / 32) → mark_in raised_words (first_mark e) p ≡ mark_in words (first_mark e) p
         beside other (yes w) =
             let at : mark_word e p ≡ mark_word e o = omega (arith, w) in

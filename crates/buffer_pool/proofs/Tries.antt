@@ -1,4 +1,4 @@
--- A try that was lost may be made again.
+-- A lost try may be repeated.
 use Rattle.buffer_pool.proofs.Words.{Book, Did, Empty, Full, Head, HeldBuffer, IsBusy, List, Log, MayPush, Option}
 use Rattle.buffer_pool.proofs.Words.{TriesPop, TriesPush, TryPopped, Which, failed, link_loaded, loaded, lost_pops}
 use Rattle.buffer_pool.proofs.Words.{lost_pushes, subst, sym, try_pop_steps, try_push_steps, ℕ, ◌++◌, ◌≡◌}
@@ -30,12 +30,12 @@ busy_again q old new busy lost =
     subst (λ (b : Book). IsBusy b.account) (sym lost.5) (busy_looked q lost.0 lost.2 old busy)
 
 module _ (q : Which) (old mid new : Log) where
-  -- what a worker did: tries of a pop that were all lost, and one more
+  -- a worker lost some tries of a pop and made one more
   pub pop_did : (tried : TryPopped HeldBuffer) → ((lost : ℕ) × Did old (lost_pops q lost) mid)
       → Did mid (try_pop_steps q tried) new → (lost : ℕ) × Did old (lost_pops q lost ++ try_pop_steps q tried) new
   pop_did tried was did = (was.0, did_on old mid new (lost_pops q was.0) (try_pop_steps q tried) was.1 did)
 
-  -- and the same of a push, of a buffer that bears two names
+  -- the same of a push; h and k are the same buffer
   pub push_did :
       (h k : HeldBuffer) (tried : TryPushed HeldBuffer) → k ≡ h
       → ((links : List (Option ℕ)) × Did old (lost_pushes q h links) mid)

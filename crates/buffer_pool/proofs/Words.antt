@@ -1,4 +1,4 @@
--- What the proofs use of the crates below, and the words of this crate that they use, in one place.
+-- Collects what the proofs use of the crates below, and the words of this crate that they use.
 pub use lib.ListN.{get_elem?}
 pub use mathlib.Core.Option.{none, some, some-injective, some-ne-none}
 pub use native.Mathlib.Decide.{dec_le, ℕ_discrete}

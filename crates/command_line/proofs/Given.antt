@@ -1,4 +1,4 @@
--- From the definition of the command line to what the matches of a parse hold.
+-- The matches of a parse hold what the definition of the command line requires.
 use Rattle.std.proofs.Common.{List, Some, [], ap, arith, false, inl, inr, length, map, is_some, refl, slice_index}
 use Rattle.std.proofs.Common.{subst, suc, sym, true, zero, true≢false, not, ℕ, Bool, Option, ◌&&◌, ◌∙◌, ◌∷◌, ◌≡◌, ◌≢◌}
 use Rattle.std.proofs.Common.{◌<◌, ◌≤◌}
@@ -56,7 +56,7 @@ negates_of_line : heapmark_line.top.subcommand_negates_reqs ≡ false
 unfolding heapmark_line
 negates_of_line = refl
 
--- the name of each rule is its own
+-- no other rule has the name of rule k
 abbrev IsOnly : Text → ℕ → Type 0
 IsOnly name k = (j : ℕ) (r : Rule) → j < 6 → bytes_eq (slice_index_or rules j r).id name ≡ true → j ≡ k
 
@@ -112,7 +112,7 @@ is_none : {X : Type 0} (o : Option X) → not (is_some o) ≡ true → o ≡ Non
 is_none None e = refl
 is_none (Some x) e = absurd (true≢false (sym e))
 
--- what a simple argument has none of
+-- a simple argument has no overrides, no conditional defaults, no groups and no delimiter
 simple_parts : (a : Arg) → is_simple_arg a ≡ true → (a.overrides.items ≡ []) × (a.default_vals_ifs.items ≡ [])
     × (a.groups.items ≡ []) × (a.val_delim ≡ None)
 simple_parts a simple =
@@ -189,7 +189,7 @@ module _ (old : Command) (is : app_of old ≡ heapmark_line) where
   negates : (out-Command old).subcommand_negates_reqs ≡ false
   negates = ap (λ (a : App). a.top.subcommand_negates_reqs) is ∙ negates_of_line
 
-  -- the rule of the argument at a place, where no other has its name
+  -- no other argument has the name of the argument at place k
   unique : (name : Text) (k : ℕ) (d : Arg) → IsOnly name k → (slice_index_or (args_of old) k d).id.now ≡ name
       → (j : ℕ) (e : Arg) → j < length (args_of old)
       → bytes_eq (slice_index_or (args_of old) j e).id.now (slice_index_or (args_of old) k d).id.now ≡ true → j ≡ k
@@ -261,7 +261,7 @@ module _ (old : Command) (is : app_of old ≡ heapmark_line) where
         | inr h ↦ let bad : 118 ≡ 102 = first _ h in absurd (omega arith)
       ]))
 
--- what is first among the matches is what the words give
+-- the first value of `name` among the matches is the text that the words have for it
 pub given : (m : ArgMatches) (words : List Text) → rows_of (found_of m) ≡ matches_of heapmark_line words → (name : Text)
     → first_value (found_of m) name ≡ text_given name words
 given m words rows name = first_value-rows (found_of m) name ∙ ap (first_of name) rows

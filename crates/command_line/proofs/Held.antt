@@ -1,4 +1,4 @@
--- What the matches of a parse that succeeded hold of one argument that takes one value.
+-- What the matches of a successful parse hold of an argument that takes one value.
 use Rattle.std.proofs.Common.{List, None, Option, Some, [], ap, arith, false, inl, inr, is_some, length, option_map}
 use Rattle.std.proofs.Common.{refl, subst, suc, sym, true, true≢false, zero, ℕ, Bool, ◌++◌, ◌∙◌, ◌∷◌, ◌≡◌, ◌<◌, ◌≤◌}
 use Rattle.std.proofs.Common.{◌⊎◌}
@@ -25,7 +25,7 @@ use Rattle.clap.specs.declared.parser.matches.Found.{Found}
 use Rattle.clap.specs.declared.parser.matches.MatchedArg.{MatchedArg}
 use Rattle.clap.proofs.CallerLemmas.{entry_by_id, same_rules_by_id}
 
--- an id that some entry has is found
+-- an id that an entry has is found
 pub found_by_id : (xs : List Entry) (id : List ℕ) → HasIn xs id
     → is_some (option_map (λ e. e.1) (find (λ e. bytes_eq e.0.now id) xs)) ≡ true
 found_by_id [] id h = absurd (omega (arith, h.1))
@@ -39,7 +39,7 @@ found_by_id (x ∷ xs) id h = go (bytes_eq x.0.now id) refl h.0 h.1 h.2 (found_b
     go false e zero lt there rest = let bad : false ≡ true = sym e ∙ there x in cc
     go false e (suc i) lt there rest = rw e (rest (i, omega arith, there))
 
--- the first of some values
+-- the first value exists and satisfies what all values satisfy
 first : (P : Bor (List ℕ) → Type 0) (how : Reading) (vs : List (Bor (List ℕ))) → 0 < length vs → All P vs
     → (v : Bor (List ℕ)) × (option_map (λ s. s.now) (slice_get vs 0) ≡ Some v.now)
     × (option_map (λ s. read_as how s.now) (slice_get vs 0) ≡ Some (read_as how v.now)) × P v
@@ -56,7 +56,7 @@ read_at : (f : Found) (id : List ℕ) (x : MatchedArg) (how : Reading) (t : List
     → option_map (λ s. read_as how s.now) (slice_get x.vals.items 0) ≡ Some t → one_text f id ≡ Some t
 read_at f id x how t found reading is = rw (found, reading) is
 
--- the k-th argument of the caller's has an id of its own, takes one value and has this parser
+-- the argument k of the caller's command has an id of its own, takes one value and has parser q
 pub record TakesOne (old : Command) (k : ℕ) (d : Arg) (q : ValueParser) : Type 0 where
   pub below : k < length (args_of old)
   pub unique : (j : ℕ) (e : Arg) → j < length (args_of old)
@@ -70,7 +70,7 @@ pub record TakesOne (old : Command) (k : ℕ) (d : Arg) (q : ValueParser) : Type
 
 module _ (old : Command) (m : ArgMatches) (p : IsParsedFrom old m) (no_groups : groups_of p.built ≡ []) (k : ℕ)
     (d : Arg) (q : ValueParser) (takes : TakesOne old k d q) where
-  -- an argument of the built command with this id takes one value, and has the parser
+  -- each argument of the built command with this id takes one value and has the parser
   rules_at : (j : ℕ) (x : Arg) → j < length (args_of p.built) → slice_index_or (args_of p.built) j x ≡ x
       → bytes_eq x.id.now (slice_index_or (args_of old) k d).id.now ≡ true
       → (parser_of x ≡ q) × (x.ignore_case ≡ (slice_index_or (args_of old) k d).ignore_case) × (x.action ≡ Some Set)
@@ -84,7 +84,7 @@ module _ (old : Command) (m : ArgMatches) (p : IsParsedFrom old m) (no_groups : 
         s.least takes.set takes.least,
       )
 
-  -- a value that passed, passed this parser
+  -- the parser accepts each value that passed
   passed : (v : List ℕ) → PassesArg p.built (slice_index_or (args_of old) k d).id.now v
       → Accepts (slice_index_or (args_of old) k d).ignore_case q v
   passed v any =
@@ -100,7 +100,7 @@ module _ (old : Command) (m : ArgMatches) (p : IsParsedFrom old m) (no_groups : 
         absurd (omega arith)
   ]
 
-  -- its entry has a value
+  -- the entry of the argument has a value
   filled : (e : Entry) → (e.0.now ≡ (slice_index_or (args_of old) k d).id.now) → EntryPasses p.built e
       → 0 < length e.1.vals.items
   filled e key pass = elim pass.1 [
@@ -121,7 +121,7 @@ module _ (old : Command) (m : ArgMatches) (p : IsParsedFrom old m) (no_groups : 
         ]
   ]
 
-  -- what the entry of the argument holds
+  -- the argument has a first value, which is the text that is read and which the parser accepts
   pub held : is_some (matched_of (found_of m) (slice_index_or (args_of old) k d).id.now) ≡ true
       → (out-Command old).has_globals ≡ false
       → (v : List ℕ) × (first_value (found_of m) (slice_index_or (args_of old) k d).id.now ≡ Some v)

@@ -1,7 +1,7 @@
 -- Identifiers that agree in their lowest bits.
 use Rattle.std.specs.Prelude.{List, map, ◌*◌, ◌+◌, ◌^◌, ℕ}
 
--- an identifier from what stands above its lowest bits, and those
+-- the identifier whose bits above the lowest `shift` are `high`, and whose lowest bits are `low`
 abbrev pub whole_id : ℕ → ℕ → ℕ → ℕ
 whole_id shift low high = high * 2 ^ shift + low
 

@@ -1,4 +1,4 @@
--- The tables of the opening.
+-- The tables that an opening makes are those of the opening marking, and are lawful.
 use Rattle.std.proofs.Common.{◌≡◌, ℕ, zero, suc, ◌+◌, ◌<◌, ◌≤◌, All, length, subst, List, [], ◌∷◌, ◌++◌, get_or}
 use Rattle.std.proofs.Common.{replicate, Some, None, ap, sym, refl, ◌∙◌, arith}
 use Rattle.std.proofs.lemmas.List.{replicate-append-replicate}
@@ -43,7 +43,7 @@ module _ (s : Listing) (e : Setup) (tag : ℕ) where
         accounts = accounts t;
       }
 
-  -- the opening is under the law
+  -- the law holds of the opening marking
   pub lawful_opening :
       marking_of s ≡ opening e tag → s.setup ≡ e → length s.links ≡ e.buffers
       → length s.slots ≡ e.buffers → length s.marks ≡ e.objects

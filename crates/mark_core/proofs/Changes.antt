@@ -12,7 +12,7 @@ use Rattle.mark_core.proofs.Chains.{chain_one, chain_links, chain_rest, chain_mo
 use Rattle.mark_core.proofs.Ownership.{held_else}
 use Rattle.mark_core.proofs.Colours.{charged}
 
--- an exchange of one head: of its stack one list is left, and of the other stack the same
+-- an exchange of one head replaces the list of its stack and keeps the list of the other
 module _ (link : ℕ → Option ℕ) (head : Which → Head) (h : Head) (old new list : List ℕ) where
   exchanged : (p q : Which) → Chain link (head q).index old → Chain link h.index list
       → Chain link (put_which p h head q).index new → (p ≡ q → new ≡ list) × (p ≢ q → new ≡ old)
@@ -20,17 +20,17 @@ module _ (link : ℕ → Option ℕ) (head : Which → Head) (h : Head) (old new
   exchanged Empty Empty c d n = ((λ e. chain_one link h.index new list n d), (λ k. absurd (k refl)))
   exchanged p q c d n = ((λ e. let f : ⊥ = cc in absurd f), (λ k. chain_one link (head q).index new old n c))
 
--- a number put in that is no smaller makes none smaller
+-- no value falls if one is replaced by a value that is not smaller
 put_rises : (mark : ℕ → ℕ) (p x : ℕ) → mark p ≤ x → (o : ℕ) → mark o ≤ put p x mark o
 put_rises mark p x h = put_each (λ o z. mark o ≤ z) p x mark h (λ o n. omega arith)
 
 module _ (e : Setup) (m : Marking) (law : Law e m) (w : ℕ) (a : Account) (there : IsThere m.accounts w a) where
-  -- the list of a stack is the law's
+  -- each list of a stack is the one that the law names
   was_stack : (p q : Which) (old : List ℕ) → IsListOf m q old → p ≡ q → old ≡ law.stack p
   was_stack p q old c s =
       chain_one m.link (m.head q).index old (law.stack q) c (law.owned.chain q) ∙ ap law.stack (sym s)
 
-  -- after a pop: the rest of the stack, whose list this was
+  -- a pop removes the first buffer from its stack, and keeps the other stack
   pub pop_takes :
       (p q : Which) (i : ℕ) (l : Option ℕ) → (look_of a p).head ≡ Some (m.head p) → (m.head p).index ≡ Some i
       → (look_of a p).link ≡ Some l
@@ -51,7 +51,7 @@ module _ (e : Setup) (m : Marking) (law : Law e m) (w : ℕ) (a : Account) (ther
       taken : p ≡ q → (k : ℕ) × (old ≡ k ∷ new)
       taken s = (i, was_stack p q old c s ∙ (r.1 ∙ ap (λ xs. i ∷ xs) (sym (both.0 s))))
 
-  -- after a push: the buffer and the stack, whose list this was
+  -- a push puts the buffer before its stack, and keeps the other stack
   pub push_puts :
       (p q : Which) (i : ℕ) → m.link i ≡ (m.head p).index
       → (old new : List ℕ) → IsListOf m q old
@@ -63,7 +63,7 @@ module _ (e : Setup) (m : Marking) (law : Law e m) (w : ℕ) (a : Account) (ther
       both = exchanged m.link m.head (after (m.head p) (Some i)) old new (i ∷ law.stack p) p q c
           (chain_more m.link (m.head p).index (law.stack p) i (law.owned.chain p) leads) n
 
-  -- a store at a held buffer changes no list
+  -- a store to the link of a held buffer changes no list
   pub store_leaves : (q : Which) (i : ℕ) (l : Option ℕ) → 0 < times i a.held → (old new : List ℕ) → IsListOf m q old
       → Chain (put i l m.link) (m.head q).index new → new ≡ old
   store_leaves q i l mine old new c n =
@@ -98,7 +98,7 @@ stacks_change e m event law can q old new c n =
     effect_changes e m law event.worker can.0 can.1 event.kind can.2 q old new c
     (subst (λ n. IsListOf n q new) (happens_as e m event can) n)
 
--- the head that an exchange writes has the next tag
+-- an exchange raises the tag of its head by one, and leaves the other head
 tag_after : (m : Marking) (p q : Which) (i : Option ℕ) → (put_which p (after (m.head p) i) m.head q ≡ m.head q)
     ⊎ ((put_which p (after (m.head p) i) m.head q).tag ≡ (m.head q).tag + 1)
 tag_after m p q i = put_one (λ r h. (h ≡ m.head r) ⊎ (h.tag ≡ (m.head r).tag + 1)) p (after (m.head p) i) m.head

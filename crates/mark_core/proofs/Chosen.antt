@@ -1,4 +1,4 @@
--- A list without repeats has the same sums as the numbers below a bound that are in it.
+-- A list without repeats has the same sums as those numbers below a bound that are in it.
 use Rattle.std.proofs.Common.{◌≡◌, ◌⊎◌, ◌↔◌, ℕ, zero, suc, ◌+◌, ◌<◌, ◌≤◌, Bool, true, false, cond, nat_lt, arith}
 use Rattle.std.proofs.Common.{List, [], ◌∷◌, Contains, filter, length, sum_by, ap, sym, refl, ◌∙◌, ⊎_elim}
 use Rattle.std.proofs.Common.{lt-ltb, le-ltb}
@@ -10,7 +10,7 @@ use Rattle.mark_core.specs.Lists.{one_where, only, times}
 use Rattle.mark_core.proofs.SameObjects.{same_sums}
 use Rattle.mark_core.proofs.Sums.{only-same, only-other, stands_times, times_stands}
 
--- each number at most once
+-- each number is in the list at most once
 abbrev pub IsOnce : List ℕ → Type 0
 IsOnce objects = (o : ℕ) → times o objects ≤ 1
 
@@ -18,11 +18,11 @@ IsOnce objects = (o : ℕ) → times o objects ≤ 1
 abbrev pub chosen : (ℕ → Bool) → ℕ → List ℕ
 chosen p n = filter p (range_with_len 0 n)
 
--- they are those of the list
+-- the numbers below n that pass are those in the list
 abbrev pub AreThose : (ℕ → Bool) → ℕ → List ℕ → Type 0
 AreThose p n objects = (o : ℕ) → ((p o ≡ true) × (o < n)) ↔ Contains objects o
 
--- how often a number stands among those that pass
+-- a number is among those that pass as often as in the list if it passes, and not at all otherwise
 times-passing : (p : ℕ → Bool) (o : ℕ) (xs : List ℕ) → times o (filter p xs) ≡ cond (p o) (times o xs) 0
 times-passing p o xs = go xs
   where
@@ -42,7 +42,7 @@ times-passing p o xs = go xs
     go [] = none (p o)
     go (y ∷ ys) = more (p o) (p y) y ys (filter p ys) (ap p) (go ys)
 
--- each number from a to below a + n stands there once
+-- o is below a + 1 if it is a or below a
 one_more : (o a : ℕ) → only o a + one_where (nat_lt o a) ≡ one_where (nat_lt o (a + 1))
 one_more o a = ⊎_elim
     (λ same. omega (arith, only-same o a (sym same), past a (omega (arith, same)), below (omega (arith, same))))
@@ -68,7 +68,7 @@ times-range_from o a (suc n) =
     let e : (a + 1) + n ≡ a + suc n = omega arith in
     omega (arith, times-range_from o (a + 1) n, one_more o a, ap (λ k. one_where (nat_lt o k)) e)
 
--- each number below n stands there once
+-- each number below n is in the range once
 pub times-range : (o n : ℕ) → times o (range_with_len 0 n) ≡ one_where (nat_lt o n)
 times-range o n =
     let e : 0 + n ≡ n = omega arith in
@@ -107,7 +107,7 @@ pub ones : (xs : List ℕ) → sum_by (λ o. 1) xs ≡ length xs
 ones [] = refl
 ones (x ∷ xs) = omega (arith, sum_by-cons (λ (o : ℕ). 1) x xs, ones xs)
 
--- no more than n numbers below n
+-- a list without repeats has at most n numbers below n
 pub few_once :
     (n : ℕ) (objects : List ℕ) → IsOnce objects → ((o : ℕ) → Contains objects o → o < n) → length objects ≤ n
 few_once n objects once within =

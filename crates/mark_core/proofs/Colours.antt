@@ -7,7 +7,7 @@ use Rattle.mark_core.proofs.Words.{stacked_times, charged_times, finished_times}
 use Rattle.mark_core.proofs.Places.{OfEach, set_all, push_all, set_else, put_each}
 use Rattle.mark_core.proofs.Sums.{sum_of-set, sum_of-append, term_le, times-without, stands_append, stands_times}
 
--- the three cases in linear form, and back
+-- the three cases of a colour as two linear facts, and back
 pub tells_sums : (m w d : ℕ) → HasColour m w d → (m ≡ w + 2 * d) × (w + d ≤ 1)
 tells_sums m w d (inl t) = (omega arith, omega arith)
 tells_sums m w d (inr (inl t)) = (omega arith, omega arith)
@@ -23,7 +23,7 @@ sums_tell m zero (suc (suc d)) e h = absurd (omega arith)
 
 module _ (e : Setup) (mark : ℕ → ℕ) (slots : List (Option (List ℕ))) (accounts : List Account)
     (c : IsColoured e mark slots accounts) where
-  -- the linear form at an object
+  -- the two linear facts at an object
   pub linear : (o : ℕ) → (mark o ≡ stacked_times o slots + charged_times o accounts + 2 * finished_times o accounts)
       × (stacked_times o slots + charged_times o accounts + finished_times o accounts ≤ 1)
   linear o = tells_sums (mark o) (stacked_times o slots + charged_times o accounts) (finished_times o accounts)
@@ -43,7 +43,7 @@ HasSeen mark a = (o : ℕ) → Contains a.seen o → 1 ≤ mark o
 
 module _ {e : Setup} {mark : ℕ → ℕ} {slots : List (Option (List ℕ))} {accounts : List Account}
     (c : IsColoured e mark slots accounts) where
-  -- other slots and accounts, in which each object stands as often as before
+  -- the colours hold for other slots and accounts in which each object is as often as before
   pub coloured_recount :
       (slots' : List (Option (List ℕ))) (accounts' : List Account)
       → ((o : ℕ) → stacked_times o slots' + charged_times o accounts'
@@ -60,7 +60,7 @@ module _ {e : Setup} {mark : ℕ → ℕ} {slots : List (Option (List ℕ))} {ac
           sums_tell (mark o) (stacked_times o slots' + charged_times o accounts') (finished_times o accounts')
           (omega (arith, working o, done o)) (omega (arith, working o, done o))
 
-  -- a mark is written: what is told of that object is told anew, and the object is reachable
+  -- the colours hold after a mark was written, if the new mark suits the accounts and the object is reachable
   pub coloured_put :
       (o x : ℕ) (now : List Account) → 1 ≤ x
       → HasColour x (stacked_times o slots + charged_times o now) (finished_times o now)
@@ -95,7 +95,7 @@ module _ {e : Setup} {mark : ℕ → ℕ} {slots : List (Option (List ℕ))} {ac
           sums_tell (mark y) (stacked_times y slots + charged_times y now) (finished_times y now)
           (omega arith) (omega arith)
 
-  -- a new account that has only units
+  -- the colours hold with a new account that has only units
   pub coloured_part : (units : ℕ) → IsColoured e mark slots (accounts ++ part units ∷ [])
   coloured_part units =
       coloured_recount slots (accounts ++ part units ∷ [])
@@ -114,7 +114,7 @@ module _ {e : Setup} {mark : ℕ → ℕ} {slots : List (Option (List ℕ))} {ac
     keeps_seen b same =
         set_all (HasSeen mark) accounts w b c.saw (λ o k. c.saw w a is o (subst (λ xs. Contains xs o) same k))
 
-    -- the account changes in nothing that the colours read
+    -- the colours hold if the account changes in nothing that they read
     pub coloured_same : (b : Account) → b.charge ≡ a.charge → b.finished ≡ a.finished → b.seen ≡ a.seen
         → IsColoured e mark slots (set accounts w b)
     coloured_same b charge finished seen =
@@ -125,7 +125,7 @@ module _ {e : Setup} {mark : ℕ → ℕ} {slots : List (Option (List ℕ))} {ac
         omega (arith, sum_of-set (λ (x : Account). times o x.finished) accounts w a b is))
         (keeps_seen b seen)
 
-    -- the items of a popped buffer go from its slot to the charge
+    -- a pop moves the items of the buffer from its slot to the charge
     pub coloured_pop : (i : ℕ) (items : List ℕ) → StandsAt slots i (Some items)
         → IsColoured e mark (set slots i None) (set accounts w (after_pop i items a))
     coloured_pop i items at =
@@ -140,7 +140,7 @@ module _ {e : Setup} {mark : ℕ → ℕ} {slots : List (Option (List ℕ))} {ac
         (λ o. omega (arith, sum_of-set (λ (x : Account). times o x.finished) accounts w a (after_pop i items a) is))
         (keeps_seen (after_pop i items a) refl)
 
-    -- the items of a pushed buffer go from the charge to its slot
+    -- a push moves the items of the buffer from the charge to its slot
     pub coloured_push : (q : Which) (i : ℕ) (items : List ℕ) → StandsAt slots i None → IsPart items a.charge
         → IsColoured e mark (set slots i (Some items)) (set accounts w (after_push q i items a))
     coloured_push q i items at part =
@@ -155,7 +155,7 @@ module _ {e : Setup} {mark : ℕ → ℕ} {slots : List (Option (List ℕ))} {ac
         (λ o. omega (arith, sum_of-set (λ (x : Account). times o x.finished) accounts w a (after_push q i items a) is))
         (keeps_seen (after_push q i items a) refl)
 
-    -- two accounts are put together
+    -- a join puts two accounts together
     pub coloured_join : (v : ℕ) (b : Account) → v ≢ w → StandsAt accounts v b
         → IsColoured e mark slots (set (set accounts w (after_join a b)) v no_share)
     coloured_join v b apart at =

@@ -1,5 +1,5 @@
--- Another worker exchanged the head between a load and a failed exchange of one worker: otherwise the head is the one
--- loaded, or the worker was joined to another.
+-- Between a load by a worker and its failed exchange, another worker exchanged the head: otherwise the head is still
+-- the one loaded, or the worker was joined to another.
 use Rattle.std.proofs.Common.{◌≡◌, ◌≢◌, ◌⊎◌, ℕ, suc, List, [], ◌∷◌, ◌++◌, Option, Some, set, ap}
 use Rattle.std.proofs.Common.{sym, refl, subst, ◌∙◌, inl, inr, ⊎_elim, arith}
 use native.Mathlib.Decide.{ℕ_discrete}
@@ -11,11 +11,11 @@ use Rattle.mark_core.proofs.Words.{happens, Run, Exchanges, LossesAreContested}
 use Rattle.mark_core.proofs.Places.{at_longer, at_one, set_else, set_here}
 use Rattle.mark_core.proofs.Happens.{happens_as, tried}
 
--- the account has loaded the head that the stack has, or it was taken in
+-- the account has loaded the current head of the stack, or was joined to another
 abbrev Knows : Which → ℕ → Marking → Type 0
 Knows q w m = (a : Account) × StandsAt m.accounts w a × ((a.share ≡ 0) ⊎ ((look_of a q).head ≡ Some (m.head q)))
 
--- a head beside the one that is exchanged
+-- an exchange of one head leaves the other
 head_beside : (p q : Which) (x : Head) (f : Which → Head) → (p ≡ q → ⊥) → put_which p x f q ≡ f q
 head_beside Full Full x f other = absurd (other refl)
 head_beside Empty Empty x f other = absurd (other refl)
@@ -29,14 +29,14 @@ head_kept m w a (Pop p) q other =
 head_kept m w a (Push p i items) q other = head_beside p q (after (m.head p) (Some i)) m.head other
 head_kept m w a _ q other = refl
 
--- what an account loaded of a stack, after it loaded a head of another
+-- a load of one head leaves what the account loaded of the other stack
 look_load :
     (p q : Which) (h : Head) (a : Account) → (p ≡ q → ⊥) → (look_of (after_load p h a) q).head ≡ (look_of a q).head
 look_load Full Full h a other = absurd (other refl)
 look_load Empty Empty h a other = absurd (other refl)
 look_load _ _ h a other = refl
 
--- and where it has loaded the same heads of both
+-- an account that loaded the same heads of both stacks loaded the same of each
 same_look :
     (q : Which) (a b : Account) → b.full.head ≡ a.full.head → b.empty.head ≡ a.empty.head
     → (look_of b q).head ≡ (look_of a q).head
@@ -44,7 +44,7 @@ same_look Full a b full empty = full
 same_look Empty a b full empty = empty
 
 module _ (m : Marking) (w : ℕ) (a : Account) (at : StandsAt m.accounts w a) (q : Which) where
-  -- its own account after its event: there, and what it loaded of this stack is as it was
+  -- after its own event the account exists, with the same loaded head of this stack
   abbrev Still : Marking → Type 0
   Still n = (b : Account) × StandsAt n.accounts w b × ((look_of b q).head ≡ (look_of a q).head)
 
@@ -74,7 +74,7 @@ module _ (m : Marking) (w : ℕ) (a : Account) (at : StandsAt m.accounts w a) (q
   own_still e (Fail p) can other = (a, at, refl)
   own_still e _ can other = still_both _ refl refl
 
-  -- it after another's event: as it was, or taken in
+  -- after another worker's event the account is as it was, or was joined to another
   abbrev Left : Marking → Type 0
   Left n = StandsAt n.accounts w a ⊎ StandsAt n.accounts w no_share
 
@@ -108,13 +108,13 @@ dec_exchanges q (Pop p) = dec_which p q
 dec_exchanges q (Push p i items) = dec_which p q
 dec_exchanges q _ = no (λ h. h)
 
--- another worker exchanged the head among these events
+-- another worker exchanged the head in one of these events
 abbrev IsContested : Which → ℕ → List Event → Type 0
 IsContested q w between =
     (k : ℕ) × (event : Event) × StandsAt between k event × (event.worker ≢ w) × Exchanges q event.kind
 
 module _ (e : Setup) (q : Which) where
-  -- after an event that exchanges another head or none, and is no load by this worker
+  -- the worker still knows the head after its own event, if that exchanges no head of this stack and does not load it
   own_knows :
       (m : Marking) (event : Event) → IsPossible e m event → (Exchanges q event.kind → ⊥) → (event.kind ≡ Load q → ⊥)
       → Knows q event.worker m → Knows q event.worker (happens m event)

@@ -28,7 +28,7 @@ module _ (e : Setup) (event : Event) where
             ∙ sym (counts_on events (opening e e.first_tag) m (no_counts ∷ []) led.run);
       }
 
--- what events lead to is lawful
+-- the marking that a list of events leads to is lawful
 pub lawful_where : (e : Setup) (events : List Event) (m : Marking) (counts : List Counts) → 0 < e.buffers
     → LeadTo e events m counts → Law e m
 lawful_where e events m counts some_buffer led =

@@ -22,7 +22,7 @@ use Rattle.mark_core.proofs.Colours.{linear, sums_tell, charged, reachable_next,
 use Rattle.mark_core.proofs.Colours.{coloured_part, coloured_pop, coloured_push, coloured_join}
 use Rattle.mark_core.proofs.Shares.{shared_set, shared_split, shared_join}
 
--- the charge after a claim of an object that was white, and of one that was marked
+-- a claim adds a white object to the charge, and does not add a marked one
 charge_white : (o found : ℕ) (a : Account) → found ≡ 0 → (after_claim o found a).charge ≡ a.charge ++ o ∷ []
 charge_white o found a e = ap (λ t. cond t (a.charge ++ o ∷ []) a.charge) (eq-eqb found 0 e)
 
@@ -34,7 +34,8 @@ and_some x n i e t = cc
 
 module _ (e : Setup) (m : Marking) (law : Law e m) (w : ℕ) (a : Account) (is : StandsAt m.accounts w a)
     (there : 0 < a.share) where
-  -- what the account knows of the stacks changes, and the idle word, which the law does not read
+  -- the law holds if what the account loaded is still recent and it keeps its share, its buffers and its objects; the
+  -- law does not read the idle word
   looks_keep :
       (b : Account) (word : ℕ) → IsRecent m.link (m.head Full) b.full → IsRecent m.link (m.head Empty) b.empty
       → b.share ≡ a.share → b.held ≡ a.held → b.charge ≡ a.charge → b.seen ≡ a.seen → b.finished ≡ a.finished
@@ -53,7 +54,7 @@ module _ (e : Setup) (m : Marking) (law : Law e m) (w : ℕ) (a : Account) (is :
       recent Full = full
       recent Empty = empty
 
-  -- it knows of the stacks what it knew
+  -- in particular if the account keeps what it loaded
   notes_keep :
       (b : Account) (word : ℕ) → b.full ≡ a.full → b.empty ≡ a.empty → b.share ≡ a.share → b.held ≡ a.held
       → b.charge ≡ a.charge → b.seen ≡ a.seen → b.finished ≡ a.finished → b.open_push ≡ a.open_push
@@ -73,7 +74,7 @@ module _ (e : Setup) (m : Marking) (law : Law e m) (w : ℕ) (a : Account) (is :
   load_keeps Empty = looks_keep _ m.idle (law.owned.recent Full w a is) (recent_loaded m.link (m.head Empty))
       refl refl refl refl refl inr
 
-  -- the link of the buffer i, where the last head that the account loaded of this stack has it on top
+  -- the loaded link is recent if it is the link of the buffer on top of the last loaded head
   link_recent : (q : Which) (h : Head) (i : ℕ) → (look_of a q).head ≡ Some h → h.index ≡ Some i
       → IsRecent m.link (m.head q) (record { head = (look_of a q).head; link = Some (m.link i) })
   link_recent q h i last top =
@@ -88,7 +89,7 @@ module _ (e : Setup) (m : Marking) (law : Law e m) (w : ℕ) (a : Account) (is :
   load_link_keeps Empty h i last top =
       looks_keep _ m.idle (law.owned.recent Full w a is) (link_recent Empty h i last top) refl refl refl refl refl inr
 
-  -- no stacked buffer is held, so a store at a held one changes no stack
+  -- no held buffer is stacked, so a store to its link changes no stack
   store_keeps : (i : ℕ) (l : Option ℕ) → 0 < times i a.held → Law e (effect m w a (StoreLink i l))
   store_keeps i l mine =
       record {
@@ -236,7 +237,7 @@ module _ (e : Setup) (m : Marking) (law : Law e m) (w : ℕ) (a : Account) (is :
           (λ v x at y k. inl (law.coloured.saw v x at y k))
           (λ y k. ⊎_elim (λ p. inl (law.coloured.saw w a is y p)) (λ p. inr (sym p)) (stands_push a.seen o y k))
 
-  -- an account may claim what is reachable alone
+  -- an account may claim only what is reachable
   can_claim : (o : ℕ) → CanClaim e o a → IsReachableIn e o
   can_claim o (inl root) = ([], root)
   can_claim o (inr p) = reachable_next law.coloured w a is p.0 o p.1 p.2
@@ -320,7 +321,7 @@ module _ (e : Setup) (m : Marking) (law : Law e m) (w : ℕ) (a : Account) (is :
         shared = shared_join m.accounts law.shared w a is there v b apart at;
       }
 
-  -- whatever it may do keeps the law
+  -- each event that an account may do keeps the law
   pub effect_keeps : (kind : Kind) → Allows e m w a kind → Law e (effect m w a kind)
   effect_keeps (Claim o) can = claim_keeps o (can_claim o can.0)
   effect_keeps (Finish o) can = finish_keeps o can

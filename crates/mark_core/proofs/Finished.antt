@@ -13,7 +13,7 @@ use Rattle.mark_core.proofs.Closing.{has_each_once}
 use Rattle.mark_core.proofs.Colours.{linear}
 use Rattle.mark_core.proofs.Sums.{stands_times, term_le}
 
--- where each marked number is that of an object, an account finished no more objects than there are
+-- an account finished at most as many objects as exist, if each number with a mark is an object
 pub finished_few :
     (e : Setup) (m : Marking) → Law e m → ((o : ℕ) → 1 ≤ m.mark o → o < e.objects)
     → (w : ℕ) (a : Account) → StandsAt m.accounts w a → length a.finished ≤ e.objects
@@ -32,7 +32,7 @@ count-map q f (x ∷ xs) =
     let one = sum_by-cons (λ y. cond (q y) 1 0) (f x) (map f xs) in
     omega (arith, one, sum_by-cons (λ y. cond (q (f y)) 1 0) x xs, count-map q f xs)
 
--- a list without repeats that has exactly the objects of mark 2 is as long as there are such marks
+-- a list without repeats of exactly the objects with mark 2 is as long as there are marks 2
 pub finished_counted :
     (marks objects : List ℕ) → IsOnce objects → ((o : ℕ) → (slice_index marks o ≡ 2) ↔ Contains objects o)
     → count_by (λ m. m == 2) marks ≡ length objects

@@ -1,5 +1,5 @@
--- Heads in a run: which heads accounts have loaded, and that there is a failed exchange or an open push only if a head
--- has changed.
+-- Heads along a run: which heads accounts have loaded, and that a failed exchange or an open push requires a changed
+-- head.
 use Rattle.std.proofs.Common.{◌≡◌, ◌⊎◌, ℕ, zero, suc, ◌<◌, ◌≤◌, Bool, true, false, ◌&&◌, is_some, List, [], ◌∷◌}
 use Rattle.std.proofs.Common.{Option, Some, None, slice_index_or, ap, sym, refl, subst, ◌∙◌, inl, inr}
 use Rattle.std.proofs.Common.{⊎_elim, arith}
@@ -15,14 +15,14 @@ use Rattle.mark_core.proofs.Places.{OfEach, set_all, push_all, one_all}
 use Rattle.mark_core.proofs.Happens.{happens_as, tried}
 use Rattle.mark_core.proofs.Changes.{tags_rise}
 
--- what holds of each element of a list and of the default
+-- an element or the default satisfies P if each element and the default do
 module _ {X : Type 0} (P : X → Type 0) where
   or_default : (xs : List X) (k : ℕ) (d : X) → OfEach P xs → P d → P (slice_index_or xs k d)
   or_default [] k d all none = none
   or_default (x ∷ xs) zero d all none = all 0 x refl
   or_default (x ∷ xs) (suc k) d all none = or_default xs k d (λ j y at. all (suc j) y at) none
 
--- heads that satisfy S: those that an account loaded last
+-- the heads that the account loaded last satisfy S
 module _ (S : Which → Head → Type 0) where
   abbrev Knows : Account → Type 0
   Knows a = ((h : Head) → a.full.head ≡ Some h → S Full h) × ((h : Head) → a.empty.head ≡ Some h → S Empty h)
@@ -40,7 +40,7 @@ module _ (S : Which → Head → Type 0) where
   knows_nothing : (units : ℕ) → Knows (part units)
   knows_nothing units = (nothing_loaded Full, nothing_loaded Empty)
 
-  -- after an event: what they knew before, and the heads as they were
+  -- an event keeps this of all accounts if the heads before it satisfy S
   effect_knows : (m : Marking) (w : ℕ) (a : Account) (kind : Kind) → OfEach Knows m.accounts → Knows a
       → ((q : Which) → S q (m.head q)) → OfEach Knows (effect m w a kind).accounts
   effect_knows m w a (Split units) all own heads =
@@ -73,7 +73,7 @@ run_knows S e (event ∷ events) first last had run all =
     run_knows S e events (happens first event) last (λ q h k. had q h (inr k)) run.1
     (happens_knows S e first event run.0 all (λ q. had q (first.head q) (inl refl)))
 
--- at the opening nothing was loaded
+-- at the opening no account has loaded a head
 opening_knows : (S : Which → Head → Type 0) (e : Setup) → OfEach (Knows S) (opening e e.first_tag).accounts
 opening_knows S e = one_all (Knows S) (part whole) (knows_nothing S whole)
 
@@ -82,7 +82,7 @@ loaded_heads_were e events m run w a q h at last =
     let S : Which → Head → Type 0 = HadHead (opening e e.first_tag) events in
     knows_look S a q h (run_knows S e events (opening e e.first_tag) m (λ p g k. k) run (opening_knows S e) w a at) last
 
--- what an account counts, after an event: failures as before, or one more
+-- a counted failure implies C: an event keeps this if C holds when it is a failed exchange
 module _ (C : Type 0) where
   abbrev Failed : Counts → Type 0
   Failed c = 0 < c.failures → C
@@ -116,7 +116,7 @@ module _ (C : Type 0) where
   counted_fails m counts w LoadIdle all fail = set_all Failed counts w _ all (at_fails counts w all)
   counted_fails m counts w _ all fail = all
 
-  -- open pushes, after an event: those of before, or one on full
+  -- an open push implies C: an event keeps this if C holds when it is a push on full
   abbrev Pushed : Account → Type 0
   Pushed a = a.open_push ≡ true → C
 
@@ -145,18 +145,18 @@ module _ (C : Type 0) where
   effect_pushed m w a (Fail q) all own others push = all
   effect_pushed m w a _ all own others push = set_all Pushed m.accounts w _ all own
 
--- a head of the stack q: its tag is at least the first, and with the first tag it is the first head
+-- a head of stack q: its tag is at least the first tag, and if it has the first tag it is the first head
 abbrev IsFirstOr : Setup → Which → Head → Type 0
 IsFirstOr e q h = (e.first_tag ≤ h.tag) × (h.tag ≡ e.first_tag → h ≡ first_heads e.first_tag q)
 
--- and its tag is at most that of the head now
+-- in addition, its tag is at most the current one
 abbrev WasSeen : Setup → Marking → Which → Head → Type 0
 WasSeen e m q h = IsFirstOr e q h × (h.tag ≤ (m.head q).tag)
 
 abbrev SomeChanged : Setup → Marking → Type 0
 SomeChanged e m = HasChanged e m Full ⊎ HasChanged e m Empty
 
--- what holds of each marking of a run, with the counts there
+-- what holds of each marking of a run and its counts
 pub record Firsts (e : Setup) (m : Marking) (counts : List Counts) : Type 0 where
   pub heads : (q : Which) → IsFirstOr e q (m.head q)
   pub looks : OfEach (Knows (WasSeen e m)) m.accounts
@@ -197,7 +197,7 @@ module _ (e : Setup) (m : Marking) (counts : List Counts) (event : Event) (can :
   some_still : SomeChanged e m → SomeChanged e now
   some_still some = ⊎_elim (λ h. inl (still Full h)) (λ h. inr (still Empty h)) some
 
-  -- a failed exchange found another head than the one loaded, so not both are the first
+  -- a failed exchange found another head than the loaded one, so the two are not both the first
   failed_now : (q : Which) → event.kind ≡ Fail q → SomeChanged e now
   failed_now q is =
       ⊎_elim (λ above. some_still (one_changed e m q above))
@@ -242,7 +242,7 @@ module _ (e : Setup) where
       firsts_run events (happens first event) last (counted first counts event.worker event.kind)
       (firsts_next e first counts event run.0 was) run.1
 
-  -- each head that a stack had is one of these
+  -- each head that a stack had satisfies `IsFirstOr`
   had_first :
       (events : List Event) (first last : Marking) (counts : List Counts) (q : Which) (h : Head) → Firsts e first counts
       → Run e first events last → HadHead first events q h → IsFirstOr e q h
@@ -275,7 +275,7 @@ firsts_where e events m counts led =
     subst (Firsts e m) (sym led.counts)
     (firsts_run e events (opening e e.first_tag) m (no_counts ∷ []) (firsts_open e) led.run)
 
--- an account counts a failed exchange only where a head has changed
+-- an account counts a failed exchange only if a head has changed
 pub failures_follow_changes :
     (e : Setup) (events : List Event) (m : Marking) (counts : List Counts) → LeadTo e events m counts
     → (w : ℕ) (c : Counts) → StandsAt counts w c → 0 < c.failures → HasChanged e m Full ⊎ HasChanged e m Empty

@@ -4,21 +4,21 @@ use Rattle.mark_core.proofs.Words.{Which, Account, look_of, no_share, Setup, Mar
 use Rattle.mark_core.proofs.Words.{effect, happens, stack_popped, Run}
 use Rattle.mark_core.proofs.Places.{at_get_or}
 
--- the account that is there does it
+-- the account of the event's worker is the one that acts
 pub happens_as :
     (e : Setup) (m : Marking) (event : Event) (can : IsPossible e m event)
     → happens m event ≡ effect m event.worker can.0 event.kind
 happens_as e m event can =
     ap (λ x. effect m event.worker x event.kind) (at_get_or m.accounts event.worker can.0 no_share can.1.0)
 
--- a pop that is possible takes the buffer that the head names, and the link that was loaded goes into the head
+-- a possible pop takes the buffer that the head names, and makes the loaded link the new head
 pub pops_as :
     (m : Marking) (w : ℕ) (a : Account) (q : Which) (can : CanPop (m.head q) (look_of a q))
     → effect m w a (Pop q) ≡ stack_popped m w a q (Some can.1.0) (Some can.2.0)
 pops_as m w a q can =
     ap (λ n. stack_popped m w a q n (look_of a q).link) can.1.1 ∙ ap (stack_popped m w a q (Some can.1.0)) can.2.1
 
--- what each possible event keeps, each run keeps
+-- a run keeps what each possible event keeps
 pub along :
     (e : Setup) (P : Marking → Type 0)
     → ((m : Marking) (event : Event) → P m → IsPossible e m event → P (happens m event))
@@ -27,7 +27,7 @@ along e P keep [] first last here run = subst P (sym run) here
 along e P keep (event ∷ events) first last here run =
     along e P keep events (happens first event) last (keep first event here run.0) run.1
 
--- what holds of a marking, and of it after a pop, holds after a pop is tried
+-- P holds after a tried pop if it holds before and after a pop
 pub tried :
     (P : Marking → Type 0) (m : Marking) (w : ℕ) (a : Account) (q : Which)
     → P m → ((i : ℕ) (l : Option ℕ) → P (stack_popped m w a q (Some i) (Some l))) → P (effect m w a (Pop q))

@@ -26,7 +26,7 @@ pub same_looks : (a b : Account) → b.full ≡ a.full → b.empty ≡ a.empty �
 same_looks a b f g Full = f
 same_looks a b f g Empty = g
 
--- where an account changes, an open push is its own or stays
+-- an open push is that of the changed account, or remains
 open_else : (accounts : List Account) (w : ℕ) (a b : Account) → StandsAt accounts w a → HasOpenPush accounts
     → (a.open_push ≡ true) ⊎ HasOpenPush (set accounts w b)
 open_else accounts w a b is o = go (ℕ_discrete o.0 w)
@@ -37,13 +37,13 @@ open_else accounts w a b is o = go (ℕ_discrete o.0 w)
         inl (sym (ap (λ (x : Account). x.open_push) s) ∙ o.3)
     go (no n) = inr (o.0, o.1, set_else accounts w o.0 b n ∙ o.2, o.3)
 
--- an open push stays where the account that changes keeps its own
+-- an open push remains if the changed account keeps its own
 pub open_set : (accounts : List Account) (w : ℕ) (a b : Account) → StandsAt accounts w a
     → (a.open_push ≡ true → b.open_push ≡ true) → HasOpenPush accounts → HasOpenPush (set accounts w b)
 open_set accounts w a b is keep o =
     ⊎_elim (λ t. (w, b, set_here accounts w b a is, keep t)) (λ p. p) (open_else accounts w a b is o)
 
--- what a pop and a push leave of how often a buffer is stacked
+-- after a pop its buffer is stacked once less often, and after a push once more often
 pub popped_sum : (q : Which) (i : ℕ) (rest : List ℕ) (stack : Which → List ℕ) → stack q ≡ i ∷ rest → (b : ℕ)
     → times b (put_which q rest stack Full) + times b (put_which q rest stack Empty) + only b i
     ≡ times b (stack Full) + times b (stack Empty)
@@ -67,7 +67,7 @@ chain_top link n xs i c e = let r = chain_rest link n xs i c e in omega (arith, 
 
 module _ (buffers : ℕ) (head : Which → Head) (link : ℕ → Option ℕ) (accounts : List Account) (stack : Which → List ℕ)
     (o : IsOwned buffers head link accounts stack) where
-  -- a buffer stands in one place
+  -- a buffer is in one place at most
   pub place_one : (b : ℕ) → times b (stack Full) + times b (stack Empty) + held_times b accounts ≤ 1
   place_one b = omega (arith, o.once b, counted_once (nat_lt b buffers))
 
@@ -82,7 +82,7 @@ module _ (buffers : ℕ) (head : Which → Head) (link : ℕ → Option ℕ) (ac
   stacked_below Full b h = place_below b (omega arith)
   stacked_below Empty b h = place_below b (omega arith)
 
-  -- a held buffer is a buffer, and on no stack
+  -- a held buffer is one of the pool's, and is on no stack
   pub held_apart : (w : ℕ) (a : Account) → StandsAt accounts w a → (i : ℕ) → 0 < times i a.held
       → (i < buffers) × (times i (stack Full) ≡ 0) × (times i (stack Empty) ≡ 0)
   held_apart w a is i h =
@@ -90,7 +90,7 @@ module _ (buffers : ℕ) (head : Which → Head) (link : ℕ → Option ℕ) (ac
       let p = place_one i in
       (place_below i (omega arith), omega arith, omega arith)
 
-  -- so it is none of the stacked ones
+  -- so no stacked buffer is the held one
   pub held_else : (w : ℕ) (a : Account) → StandsAt accounts w a → (i : ℕ) → 0 < times i a.held
       → (q : Which) (b : ℕ) → 0 < times b (stack q) → b ≢ i
   held_else w a is i h q b stands same = absurd (omega (arith, off q, ap (λ j. times j (stack q)) same))
@@ -101,7 +101,7 @@ module _ (buffers : ℕ) (head : Which → Head) (link : ℕ → Option ℕ) (ac
 
 module _ {buffers : ℕ} {head : Which → Head} {link : ℕ → Option ℕ} {accounts : List Account} {stack : Which → List ℕ}
     (o : IsOwned buffers head link accounts stack) where
-  -- other links of buffers that are not stacked change nothing
+  -- the ownership holds if no link of a stacked buffer changes
   pub owned_links : (new : ℕ → Option ℕ) → ((q : Which) (b : ℕ) → 0 < times b (stack q) → new b ≡ link b)
       → IsOwned buffers head new accounts stack
   owned_links new same =
@@ -113,7 +113,7 @@ module _ {buffers : ℕ} {head : Which → Head} {link : ℕ → Option ℕ} {ac
         owed = o.owed;
       }
 
-  -- a new account that has only units
+  -- the ownership holds with a new account that has only units
   pub owned_part : (units : ℕ) → IsOwned buffers head link (accounts ++ part units ∷ []) stack
   owned_part units = record { chain = o.chain; once = once; recent = recent; owed = owed o.owed }
     where
@@ -135,12 +135,12 @@ module _ {buffers : ℕ} {head : Which → Head} {link : ℕ → Option ℕ} {ac
         → (q : Which) (v : ℕ) (x : Account) → StandsAt (set accounts w b) v x → IsRecent link (head q) (look_of x q)
     recent_set b new q = set_all (λ x. IsRecent link (head q) (look_of x q)) accounts w b (o.recent q) (new q)
 
-    -- what the account loaded stays
+    -- the loads of an account are still recent if it keeps them
     keeps_looks : (b : Account) → b.full ≡ a.full → b.empty ≡ a.empty → (q : Which)
         → IsRecent link (head q) (look_of b q)
     keeps_looks b f g q = subst (λ l. IsRecent link (head q) l) (sym (same_looks a b f g q)) (o.recent q w a is)
 
-    -- the head of a stack changes, so what was loaded of it is outdated
+    -- once the head of a stack changed, all loads of it are outdated
     recent_turned :
         (b : Account) → b.full ≡ a.full → b.empty ≡ a.empty → (q : Which) (l : Option ℕ) (p : Which)
         → OfEach (λ x. IsRecent link (put_which q (after (head q) l) head p) (look_of x p)) (set accounts w b)
@@ -150,7 +150,7 @@ module _ {buffers : ℕ} {head : Which → Head} {link : ℕ → Option ℕ} {ac
         head
         (λ v x at. recent_after link (head q) (look_of x q) l (now q v x at)) now
 
-    -- the account changes, and holds the same buffers
+    -- the ownership holds if the account changes but holds the same buffers
     pub owned_set :
         (b : Account) → ((q : Which) → IsRecent link (head q) (look_of b q)) → b.held ≡ a.held
         → (a.open_push ≡ true → (stack Full ≡ []) ⊎ (b.open_push ≡ true))
@@ -168,7 +168,7 @@ module _ {buffers : ℕ} {head : Which → Head} {link : ℕ → Option ℕ} {ac
             ⊎_elim (λ t. ⊎_elim inl (λ e. inr (w, b, set_here accounts w b a is, e)) (push t)) inr
             (open_else accounts w a b is p)
 
-    -- the account changes in nothing that ownership reads
+    -- the ownership holds if the account changes in nothing that ownership reads
     pub owned_same : (b : Account) → b.full ≡ a.full → b.empty ≡ a.empty → b.held ≡ a.held → b.open_push ≡ a.open_push
         → IsOwned buffers head link (set accounts w b) stack
     owned_same b f g held push = owned_set b (keeps_looks b f g) held (λ e. inr (push ∙ e))
@@ -245,7 +245,7 @@ module _ {buffers : ℕ} {head : Which → Head} {link : ℕ → Option ℕ} {ac
         owed Empty (inl e) = inl e
         owed Empty (inr e) = inr (open_set accounts w a (after_push Empty i items a) is (λ t. t) e)
 
-    -- two accounts are put together
+    -- a join puts two accounts together
     pub owned_join : (v : ℕ) (b : Account) → v ≢ w → StandsAt accounts v b
         → IsOwned buffers head link (set (set accounts w (after_join a b)) v no_share) stack
     owned_join v b apart at = record { chain = o.chain; once = once; recent = recent; owed = owed o.owed }

@@ -11,7 +11,7 @@ use Rattle.mark_core.proofs.Changes.{effect_changes}
 use Rattle.mark_core.proofs.Runs.{happens_keeps}
 use Rattle.mark_core.proofs.Openings.{opening_keeps, opening_length}
 
--- a head was exchanged, and its stack got one buffer less
+-- a pop keeps the sum of a stack's tag and length
 pop_parity :
     (head : Which → Head) (p q : Which) (l : Option ℕ) (old new : List ℕ) → (p ≡ q → (i : ℕ) × (old ≡ i ∷ new))
     × (p ≢ q → new ≡ old)
@@ -20,7 +20,7 @@ pop_parity head Full Full l old new c = let taken = c.0 refl in omega (arith, ap
 pop_parity head Empty Empty l old new c = let taken = c.0 refl in omega (arith, ap length taken.1)
 pop_parity head _ _ l old new c = omega (arith, ap length (c.1 (λ e. cc)))
 
--- or one more
+-- a push raises this sum of its stack by two
 push_parity :
     (head : Which → Head) (p q : Which) (i : ℕ) (old new : List ℕ) → (p ≡ q → new ≡ i ∷ old) × (p ≢ q → new ≡ old)
     → (put_which p (after (head p) (Some i)) head q).tag + length new ≡ (head q).tag + length old + 2 * one_stack p q
@@ -28,7 +28,7 @@ push_parity head Full Full i old new c = omega (arith, ap length (c.0 refl))
 push_parity head Empty Empty i old new c = omega (arith, ap length (c.0 refl))
 push_parity head _ _ i old new c = omega (arith, ap length (c.1 (λ e. cc)))
 
--- what an event leaves of a stack's tag and length
+-- an event raises the sum of a stack's tag and length by two if it is a push on this stack, and keeps it otherwise
 abbrev Keeps : Marking → Marking → Kind → Which → List ℕ → List ℕ → Type 0
 Keeps m n kind q old new = (n.head q).tag + length new ≡ (m.head q).tag + length old + 2 * push_count kind q
 

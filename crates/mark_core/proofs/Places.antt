@@ -7,7 +7,7 @@ use lib.ListN.{get_elem?}
 use Rattle.mark_core.proofs.Words.{Which, Full, Empty, StandsAt, put, put_which}
 
 module _ {X : Type 0} where
-  -- what stands at j after a write at i
+  -- what is at j after a write at i
   pub at_set : (l : List X) (i j : ℕ) (a b : X) → StandsAt (set l i a) j b → ((j ≡ i) × (a ≡ b))
       ⊎ ((j ≢ i) × StandsAt l j b)
   at_set [] i j a b e = absurd (some-ne-none b (sym e))
@@ -53,7 +53,7 @@ module _ {X : Type 0} where
   pub put_else : (i j : ℕ) (x : X) (f : ℕ → X) → j ≢ i → put i x f j ≡ f j
   put_else i j x f n = ap (λ t. cond t x (f j)) (ne_eqb j i n)
 
-  -- what holds of the value put in and of each other one holds of all
+  -- C holds of all values of a function if it holds of the replaced one and of all others
   pub put_each : (C : ℕ → X → Type 0) (i : ℕ) (x : X) (f : ℕ → X) → C i x → ((j : ℕ) → j ≢ i → C j (f j))
       → (j : ℕ) → C j (put i x f j)
   put_each C i x f here others j = go (ℕ_discrete j i)
@@ -62,21 +62,21 @@ module _ {X : Type 0} where
       go (yes e) = subst (C j) (sym (put_here i j x f e)) (subst (λ k. C k x) (sym e) here)
       go (no n) = subst (C j) (sym (put_else i j x f n)) (others j n)
 
-  -- the same of two stacks
+  -- the same for a function of the two stacks
   pub put_one : (C : Which → X → Type 0) (q : Which) (x : X) (f : Which → X) → C q x → ((p : Which) → C p (f p))
       → (p : Which) → C p (put_which q x f p)
   put_one C Full x f here each Full = here
   put_one C Empty x f here each Empty = here
   put_one C _ x f here each p = each p
 
-  -- and of two functions
+  -- and for two such functions
   pub put_two : {Y : Type 0} (C : X → Y → Type 0) (q : Which) (x : X) (y : Y) (f : Which → X) (g : Which → Y) → C x y
       → ((p : Which) → C (f p) (g p)) → (p : Which) → C (put_which q x f p) (put_which q y g p)
   put_two C Full x y f g here each Full = here
   put_two C Empty x y f g here each Empty = here
   put_two C _ x y f g here each p = each p
 
--- what holds of each element of a list, by its place, after one was written or put at the end
+-- P holds of each element with its place after one was written, or put at the end
 pub set_at :
     {X : Type 0} (P : ℕ → X → Type 0) (xs : List X) (w : ℕ) (y : X)
     → ((k : ℕ) (x : X) → k ≢ w → StandsAt xs k x → P k x) → P w y → (k : ℕ) (x : X) → StandsAt (set xs w y) k x → P k x
@@ -92,7 +92,7 @@ push_at P (z ∷ xs) y all here zero x at = all 0 x at
 push_at P (z ∷ xs) y all here (suc k) x at =
     push_at (λ j. P (suc j)) xs y (λ j b is. all (suc j) b is) here k x at
 
--- the same of what says nothing of places
+-- the same for a P that does not read the place
 module _ {X : Type 0} (P : X → Type 0) where
   abbrev pub OfEach : List X → Type 0
   OfEach xs = (k : ℕ) (x : X) → StandsAt xs k x → P x
@@ -106,7 +106,7 @@ module _ {X : Type 0} (P : X → Type 0) where
   pub one_all : (x : X) → P x → OfEach (x ∷ [])
   one_all x here = push_all [] x (λ k y at. absurd (some-ne-none y (sym at))) here
 
--- what holds of each element after one was written held before, if it did of that one
+-- P held of each element before a write if it holds after it, and if P of the new element implies P of the old one
 pub set_back :
     {X : Type 0} (P : ℕ → X → Type 0) (xs : List X) (w : ℕ) (a b : X) → StandsAt xs w a
     → ((k : ℕ) (x : X) → StandsAt (set xs w b) k x → P k x) → (P w b → P w a)

@@ -1,4 +1,4 @@
--- Idle accounts: what is known of them after each event of a run, and that nothing is left when the marking is quiet.
+-- What is known of idle accounts after each event of a run, and that a quiet marking has no work left.
 use Rattle.std.proofs.Common.{◌≡◌, ◌≢◌, ◌⊎◌, ℕ, zero, suc, ◌+◌, ◌-◌, ◌%◌, ◌^◌, ◌<◌, ◌≤◌, Bool, true, false, ◌||◌}
 use Rattle.std.proofs.Common.{is_none, List, [], ◌∷◌, ◌++◌, length, length-set, Option, Some, None, Contains, set}
 use Rattle.std.proofs.Common.{slice_index_or, ap, sym, refl, subst, ◌∙◌, inl, inr, ⊎_elim, arith}
@@ -18,29 +18,29 @@ use Rattle.mark_core.proofs.Sums.{sum_of-set, sum_of-append, term_le}
 use Rattle.mark_core.proofs.Chains.{chain_none}
 use Rattle.mark_core.proofs.Runs.{runs_keep_law}
 
--- an account that was not joined has a share. It is not idle, or it has one unit, answers for nothing, and has found
--- the full stack empty
+-- an account that was not joined has a share. It is not idle, or it has one unit and an empty charge, and has found the
+-- full stack empty
 abbrev pub IsResting : Account → Type 0
 IsResting a =
     a.joined ≡ false
     → (0 < a.share) × ((a.idle ≡ 0) ⊎ ((a.idle ≡ 1) × (a.share ≡ 1) × (a.charge ≡ []) × (a.found ≡ true)))
 
--- no account was joined, the opening one has pushed nothing on full since it first gave units away, there is another,
--- and each other one has found the full stack empty
+-- no account was joined. The first has pushed nothing on full since it first gave units away, and is not the only one.
+-- Each other one has found the full stack empty
 pub record HaveFound (accounts : List Account) : Type 0 where
   pub apart : (k : ℕ) (a : Account) → StandsAt accounts k a → a.joined ≡ false
   pub opening : (k : ℕ) (a : Account) → StandsAt accounts k a → k ≡ 0 → a.pushed ≡ false
   pub another : 1 < length accounts
   pub others : (k : ℕ) (a : Account) → StandsAt accounts k a → 0 < k → a.found ≡ true
 
--- the opening account gave units away where there is another
+-- the first account gave units away if another account exists
 abbrev pub HasParted : ℕ → ℕ → Account → Type 0
 HasParted many k a = k ≡ 0 → 1 < many → a.joined ≡ false → a.parted ≡ true
 
 abbrev pub idle_sum : List Account → ℕ
 idle_sum accounts = sum_of (λ a. a.idle) accounts
 
--- the idle word is the sum of the idle numbers, and where the accounts have found the full stack empty it is
+-- the idle word is the sum of the idle numbers modulo 2 ^ 64, and the full stack is empty if `HaveFound` holds
 pub record IsHushed (idle : ℕ) (top : Option ℕ) (accounts : List Account) : Type 0 where
   pub counted : idle ≡ idle_sum accounts % 2 ^ 64
   pub resting : (k : ℕ) (a : Account) → StandsAt accounts k a → IsResting a
@@ -55,11 +55,11 @@ or_none : (x : Bool) (n : Option ℕ) (i : ℕ) → n ≡ Some i → x || is_non
 or_none true n i some t = refl
 or_none false n i some t = let f : false ≡ true = sym (ap is_none some) ∙ t in absurd (false≢true f)
 
--- what the account that takes part in an event has after it, where its share and its idle number stay
+-- the account that acts still rests after an event that keeps its share and its idle number, in each of these cases
 module _
     (a b : Account) (rest : IsResting a)
     (share : b.share ≡ a.share) (idle : b.idle ≡ a.idle) (joined : b.joined ≡ a.joined) where
-  -- it answers for the same objects, and still has found what it found
+  -- its charge is the same, and it still has found what it found
   same_rest : b.charge ≡ a.charge → (a.found ≡ true → b.found ≡ true) → IsResting b
   same_rest charge found alone =
       let r = rest (sym joined ∙ alone) in (
@@ -75,7 +75,7 @@ module _
         ⊎_elim (λ z. inl (idle ∙ z)) (λ o. ⊎_elim (λ n. absurd (n o.1)) (λ z. inl (idle ∙ z)) busy) r.1,
       )
 
-  -- it answers for something
+  -- its charge is not empty
   charged_rest : (x : ℕ) → Contains a.charge x → IsResting b
   charged_rest x here alone =
       let r = rest (sym joined ∙ alone) in
@@ -87,7 +87,7 @@ module _
 abbrev pub Hushed : Marking → Type 0
 Hushed m = IsHushed m.idle (m.head Full).index m.accounts
 
--- one added to the sum, and one taken away
+-- the idle word counts up and down with the sum
 up_counted : (idle n k : ℕ) → idle ≡ n % 2 ^ 64 → k ≡ n + 1 → (idle + 1) % 2 ^ 64 ≡ k % 2 ^ 64
 up_counted idle n k counted more = omega (arith, counted, more)
 
@@ -98,7 +98,7 @@ module _ (e : Setup) (m : Marking) (s : Hushed m) (w : ℕ) (a : Account) (there
   rest : IsResting a
   rest = s.resting w a there.0
 
-  -- the account changes, and is joined where it was
+  -- the account changes, and whether it is joined does not
   module _ (b : Account) (joined : b.joined ≡ a.joined) where
     abbrev now : List Account
     now = set m.accounts w b
@@ -109,7 +109,7 @@ module _ (e : Setup) (m : Marking) (s : Hushed m) (w : ℕ) (a : Account) (there
     more_than_one : 1 < length now → 1 < length m.accounts
     more_than_one more = omega (arith, more, length-set m.accounts w b)
 
-    -- what is found then was found before, where it has found nothing new: so the full stack is empty as before
+    -- if the accounts have found the full stack empty after the event, they had before, so it is still empty
     still_empty : b.pushed ≡ a.pushed → (b.found ≡ true → a.found ≡ true) → HaveFound now → (m.head Full).index ≡ None
     still_empty pushed found h =
         s.emptied (record {
@@ -123,7 +123,7 @@ module _ (e : Setup) (m : Marking) (s : Hushed m) (w : ℕ) (a : Account) (there
               (λ was later. found (was later));
         })
 
-    -- its idle number changes, or the full head does; what is noted of it stays
+    -- its idle number or the full head changes, and whether it gave units away does not
     change :
         (idle : ℕ) (top : Option ℕ) → idle ≡ idle_sum now % 2 ^ 64 → IsResting b → b.parted ≡ a.parted
         → (HaveFound now → top ≡ None) → IsHushed idle top now
@@ -151,7 +151,7 @@ module _ (e : Setup) (m : Marking) (s : Hushed m) (w : ℕ) (a : Account) (there
     keep same rests parted pushed found =
         change m.idle (m.head Full).index (same_count same) rests parted (still_empty pushed (λ p. sym found ∙ p))
 
-    -- a push on full ends what was found
+    -- a push on full withdraws what was found
     push_full :
         (top : Option ℕ) → b.idle ≡ a.idle → IsResting b → b.parted ≡ a.parted → b.pushed ≡ (a.pushed || a.parted)
         → b.found ≡ false → IsHushed m.idle top now
@@ -165,7 +165,7 @@ module _ (e : Setup) (m : Marking) (s : Hushed m) (w : ℕ) (a : Account) (there
             false≢true (sym (or_parts a.pushed a.parted (sym pushed ∙ h.opening w b here (sym e))).1 ∙ gave)
         not_found h (no n) = false≢true (sym found ∙ h.others w b here (omega (arith, n)))
 
-  -- it changes in what it loaded alone
+  -- it changes in nothing that is read here
   keep_all :
       (b : Account) → b.share ≡ a.share → b.idle ≡ a.idle → b.joined ≡ a.joined → b.charge ≡ a.charge
       → b.found ≡ a.found → b.parted ≡ a.parted → b.pushed ≡ a.pushed
@@ -179,7 +179,7 @@ module _ (e : Setup) (m : Marking) (s : Hushed m) (w : ℕ) (a : Account) (there
       → b.pushed ≡ a.pushed → b.found ≡ a.found → IsHushed m.idle (m.head Full).index (set m.accounts w b)
   keep_busy b busy share idle joined = keep b joined idle (busy_rest a b rest share idle joined busy)
 
-  -- units go to a new account, which has found nothing
+  -- a split moves units to a new account, which has found nothing
   split_hushed : (units : ℕ) → 0 < units → units < a.share → Hushed (effect m w a (Split units))
   split_hushed units least less =
       record {
@@ -213,7 +213,7 @@ module _ (e : Setup) (m : Marking) (s : Hushed m) (w : ℕ) (a : Account) (there
           (k : ℕ) (x : Account) → k ≢ w → StandsAt m.accounts k x → HasParted (length (fewer ++ part units ∷ [])) k x
       before k x n at e more alone = s.parted k x at e (omega (arith, at_below m.accounts w a there.0, n, e)) alone
 
-  -- two accounts are put together, and both are noted as joined
+  -- a join puts two accounts together, and marks both as joined
   join_hushed :
       (v : ℕ) (b : Account) → v ≢ w → StandsAt m.accounts v b
       → IsHushed m.idle (m.head Full).index (set (set m.accounts w (after_join a b)) v no_share)
@@ -347,7 +347,8 @@ run_is_hushed e m run =
     let opens = run.2 in
     along e Hushed (happens_hushed e) run.1 run.0 m (subst Hushed (sym opens.2) (opening_hushed e opens.0)) run.3
 
--- Accounts of which none was joined have idle numbers up to their shares; where the sums are equal, so are the parts
+-- accounts of which none was joined have idle numbers up to their shares: if the sums of both are equal, so are the two
+-- numbers of each account
 abbrev AllApart : List Account → Type 0
 AllApart cs = (k : ℕ) (a : Account) → StandsAt cs k a → (a.joined ≡ false) × IsResting a
 

@@ -9,13 +9,13 @@ use Rattle.mark_core.proofs.Sums.{sum_of-set, sum_of-append}
 pub nothing_no_share : HasNothing no_share
 nothing_no_share = record { held = refl; charge = refl; finished = refl; open_push = refl }
 
--- without a share it has nothing
+-- an account without a share has nothing
 abbrev HasNoMore : Account → Type 0
 HasNoMore a = a.share ≡ 0 → HasNothing a
 
 module _ (accounts : List Account) (s : IsShared accounts) (w : ℕ) (a : Account) (is : StandsAt accounts w a)
     (there : 0 < a.share) where
-  -- an account changes, and its share does not
+  -- the shares still hold if an account changes but not its share
   pub shared_set : (b : Account) → b.share ≡ a.share → IsShared (set accounts w b)
   shared_set b same = record {
     sum = omega (arith, s.sum, sum_of-set (λ (x : Account). x.share) accounts w a b is);

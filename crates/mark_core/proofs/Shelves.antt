@@ -6,7 +6,7 @@ use Rattle.mark_core.proofs.Places.{set_here, set_else}
 
 module _
     (buffers : ℕ) (slots : List (Option (List ℕ))) (stack new : Which → List ℕ) (i : ℕ) (was x : Option (List ℕ)) where
-  -- one slot changes, and what changes of the stacks is that buffer alone
+  -- `IsShelved` holds after one slot changed, if the stacks change only in its buffer
   pub shelved_set :
       IsShelved buffers slots stack → StandsAt slots i was
       → ((p : Which) (b : ℕ) → b ≢ i → times b (new p) ≡ times b (stack p))
@@ -17,7 +17,7 @@ module _
   shelved_set s at others stacked bare away =
       record { places = length-set slots i x ∙ s.places; stacked = in_slots; bare = in_bare; away = in_away }
     where
-      -- what stands at b then
+      -- what is at b after the write
       stands : (b : ℕ) (y : Option (List ℕ)) → (b ≡ i → x ≡ y) → (b ≢ i → StandsAt slots b y)
           → StandsAt (set slots i x) b y
       stands b y mine others = go (ℕ_discrete b i)

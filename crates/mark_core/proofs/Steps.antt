@@ -1,4 +1,4 @@
--- From what one account does to a step of a world, and the law after it.
+-- What an account does is a step of the world, and the law holds after it.
 use Rattle.std.proofs.Common.{ℕ, ◌<◌, Bool, true, false, List, length, Result, Ok, Err, IfErr, IfOk, ap, sym, subst}
 use Rattle.std.proofs.Common.{◌∙◌}
 use Rattle.std.proofs.lemmas.List.{get_or_default}
@@ -9,17 +9,17 @@ use Rattle.mark_core.proofs.Runs.{happens_keeps}
 use Rattle.mark_core.proofs.Within.{stands_here, is_there}
 use Rattle.mark_core.proofs.Weights.{AreNumbered, happens_numbered}
 
--- no step of an account that is not there
+-- an account that does not exist takes no step
 pub no_account : (l : Listing) (w : ℕ) (kind : Kind) → ¬ HasAccount l w
     → ¬ CanStep l (record { worker = w; kind = kind })
 no_account l w kind away can = away (is_there l.accounts w can.0.0 can.0.1)
 
--- no step without a number for the new account
+-- a step that needs a number for a new account is not taken without one
 pub no_number : (l : Listing) (w : ℕ) (kind : Kind) → ¬ HasNumber kind l.accounts
     → ¬ CanStep l (record { worker = w; kind = kind })
 no_number l w kind none can = none can.1
 
--- the account that the lists have at this number is there
+-- the account that the list has at this number exists
 pub there_at :
     (accounts : List Account) (w : ℕ) → (w < length accounts) × (0 < (account_at accounts w).share)
     → IsThere accounts w (account_at accounts w)
@@ -42,7 +42,7 @@ steps_of old new w kind false there number may_not =
     λ can. may_not (subst (λ (x : Account). Allows old.setup (marking_of old) w x kind)
     (sym (at_get_or old.accounts w can.0.0 no_share can.0.1.0)) can.0.2)
 
--- the same of an answer that may be a refusal
+-- the same for a result that may be an error
 pub steps_ok :
     {E : Type 0} (old new : Listing) (w : ℕ) (kind : Kind) (answer : Result Bool E) → HasAccount old w
     → HasNumber kind old.accounts
@@ -51,12 +51,12 @@ pub steps_ok :
 steps_ok old new w kind (Ok done) there number tries = steps_of old new w kind done there number tries
 steps_ok old new w kind (Err e) there number tries = tt
 
--- a refusal is told where this holds
+-- what holds anyway holds if the call fails
 pub always : {T E : Type 0} (P : Type 0) (answer : Result T E) → P → IfErr answer (λ _. P)
 always P (Ok x) holds = tt
 always P (Err e) holds = holds
 
--- where memory is refused the step was possible
+-- if an allocation fails, the step was possible
 pub steps_refused :
     {E : Type 0} (old : Listing) (w : ℕ) (kind : Kind) (answer : Result Bool E) → HasAccount old w
     → HasNumber kind old.accounts
@@ -65,7 +65,7 @@ steps_refused old w kind (Ok done) there number may = tt
 steps_refused old w kind (Err e) there number may =
     ((account_at old.accounts w, there_at old.accounts w there, may), number)
 
--- after a step the law holds
+-- the law holds after a step
 pub lawful_after : (old new : Listing) (event : Event) → IsLawful old → Follows old event new → IsLawful new
 lawful_after old new event lawful f =
     let law : Law old.setup (marking_of new) =

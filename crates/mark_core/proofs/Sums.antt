@@ -29,12 +29,12 @@ module _ {X : Type 0} (f : X → ℕ) where
       omega (arith, term_le xs i a d)
   terms_le (x ∷ xs) (suc i) (suc j) a b n d e = omega (arith, terms_le xs i j a b (λ s. n (ap suc s)) d e)
 
-  -- a sum of which each term is 0
+  -- a sum is 0 if each term is
   pub sum_of-nothing : (xs : List X) → ((i : ℕ) (a : X) → StandsAt xs i a → f a ≡ 0) → sum_of f xs ≡ 0
   sum_of-nothing [] each = refl
   sum_of-nothing (x ∷ xs) each = omega (arith, each 0 x refl, sum_of-nothing xs (λ i a e. each (suc i) a e))
 
-  -- a sum of which each term but one is 0
+  -- a sum is one of its terms if each other one is 0
   pub sum_of-alone : (xs : List X) (i : ℕ) (a : X) → StandsAt xs i a
       → ((j : ℕ) (b : X) → j ≢ i → StandsAt xs j b → f b ≡ 0) → sum_of f xs ≡ f a
   sum_of-alone [] i a e each = absurd (some-ne-none a (sym e))
@@ -47,7 +47,7 @@ module _ {X : Type 0} (f : X → ℕ) where
         sum_of-alone xs i a e (λ j b n d. each (suc j) b (λ s. n (omega arith)) d),
       )
 
-  -- a sum that is not 0 has a term that is not
+  -- a sum that is not 0 has a term that is not 0
   pub some_term : (xs : List X) → 0 < sum_of f xs → (i : ℕ) × (a : X) × StandsAt xs i a × (0 < f a)
   some_term [] h = absurd (omega arith)
   some_term (x ∷ xs) h = ⊎_elim
@@ -79,14 +79,14 @@ times_stands (y ∷ ys) x h = ⊎_elim
     (λ n. let c = times_stands ys x (omega (arith, only-other x y n)) in (suc c.0, omega (arith, c.1), c.2))
     (cases_eq y x)
 
--- an element of one of two lists
+-- an element of two joined lists is in one of them
 pub stands_append : (xs ys : List ℕ) (x : ℕ) → Contains (xs ++ ys) x → Contains xs x ⊎ Contains ys x
 stands_append xs ys x c = ⊎_elim
     (λ some. inl (times_stands xs x some))
     (λ none. inr (times_stands ys x (omega (arith, stands_times (xs ++ ys) x c, sum_of-append (only x) xs ys))))
     (cases_lt 0 (times x xs))
 
--- an element of a list with one more at its end
+-- an element of a list with one more at its end is in the list, or is the one at the end
 pub stands_push : (xs : List ℕ) (y x : ℕ) → Contains (xs ++ y ∷ []) x → Contains xs x ⊎ (y ≡ x)
 stands_push xs y x c =
     ⊎_elim inl (λ t. inr (only_one x y (omega (arith, stands_times (y ∷ []) x t)))) (stands_append xs (y ∷ []) x c)

@@ -14,7 +14,7 @@ none_is_not_some h = cc
 pub false_is_not_true : IsTrue false → ⊥
 false_is_not_true h = cc
 
--- the first x is at i
+-- removing the element at i removes the first x, if the first x is at i
 pub remove-place : (xs : List ℕ) (x i : ℕ) → i < length xs → get_or xs i x ≡ x → ((k : ℕ) → k < i → get_or xs k x ≢ x)
     → remove xs i ≡ remove_one x xs
 remove-place [] x i h e n = absurd (omega arith)
@@ -36,7 +36,7 @@ remove_one-none (y ∷ ys) x n =
     let other : y ≢ x = λ e. n (0, omega arith, e) in
     remove_one-other x y ys other ∙ ap (λ zs. y ∷ zs) (remove_one-none ys x (λ c. n (suc c.0, omega (arith, c.1), c.2)))
 
--- taking rest out of left is what taking all out of old comes to
+-- removing `rest` from `left` has the same result as removing `all` from `old`
 pub record Takes (all old rest left : List ℕ) : Type 0 where
   pub same : without rest left ≡ without all old
   pub onward : IsPart all old → IsPart rest left

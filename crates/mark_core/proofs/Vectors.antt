@@ -1,4 +1,4 @@
--- The vectors of a world after each event.
+-- The lists of a world after each event are those of the marking after it.
 use Rattle.std.proofs.Common.{◌≡◌, ◌≢◌, ◌↔◌, Bool, true, false, IsTrue, ℕ, ◌<◌, ◌≤◌, max, List, [], length, get_or, set}
 use Rattle.std.proofs.Common.{Option, Some, None, Contains, ap, sym, subst, refl, ◌∙◌, get_or-set_same}
 use Rattle.std.proofs.Common.{get_or-set_other, length-set}
@@ -14,7 +14,7 @@ use Rattle.mark_core.proofs.Taking.{false_is_not_true}
 use Rattle.mark_core.proofs.Places.{put_each}
 use Rattle.mark_core.proofs.Within.{stands_here, held_within}
 
--- a value written into a list is put into the function that reads it
+-- a write into a list replaces one value of the function that reads it
 pub put_in : {X : Type 0} (l : List X) (i : ℕ) (x d : X) → i < length l
     → ◌≡◌ {A = ℕ → X} (λ j. get_or (set l i x) j d) (put i x (λ j. get_or l j d))
 put_in l i x d inside = λ t j. at j t
@@ -23,7 +23,7 @@ put_in l i x d inside = λ t j. at j t
     at = put_each (λ j z. get_or (set l i x) j d ≡ z) i x (λ k. get_or l k d) (get_or-set_same l i x d inside)
         (λ j n. get_or-set_other l i j x d n)
 
--- a head exchanged
+-- an exchange replaces one head
 pub heads_turned : (l : Listing) (q : Which) (h : Head) → heads_of (with_head l q h) ≡ put_which q h (heads_of l)
 heads_turned l q h = λ t p. at q p t
   where
@@ -37,7 +37,7 @@ pub marking_headed : (l : Listing) (q : Which) (h : Head)
 marking_headed l Full h = ap (λ f. record (marking_of l) { head = f }) (heads_turned l Full h)
 marking_headed l Empty h = ap (λ f. record (marking_of l) { head = f }) (heads_turned l Empty h)
 
--- the other tables stay
+-- the other tables are as they were
 record SameTables (new old : Listing) : Type 0 where
   setup : new.setup ≡ old.setup
   links : length new.links ≡ length old.links
@@ -48,12 +48,12 @@ tables_headed : (l : Listing) (q : Which) (h : Head) → SameTables (with_head l
 tables_headed l Full h = record { setup = refl; links = refl; slots = refl; marks = refl }
 tables_headed l Empty h = record { setup = refl; links = refl; slots = refl; marks = refl }
 
--- the account read at w
+-- the account read at w is the one that the marking has there
 pub account_here : (accounts : List Account) (w : ℕ) (a : Account) → w < length accounts → a ≡ get_or accounts w a
     → a ≡ account_at accounts w
 account_here accounts w a inside is = is ∙ get_or_default accounts w a no_share inside
 
--- what the tests of a pop tell, where this is the stack's head
+-- what the tests of a pop show, if `head` is the current head of the stack
 pub record PopTold (head : Head) (a : Account) (q : Which) (i : ℕ) (l : Option ℕ) : Type 0 where
   pub shows : (look_of a q).head ≡ Some head
   pub top : head.index ≡ Some i
@@ -159,7 +159,7 @@ module _ (s : Listing) (w : ℕ) (a b c : Account) (there : w < length s.account
         marks = same.marks;
       }
 
-  -- the exchange of a pop, which is done where the tag is not the last
+  -- a pop exchanges the head only if its tag is not the last
   pub tries_pop :
       (q : Which) (i : ℕ) (l : Option ℕ) → i < length s.slots → PopTold (heads_of s q) a q i l
       → (slot emptied : Option (List ℕ)) → slot ≡ get_or s.slots i slot → emptied ≡ None
@@ -202,7 +202,7 @@ module _ (s : Listing) (w : ℕ) (a b c : Account) (there : w < length s.account
       }
 
 module _ (s : Listing) (w : ℕ) (a : Account) (inside : w < length s.accounts) (is : a ≡ get_or s.accounts w a) where
-  -- what the tests of a push tell
+  -- the tests of a push show that it is ready
   pub may_push :
       (q : Which) (i : ℕ) (items : List ℕ) (look : Look) (now : Head) → look ≡ look_of a q → now ≡ heads_of s q
       → look.head ≡ Some now
@@ -219,7 +219,7 @@ module _ (s : Listing) (w : ℕ) (a : Account) (inside : w < length s.accounts) 
         busy = rw (← here) busy;
       }
 
--- a buffer that may be pushed is one that a head can hold
+-- a buffer that may be pushed fits into a head
 pub push_within : (s : Listing) (w : ℕ) → IsLawful s → w < length s.accounts → (q : Which) (i : ℕ) (items : List ℕ)
     → IsReadyToPush s w q i items → i < s.setup.buffers
 push_within s w lawful there q i items may =

@@ -1,4 +1,4 @@
--- The number of accounts that were made bounds the idle numbers: each event keeps that.
+-- The sum of the idle numbers is at most the number of accounts, after each event.
 use Rattle.std.proofs.Common.{◌≡◌, ◌≢◌, ℕ, ◌+◌, ◌<◌, ◌≤◌, List, [], ◌∷◌, ◌++◌, length, length-set}
 use Rattle.std.proofs.Common.{set, sym, refl, subst, ◌∙◌, arith}
 use Rattle.std.proofs.lemmas.List.{length-append}
@@ -9,13 +9,13 @@ use Rattle.mark_core.proofs.Places.{at_get_or, set_else}
 use Rattle.mark_core.proofs.Happens.{happens_as, tried}
 use Rattle.mark_core.proofs.Sums.{sum_of-set, sum_of-append}
 
--- each account has a number, and the idle numbers are no more than the accounts
+-- each account has a number, and the weights, which bound the idle numbers, sum to at most the number of accounts
 pub record AreNumbered (accounts : List Account) : Type 0 where
   pub numbered : length accounts ≤ 4294967295
   pub weights : sum_of weight accounts ≤ length accounts
 
 module _ (accounts : List Account) (n : AreNumbered accounts) (w : ℕ) (a : Account) (is : StandsAt accounts w a) where
-  -- an account changes, and counts for the same
+  -- an account changes, and keeps its weight
   numbered_set : (b : Account) → weight b ≡ weight a → AreNumbered (set accounts w b)
   numbered_set b same =
       let long = length-set accounts w b in
@@ -24,7 +24,7 @@ module _ (accounts : List Account) (n : AreNumbered accounts) (w : ℕ) (a : Acc
         weights = omega (arith, n.weights, same, long, sum_of-set weight accounts w a b is);
       }
 
-  -- units go to a new account, which counts for one
+  -- a split moves units to a new account, which weighs one
   numbered_split :
       (units : ℕ) → 0 < units → units < a.share → length accounts < 4294967295
       → AreNumbered (set accounts w (after_split units a) ++ part units ∷ [])
@@ -47,7 +47,7 @@ module _ (accounts : List Account) (n : AreNumbered accounts) (w : ℕ) (a : Acc
       new : weight (part units) ≡ 1
       new = omega (arith, least)
 
-  -- two accounts are put together, and count for no more than before
+  -- a join puts two accounts together, which weigh no more than before
   numbered_join :
       (v : ℕ) (b : Account) → v ≢ w → StandsAt accounts v b
       → AreNumbered (set (set accounts w (after_join a b)) v no_share)
@@ -104,6 +104,6 @@ happens_numbered e m event n can room =
     subst (λ (n : Marking). AreNumbered n.accounts) (sym (happens_as e m event can))
     (effect_numbered e m n event.worker can.0 can.1 event.kind can.2 room)
 
--- an opening account counts for one
+-- an opening account weighs one
 pub numbered_opening : (units : ℕ) → 0 < units → AreNumbered (part units ∷ [])
 numbered_opening units least = record { numbered = omega arith; weights = omega (arith, least) }

@@ -1,4 +1,4 @@
--- By the law the numbers that an event names are positions in the tables.
+-- The law implies that the numbers of an event are positions in the tables.
 use Rattle.std.proofs.Common.{◌≡◌, ◌≢◌, ℕ, zero, suc, ◌+◌, ◌<◌, ◌≤◌, ◌^◌, List, [], ◌∷◌, length, get_or, set}
 use Rattle.std.proofs.Common.{get_or-set_other, Option, Some, Contains, ap, sym, subst, refl, ◌∙◌, inl, inr}
 use Rattle.std.proofs.Common.{⊎_elim, arith}
@@ -23,7 +23,7 @@ stands_at (x ∷ xs) (suc i) d h = stands_at xs i d (omega arith)
 pub stands_here : {X : Type 0} (xs : List X) (i : ℕ) (a : X) → i < length xs → a ≡ get_or xs i a → StandsAt xs i a
 stands_here xs i a h e = stands_at xs i a h ∙ ap some (sym e)
 
--- an account that stands at v with a share is there
+-- an account that has a share exists at its number
 pub is_there : (accounts : List Account) (v : ℕ) (a : Account) → IsThere accounts v a → (v < length accounts)
     × (0 < (account_at accounts v).share)
 is_there accounts v a t = (
@@ -31,7 +31,7 @@ is_there accounts v a t = (
   subst (λ (x : Account). 0 < x.share) (sym (at_get_or accounts v a no_share t.0)) t.1,
 )
 
--- what is read at w after a write at another place stood there before
+-- a write at another place leaves what is read at w
 pub read_past : (accounts : List Account) (v w : ℕ) (x a : Account) → w ≢ v → a ≡ get_or (set accounts v x) w a
     → a ≡ get_or accounts w a
 read_past accounts v w x a other is = is ∙ get_or-set_other accounts v w x a other
@@ -72,7 +72,7 @@ module _ (s : Listing) (lawful : IsLawful s) where
         (held_apart s.setup.buffers m.head m.link m.accounts lawful.law.stack lawful.law.owned w a here i
         (stands_times a.held i k)).0
 
-    -- the link that a pop puts in the head is a buffer
+    -- the link that a pop puts into the head fits there
     pub link_within : (q : Which) (i : ℕ) (l : Option ℕ) → (look_of a q).head ≡ Some (heads_of s q)
         → (heads_of s q).index ≡ Some i → (look_of a q).link ≡ Some l → ForSome l (λ j. j ≤ 65534)
     link_within q i l shows top linked =

@@ -1,4 +1,4 @@
--- Roots, what was seen, and what a worker may push after a pop.
+-- Which objects are roots, what a worker has seen, and what it may push after a pop.
 use Rattle.std.proofs.Common.{◌≡◌, ℕ, Bool, true, false, ◌+◌, ◌<◌, ◌≤◌, [], ◌∷◌, ◌++◌, All, Contains, ap, subst, sym}
 use Rattle.std.proofs.Common.{refl, ◌∙◌, inl, inr, ⊎_elim, arith, below_more}
 use Rattle.std.proofs.lemmas.List.FromFn.{length-range_with_len, get_or-range_with_len}
@@ -35,7 +35,7 @@ same_roots n a b s r o below = subst (λ rs. Contains rs o) (ap (λ e. e.roots) 
 pub may_claim : (n o : ℕ) (w : Holder) → AreRoots n w → o < n → CanClaim w.book.setup o w.book.account
 may_claim n o w r below = inl (r o below)
 
--- a claim adds one object to those that were seen
+-- a claim adds one object to those that the worker has seen
 pub one_more_seen : (from o found : ℕ) (old new : Holder) → new.book ≡ claimed o found old.book → HasSeen from o old
     → HasSeen from (o + 1) new
 one_more_seen from o found old new is seen x low high =
@@ -50,7 +50,7 @@ one_more_seen from o found old new is seen x low high =
     last : Now o
     last l = Contains-append_right old.book.account.seen (o ∷ []) o (0, omega arith, refl)
 
--- pops from the empty stack, and pushes on it, leave the idle number
+-- pops from the empty stack and pushes on it keep the idle number
 lost_pops : (old new : Book) → LostPops Empty old new → new.account.idle ≡ old.account.idle
 lost_pops old new (no_pop b) = refl
 lost_pops old new (more_pops a mid b before last) =
@@ -90,7 +90,7 @@ after_turn old new false p awake =
     ⊎_elim (λ spent. after_pops old new pop.Spent spent awake)
     (λ q. after_pushes q.1 q.0 new (try_push.Spent q.2) q.4 (after_pops old q.0 (pop.Took q.1) q.3 awake)) rest) p
 
--- the buffer that the last pop took from the empty stack has no items
+-- a buffer popped from the empty stack has no items, so it may be pushed there
 pub may_push :
     (old new : Book) (h : HeldBuffer) → Pops Empty old new (pop.Took h) → old.account.idle ≡ 0
     → MayPush Empty h new

@@ -1,4 +1,4 @@
--- The effect of the calls of a pair, from the effect of their parts.
+-- The effect of the calls of a pair follows from the effects on its places.
 use Rattle.std.proofs.Common.{◌≡◌, ◌≢◌, ◌⊎◌, ℕ, ◌<◌, ◌≤◌, Bool, true, false, List, [], ◌∷◌, ◌++◌, length, Option, Some}
 use Rattle.std.proofs.Common.{None, Result, Ok, Err, refl, sym, ap, subst, ◌∙◌, inl, inr, ⊎_elim, arith}
 use Rattle.mark_core.specs.declared.which.Which.{Which}
@@ -31,7 +31,7 @@ abbrev at_some : HeldBuffer → Option HeldBuffer → HeldBuffer
 at_some h None = h
 at_some h (Some k) = k
 
--- where one of two moves pushed on full it was the second, and on full
+-- if a pop is followed by one push, and a buffer was pushed on full, that push is on full
 on_full_is : (q : Which) (k : HeldBuffer) → IsOnFull (Gave q k) → q ≡ Full
 on_full_is Full k on = refl
 on_full_is Empty k none = absurd none
@@ -47,7 +47,7 @@ pushes_told (Some k) h ms is push full =
     is ∙ ap (λ (q : Which). Took Empty h ∷ Gave q k ∷ [])
     (pushed_full (shelf_of k.items) h k (subst HasPushOnFull is (push (full k refl))))
 
--- a place with items was renewed
+-- a place with items that was renewed was published
 pub publish_renewed : (old : Option HeldBuffer) (b : Book) (new third : Option HeldBuffer) (c : Book) (done : Bool)
     → items_at old ≢ [] → RenewAnswers false Empty old b new third c (Ok done)
     → PublishesAt old b new third c (Ok tt)
@@ -80,7 +80,7 @@ pub none_last : (xs ys : List ℕ) → xs ++ ys ≡ [] → ys ≡ []
 none_last [] ys none = none
 none_last (x ∷ xs) ys none = absurd (omega (arith, ap length none))
 
--- a pair without items has none at any of its places
+-- if a pair has no items, none of its places has
 pub none_at : (f s t : Option HeldBuffer) → pair_items (places f s t) ≡ []
     → (items_at f ≡ []) × (items_at s ≡ []) × (items_at t ≡ [])
 none_at f s t none =
@@ -93,7 +93,7 @@ none_at f s t none =
 none_of : (xs ys zs : List ℕ) → xs ≡ [] → ys ≡ [] → zs ≡ [] → xs ++ ys ++ zs ≡ []
 none_of xs ys zs x y z = ap (λ (l : List ℕ). l ++ ys ++ zs) x ∙ ap (λ (l : List ℕ). l ++ zs) y ∙ z
 
--- what a balance gave of the first
+-- a balance of the first buffer gave its lower part
 gives_lower : (f s t n third : Option HeldBuffer) (h : HeldBuffer) (ms : List Move) → 4 < length (items_at f)
     → items_at s ≡ []
     → ms ≡ Took Empty h ∷ shelving_of (pushed_part true f) → n ≡ Some (next_of true f h)
@@ -116,7 +116,7 @@ gives_lower (Some k) s t n third h ms many none is n_is push =
 pub some_items : (xs : List ℕ) → 0 < length xs → xs ≢ []
 some_items xs some none = omega (arith, some, ap length none)
 
--- what may be traded may be renewed
+-- the places of a pair that may be traded may be renewed
 module _ {p : PairState} {w : Holder} {pool : TableId} {besides : List ℕ} (may : MayTrade w pool p besides) where
   may_renew : (place : Option HeldBuffer) → IsBackedAt place w.book → MayRenew w pool place p.third
   may_renew place backed = record { same = may.same; vacant = may.third; backed = backed; busy = may.busy }
@@ -129,7 +129,7 @@ module _ {p : PairState} {w : Holder} {pool : TableId} {besides : List ℕ} (may
 
 module _ {f s t : Option HeldBuffer} {w : Holder} {pool : TableId} {besides : List ℕ}
     (may : MayTrade w pool (places f s t) besides) where
-  -- both buffers were full, and changed places; then the first was renewed
+  -- both buffers were full and exchanged places, and then the first place was renewed
   module _ {p y : Option HeldBuffer} (p_is : p ≡ s) (y_is : y ≡ f) (n third : Option HeldBuffer) (c : Book) where
     abbrev renewed_then : Renews p w.book n third c → Trades (places f s t) w.book [] [] (places n y third) c
     renewed_then r =
@@ -137,7 +137,7 @@ module _ {f s t : Option HeldBuffer} {w : Holder} {pool : TableId} {besides : Li
         still (swapped p_is y_is) may.backed.sized in
         on_and_on turned (first_renewed may.third r (rw y_is may.backed.sized.first))
 
-    -- the second was pushed, and the object is alone in the buffer that was popped
+    -- the second buffer was pushed, and the object is the only one in the popped buffer
     pub put_told : (h : HeldBuffer) (o : ℕ) (g : Option HeldBuffer)
         → RenewAnswers false Empty p w.book n third c (Ok true) → n ≡ Some h
         → g ≡ Some (record h { items = h.items ++ o ∷ [] })
@@ -238,7 +238,7 @@ module _ {f s t : Option HeldBuffer} {w : Holder} {pool : TableId} {besides : Li
     publish_stopped OutOfMemory none = absurd none
 
     module _ (done : Unit) (first : PublishesAt f w.book n third c (Ok done)) where
-      -- what the second may be renewed with
+      -- after that the second place may be renewed
       pub may_publish_second : (v : Holder) → v.pool ≡ w.pool → v.book ≡ c → MayRenew v pool s third
       may_publish_second v same book =
           record {
@@ -278,7 +278,7 @@ module _ {f s t : Option HeldBuffer} {w : Holder} {pool : TableId} {besides : Li
         )
         both_published (Err OutOfMemory) none = absurd none
 
-  -- nothing was to be done
+  -- there was nothing to do
   pub few_left : length (items_at s) ≤ 0 → length (items_at f) ≤ 4
       → BalanceAnswers (places f s t) w.book (places f s t) w.book (Ok tt)
   few_left none few = (

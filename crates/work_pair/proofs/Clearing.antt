@@ -1,4 +1,4 @@
--- What follows when all buffers of a pair were pushed back.
+-- What follows after all buffers of a pair were pushed back.
 use Rattle.std.proofs.Common.{◌≡◌, ◌≢◌, List, [], ◌++◌, Option, None, Result, Ok, Err, refl, subst}
 use Rattle.std.proofs.Common.{⊎_elim}
 use Rattle.mark_core.specs.declared.which.Which.{Which}
@@ -15,7 +15,7 @@ use Rattle.work_pair.proofs.Renewing.{cleared}
 use Rattle.work_pair.proofs.Trading.{at_first, at_second, at_third, backed_after, busy_then, end_on, on_and_on}
 use Rattle.work_pair.proofs.Trading.{on_full_of, out_on, sized_after, spent_at, untouched}
 
--- a clearing that went on, and one that stopped
+-- a clearing continues with a trade, or stops at the last tag
 module _ {p q : PairState} {b c : Book} (so_far : Clears p b q c) where
   abbrev clears_on : {r : PairState} {d : Book} (t : Trades q c [] [] r d)
       → (pair_items p ≡ [] → HasPushOnFull t.moves → ⊥) → (HasPopFromFull t.moves → ⊥) → Clears p b r d
@@ -34,13 +34,13 @@ module _ {p q : PairState} {b c : Book} (so_far : Clears p b q c) where
         end_on so_far.trades.moves t.moves ([], which, refl),
       )
 
--- buffers that a worker backs, and it is not idle where they have items
+-- the worker backs the buffers, and is not idle if they have items
 module _ {f s t : Option HeldBuffer} {b : Book} (backed : IsBacked (places f s t) [] b)
     (busy : pair_items (places f s t) ≢ [] → IsBusy b.account) where
   pub first_busy : items_at f ≢ [] → IsBusy b.account
   first_busy some = busy (λ none. some (none_at f s t none).0)
 
-  -- so it is in a clearing
+  -- both still hold during a clearing
   module _ {q : PairState} {c : Book} (so_far : Clears (places f s t) b q c) where
     pub backed_then : IsBacked q [] c
     backed_then = backed_after backed so_far.trades
@@ -54,12 +54,12 @@ module _ {f s t : Option HeldBuffer} {b : Book} (backed : IsBacked (places f s t
   abbrev begun : Clears (places f s t) b (places f s t) b
   begun = record { trades = untouched backed.sized; quiet = λ none push. push; out = λ pop. pop }
 
-  -- a clearing that made these moves
+  -- a clearing by the moves `moves`
   abbrev ClearsBy : List Move → PairState → Book → Type 0
   ClearsBy moves q c = (all : Clears (places f s t) b q c) × (all.trades.moves ≡ moves)
 
   module _ (n : Option HeldBuffer) (c : Book) where
-    -- after the first buffer
+    -- after the first place
     pub first_cleared : (done : Unit) → ClearsAt f b n c (Ok done) → ClearsBy (shelving_of f) (places n s t) c
     first_cleared done told =
         let r = cleared f b c told.1 in
@@ -70,7 +70,7 @@ module _ {f s t : Option HeldBuffer} {b : Book} (backed : IsBacked (places f s t
     first_stuck OutOfMemory none = absurd none
     first_stuck TagSpent told = rw told.0 (stuck begun c told.1.0 told.1.1)
 
-    -- after the second
+    -- after the second place
     module _ (m : Option HeldBuffer) (d : Book) where
       pub second_cleared : ClearsBy (shelving_of f) (places n s t) c → (done : Unit) → ClearsAt s c m d (Ok done)
           → ClearsBy (shelving_of f ++ shelving_of s) (places n m t) d
@@ -86,7 +86,7 @@ module _ {f s t : Option HeldBuffer} {b : Book} (backed : IsBacked (places f s t
       second_stuck first OutOfMemory none = absurd none
       second_stuck first TagSpent told = rw told.0 (stuck first.0 d told.1.0 told.1.1)
 
-      -- and after the third
+      -- after the third place
       module _ (second : ClearsBy (shelving_of f ++ shelving_of s) (places n m t) d) (k : Option HeldBuffer)
           (e : Book) where
         pub third_told : (r : Result Unit Stop) → n ≡ None → m ≡ None → ClearsAt t d k e r

@@ -16,7 +16,7 @@ use Rattle.work_pair.specs.Moves.{given_items, given_number, popped_items, poppe
 use Rattle.work_pair.specs.Moves.{IsOnFull, HasPushOnFull}
 use Rattle.work_pair.proofs.Looks.{IsLook, look_again, look_at_all, look_head, look_top, lost_pops, lost_pushes}
 
--- what a worker has after moves, by the buffers that it popped and pushed
+-- the holdings and the charge of a worker after moves, by the buffers that were popped and pushed
 pub record IsEffect (old new : Book) (given taken given_numbers taken_numbers : List ℕ) : Type 0 where
   pub kept : Keeps old new
   pub open kept use *
@@ -37,7 +37,7 @@ look_effect old new l =
     }
 
 module _ (q : Which) (h : HeldBuffer) (old new b : Book) (l : IsLook old b) where
-  -- a buffer was popped after a look
+  -- the effect of a pop after a look
   pop_effect : new ≡ popped h.index h.items b → IsEffect old new [] h.items [] (h.index ∷ [])
   pop_effect is =
       rw is
@@ -49,7 +49,7 @@ module _ (q : Which) (h : HeldBuffer) (old new b : Book) (l : IsLook old b) wher
         empties = l.empties;
       })
 
-  -- a buffer was pushed after a look
+  -- the effect of a push after a look
   push_effect : new ≡ pushed q h.index h.items b → 0 < times h.index old.account.held
       → IsPart h.items old.account.charge → IsEffect old new h.items [] (h.index ∷ []) []
   push_effect is there part =
@@ -67,7 +67,7 @@ module _ (q : Which) (h : HeldBuffer) (old new b : Book) (l : IsLook old b) wher
 looked : (q : Which) (head : Head) (old mid new : Book) → IsLook old mid → new ≡ loaded q head mid → IsLook old new
 looked q head old mid new l is = rw is (look_again old mid (loaded q head mid) l (look_head q head mid))
 
--- a look that ended a call
+-- a call that ended at the last tag was a look
 pub spent_look : (q : Which) (old new : Book) → Moved (Spent q) old new → IsLook old new
 spent_look q old new moved = ⊎_elim
     (λ p. looked q p.2.0 old p.0 new (lost_pops q old p.0 p.1) p.2.4)
@@ -123,7 +123,7 @@ busy_after moves old new p busy =
     let e = moves_effect moves old new p in
     ⊎_elim (λ more. inl (λ one. more (sym e.share ∙ one))) (λ at_work. inr (e.idle ∙ at_work)) busy
 
--- without a push on full no push opens
+-- a move that is no push on full opens no push
 move_closed : (move : Move) (old new : Book) → Moved move old new → (IsOnFull move → ⊥)
     → old.account.open_push ≡ false → new.account.open_push ≡ false
 move_closed (Took q h) old new p quiet closed =
@@ -145,7 +145,7 @@ moves_closed [] old new same quiet closed = ap (λ (c : Book). c.account.open_pu
 moves_closed (move ∷ moves) old new p quiet closed =
     moves_closed moves p.0 new p.2 (λ h. quiet (inr h)) (move_closed move old p.0 p.1 (λ h. quiet (inl h)) closed)
 
--- a head without a buffer raises the count of its stack
+-- a stack that was found empty raises the count of its finds
 pub found_none : (q : Which) (old new : Book) → Moved (FoundNone q) old new → empties_of old q < empties_of new q
 found_none Full old new p =
     let l = lost_pops Full old p.0 p.1 in
@@ -160,7 +160,7 @@ and_false : (b : Bool) → b && false ≡ false
 and_false true = refl
 and_false false = refl
 
--- a full head without a buffer ends an open push
+-- an open push ends when the full stack is found empty
 pub found_none_closes : (old new : Book) → Moved (FoundNone Full) old new → new.account.open_push ≡ false
 found_none_closes old new p =
     ap (λ (c : Book). c.account.open_push) p.2.2 ∙ ap (λ (i : Option ℕ). p.0.account.open_push && is_some i) p.2.1
@@ -170,7 +170,7 @@ or_true : (b : Bool) → b || true ≡ true
 or_true true = refl
 or_true false = refl
 
--- and it is known then that one was found
+-- and the account has found the full stack empty then
 pub found_none_tells : (old new : Book) → Moved (FoundNone Full) old new → new.account.found ≡ true
 found_none_tells old new p =
     ap (λ (c : Book). c.account.found) p.2.2 ∙ ap (λ (i : Option ℕ). p.0.account.found || is_none i) p.2.1

@@ -21,12 +21,12 @@ use Rattle.work_pair.proofs.Renewing.{put_out_done, put_out_stopped, still_backe
 use Rattle.work_pair.proofs.Trading.{backed_after, busy_then, end_on, first_backed, first_renewed, found_none_at}
 use Rattle.work_pair.proofs.Trading.{on_and_on, sized_after, spent_at, still}
 
--- buffers were popped from full so far, since the pair had no item
+-- the trades so far popped buffers from full, each when the pair had no items
 abbrev pub RefillsBy : PairState → Book → PairState → Book → Type 0
 RefillsBy old before new after =
     (t : Trades old before [] [] new after) × (popped : List HeldBuffer) × Refills popped old t.moves new
 
--- where no object was taken there was none
+-- if no object was taken, the pair has none
 pub all_taken : {A : Type 0} (p q : Buffers A) → Takes (as_pair p) (as_pair q) None → p.third ≡ None
     → pair_items (as_pair p) ≡ []
 all_taken p q took vacant =
@@ -51,7 +51,7 @@ module _ {A : Type 0} {old : PairState} {b₀ : Book} (backed : IsBacked old [] 
     still_vacant : q.third ≡ None
     still_vacant = took.1 ∙ vacant
 
-    -- none was left, there and on the full stack
+    -- there was none in the pair and none on the full stack
     pub none_got : (popped : List HeldBuffer) → Refills popped old so_far.moves (as_pair p) → (c : Book)
         → PopsOne Full b c (Ok None) → GetAnswers old b₀ (as_pair q) c (Ok None)
     none_got popped refills c moved =
@@ -82,7 +82,7 @@ module _ {A : Type 0} {old : PairState} {b₀ : Book} (backed : IsBacked old [] 
       end_on looked.moves (Spent Full ∷ []) ([], Full, refl),
     )
 
-    -- a buffer was popped, and takes the place of the first
+    -- a buffer was popped, and becomes the first
     module _ (h : HeldBuffer) (mid : Book) (took_next : PopsOne Full b mid (Ok (Some h))) where
       backed_here : IsBackedAt q.first b
       backed_here = first_backed (backed_after backed looked)

@@ -8,7 +8,7 @@ use Rattle.work_pair.specs.PairState.{PairState, items_at}
 use Rattle.work_pair.specs.working.Steps.{IsLocal, Takes, places}
 use Rattle.work_pair.proofs.Trading.{items_sum, numbers_sum}
 
--- the two buffers change places
+-- the two buffers exchange places
 pub swapped : {f s t x y : Option HeldBuffer} → x ≡ s → y ≡ f → IsLocal (places f s t) (places x y t) [] []
 swapped {f} {s} {t} x_is y_is =
     rw (x_is, y_is)
@@ -18,7 +18,7 @@ swapped {f} {s} {t} x_is y_is =
       sized = λ size of. record { first = of.second; second = of.first; third = of.third };
     })
 
--- the first has other items
+-- the items of the first buffer change
 first_changed : {f s t g : Option HeldBuffer} {h k : HeldBuffer} → f ≡ Some h → g ≡ Some k
     → k ≡ record h { items = k.items } → (put got : List ℕ)
     → ((x : ℕ) → times x k.items + times x got ≡ times x h.items + times x put)
@@ -45,13 +45,13 @@ first_changed {s} {t} {h} {k} f_is g_is same put got items =
       };
     })
 
--- an object is put into the first
+-- an object is put into the first buffer
 pub put_first : {f s t g : Option HeldBuffer} {h : HeldBuffer} {o : ℕ} → f ≡ Some h
     → g ≡ Some (record h { items = h.items ++ o ∷ [] }) → IsLocal (places f s t) (places g s t) (o ∷ []) []
 put_first {h} {o} f_is g_is =
     first_changed f_is g_is refl (o ∷ []) [] (λ x. omega (arith, sum_of-append (only x) h.items (o ∷ [])))
 
--- an object is taken out of the first
+-- an object is taken from the first buffer
 take_first : {f s t g : Option HeldBuffer} {h k : HeldBuffer} {o : ℕ} → f ≡ Some h → g ≡ Some k
     → h.items ≡ k.items ++ o ∷ [] → k ≡ record h { items = k.items }
     → IsLocal (places f s t) (places g s t) [] (o ∷ [])
@@ -59,7 +59,7 @@ take_first {k} {o} f_is g_is last same =
     first_changed f_is g_is same [] (o ∷ [])
     (λ x. omega (arith, ap (times x) last, sum_of-append (only x) k.items (o ∷ [])))
 
--- one change after another
+-- two changes in sequence are one
 pub local_again : {p q r : PairState} {put got : List ℕ} → IsLocal p q [] [] → IsLocal q r put got
     → IsLocal p r put got
 local_again a b =
@@ -69,7 +69,7 @@ local_again a b =
       sized = λ size of. b.sized size (a.sized size of);
     }
 
--- what a try to take an object tells, in the buffer that is the first
+-- taking an object from the first buffer takes it from the pair
 pub taken_first : (f s t g : Option HeldBuffer) (o : ℕ) → (h : HeldBuffer) × (k : HeldBuffer) × (f ≡ Some h)
     × (g ≡ Some k) × (h.items ≡ k.items ++ o ∷ []) × (k ≡ record h { items = k.items })
     → Takes (places f s t) (places g s t) (Some o)
@@ -79,7 +79,7 @@ taken_first f s t g o told = (
   inl ((told.0, told.1.items, told.2, told.4, told.3 ∙ ap Some told.5), refl),
 )
 
--- what a second try to take an object tells, in the buffer that was the second
+-- taking from the second buffer, which is first after the exchange, takes from the pair if the first has no items
 pub taken_second : (f s t x y g : Option HeldBuffer) → x ≡ s → y ≡ f → items_at f ≡ [] → (r : Option ℕ)
     → MatchOption r ((items_at x ≡ []) × (g ≡ x)) (λ o. (h : HeldBuffer) × (k : HeldBuffer) × (x ≡ Some h)
     × (g ≡ Some k) × (h.items ≡ k.items ++ o ∷ []) × (k ≡ record h { items = k.items }))

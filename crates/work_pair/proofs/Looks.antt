@@ -8,7 +8,7 @@ use Rattle.buffer_pool.specs.Calls.{HeldBuffer, LostPops, LostPushes}
 use Rattle.buffer_pool.specs.Calls.LostPops.{none as no_pop, more as more_pops}
 use Rattle.buffer_pool.specs.Calls.LostPushes.{none as no_push, more as more_pushes}
 
--- a worker looked at its stacks: nothing that it has changed, and it may have found more stacks empty
+-- a worker only looked at its stacks: it holds what it held, and may have found more stacks empty
 pub record IsLook (old new : Book) : Type 0 where
   pub setup : new.setup ≡ old.setup
   pub share : new.account.share ≡ old.account.share
@@ -38,12 +38,12 @@ look_link Empty link b = grind arith
 pub look_failed : (b : Book) → IsLook b (failed b)
 look_failed b = grind arith
 
--- the loads of a head and its link
+-- the loads of a head and its link are a look
 pub look_top : (q : Which) (head : Head) (link : Option ℕ) (b : Book) → IsLook b (link_loaded q link (loaded q head b))
 look_top q head link b = look_again b (loaded q head b) (link_loaded q link (loaded q head b)) (look_head q head b)
     (look_link q link (loaded q head b))
 
--- tries that were lost
+-- lost tries are looks
 pub lost_pops : (q : Which) (old new : Book) → LostPops q old new → IsLook old new
 lost_pops q old new (no_pop b) = look_at_all b
 lost_pops q old new (more_pops first mid last rest lost) =

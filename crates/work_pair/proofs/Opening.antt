@@ -1,4 +1,4 @@
--- What follows when a pair was opened, or was not.
+-- What follows after a pair was opened, or could not be.
 use Rattle.std.proofs.Common.{◌≡◌, ℕ, Bool, true, false, List, [], ◌∷◌, ◌++◌, Option, Some, None, Ok, Err, refl, subst}
 use Rattle.std.proofs.Common.{inl, inr, ⊎_elim, arith}
 use Rattle.mark_core.specs.declared.which.Which.{Which}
@@ -22,7 +22,7 @@ use Rattle.work_pair.proofs.Spilling.{listed, listed_effect}
 use Rattle.work_pair.proofs.Trading.{at_first, at_second, backed_after, busy_then, end_on, first_backed, found_none_at}
 use Rattle.work_pair.proofs.Trading.{on_and_on, on_full_of, out_on, sized_after, spent_at}
 
--- moves that push nothing on full and pop nothing from it
+-- moves that neither push on full nor pop from it
 abbrev AreQuiet : List Move → Type 0
 AreQuiet ms = (HasPushOnFull ms → ⊥) × (HasPopFromFull ms → ⊥)
 
@@ -33,7 +33,7 @@ quiet_on : (ms ns : List Move) → AreQuiet ms → AreQuiet ns → AreQuiet (ms 
 quiet_on ms ns one more =
     (λ push. ⊎_elim one.0 more.0 (on_full_of ms ns push), out_on ms ns one.1 more.1)
 
--- a worker backs a pair that holds nothing
+-- a worker backs a pair without buffers and objects
 nothing_backed : (b : Book) → IsBacked empty_pair [] b
 nothing_backed b = record {
   held = λ x. omega arith;
@@ -41,12 +41,12 @@ nothing_backed b = record {
   sized = record { first = tt; second = tt; third = tt };
 }
 
--- a stop with what was left
+-- a stop at the last tag, with a pair that keeps what was popped
 abbrev StopsWith : Book → Book → Stop → Type 0
 StopsWith b c stop = (stop ≡ TagSpent) × ((left : PairState) × (left.stopped ≡ true)
     × TouchesNoFull empty_pair b left c)
 
--- what was done from nothing
+-- the trades since the start, from an empty pair
 module _ {b c : Book} {x y z : Option HeldBuffer} (u : Trades empty_pair b [] [] (places x y z) c) where
   abbrev from_nothing : (now : Bool) → (now ≡ true → EndAtLastTag u.moves)
       → CallEffect empty_pair b [] [] (listed (places x y z) [] now false) c
@@ -60,7 +60,7 @@ module _ {b c : Book} {x y z : Option HeldBuffer} (u : Trades empty_pair b [] []
   stops_with quiet ends =
       (refl, (listed (places x y z) [] true false, refl, quietly true (λ stopped. ends) quiet))
 
--- a buffer was popped, and lies at a place that was vacant
+-- a buffer was popped into a vacant place
 module _ (h : HeldBuffer) (b c : Book) (took : PopsOne Empty b c (Ok (Some h))) where
   abbrev taken : Renews None b (Some h) None c
   taken =
@@ -118,7 +118,7 @@ module _ (b : Book) where
         stops_with (on_and_on one last) (quiet_on one.moves last.moves (took_quiet h) (spent_quiet Empty))
         (end_on one.moves last.moves ([], Empty, refl))
 
-    -- there was a second one
+    -- a second buffer was found
     module _ (k : HeldBuffer) (c : Book) (more : PopsOne Empty mid c (Ok (Some k))) where
       abbrev pair : Trades empty_pair b [] [] (places (Some h) (Some k) None) c
       pair = on_and_on one (at_second (taken k mid c more) (sized_after one))
@@ -140,7 +140,7 @@ module _ (b : Book) where
       opens_two =
           (from_nothing pair false (λ x. cc), h, k, refl {a = Took Empty h ∷ Took Empty k ∷ []}, refl, refl)
 
-    -- there was no second one
+    -- no second buffer was found
     module _ (c : Book) (none : PopsOne Empty mid c (Ok None)) where
       abbrev two : Trades empty_pair b [] [] just c
       two = on_and_on one (found_none_at Empty none (sized_after one))
@@ -157,7 +157,7 @@ module _ (b : Book) where
       pub back_busy : IsBusy b.account → IsBusy c.account
       back_busy = busy_then two
 
-      -- then it was given back, or a last tag was loaded
+      -- then the first was pushed back, or a last tag stopped that
       module _ (n : Option HeldBuffer) (d : Book) where
         abbrev given : Renews (Some h) c None None d → Trades empty_pair b [] [] empty_pair d
         given r = on_and_on two (at_first r all_backed.sized)
@@ -174,7 +174,7 @@ module _ (b : Book) where
               omega (arith, e₁.empties, seen, e₃.empties),
             )
 
-        -- to the empty stack, since it has no items
+        -- it was pushed on the empty stack, since it has no items
         pub gave_back : (done : Unit) → ClearsAt (Some h) c n d (Ok done) → OpensNone b d
         gave_back done told =
             let back : Moved (Gave Empty h) c d =

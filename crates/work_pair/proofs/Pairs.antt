@@ -1,4 +1,4 @@
--- From the effect on the three places to the effect of a call of a pair.
+-- The effect of a call on a pair follows from its effect on the three places.
 use Rattle.std.proofs.Common.{◌≡◌, ℕ, Bool, true, false, List, [], ◌∷◌, ◌++◌, Option, Some, None, IfSome, IfNone}
 use Rattle.std.proofs.Common.{IfErr, OnOk, Result, Ok, Err, refl, sym, ap, subst, ◌∙◌, inl, inr, ⊎_elim, arith}
 use Rattle.std.proofs.lemmas.Bool.{false≢true}
@@ -24,11 +24,11 @@ use Rattle.work_pair.proofs.Renewing.{out_alone}
 use Rattle.work_pair.proofs.Spilling.{beside, listed, listed_effect, listed_sum, spilled, unspilled}
 use Rattle.work_pair.proofs.Trading.{backed_less, untouched}
 
--- a pair as a contract sees it
+-- the state of a pair in contracts
 abbrev pub seen_as : {A : Type 0} → Inside A → PairState
 seen_as i = listed (as_pair i.buffers) i.spill i.stopped i.starved
 
--- what was popped from full does not depend on the list
+-- which buffers were popped from full does not depend on the list
 refills_of : (p q : PairState) → p.first ≡ q.first → p.second ≡ q.second → (popped : List HeldBuffer)
     (moves : List Move) (new : PairState) → Refills popped p moves new → Refills popped q moves new
 refills_of p q f s [] moves new r = (r.0, r.1 ∙ f, r.2 ∙ s)
@@ -47,7 +47,7 @@ by_rule i q moves r told = (
   told.6,
 )
 
--- the first place is as it was, so what the buffers tell from there on is told from their places before
+-- the first place is as it was, so a call that began with it began with the pair
 pub put_from : {A : Type 0} (m : Buffers A) {first : Option HeldBuffer} → first ≡ m.first → (object : ℕ) (b : Book)
     (q : PairState) (c : Book) (r : Result Bool Stop) → PutAnswers object (places first m.second m.third) b q c r
     → PutAnswers object (as_pair m) b q c r
@@ -60,12 +60,12 @@ pub got_from : {A : Type 0} (m : Buffers A) {first : Option HeldBuffer} → firs
 got_from m same b q c r told =
     subst (λ (f : Option HeldBuffer). GetAnswers (places f m.second m.third) b q c r) same told
 
--- a pair that a contract sees as v
+-- a pair whose state in contracts is v
 module _ {A : Type 0} {v : PairState} (i : Inside A) (is : seen_as i ≡ v) where
   seen : {put : List ℕ} {b : Book} → IsBacked v put b → IsBacked (seen_as i) put b
   seen backed = rw is backed
 
-  -- what the buffers are asked
+  -- what is required for the buffers
   pub inner : {put : List ℕ} {b : Book} → IsBacked v put b → IsBacked (as_pair i.buffers) put b
   inner backed = beside refl (seen backed)
 
@@ -79,14 +79,14 @@ module _ {A : Type 0} {v : PairState} (i : Inside A) (is : seen_as i ≡ v) wher
         busy = busy;
       }
 
-  -- no call was stopped
+  -- no call has stopped the pair
   pub still_going : IsOpen v → i.stopped ≡ false
   still_going going = ap (λ (w : PairState). w.stopped) is ∙ going.going
 
   not_ended : IsOpen v → (ms : List Move) → i.stopped ≡ true → EndAtLastTag ms
   not_ended going ms stopped = absurd (false≢true (sym (still_going going) ∙ stopped))
 
-  -- the last object of the list was got
+  -- the last object of the list was taken
   pub takes_last : (m : List ℕ) (o : ℕ) → i.spill ≡ m ++ o ∷ [] → IsOpen v → (b : Book) → IsBacked v [] b
       → CallEffect v b [] (o ∷ []) (listed (as_pair i.buffers) m i.stopped i.starved) b
   takes_last m o l_is going b backed =
@@ -95,7 +95,7 @@ module _ {A : Type 0} {v : PairState} (i : Inside A) (is : seen_as i ≡ v) wher
       (not_ended going u.moves))
 
   module _ (b : Book) (q : Buffers A) (c : Book) where
-    -- the buffers were traded, and the list stayed
+    -- the buffers were traded, and the list is as it was
     abbrev trades : {m put got : List ℕ} {now starving : Bool} → m ≡ i.spill → IsBacked v put b
         → (u : Trades (as_pair i.buffers) b put got (as_pair q) c) → (now ≡ true → EndAtLastTag u.moves)
         → CallEffect (seen_as i) b put got (listed (as_pair q) m now starving) c
@@ -118,7 +118,7 @@ module _ {A : Type 0} {v : PairState} (i : Inside A) (is : seen_as i ≡ v) wher
             ⊎_elim (λ room. inl room) (λ fills. inr (inr fills)) a.3,
           )
 
-      -- no empty buffer was found for it: it went to the list, or stayed with the worker
+      -- no empty buffer was found for it, so it went to the list, or stayed with the worker
       module _ (done_is : done ≡ false) (m : List ℕ) where
         abbrev none : FindsNone (as_pair i.buffers) b (as_pair q) c
         none = answered false done_is
@@ -158,7 +158,7 @@ module _ {A : Type 0} {v : PairState} (i : Inside A) (is : seen_as i ≡ v) wher
             })
 
     module _ (backed : IsBacked v [] b) where
-      -- the buffers were balanced, or published
+      -- the buffers were balanced or published
       module _ (going : IsOpen v) (done : Unit) where
         pub balances : BalanceAnswers (as_pair i.buffers) b (as_pair q) c (Ok done)
             → Balances v b (listed (as_pair q) i.spill i.stopped i.starved) c
@@ -175,7 +175,7 @@ module _ {A : Type 0} {v : PairState} (i : Inside A) (is : seen_as i ≡ v) wher
         publishes told =
             rw (← is) (trades refl backed told.0 (not_ended going told.0.moves), told.4)
 
-      -- a call was stopped that popped nothing from full
+      -- a call stopped, and had popped nothing from full
       pub stops : (stop : Stop) → EndsOut (as_pair i.buffers) b (as_pair q) c stop
           → (stop ≡ TagSpent) × (true ≡ true) × PopsNoneFromFull v b (listed (as_pair q) i.spill true i.starved) c
       stops TagSpent told = (
@@ -185,7 +185,7 @@ module _ {A : Type 0} {v : PairState} (i : Inside A) (is : seen_as i ≡ v) wher
       )
       stops OutOfMemory none = absurd none
 
-      -- an object was to be got from the buffers, and the list stayed
+      -- an object was requested from the buffers, and the list is as it was
       module _ (m : List ℕ) (m_is : m ≡ i.spill) where
         gets : {now : Bool} {got : List ℕ} (u : Trades (as_pair i.buffers) b [] got (as_pair q) c)
             → (now ≡ true → EndAtLastTag u.moves) → CallEffect v b [] got (listed (as_pair q) m now i.starved) c
@@ -202,7 +202,7 @@ module _ {A : Type 0} {v : PairState} (i : Inside A) (is : seen_as i ≡ v) wher
           got_told (Some o) told = gets told.0 (not_ended going told.0.moves)
           got_told None told = tt
 
-          -- by the rule, which knows of no list
+          -- the rule of getting an object, which does not read the list
           pub gets_told : (r : Option ℕ) → GetAnswers (as_pair i.buffers) b (as_pair q) c (Ok r)
               → Gets v b r (listed (as_pair q) m i.stopped i.starved) c
           gets_told (Some o) told =
@@ -226,11 +226,11 @@ module _ {A : Type 0} {v : PairState} (i : Inside A) (is : seen_as i ≡ v) wher
             told.3,
           )
 
-  -- the pair is backed without its list as well
+  -- the worker backs the pair without its list, too
   given_up : (b : Book) → IsBacked v [] b → IsBacked (listed (as_pair i.buffers) [] i.stopped i.starved) [] b
   given_up b backed = beside {p = listed (as_pair i.buffers) [] i.stopped i.starved} refl (seen backed)
 
-  -- the buffers were given back one after the other
+  -- the buffers were pushed back one after the other
   pub shelves : (b : Book) → IsBacked v [] b → (c : Book) (done : Unit)
       → ClearAnswers (as_pair i.buffers) b empty_pair c (Ok done) → ShelvesAll v b c
   shelves b backed c done told =
@@ -239,7 +239,7 @@ module _ {A : Type 0} {v : PairState} (i : Inside A) (is : seen_as i ≡ v) wher
         told.1,
       )
 
-  -- the buffers were given back, and the list was given up before
+  -- the list was given up, and then the buffers were pushed back
   pub disposes : (b : Book) → IsBacked v [] b → (q : PairState) (c : Book) → q.spill ≡ [] → (now starving : Bool)
       (m : List ℕ) → m ≡ [] → (cleared : Clears (as_pair i.buffers) b q c)
       → (now ≡ true → EndAtLastTag cleared.trades.moves) → Disposes v b (listed q m now starving) c
@@ -255,7 +255,7 @@ pub clears_told : (p : PairState) (b : Book) (q : PairState) (c : Book) (stop : 
 clears_told p b q c TagSpent told = (refl, told)
 clears_told p b q c OutOfMemory none = absurd none
 
--- an object went to the end of the list, or came back with the reason
+-- a result of `spill_over` holds of the pair `new`, if it holds of the equal pair `told`
 pub if_spilled : (r : Result Unit (ℕ × Stop)) (new told : PairState) (P : PairState → Type 0) → OnOk r (new ≡ told)
     → P told → OnOk r (P new)
 if_spilled (Ok done) new told P is holds = subst P (sym is) holds

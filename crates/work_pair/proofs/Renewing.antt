@@ -1,4 +1,4 @@
--- The effect on one place.
+-- The effect of calls on one place.
 use Rattle.std.proofs.Common.{◌≡◌, ◌≢◌, ℕ, ◌+◌, Bool, true, false, Contains, List, [], ◌∷◌, ◌++◌, Option, Some, None}
 use Rattle.std.proofs.Common.{Ok, Err, refl, sym, ap, subst, ◌∙◌, inl, inr, ⊎_elim, arith, length, ◌-◌, ◌/◌}
 use Rattle.std.proofs.lemmas.List.{append-nil, length-take, take-append-drop}
@@ -25,7 +25,7 @@ use Rattle.work_pair.proofs.Looks.{lost_pops}
 use Rattle.work_pair.proofs.Effects.{busy_after, found_none, move_effect}
 use Rattle.work_pair.proofs.Trading.{IsIdle, none_in, none_told}
 
--- a buffer goes on full only with items, and with items it goes there
+-- a buffer goes on the full stack if it has items, and on the empty stack otherwise
 filled_shelf : (h : HeldBuffer) → IsFilled (Gave (shelf_of h.items) h)
 filled_shelf h = go h.items refl
   where
@@ -43,7 +43,7 @@ shelf_full h some = go h.items refl
 shelf_quiet : (h : HeldBuffer) → h.items ≡ [] → IsOnFull (Gave (shelf_of h.items) h) → ⊥
 shelf_quiet h none = subst (λ (items : List ℕ). IsOnFull (Gave (shelf_of items) h) → ⊥) (sym none) (λ x. x)
 
--- the push of the buffer at a place: it gives that buffer and takes none, and is on full where there are items
+-- moves that push the buffer at a place and pop none: on full if it has items, and not on full if it has none
 record IsPushOf (place : Option HeldBuffer) (moves : List Move) : Type 0 where
   given : pushed_items moves ≡ items_at place
   number : pushed_numbers moves ≡ buffer_number place
@@ -72,12 +72,12 @@ shelved : (place : Option HeldBuffer) (b c : Book) → Leaves place b c → Move
 shelved None b c left = left
 shelved (Some h) b c left = (c, left, refl)
 
--- only a pop from full takes from full
+-- only a pop from full takes a buffer from full
 from_full : (q : Which) (h : HeldBuffer) → IsFromFull (Took q h) → IsFull q
 from_full Full h took = tt
 from_full Empty h none = absurd none
 
--- nothing was done with a place that may be renewed
+-- a place that may be renewed and is as it was
 module _ {w : Holder} {pool : TableId} {place third : Option HeldBuffer} (may : MayRenew w pool place third) where
   left_sized : IsOfSize w.book.setup.size third
   left_sized = rw may.vacant tt
@@ -132,7 +132,7 @@ module _ {w : Holder} {pool : TableId} {place third : Option HeldBuffer} (may : 
         (unchanged (Spent Empty) moved (refl, refl, tt), ([], Empty, refl), λ pop. ⊎_elim (λ x. x) (λ x. x) pop)
     stopped_at_once OutOfMemory none = absurd none
 
--- what is pushed of a buffer and what stands there next are what stood there and what was popped
+-- the objects that are pushed and those at the place after it are those at the place before it and those popped
 parts_share : (half : Bool) (old : Option HeldBuffer) (h : HeldBuffer) → (half ≡ true → h.items ≡ []) → (o : ℕ)
     → times o (items_at (pushed_part half old)) + times o (next_of half old h).items
     ≡ times o (items_at old) + times o h.items
@@ -172,7 +172,7 @@ next_size : (half : Bool) (old : Option HeldBuffer) (h : HeldBuffer) → (next_o
 next_size false old h = refl
 next_size true old h = refl
 
--- after a pop its worker is not idle still, and the buffer is of the pool's size
+-- after a pop the worker is still not idle, and the buffer is of the pool's size
 module _ (q : Which) (h : HeldBuffer) (b mid : Book) (took : Moved (Took q h) b mid) where
   pub still_busy : IsBusy b.account → IsBusy mid.account
   still_busy = busy_after (Took q h ∷ []) b mid (mid, took, refl)
@@ -180,14 +180,14 @@ module _ (q : Which) (h : HeldBuffer) (b mid : Book) (took : Moved (Took q h) b 
   pub took_size : h.size ≡ b.setup.size
   took_size = took.2.4 ∙ ap (λ (e : Setup). e.size) (lost_pops q b took.0 took.1).setup
 
--- the buffer h was popped, and the one at a place is to be pushed, or its lower part
+-- buffer h was popped; the buffer at the place, or its lower part, is pushed next
 module _ (half : Bool) (q : Which) (h : HeldBuffer) (mid : Book) {old : Option HeldBuffer} {b : Book}
     (backed : IsBackedAt old b) (took : Moved (Took q h) b mid) (bare : half ≡ true → q ≡ Empty) where
   shared : (o : ℕ) → times o (items_at (pushed_part half old)) + times o (next_of half old h).items
       ≡ times o (items_at old) + times o h.items
   shared = parts_share half old h (λ is. took.2.6 (bare is))
 
-  -- what the pop leaves of what the place needs
+  -- the pop keeps what the push requires
   pub still_backed : IsBackedAt (pushed_part half old) mid
   still_backed =
       let e = move_effect (Took q h) b mid took in
@@ -265,7 +265,7 @@ module _ (half : Bool) (q : Which) (h : HeldBuffer) (mid : Book) {old : Option H
 pub out_alone : (ms : List Move) → ms ≡ FoundNone Empty ∷ [] → HasPopFromFull ms → ⊥
 out_alone ms is pop = ⊎_elim (λ x. x) (λ x. x) (subst HasPopFromFull is pop)
 
--- the buffer that stands at a place is held, its items are in the charge, and it is of the pool's size
+-- the buffer at a place is held, its items are in the charge, and it is of the pool's size
 pub stands : {place : Option HeldBuffer} {h : HeldBuffer} {b : Book} → place ≡ Some h → IsBackedAt place b
     → Contains b.account.held h.index × IsPart h.items b.account.charge × (h.size ≡ b.setup.size)
 stands {h} {b} is backed =
@@ -275,7 +275,7 @@ stands {h} {b} is backed =
       at.sized,
     )
 
--- the buffer at a place was pushed
+-- the buffer at the place was pushed
 pub cleared : (f : Option HeldBuffer) (b c : Book) → Leaves f b c → (r : Renews f b None None c)
     × (items_at f ≡ [] → HasPushOnFull r.moves → ⊥) × (HasPopFromFull r.moves → ⊥) × (r.moves ≡ shelving_of f)
 cleared f b c left =

@@ -1,4 +1,4 @@
--- Pairs with a spill list, from the effect on their buffers.
+-- The effects on a pair with a spill list follow from those on its buffers.
 use Rattle.std.proofs.Common.{◌≡◌, ℕ, ◌+◌, Bool, true, List, [], ◌∷◌, ◌++◌, ap, arith}
 use Rattle.mark_core.specs.Lists.{times, only}
 use Rattle.mark_core.proofs.Sums.{sum_of-append}
@@ -10,17 +10,17 @@ use Rattle.work_pair.specs.working.Steps.{Trades}
 use Rattle.work_pair.proofs.Effects.{moves_effect, moves_closed}
 use Rattle.work_pair.proofs.Trading.{items_sum, sized_after}
 
--- a pair with this list
+-- the pair with spill list l
 abbrev pub listed : PairState → List ℕ → Bool → Bool → PairState
 listed p l was hungry = record p { spill = l; stopped = was; starved = hungry }
 
--- what it has, beside a pair with the same buffers and no list
+-- its objects are those of the list and those of the pair without a list
 pub listed_sum : (o : ℕ) (p : PairState) (l : List ℕ) (was hungry : Bool) → p.spill ≡ []
     → times o (pair_items (listed p l was hungry)) ≡ times o l + times o (pair_items p)
 listed_sum o p l was hungry bare =
     omega (arith, items_sum o p, items_sum o (listed p l was hungry), ap (times o) bare)
 
--- the buffers alone are backed as well
+-- a worker that backs it backs the buffers alone as well
 pub beside : {p : PairState} {l put : List ℕ} {was hungry : Bool} {b : Book} → p.spill ≡ []
     → IsBacked (listed p l was hungry) put b → IsBacked p put b
 beside {p} {l} {put} {was} {hungry} bare backed =
@@ -36,7 +36,7 @@ beside {p} {l} {put} {was} {hungry} bare backed =
       sized = record { first = backed.sized.first; second = backed.sized.second; third = backed.sized.third };
     }
 
--- a trade of the buffers, told of the pair, whose list may have taken in what was put, or given what was got
+-- a trade of the buffers as an effect on the pair, whose list may have taken in what was put, or yielded what was got
 abbrev pub listed_effect : {p q : PairState} {l m took gave put got : List ℕ} {was hungry now starving : Bool}
     {b c : Book} → p.spill ≡ [] → q.spill ≡ []
     → ((o : ℕ) → times o m + times o got + times o took ≡ times o l + times o put + times o gave)
@@ -80,12 +80,12 @@ listed_effect {p} {q} {l} {m} {put} {got} {was} {hungry} {now} {starving} {b} {c
       last_tag = ends;
     }
 
--- an object was spilled
+-- an object was added to the list
 pub spilled : (l : List ℕ) (object o : ℕ)
     → times o (l ++ object ∷ []) + times o [] + times o [] ≡ times o l + times o (object ∷ []) + times o []
 spilled l object o = omega (arith, sum_of-append (only o) l (object ∷ []))
 
--- the last object of the list was got
+-- the last object was taken from the list
 pub unspilled : (rest : List ℕ) (object o : ℕ)
     → times o rest + times o (object ∷ []) + times o [] ≡ times o (rest ++ object ∷ []) + times o [] + times o []
 unspilled rest object o = omega (arith, sum_of-append (only o) rest (object ∷ []))

@@ -1,4 +1,4 @@
--- Trades in sequence: local changes of a pair, and effects on one of its places.
+-- Trades in sequence: changes of a pair without a move, and effects on one of its places.
 use Rattle.std.proofs.Common.{◌≡◌, ◌⊎◌, ℕ, ◌+◌, ◌≤◌, List, [], ◌∷◌, ◌++◌, append_assoc, length, Option, None, refl, sym}
 use Rattle.std.proofs.Common.{ap, subst, ◌∙◌, inl, inr, ⊎_elim, arith}
 use Rattle.mark_core.specs.declared.which.Which.{Which}
@@ -17,12 +17,12 @@ use Rattle.work_pair.specs.working.Asks.{IsBackedAt}
 use Rattle.work_pair.specs.working.Steps.{IsLocal, Renews, Trades, places}
 use Rattle.work_pair.proofs.Effects.{busy_after, moves_effect}
 
--- a list without length is empty
+-- a list of length 0 is empty
 pub none_in : (xs : List ℕ) → length xs ≤ 0 → xs ≡ []
 none_in [] short = refl
 none_in (x ∷ xs) short = absurd (omega (arith, short))
 
--- how often a number is among what is told of each of the three places: of its items, say
+-- how often x is in the lists that `told` makes of the three places, for example their items
 abbrev pub in_places : (Option HeldBuffer → List ℕ) → ℕ → PairState → ℕ
 in_places told x p = times x (told p.first) + times x (told p.second) + times x (told p.third)
 
@@ -40,7 +40,7 @@ items_sum o p = omega (arith, sum_of-append (only o) p.spill (buffered_items p),
 pub numbers_sum : (i : ℕ) (p : PairState) → times i (numbers_of p) ≡ in_places buffer_number i p
 numbers_sum i p = places_sum buffer_number i p
 
--- moves and further moves
+-- moves may be continued by further moves
 pub moves_on : (ms ns : List Move) (a b c : Book) → Moves a ms b → Moves b ns c → Moves a (ms ++ ns) c
 moves_on [] ns a b c same then_ns = subst (λ (x : Book). Moves x ns c) same then_ns
 moves_on (m ∷ ms) ns a b c p then_ns = (p.0, p.1, moves_on ms ns p.0 b c p.2 then_ns)
@@ -63,7 +63,7 @@ out_on ms ns no_m no_n pop = ⊎_elim no_m no_n (from_full_of ms ns pop)
 pub end_on : (ms ns : List Move) → EndAtLastTag ns → EndAtLastTag (ms ++ ns)
 end_on ms ns e = (ms ++ e.0, e.1, ap (λ (xs : List Move). ms ++ xs) e.2 ∙ sym (append_assoc ms e.0 (Spent e.1 ∷ [])))
 
--- what is told of moves, one list after the other: their items and their numbers
+-- if `all` joins the lists that `told` makes of each move, x is in it as often as in its two parts
 module _ (told : Move → List ℕ) (all : List Move → List ℕ) (none : all [] ≡ [])
     (more : (m : Move) (ms : List Move) → all (m ∷ ms) ≡ told m ++ all ms) (x : ℕ) where
   counted_on : (ms ns : List Move) → times x (all (ms ++ ns)) ≡ times x (all ms) + times x (all ns)
@@ -93,7 +93,7 @@ pub pushed_numbers_on : (i : ℕ) (ms ns : List Move)
     → times i (pushed_numbers (ms ++ ns)) ≡ times i (pushed_numbers ms) + times i (pushed_numbers ns)
 pushed_numbers_on = counted_on given_number pushed_numbers refl (λ m ms. refl)
 
--- a pair that its worker did not use
+-- a change of the pair is a trade without a move
 abbrev pub still : {old new : PairState} {put got : List ℕ} {b : Book} → IsLocal old new put got
     → AreOfSize b.setup.size old → Trades old b put got new b
 still {b} l sized =
@@ -106,7 +106,7 @@ still {b} l sized =
       sized = l.sized b.setup.size sized;
     }
 
--- nothing was done
+-- a trade in which nothing was done
 abbrev pub untouched : {p : PairState} {b : Book} → AreOfSize b.setup.size p → Trades p b [] [] p b
 untouched sized = still (record { items = λ o. omega arith; buffers = λ i. refl; sized = λ size of. of }) sized
 
@@ -118,7 +118,7 @@ module _ {old new : PairState} {b c : Book} {put got : List ℕ} where
   pub busy_then : Trades old b put got new c → IsBusy b.account → IsBusy c.account
   busy_then t = busy_after t.moves b c t.books
 
-  -- one that backs a pair still does, and has what was got besides
+  -- a worker that backs a pair still backs it after a trade, together with what was got
   pub backed_after : IsBacked old put b → Trades old b put got new c → IsBacked new got c
   backed_after backed t =
       let e = moves_effect t.moves b c t.books in
@@ -135,7 +135,7 @@ module _ {old new : PairState} {b c : Book} {put got : List ℕ} where
         sized = sized_after t;
       }
 
--- trades one after the other
+-- two trades in sequence are one
 abbrev pub on_and_on : {old mid new : PairState} {b c d : Book} {put got : List ℕ} → Trades old b [] [] mid c
     → Trades mid c put got new d → Trades old b put got new d
 on_and_on {new} {b} {c} {d} s t =
@@ -161,7 +161,7 @@ on_and_on {new} {b} {c} {d} s t =
           subst (λ (e : Setup). AreOfSize e.size new) (moves_effect s.moves b c s.books).setup t.sized;
     }
 
--- what was done with one place is what was done with the pair, if all else that is told of the places is the same
+-- an effect on one place is one on the pair, if the contents of the places are otherwise the same
 abbrev renewed : (p q : PairState) {f g third : Option HeldBuffer} {b c : Book} → q.spill ≡ p.spill
     → ((told : Option HeldBuffer → List ℕ) (x : ℕ) → told None ≡ []
     → in_places told x q + times x (told f) ≡ in_places told x p + times x (told g) + times x (told third))
@@ -183,12 +183,12 @@ renewed p q spill even r sized =
       sized = sized;
     }
 
--- nothing is told of a place that is vacant
+-- a vacant place has nothing
 pub none_told : {t : Option HeldBuffer} → t ≡ None → (told : Option HeldBuffer → List ℕ) (x : ℕ) → told None ≡ []
     → times x (told t) ≡ 0
 none_told vacant told x none = ap (λ (p : Option HeldBuffer). times x (told p)) vacant ∙ ap (times x) none
 
--- a buffer was left over from the first place, or from the second, and the third was vacant
+-- the third place was vacant, and gets what is left over from the first, or from the second
 module _ {f s t g third : Option HeldBuffer} {b c : Book} (vacant : t ≡ None) where
   abbrev pub first_renewed : Renews f b g third c → IsOfSize b.setup.size s
       → Trades (places f s t) b [] [] (places g s third) c
@@ -202,7 +202,7 @@ module _ {f s t g third : Option HeldBuffer} {b c : Book} (vacant : t ≡ None) 
       renewed (places f s t) (places f g third) refl (λ told x none. omega (arith, none_told vacant told x none)) r
       (record { first = sized; second = r.sized; third = r.left_sized })
 
--- what was done with one place while the others stayed
+-- an effect on one place, with the others as they were
 module _ {f s t g : Option HeldBuffer} {b c : Book} where
   abbrev pub at_first : Renews f b g None c → AreOfSize b.setup.size (places f s t)
       → Trades (places f s t) b [] [] (places g s t) c
@@ -222,7 +222,7 @@ module _ {f s t g : Option HeldBuffer} {b c : Book} where
       renewed (places f s t) (places f s g) refl (λ told x none. omega (arith, ap (times x) none)) r
       (record { first = sized.first; second = sized.second; third = r.sized })
 
--- a worker that backs a pair backs each of its buffers
+-- a worker that backs a pair backs each of its places
 module _ {p : PairState} {besides : List ℕ} {b : Book} (backed : IsBacked p besides b) where
   at_place : (h : Option HeldBuffer)
       → ((told : Option HeldBuffer → List ℕ) (x : ℕ) → times x (told h) ≤ in_places told x p)
@@ -249,7 +249,7 @@ module _ {p : PairState} {besides : List ℕ} {b : Book} (backed : IsBacked p be
   pub third_backed : IsBackedAt p.third b
   third_backed = at_place p.third (λ told x. omega arith) backed.sized.third
 
--- and the buffers alone
+-- and it backs the pair alone
 pub backed_less : (p : PairState) (besides : List ℕ) (b : Book) → IsBacked p besides b → IsBacked p [] b
 backed_less p besides b backed =
     record {
@@ -263,7 +263,7 @@ backed_less p besides b backed =
       sized = backed.sized;
     }
 
--- a move that neither takes nor gives a buffer
+-- a move that neither pops nor pushes a buffer
 abbrev pub IsIdle : Move → Type 0
 IsIdle move = (given_items move ≡ taken_items move) × (given_number move ≡ taken_number move) × IsFilled move
 
@@ -279,7 +279,7 @@ looks {c} move moved idle sized =
       sized = sized;
     }
 
--- a stack was seen empty, or at its last tag
+-- a stack was found empty, or at its last tag
 module _ {p : PairState} {b c : Book} (q : Which) where
   abbrev pub found_none_at : Moved (FoundNone q) b c → AreOfSize b.setup.size p → Trades p b [] [] p c
   found_none_at moved = looks (FoundNone q) moved (refl, refl, tt)

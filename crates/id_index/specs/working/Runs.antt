@@ -7,7 +7,7 @@ use Rattle.std.specs.List.{find, position_or_len, range_with_len}
 use Rattle.std.specs.Option.{option_map_or}
 use Rattle.id_index.specs.declared.runs.Run.{Run}
 
--- how many places below that one are set
+-- the number of places below `place` that are set
 abbrev pub rank : ℕ → ℕ → ℕ
 rank places place = count_ones (places % 2 ^ place)
 
@@ -15,16 +15,16 @@ rank places place = count_ones (places % 2 ^ place)
 abbrev pub number_in : Run → ℕ → ℕ
 number_in run place = run.first + rank run.places place
 
--- the number behind those of a run's objects
+-- the number after those of a run's objects
 abbrev pub end_of : Run → ℕ
 end_of run = run.first + count_ones run.places
 
--- the run has an object at that place, of that number
+-- the run has the object `number` at place `place`
 pub record IsNumberAt (run : Run) (place number : ℕ) : Type 0 where
   pub set : bit_at run.places place ≡ 1
   pub number_is : number ≡ number_in run place
 
--- the run has an object with that identifier
+-- the run has an object with identifier `id`
 pub record HasBearer (run : Run) (id : ℕ) : Type 0 where
   pub page : run.page ≡ id / 64
   pub set : bit_at run.places (id % 64) ≡ 1
@@ -41,32 +41,32 @@ run_in runs k = slice_index_or runs k no_run
 
 -- ---- runs in any order
 
--- what is in these runs is true of the objects with these identifiers
+-- each object in the runs has its identifier in `ids`, at its number
 abbrev pub AreSound : List Run → List ℕ → Type 0
 AreSound runs ids = (run : Run) (id : ℕ) → Contains runs run → HasBearer run id
     → slice_get ids (number_in run (id % 64)) ≡ Some id
 
--- each object with these identifiers has its place in one of these runs
+-- each object in `ids` has its place in one of the runs
 abbrev pub AreComplete : List Run → List ℕ → Type 0
 AreComplete runs ids = (id n : ℕ) → slice_get ids n ≡ Some id
     → (run : Run) × Contains runs run × HasBearer run id × (number_in run (id % 64) ≡ n)
 
--- the object of that number stands at that place of the run
+-- object `number` is at place `place` of the run
 abbrev pub stands_at : Run → ℕ → ℕ → Bool
 stands_at run number place = (bit_at run.places place == 1) && (number_in run place == number)
 
--- the place of the object of that number, 64 where the run does not have it
+-- the place of object `number`, or 64 if the run does not have it
 abbrev pub place_of : Run → ℕ → ℕ
 place_of run number = position_or_len (stands_at run number) (range_with_len 0 64)
 
 abbrev pub id_in : ℕ → Run → ℕ
 id_in number run = run.page * 64 + place_of run number
 
--- the identifier of the object of that number
+-- the identifier of object `number`, or 0 if no run has it
 abbrev pub id_of_number : List Run → ℕ → ℕ
 id_of_number runs number = option_map_or (id_in number) (find (λ run. nat_lt (place_of run number) 64) runs) 0
 
--- the identifiers of so many objects in the order of their numbers
+-- the identifiers of the first `count` objects, in the order of their numbers
 abbrev pub ids_of_runs : List Run → ℕ → List ℕ
 ids_of_runs runs count = map (id_of_number runs) (range_with_len 0 count)
 
@@ -75,11 +75,11 @@ ids_of_runs runs count = map (id_of_number runs) (range_with_len 0 count)
 abbrev pub page_in : List Run → ℕ → ℕ
 page_in runs k = (run_in runs k).page
 
--- no run's page is greater than a later one's
+-- the page of each run is at most that of a later one
 abbrev pub DoPagesRise : List Run → Type 0
 DoPagesRise runs = (i j : ℕ) → i ≤ j → j < length runs → page_in runs i ≤ page_in runs j
 
--- the runs before that index have smaller pages, and no others
+-- the runs before index `at` have smaller pages, and the others do not
 pub record IsFirstFrom (runs : List Run) (page at : ℕ) : Type 0 where
   pub within : at ≤ length runs
   pub below : (k : ℕ) → k < at → page_in runs k < page
@@ -89,33 +89,33 @@ pub record IsFirstFrom (runs : List Run) (page at : ℕ) : Type 0 where
 abbrev pub IsNoPage : List Run → ℕ → Type 0
 IsNoPage runs page = (k : ℕ) → k < length runs → page_in runs k ≢ page
 
--- pages rise, and of two runs of one page the first one's objects come before the other's
+-- pages rise, and if two runs are of one page, the objects of the first come before those of the second
 pub record AreAscending (runs : List Run) : Type 0 where
   pub rise : DoPagesRise runs
   pub few : (k : ℕ) → k < length runs → end_of (run_in runs k) < 2 ^ 32
   pub apart : (i j : ℕ) → i < j → j < length runs → page_in runs i ≡ page_in runs j
       → end_of (run_in runs i) ≤ (run_in runs j).first
 
--- the run 64 further on is of another page
+-- the runs at k and at k + 64 are of different pages
 abbrev pub AreFewAPage : List Run → Type 0
 AreFewAPage runs = (k : ℕ) → k + 64 < length runs → page_in runs k ≡ page_in runs (k + 64) → ⊥
 
--- the runs say nothing false of the objects with these identifiers, and for each object they have one with its
--- identifier that is no later
+-- what the runs say of the objects with these identifiers is true, and for each object they have one with its
+-- identifier and a number that is no greater
 pub record Tell (runs : List Run) (ids : List ℕ) : Type 0 where
   pub sound : (k id : ℕ) → k < length runs → HasBearer (run_in runs k) id
       → slice_get ids (number_in (run_in runs k) (id % 64)) ≡ Some id
   pub earliest : (id n : ℕ) → slice_get ids n ≡ Some id → (k : ℕ) × (k < length runs)
       × HasBearer (run_in runs k) id × (number_in (run_in runs k) (id % 64) ≤ n)
 
--- the first run with that identifier stands there, and it has that number
+-- the first run with identifier `id` is at index `at`, and has number `number` for it
 pub record IsBearerAt (runs : List Run) (id number at : ℕ) : Type 0 where
   pub within : at < length runs
   pub here : HasBearer (run_in runs at) id
   pub number_is : number ≡ number_in (run_in runs at) (id % 64)
   pub first : (k : ℕ) → k < at → HasBearer (run_in runs k) id → ⊥
 
--- the number that the first run with that identifier has for it
+-- the number that the first run with the identifier has for it
 abbrev pub IsFirstBearer : List Run → ℕ → Option ℕ → Type 0
 IsFirstBearer runs id None = (k : ℕ) → k < length runs → HasBearer (run_in runs k) id → ⊥
 IsFirstBearer runs id (Some number) = (at : ℕ) × IsBearerAt runs id number at

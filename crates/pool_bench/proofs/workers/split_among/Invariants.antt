@@ -1,4 +1,4 @@
--- There are as many workers as units given, each of the first one's pool.
+-- There are as many workers so far as units given away, each of the pool of the first one.
 use Rattle.std.proofs.Common.{◌≡◌, ◌+◌, All, vec_len}
 use Rattle.pool_bench.specs.Holders.{SamePool}
 use Rattle.pool_bench.proofs.workers.split_among.Given as goal

@@ -1,4 +1,4 @@
--- The buffer that was at the place is pushed, so what is known of the place is known of the buffer.
+-- The buffer that was at the place is pushed, so what is known of the place holds of the buffer.
 use Rattle.std.proofs.Common.{ap, sym, ◌∙◌}
 use Rattle.work_pair.specs.PairState.{items_at}
 use Rattle.work_pair.proofs.Renewing.{stands}

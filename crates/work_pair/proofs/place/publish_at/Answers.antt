@@ -1,4 +1,5 @@
--- A place without objects stays as it is. Any other is renewed: it has no objects then, or no empty buffer was found.
+-- A place without objects stays as it is. Any other is renewed, after which it has no objects, or no empty buffer was
+-- found.
 use Rattle.std.proofs.Common.{◌≤◌, length, arith}
 use Rattle.work_pair.specs.PairState.{items_at}
 use Rattle.work_pair.proofs.Calls.{publish_renewed, some_items}

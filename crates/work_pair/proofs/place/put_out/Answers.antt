@@ -1,4 +1,4 @@
--- The buffer that was at the place is one that the worker holds, so it may be pushed.
+-- The worker holds the buffer that was at the place, so it may push it.
 use Rattle.std.proofs.Common.{sym, ◌∙◌}
 use Rattle.work_pair.proofs.Renewing.{stands}
 use Rattle.work_pair.proofs.place.put_out.Goals as goal

@@ -1,4 +1,4 @@
--- A pop changes nothing that is required of the place, so its buffer is pushed, and the popped one is there.
+-- A pop keeps what is required of the place, so its buffer may be pushed, and the popped one takes its place.
 use Rattle.std.proofs.Common.{false, refl, Some, Ok, ◌∙◌}
 use Rattle.std.proofs.lemmas.Result.{err_from_is_err_and}
 use Rattle.mark_core.specs.declared.which.Which.TheVariants.{Empty}

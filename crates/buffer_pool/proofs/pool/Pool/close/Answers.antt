@@ -1,5 +1,5 @@
--- The marks in the words are those of the last marking. As many of them are finished as the worker's list is long,
--- since it has each finished object once.
+-- The marks in the words are those of the last marking. The number of marks 2 is the length of the worker's list of
+-- finished objects, which has each of them once.
 use Rattle.std.proofs.Common.{◌≡◌, ◌==◌, ◌∙◌, ℕ, ◌+◌, List, ap, arith, count_by, subst, sym}
 use Rattle.std.specs.Slots.{IsFull, slots_items}
 use Rattle.buffer_pool.proofs.Words.{finished_counted, buffer_reading, Book, Holder, IsAtTheEnd, MarksTell, Log}
@@ -9,15 +9,15 @@ use Rattle.buffer_pool.proofs.pool.Pool.close.Given as given
 use Rattle.buffer_pool.proofs.pool.Pool.close.Goals.{After-empty_slots}
 use Rattle.buffer_pool.proofs.pool.Pool.close.Goals as goal
 
--- the clause of a worker with this log and this book
+-- the clause for a worker with log `log` and book b
 abbrev Tells : Log → Book → List ℕ → Type 0
 Tells log b marks = (end : IsAtTheEnd log b marks) × MarksTell b end.last marks
 
--- the marks in the words of a table that is closed
+-- the marks in the words of a closed table
 abbrev marks_of : (g : given.Over) → After-empty_slots g → List ℕ → List ℕ
 marks_of g c words = marks_in words c.mark_word-first_mark.result c.self.inside.objects
 
--- they begin behind the links
+-- the mark words come after the link words
 place :
     (g : given.Over) (c : After-empty_slots g)
     → c.mark_word-first_mark.result ≡ 32 + c.self.inside.table.shared.key.buffers
@@ -55,7 +55,7 @@ of_words-requires-clause-counted g c = counted g c
 pub of_words-requires-clause-full : goal.of_words-requires-clause-full
 of_words-requires-clause-full g c = subst IsFull (sym c.empty_slots.ensures.words) c.close_with-closed.ensures.values.0
 
--- the same of the worker as the caller sees it
+-- the same for the worker that the caller sees
 told_of_it :
     (g : given.Over) (c : After-empty_slots g)
     → Tells c.args.worker.log c.args.worker.book (marks_of g c (slots_items c.empty_slots.new.closed.words))

@@ -1,5 +1,5 @@
--- The words and buffers are those of an opening, and the first worker finished nothing. The first tag is named nowhere
--- here: the clause has to find that it is the one asked for.
+-- The words and buffers are those of an opening, and the first worker has finished nothing. The proof leaves the first
+-- tag open, and the clause fixes it as the requested one.
 use Rattle.buffer_pool.proofs.Words.{All, Buffer, HasFirstWords, IsInside, IsLaid, IsSound, Key, Me, Option, SeatView}
 use Rattle.buffer_pool.proofs.Words.{ap, arith, buffer_reading, length, mark_words, setup_of, subst, sym, ℕ, ◌+◌, ◌<◌}
 use Rattle.buffer_pool.proofs.Starts.{starts, laid_first, sound_first}
@@ -14,7 +14,7 @@ new-requires g c =
     (subst (HasFirstWords (32 + c.args.buffers + mark_words c.objects-objects.result) _ c.args.buffers)
     (sym c.as_slice.ensures.value) c.in_ok-words.ensures) c.in_ok-slots.ensures.0 c.in_ok-slots.ensures.1
 
--- the key with this first tag
+-- the key with first tag `tag`
 key_of : (g : given.Over) → goal.In-Ok g → ℕ → Key
 key_of g c tag =
     record {
@@ -47,7 +47,7 @@ invariant_of-result g c = (
   sym (ap (λ (k : Key). k.objects) c.in-Ok.ensures.ok.5),
 )
 
--- what the first worker steps with
+-- what the first worker makes its steps with
 abbrev Seat : given.Over → Type 0
 Seat g = Me (Option (Buffer g.row.A.Denot)) SeatView
 

@@ -1,4 +1,4 @@
--- A try that was lost goes with those before it.
+-- A lost try is added to those before it.
 use Rattle.std.proofs.Common.{refl, ◌∙◌, suc}
 use Rattle.buffer_pool.specs.Calls.LostPops.{none, more}
 use Rattle.buffer_pool.specs.declared.answers.TryPopped.TheVariants as try_pop

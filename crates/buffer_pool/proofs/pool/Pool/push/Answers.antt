@@ -1,4 +1,4 @@
--- A try that was lost goes with those before it, and may be made again.
+-- A lost try is added to those before it, and may be repeated.
 use Rattle.buffer_pool.proofs.Words.{TriesPush, [], refl, ◌∙◌, ◌∷◌, ◌≡◌}
 use Rattle.buffer_pool.specs.Calls.LostPushes.{none, more}
 use Rattle.buffer_pool.proofs.Deeds.{did_nothing}

@@ -1,4 +1,4 @@
--- The step keeps the rule, and is the event.
+-- The step keeps the rule, and is the event `Claim`.
 use Rattle.buffer_pool.proofs.Words.{buffer_reading, claim_made, mark_word, pair_mark, setup_of, ℕ, ◌%◌, ◌≡◌}
 use Rattle.buffer_pool.proofs.Bits.{low_tells}
 use Rattle.buffer_pool.proofs.Claims.{claims, claimable_within, own_word, sets_pair}
@@ -6,7 +6,7 @@ use Rattle.buffer_pool.proofs.Sound.{sound_after, sound_claimed}
 use Rattle.buffer_pool.proofs.pool.claim_and_finish.raise_to_claimed.Given as given
 use Rattle.buffer_pool.proofs.pool.claim_and_finish.raise_to_claimed.Goals as goal
 
--- the word is that of the object by the worker's own setup
+-- the word is that of the object by the worker's setup
 own :
     (g : given.Over) (c : goal.After-mark_place g)
     → c.mark_word.result ≡ mark_word c.args.seat.now.me.0.book.setup c.args.object

@@ -1,11 +1,11 @@
--- The step keeps the rule, and is the event.
+-- The step keeps the rule, and is the event `Finish`.
 use Rattle.buffer_pool.proofs.Words.{buffer_reading, finish_made, mark_word, setup_of, stands_times, ◌≡◌}
 use Rattle.buffer_pool.proofs.Claims.{finishes, own_word, sets_pair}
 use Rattle.buffer_pool.proofs.Sound.{sound_after, sound_finished}
 use Rattle.buffer_pool.proofs.pool.claim_and_finish.raise_to_finished.Given as given
 use Rattle.buffer_pool.proofs.pool.claim_and_finish.raise_to_finished.Goals as goal
 
--- the word is that of the object by the worker's own setup
+-- the word is that of the object by the worker's setup
 own :
     (g : given.Over) (c : goal.After-fetch_or g)
     → c.mark_word.result ≡ mark_word c.args.seat.now.me.0.book.setup c.args.object

@@ -1,4 +1,4 @@
--- The links of the buffers before this one are laid.
+-- The links of the buffers before the current one are laid.
 use Rattle.buffer_pool.proofs.Words.{HasFirstWords, ◌<◌}
 use Rattle.buffer_pool.proofs.pool.opening.first_words.Given as goal
 

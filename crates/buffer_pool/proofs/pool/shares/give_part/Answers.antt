@@ -1,4 +1,4 @@
--- The units are set aside, the seat is split, and both parts are settled: each is sound, with its part of the share.
+-- The units are noted, the seat is split, and both parts are settled: each is sound and has its part of the share.
 use Rattle.std.proofs.Common.{◌∙◌, ap, refl, sym, Option, arith}
 use Rattle.buffer_pool.proofs.Words.{Me, TableId, Buffer, SeatView, buffer_reading, setup_of, Log}
 use Rattle.buffer_pool.proofs.Loads.{sets_aside, settles}

@@ -1,4 +1,4 @@
--- The places before this one are empty, and the others are not.
+-- The slots before the current one are empty, and the others are not.
 use Rattle.std.proofs.Common.{◌≡◌, ℕ, ◌<◌, ◌≤◌, false, true, get_or}
 use Rattle.std.specs.Slots.{slots_filled, slots_len}
 use Rattle.buffer_pool.specs.Closing.{IsEmptied}

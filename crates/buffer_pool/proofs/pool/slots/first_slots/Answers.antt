@@ -1,4 +1,4 @@
--- The list had room for all from the start, and the slot that is pushed has a new buffer of the given size.
+-- The list has room for all slots from the start, and each pushed slot has a new buffer of the required size.
 use Rattle.buffer_pool.proofs.Words.{All, IsFirstSlot, arith, buffer_reading, subst, sym, ◌∙◌}
 use Rattle.buffer_pool.proofs.Starts.{slot_pushed}
 use Rattle.buffer_pool.proofs.pool.slots.first_slots.Goals as goal

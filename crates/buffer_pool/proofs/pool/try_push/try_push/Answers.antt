@@ -22,7 +22,7 @@ pub store_link-requires-clause-sound : goal.store_link-requires-clause-sound
 store_link-requires-clause-sound g c =
     (c.load_head-head.ensures.sound, bare_rested c.load_head-head.ensures.rests)
 
--- the seat is sound once the link is stored, too
+-- the seat is sound after the link was stored, too
 stored :
     (g : given.Over) (c : After-store_link g)
     → IsSound c.store_link.new.seat.table_id c.store_link.new.seat.me
@@ -61,7 +61,7 @@ returns-in-Err-clause-sound g c =
     refl refl (record { held = second.within.held; charge = second.within.charge })) c.put_top.ensures.same.table
     missed.0 missed.2
 
--- the link that was stored is the loaded head's
+-- the stored link is that of the loaded head
 did_put :
     (g : given.Over) (c : After-store_link g) (last : Kind) (new : Log)
     → Did c.store_link.new.seat.me.0.log (last ∷ []) new

@@ -1,4 +1,4 @@
--- The successors of the object by the pairs before this one were seen.
+-- All successors of the object that come from pairs before the current one were seen.
 use Rattle.std.proofs.Common.{◌≡◌, ℕ, ◌<◌, get_or, Contains}
 use Rattle.mark_core.proofs.setup.Setup.has_successors_in.Given as goal
 

@@ -1,4 +1,5 @@
--- The account looked up is the one that the tables have at this number. If there is none, the number is out of range.
+-- The account that is found is the one at this number in the tables. If `None` is returned, the number is out of range,
+-- or the account there has no share.
 use Rattle.std.proofs.Common.{◌<◌, ap, refl, sym, subst, ◌∙◌}
 use Rattle.std.proofs.lemmas.Bool.{false≢true}
 use Rattle.mark_core.proofs.Words.{Account, Listing}

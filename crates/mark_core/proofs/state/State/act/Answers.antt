@@ -1,4 +1,5 @@
--- A step needs an account of that number, and a split a free number. The contract of each kind of event is the rest.
+-- A step requires an account of that number, and a split requires a free number. The contract of each kind of event
+-- requires the rest.
 use Rattle.std.proofs.Common.{true, refl}
 use Rattle.mark_core.specs.Events.{Claim, Finish, Split, Join, Pop}
 use Rattle.mark_core.proofs.Steps.{no_account, no_number, steps_of, steps_ok, steps_refused}

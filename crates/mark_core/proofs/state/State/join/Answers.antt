@@ -1,4 +1,4 @@
--- The shares and idle numbers of two accounts add up to no more than the law has for all, so both sums fit.
+-- The law bounds the sums of all shares and of all idle numbers, so those of two accounts fit.
 use Rattle.std.proofs.Common.{◌≡◌, ◌<◌, get_or, sym, subst, refl, ◌∙◌}
 use Rattle.mark_core.proofs.Words.{Account, IsLawful}
 use Rattle.mark_core.proofs.Steps.{always, there_at}

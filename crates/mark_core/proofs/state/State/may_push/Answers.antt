@@ -1,4 +1,4 @@
--- The tests, of the head, the hold, the items, the stack and the link, are together what a push requires.
+-- The tests of the head, the held buffer, the items, the stack and the link are together what a push requires.
 use Rattle.std.proofs.Common.{sym, ap, refl, ◌∙◌}
 use Rattle.tagged_index.specs.Head.{Head}
 use Rattle.mark_core.proofs.Vectors.{may_push}

@@ -1,4 +1,4 @@
--- A held buffer is one of the setup's, since the state is lawful: so it has a link that can be stored.
+-- A held buffer is one of the setup's, since the state is lawful, so its link can be stored.
 use Rattle.std.proofs.Common.{sym, subst, refl, arith}
 use Rattle.mark_core.specs.StepCall.{IsLawful}
 use Rattle.mark_core.proofs.Vectors.{does_store}

@@ -1,4 +1,4 @@
--- The buffers before this one have their links.
+-- The buffers before the current one have their links.
 use Rattle.std.proofs.Common.{◌≡◌, ℕ, ◌<◌, None, vec_len, get_or}
 use Rattle.mark_core.specs.Runs.{first_link}
 use Rattle.mark_core.proofs.state.opening.links_of.Given as goal

@@ -1,4 +1,4 @@
--- One more slot without items, after those already made, makes one more of them.
+-- A turn adds one slot with a buffer without items after those already made.
 use Rattle.std.proofs.Common.{Some, [], ◌∷◌, ◌++◌, ap, ◌∙◌}
 use Rattle.mark_core.proofs.Begins.{one_more}
 use Rattle.mark_core.proofs.state.opening.slots_of.Goals as goal

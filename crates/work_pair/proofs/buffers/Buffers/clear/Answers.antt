@@ -1,4 +1,5 @@
--- Place after place: a cleared place requires nothing more of the book, which still backs the remaining places.
+-- The places are cleared in turn: a cleared place requires nothing more of the book, which still backs the remaining
+-- places.
 use Rattle.std.proofs.Common.{◌∙◌}
 use Rattle.std.proofs.lemmas.Result.{err_from_is_err_and}
 use Rattle.work_pair.proofs.Clearing.{backed_then, first_busy, first_cleared, first_stuck, second_busy, second_cleared}

@@ -1,5 +1,5 @@
--- A turn that finds no object puts a buffer of the full stack into a pair without objects: one more trade after the
--- others.
+-- A turn that finds no object pops a buffer from the full stack into a pair without objects: this adds one trade to
+-- those before.
 use Rattle.std.proofs.Common.{◌≡◌, ◌≢◌, [], Ok, Some, refl, ◌∙◌}
 use Rattle.std.proofs.lemmas.Result.{err_from_is_err_and}
 use Rattle.mark_core.specs.declared.which.Which.TheVariants.{Full}
@@ -21,11 +21,11 @@ loop-init g c =
       own = λ some. (refl, some);
     }
 
--- a look that found no object left none, and the buffer that was popped is the next one
+-- if the look found no object, the pair has none
 nothing_left : (g : given.Over) (c : In_default g) → pair_items (as_pair c.loop.self) ≡ []
 nothing_left g c = all_taken c.loop.self c.take.new.self c.in_default.ensures c.loop.invariant.third
 
--- so where the pair had objects no buffer was popped
+-- so if the pair had objects at first, no buffer was popped
 none_own : (g : given.Over) (c : In_default g) → pair_items (as_pair c.args.self.now) ≢ [] → {P : Type 0} → P
 none_own g c some = absurd ((c.loop.invariant.own some).1 (nothing_left g c))
 

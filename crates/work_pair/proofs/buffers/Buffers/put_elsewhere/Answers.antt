@@ -1,4 +1,5 @@
--- The two exchanged places: the object goes into what was the second, or into the empty one that was popped.
+-- After the two buffers exchanged places, the object goes into the former second one, or into an empty one that was
+-- popped.
 use Rattle.std.proofs.Common.{refl, inl, inr, sym, ◌∙◌}
 use Rattle.std.proofs.lemmas.Bool.{false≢true}
 use Rattle.std.proofs.lemmas.Result.{err_from_is_err_and}

@@ -1,4 +1,4 @@
--- The object comes from the first place, or from the second after the two exchanged places.
+-- The object comes from the first buffer, or from the second after the two exchanged places.
 use Rattle.std.proofs.Common.{◌∙◌}
 use Rattle.work_pair.proofs.Locals.{taken_first, taken_second}
 use Rattle.work_pair.proofs.buffers.Buffers.take.Goals as goal

@@ -1,4 +1,4 @@
--- The effect of a balance on the buffers, as one on the pair, whose list stays.
+-- The effect of a balance on the buffers is one on the pair, whose list is as it was.
 use Rattle.std.proofs.Common.{◌∙◌, ap, refl, subst}
 use Rattle.work_pair.specs.CallEffects.{HasMore}
 use Rattle.work_pair.specs.PairState.{PairState}

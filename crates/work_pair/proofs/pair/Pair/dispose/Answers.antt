@@ -1,4 +1,4 @@
--- The effect of a clearing on the buffers, as one on the pair, whose list was given up.
+-- The effect of a clearing on the buffers is one on the pair, whose list was given up.
 use Rattle.std.proofs.Common.{◌∙◌, true, ap, refl, false, []}
 use Rattle.std.proofs.lemmas.Bool.{false≢true}
 use Rattle.work_pair.specs.PairState.{pair_items, empty_pair}

@@ -1,4 +1,4 @@
--- Two popped buffers are the pair. A single one is pushed back, and then the worker has what it had.
+-- Two popped buffers are the pair. A single one is pushed back, and then the worker has what it had before.
 use Rattle.std.proofs.Common.{Ok, None, Some, ◌∙◌}
 use Rattle.std.proofs.lemmas.Result.{err_from_is_err_and}
 use Rattle.mark_core.specs.declared.which.Which.TheVariants.{Empty}
@@ -9,7 +9,7 @@ use Rattle.work_pair.proofs.pair.Pair.open.Given as given
 use Rattle.work_pair.proofs.pair.Pair.open.Goals.{In-Some, In_default, In_default-2}
 use Rattle.work_pair.proofs.pair.Pair.open.Goals as goal
 
--- what the first pop told, and what the second
+-- the results of the first pop and of the second
 missing_first :
     (g : given.Over) (c : In_default g) → PopsOne Empty c.args.worker.now.book c.pop_one.new.worker.book (Ok None)
 missing_first g c = rw c.in_default.is at c.in_ok-first.ensures.pops

@@ -1,4 +1,4 @@
--- The effect of a publishing on the buffers, as one on the pair, whose list stays.
+-- The effect of a publication on the buffers is one on the pair, whose list is as it was.
 use Rattle.work_pair.proofs.Pairs.{may_trade, publishes, stops}
 use Rattle.work_pair.proofs.pair.Pair.publish.Goals as goal
 

@@ -1,5 +1,6 @@
--- The first buffer takes the object if it has room. If not, everything is as it was when the other call begins, whose
--- effect on the buffers becomes one on the pair. If there was no buffer for the object, it went to the list.
+-- The first buffer takes the object if it has room. If not, nothing has changed when the other call begins. Its effect
+-- on the buffers is one on the pair. If it finds no buffer for the object, the object goes to the list, or back to the
+-- caller if an allocation fails.
 use Rattle.std.proofs.Common.{◌≡◌, ℕ, true, [], ◌∷◌, ◌++◌, Err, Ok, ap, inl, refl}
 use Rattle.mark_core.specs.declared.which.Which.TheVariants.{Empty}
 use Rattle.work_pair.specs.CallEffects.{CallEffect, PopsNoneFromFull, Puts}

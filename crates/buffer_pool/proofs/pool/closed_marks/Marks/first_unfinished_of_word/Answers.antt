@@ -8,7 +8,7 @@ use Rattle.buffer_pool.proofs.pool.closed_marks.Marks.first_unfinished_of_word.G
 use Rattle.buffer_pool.proofs.pool.closed_marks.Marks.first_unfinished_of_word.Goals as goal
 use Rattle.buffer_pool.proofs.pool.closed_marks.Marks.first_unfinished_of_word.Goals.{After-mark_place}
 
--- the bits that are looked at
+-- the bits that are searched
 read :
     (g : given.Over) (c : After-mark_place g)
     → (18446744073709551615 - c.word_of.result) / 2 ^ c.mark_place.result

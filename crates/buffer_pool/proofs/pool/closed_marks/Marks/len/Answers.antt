@@ -1,4 +1,4 @@
--- There is a mark for each object.
+-- Each object has a mark.
 use Rattle.buffer_pool.proofs.Words.{slots_items, sym}
 use Rattle.buffer_pool.proofs.Closes.{marks_count}
 use Rattle.buffer_pool.proofs.pool.closed_marks.Marks.len.Goals as goal

@@ -1,10 +1,10 @@
--- Finished objects are skipped, a word at a time, and the first that is not finished is found.
+-- Finished objects are skipped, a word at a time, until one that is not finished is found.
 use Rattle.std.proofs.Common.{◌≡◌, ◌≢◌, ◌<◌, ◌≤◌, ◌==◌, ◌∙◌, ℕ, Bool, List, true, false, length, not, slice_index, ap}
 use Rattle.std.proofs.Common.{sym, arith, eq-eqb, ne_eqb}
 use Rattle.buffer_pool.proofs.Finding.{finds, finds_none, skips_to}
 use Rattle.buffer_pool.proofs.pool.closed_marks.Marks.next_unfinished.Goals as goal
 
--- whether an object is not finished
+-- tests whether object o is not finished
 abbrev unfinished : List ℕ → ℕ → Bool
 unfinished marks o = not (slice_index marks o == 2)
 
