@@ -9,22 +9,11 @@ use drain::{Marked, NoGate, Options, mark};
 use heap_graph::{Graph, Skip};
 use histogram::{Counted, OutOfMemory, ReaderRefusal, Report, WriteRefusal, rows, write_report};
 use hprof_grammar::{Team, read};
-use limited_heap::LimitedHeap;
+use limited_heap::{LimitedHeap, requests_of};
 use std::alloc::Global;
 use std::sync::Wait;
 use std::thread::Threads;
 use test_dumps::Bytes;
-
-/// More allocations than any call here makes.
-const MANY: u64 = 64;
-
-/// Returns a heap that fails the allocation `request`, `alone` or with all later ones.
-fn heap_of(alloc: Global, request: u64, alone: bool) -> LimitedHeap<Global> {
-    match alone {
-        true => LimitedHeap::refusing(alloc, request),
-        false => LimitedHeap::new(alloc, request),
-    }
-}
 
 /// Tests whether the rows are right on `heap`.
 fn rows_over<T: Threads + Sync>(
@@ -42,53 +31,41 @@ fn rows_over<T: Threads + Sync>(
     }
 }
 
-/// Returns how many allocations the rows take, after each of them has failed in turn with no wrong result.
-fn rows_with<T: Threads + Sync>(
+/// Returns the number of allocations of the rows, if each result is right while they fail in turn.
+fn requests_of_rows<T: Threads + Sync>(
     team: &Team<'_, T>,
     alloc: Global,
     graph: &Graph<'_, Global>,
     marks: &Marked<Global>,
-    alone: bool,
 ) -> Option<u64>
     requires { IsMarkingOf graph.now marks.now }
 {
-    for request in 0..MANY {
-        let heap = heap_of(alloc, request, alone);
-        if !rows_over(team, alloc, &heap, graph, marks) {
-            return None;
-        }
-        if heap.refusals() == 0 {
-            return Some(request);
-        }
-    }
-    None
+    requests_of(
+        alloc,
+        move |heap| -> bool
+            requires { IsMarkingOf graph.now marks.now }
+        { rows_over(team, alloc, heap, graph, marks) },
+    )
 }
 
-/// Returns the number of allocations of the rows of `graph`: if all later ones fail too, and if one fails alone.
+/// Returns the same for the rows of a marking of `graph`.
 fn rows_in_turn<T: Threads + Wait + Sync>(
     rt: &T,
     alloc: Global,
     graph: &Graph<'_, Global>,
-) -> Option<(Option<u64>, Option<u64>)> {
+) -> Option<u64> {
     let Ok(options) = Options::new(1, 2, 4, 0) else {
         return None;
     };
     let team = Team::new(rt, 2);
     match mark(rt, alloc, graph, &options, &NoGate) {
-        Ok(marks) => Some((
-            rows_with(&team, alloc, graph, &marks, false),
-            rows_with(&team, alloc, graph, &marks, true),
-        )),
+        Ok(marks) => requests_of_rows(&team, alloc, graph, &marks),
         Err(_) => None,
     }
 }
 
 /// Returns the same for the rows of a dump, its `bytes`, if it is accepted.
-fn rows_of_dump<T: Threads + Wait + Sync>(
-    rt: &T,
-    alloc: Global,
-    bytes: &[u8],
-) -> Option<(Option<u64>, Option<u64>)> {
+fn rows_of_dump<T: Threads + Wait + Sync>(rt: &T, alloc: Global, bytes: &[u8]) -> Option<u64> {
     let skip = Skip::none(alloc);
     let team = Team::new(rt, 4);
     let Ok(places) = read(&team, alloc, bytes) else {
@@ -101,10 +78,7 @@ fn rows_of_dump<T: Threads + Wait + Sync>(
 }
 
 /// Returns the same for the rows of the worked dump.
-fn rows_of_two_objects<T: Threads + Wait + Sync>(
-    rt: &T,
-    alloc: Global,
-) -> Option<(Option<u64>, Option<u64>)> {
+fn rows_of_two_objects<T: Threads + Wait + Sync>(rt: &T, alloc: Global) -> Option<u64> {
     match Bytes::dump(alloc, 4, test_dumps::TWO_OBJECTS) {
         Ok(dump) => rows_of_dump(rt, alloc, dump.bytes.as_slice()),
         Err(_) => None,
@@ -115,7 +89,7 @@ fn rows_of_two_objects<T: Threads + Wait + Sync>(
 fn rows_or_want_of_memory(rt: HostRuntime) {
     let requests = rows_of_two_objects(&rt, rt.alloc());
     // The list of lines, and a name for each of two lines.
-    assert_eq!(rt; requests, Some((Some(3), Some(3))));
+    assert_eq!(rt; requests, Some(3));
 }
 
 /// Tests whether the report of two objects is written right on `heap`.
@@ -133,36 +107,19 @@ fn writes_over(alloc: Global, heap: &LimitedHeap<Global>, report: &Report<Global
     told_none && right
 }
 
-/// Returns how many allocations the report takes, after each of them has failed in turn with no wrong result.
-fn written_with(alloc: Global, report: &Report<Global>, alone: bool) -> Option<u64> {
-    for request in 0..MANY {
-        let heap = heap_of(alloc, request, alone);
-        if !writes_over(alloc, &heap, report) {
-            return None;
-        }
-        if heap.refusals() == 0 {
-            return Some(request);
-        }
-    }
-    None
-}
-
-/// Returns the number of allocations of the report of two objects: if all later ones fail too, and if one fails alone.
-fn written_in_turn(alloc: Global) -> (Option<u64>, Option<u64>) {
+/// Returns the number of allocations that it takes to write the report of two objects, if each result is right while
+/// they fail in turn.
+fn written_in_turn(alloc: Global) -> Option<u64> {
     match two_objects(alloc) {
-        Ok(report) => (
-            written_with(alloc, &report, false),
-            written_with(alloc, &report, true),
-        ),
-        Err(_) => (None, None),
+        Ok(report) => requests_of(alloc, |heap| writes_over(alloc, heap, &report)),
+        Err(_) => None,
     }
 }
 
 #[test]
 fn want_of_memory_writes_nothing(rt: HostRuntime) {
-    let (requests, alone) = written_in_turn(rt.alloc());
+    let requests = written_in_turn(rt.alloc());
     assert!(rt; requests.is_some_and(|requests| requests > 0));
-    assert_eq!(rt; alone, requests, "one alone");
 }
 
 /// Tests whether `bytes` are read right on `heap`, if `expected` bytes are expected.
@@ -174,26 +131,6 @@ fn reads_over(heap: &LimitedHeap<Global>, bytes: &[u8], expected: usize, limit: 
         Err(fault) => fault == ReaderRefusal::OutOfMemory && heap.refusals() > 0,
     };
     reader.failures() == 0 && right
-}
-
-/// Returns how many allocations the reading takes, after each of them has failed in turn with no wrong result.
-fn read_with(
-    alloc: Global,
-    bytes: &[u8],
-    expected: usize,
-    limit: usize,
-    alone: bool,
-) -> Option<u64> {
-    for request in 0..MANY {
-        let heap = heap_of(alloc, request, alone);
-        if !reads_over(&heap, bytes, expected, limit) {
-            return None;
-        }
-        if heap.refusals() == 0 {
-            return Some(request);
-        }
-    }
-    None
 }
 
 /// The number of bytes that are expected, the limit, and the number of allocations.
@@ -210,12 +147,11 @@ const FEW: [Case; 3] = [
 /// Readings of a block of 600,000 bytes.
 const BLOCK: [Case; 3] = [(0, 1_000_000, 3), (600_000, 1_000_000, 2), (0, 300_000, 2)];
 
-/// Tests whether the reading of `bytes` makes the allocations of `case`, if all later ones fail too, and if one fails
-/// alone.
+/// Tests whether the reading of `bytes` makes the allocations of `case`, and each result is right while they fail in
+/// turn.
 fn reads_in_turn(alloc: Global, bytes: &[u8], case: Case) -> bool {
     let (expected, limit, requests) = case;
-    read_with(alloc, bytes, expected, limit, false) == Some(requests)
-        && read_with(alloc, bytes, expected, limit, true) == Some(requests)
+    requests_of(alloc, |heap| reads_over(heap, bytes, expected, limit)) == Some(requests)
 }
 
 /// Tests the same for the block.
