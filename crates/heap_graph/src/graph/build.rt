@@ -126,10 +126,8 @@ impl<'a, A: Allocator + Copy> Graph<'a, A> {
             × IsReadOf text dump is objects × MayHaveParts is.records objects names.now root_places.now }
         ensures { IfOk result (λ g. IsGraphOfText objects.entry.view.bytes skip.now g) }
     {
-        match read_parts(alloc, &objects, names, root_places, skip) {
-            Ok(parts) => return Ok(Graph::of(objects, parts, skip)),
-            Err(refused) => return Err(refused),
-        }
+        let parts = read_parts(alloc, &objects, names, root_places, skip)?;
+        Ok(Graph::of(objects, parts, skip))
     }
 }
 

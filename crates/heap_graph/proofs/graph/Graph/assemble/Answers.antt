@@ -10,5 +10,5 @@ of-requires g c = (
   c.requires.1,
   c.requires.2,
   c.requires.3,
-  c.in-Ok.ensures c.requires.2.records c.requires.4,
+  c.in_ok-parts.ensures c.requires.2.records c.requires.4,
 )
