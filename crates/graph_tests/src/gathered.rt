@@ -249,7 +249,8 @@ fn gathered_once(rt: HostRuntime) -> Result<(), Fail> {
     Ok(())
 }
 
-/// Objects in no order take fewer requests than objects in order, since all their pairs are asked for at once.
+/// Objects in no order take no more requests than objects in order: their places and their pairs are asked for at once.
+/// A list of their runs would grow step by step.
 #[test]
 fn pairs_are_asked_for_at_once(rt: HostRuntime) -> Result<(), Fail> {
     let mut requests = [None, None];
@@ -259,7 +260,7 @@ fn pairs_are_asked_for_at_once(rt: HostRuntime) -> Result<(), Fail> {
     }
     let [ascending, descending] = requests;
     assert!(rt;
-        descending.is_some() && descending < ascending,
+        descending.is_some() && descending <= ascending,
         "{descending:?} and {ascending:?}"
     );
     Ok(())
