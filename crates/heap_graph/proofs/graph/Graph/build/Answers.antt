@@ -50,6 +50,6 @@ assemble-requires g c =
 
 pub returns-in-Ok-clause-graph : goal.returns-in-Ok-clause-graph
 returns-in-Ok-clause-graph g c =
-    subst (λ (list : List SkipEntry). IsGraphOfText c.args.bytes.now list c.in-Ok.graph) c.pairs.ensures
-    (subst (λ (text : List ℕ). IsGraphOfText text c.pairs.result.now c.in-Ok.graph)
+    subst (λ (list : List SkipEntry). IsGraphOfText c.args.bytes.now list c.in-Ok.graph) c.entries.ensures
+    (subst (λ (text : List ℕ). IsGraphOfText text c.entries.result.now c.in-Ok.graph)
     (c.in_ok-objects.ensures.objects c.requires).bytes_are c.in-Ok.ensures)
