@@ -1,4 +1,5 @@
--- Before the first class nothing is known; behind the last one each is, and what is said of fates is so with no path.
+-- Before the first class no fate is known, after the last each is. What the list says of fates holds with an empty
+-- path.
 use Rattle.std.proofs.Common.{arith, rules, subst, sym, ◌∙◌}
 use Rattle.heap_graph.proofs.Words.{IsFate, ids_of, slice_index}
 use Rattle.heap_graph.specs.declared.classes.fate.Fate.{Fate}

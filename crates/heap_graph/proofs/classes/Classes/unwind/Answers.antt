@@ -1,4 +1,4 @@
--- The last class of the path stands right below what has the fate, so its own fate follows, and so on down.
+-- The superclass of the last class of the path has the fate, so the class's own fate follows, and so on down.
 use Rattle.heap_graph.proofs.Words.{AreFatesOf, List, [], arith, length, rules, subst, ℕ, ◌<◌, ◌≡◌}
 use Rattle.heap_graph.proofs.ClassTableLaws.{same_count}
 use Rattle.heap_graph.proofs.ClimbLaws.{back_fates, back_known, back_top, last_under}

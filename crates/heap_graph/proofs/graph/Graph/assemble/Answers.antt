@@ -1,4 +1,4 @@
--- What was found of the objects is of the records of the dump.
+-- What was found of the objects holds of the dump's records.
 use Rattle.heap_graph.specs.Heap.{heap_of}
 use Rattle.heap_graph.proofs.graph.Graph.assemble.Goals as goal
 

@@ -1,4 +1,4 @@
--- The places are those of the dump, so what the tests say of the objects there is said of the dump's heap.
+-- The places are those of the dump, so what the tests say of the objects there holds of the dump's heap.
 use Rattle.heap_graph.proofs.Words.{IsPlaced, IsReadOf, Places, SubRecordStandsAt, [], ap, filter, heap_of, is_root}
 use Rattle.heap_graph.proofs.Words.{◌∙◌, ◌≡◌}
 use Rattle.heap_graph.proofs.Building.{are_linked, are_names, has_fault, seen_by}

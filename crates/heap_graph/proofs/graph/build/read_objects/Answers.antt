@@ -1,4 +1,4 @@
--- At the places stand the objects of one heap, so index, table and fates, made one from another, are all of it.
+-- The objects at the places are of one heap, so index, table and fates, made one from another, are of this heap.
 use Rattle.heap_graph.proofs.Words.{AreClasses, ArePlacesOf, HaveFates, Sight, arith, heap_of, subst, sym, ◌∙◌, ◌≡◌}
 use Rattle.heap_graph.proofs.Building.{are_indexed, few_objects, objects_stand, same_sight, size_in_range}
 use Rattle.heap_graph.proofs.Counting.{few_placed}

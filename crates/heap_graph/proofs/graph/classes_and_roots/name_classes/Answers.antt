@@ -1,4 +1,4 @@
--- By their identifiers the names are those of the records, so what is planned and read by them is of these.
+-- The names by identifier are those of the records, so what is planned and read by them is of these records.
 use Rattle.heap_graph.proofs.graph.classes_and_roots.name_classes.Goals as goal
 
 pub classes-requires-clause-names : goal.classes-requires-clause-names

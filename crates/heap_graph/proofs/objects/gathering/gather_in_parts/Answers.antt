@@ -1,4 +1,4 @@
--- Each part follows those before it: joined in order they are what all objects give.
+-- Each part follows those before it, so joined in order they are what is gathered from all objects.
 use Rattle.heap_graph.proofs.Words.{HasGathered, arith, subst, sym, ℕ, ◌+◌, ◌∙◌}
 use Rattle.heap_graph.proofs.Gathering.{all_left, all_parts, answered, next_answer, nothing, one_more_part, others_left}
 use Rattle.heap_graph.proofs.Gathering.{unanswered}

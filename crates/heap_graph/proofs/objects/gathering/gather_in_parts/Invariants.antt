@@ -1,4 +1,4 @@
--- What the parts so far give is joined, and the answers of the others are left.
+-- What was gathered from the parts so far is joined, and the results of the others remain.
 use Rattle.heap_graph.proofs.Words.{HasGathered, length, min, ℕ, ◌%◌, ◌*◌, ◌+◌, ◌/◌, ◌≡◌}
 use Rattle.std.specs.Vec.Iter.{into_iter_items, into_iter_len}
 use Rattle.heap_graph.proofs.Gathering.{AreLeft}
