@@ -1,4 +1,4 @@
--- The leader while it gives away units and takes workers in.
+-- The leader while it passes units to workers and takes workers in.
 use Rattle.drain.proofs.Words.{AreOfSize, Book, Contains, Contains-append_left, HasAtHand, Holder, IsAtWork, IsAwake}
 use Rattle.drain.proofs.Words.{IsBusy, IsFree, Leads, List, PairState, Setup, [], ap, arith, inl, joined, new_book}
 use Rattle.drain.proofs.Words.{only, parted, refl, subst, sum_of-append, sym, times, ℕ, ◌++◌, ◌<◌, ◌||◌, ◌∙◌, ◌≡◌}
