@@ -40,7 +40,7 @@ ok_same x y e = cc
 err_same : {X E : Type 0} (x y : E) → ◌≡◌ {A = Result X E} (Err x) (Err y) → x ≡ y
 err_same x y e = cc
 
--- a step that returned a value followed one that did
+-- if the second of two steps returned a value, so did the first
 pub bind_ok : {A B : Type 0} (r : Result A Flaw) (f : A → Result B Flaw) (y : B) → r >>= f ≡ Ok y → (x : A)
     × (r ≡ Ok x) × (f x ≡ Ok y)
 bind_ok (Ok x) f y e = (x, refl, e)

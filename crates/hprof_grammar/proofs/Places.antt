@@ -95,7 +95,7 @@ pub sub_stands : (s : ℕ) (bytes : List ℕ) (at : ℕ) (sub : SubRecord) → S
     → Spell bytes at (spelling_of s sub)
 sub_stands s bytes at sub h = some_stand bytes at (tag_of sub) (spelled (fields_of s sub)) h.rest h.bytes_are
 
--- a sub-record that a view has at a place, the view's fields have there too
+-- if a view has a sub-record at a place, the view's fields have it there too
 pub in_sight : {v w : Sight} {at : ℕ} {sub : SubRecord} → w ≡ v → Stands v at sub → Stands w at sub
 in_sight {v} {w} {at} {sub} e h = subst (λ (x : Sight). Stands x at sub) (sym e) h
 
