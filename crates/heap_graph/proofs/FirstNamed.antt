@@ -49,7 +49,7 @@ module _ (heap : List SubRecord) (ids : List ℕ) (plans : List ClassPlan)
       (ap (λ (p : ClassPlan). p.object) read ∙ objects (class_number heap id) it.0 it.1
       ∙ ap (target_in all) named)
 
-  -- the object in the plan of a planned class is that of the class's identifier
+  -- the object in the plan of a planned class is the one that the class's identifier names
   pub known_class : (all : List ℕ) (id : ℕ) (row : RowKey) (known : Option ℕ) → AreClassObjects all ids plans
       → HasPlan plans (keys.Class (class_number heap id)) → row ≡ keys.Class (class_number heap id)
       → known ≡ object_of_row plans row → IfSome known (IsObjectOf all id)

@@ -11,7 +11,7 @@ use Rattle.heap_graph.proofs.Walking.{targets_of_steps}
 
 module _ {A : Type 0} {o : Objects A} {plan : Plan A} {roots : List ℕ} {classes : List ClassEntry} {unresolved : ℕ}
     {skip : List SkipEntry} where
-  -- the graph of these parts is the graph that is seen
+  -- parts that make up the graph `inside` make up the same graph as it is seen, `now`
   pub seen : {inside now : ObjectGraph} → inside ≡ now → StandFor o plan roots classes unresolved skip inside
       → StandFor o plan roots classes unresolved skip now
   seen e stand = subst (StandFor o plan roots classes unresolved skip) e stand

@@ -22,7 +22,7 @@ absent ids id k e within =
     eqb-false (get_or ids k 0) id (fails_before_first test ids k 0
     (omega (arith, within, lt_of_not-le {n = place + 1} {m = length ids} late)))
 
--- elements that are in turn at places are found at one of the places
+-- the number of an element that is found is below the number of places
 pub found_below : {X : Type 0} {IsAt : ℕ → X → Type 0} (key : X → ℕ) (places ids : List ℕ) (xs : List X) (id i : ℕ)
     → StandInTurn IsAt places xs → ids ≡ map key xs → Some i ≡ position (λ x. x == id) ids → i < length places
 found_below key places ids xs id i stand are e =
