@@ -33,7 +33,7 @@ goes_on_again s t = record {
 pub works_on_again : {a b c : Holder} → WorksOn a b → WorksOn b c → WorksOn a c
 works_on_again s t = record { came = came_again s.came t.came; idle = t.idle ∙ s.idle }
 
--- a worker that goes on works on
+-- a worker that goes on, without finishing anything, works on
 pub works : {a b : Holder} → GoesOn a b → WorksOn a b
 works on = record { came = on.came; idle = on.idle }
 
@@ -47,11 +47,11 @@ pub nothing : (xs : List ℕ) → ((o : ℕ) → times o xs ≡ 0) → xs ≡ []
 nothing [] none = refl
 nothing (x ∷ xs) none = absurd (omega (arith, none x, only-same x x refl))
 
--- an object of a list of one
+-- an object in a list of one object is that object
 pub only_member : (a o : ℕ) → Contains (a ∷ []) o → a ≡ o
 only_member a o h = ⊎_elim (λ e. absurd (omega (arith, e.1))) (λ e. e) (Contains-push_cases [] a o h)
 
--- a free worker before it has a pair
+-- a free worker that has no pair yet has nothing at hand
 pub free_hand : {w : Holder} → IsFree w → HasAtHand empty_pair [] w
 free_hand free = record {
   going = record { going = refl; third = refl };
@@ -71,7 +71,7 @@ hand_without_spill {p} none hand = record {
       omega (arith, hand.charge o, ap (times o) none, ap (times o) (none_last p.spill (buffered_items p) none));
 }
 
--- and after its pair is gone
+-- a worker whose pair is gone is free if nothing is at hand and no push is open
 pub gone_free : {w : Holder} → HasAtHand empty_pair [] w → w.book.account.open_push ≡ false → IsFree w
 gone_free {w} hand closed = record {
   held = nothing w.book.account.held hand.held;
@@ -90,7 +90,7 @@ backs {p} put rest hand = record {
 
 module _ {old : PairState} (before : Holder) {put got : List ℕ} {new : PairState} (after : Holder)
     (effect : CallEffect old before.book put got new after.book) where
-  -- what was put is in the pair, or went with a buffer of it, and what was got is not
+  -- an object that was put is in the pair, or was pushed with a buffer of it; one that was got is no longer in the pair
   pub hand_after : (rest : List ℕ) → IsOpen new → HasAtHand old (put ++ rest) before
       → HasAtHand new (got ++ rest) after
   hand_after rest going was = record {
@@ -103,7 +103,7 @@ module _ {old : PairState} (before : Holder) {put got : List ℕ} {new : PairSta
         omega (arith, effect.charge o, effect.items o, was.charge o, puts, gets);
   }
 
-  -- and the worker is as busy as it was
+  -- the worker is as busy as it was
   pub at_work_after : (rest : List ℕ) → IsOpen new → IsAtWork old (put ++ rest) before
       → IsAtWork new (got ++ rest) after
   at_work_after rest going was = record {
@@ -168,7 +168,7 @@ module _ (old new : Holder) (pool : new.pool ≡ old.pool) (o found : ℕ) (is :
   saw_it : Contains new.book.account.seen o
   saw_it = subst (λ xs. Contains xs o) (sym seen_is) (Contains-push old.book.account.seen o)
 
-  -- a white object is in the charge
+  -- an object that was found white joins the charge
   white_at_hand : found ≡ 0 → (p : PairState) (besides : List ℕ) → HasAtHand p besides old
       → HasAtHand p (o ∷ besides) new
   white_at_hand white p besides was =
@@ -188,7 +188,7 @@ module _ (old new : Holder) (pool : new.pool ≡ old.pool) (o found : ℕ) (is :
         );
       }
 
-  -- a marked one is not
+  -- an object that was found marked does not
   marked_at_hand : found ≢ 0 → (p : PairState) (besides : List ℕ) → HasAtHand p besides old
       → HasAtHand p besides new
   marked_at_hand marked p besides was =
@@ -218,28 +218,28 @@ module _ (old new : Holder) (pool : new.pool ≡ old.pool) (o found : ℕ) (is :
             record { hand = marked_at_hand marked p besides was.hand; busy = claimed_busy was.busy };
       }
 
--- an object that the worker saw is claimed by doing nothing
+-- an object that the worker saw needs no step to be claimed
 pub seen_claimed : (o : ℕ) (p : PairState) (w : Holder) → Contains w.book.account.seen o → IsClaimed o p w p w false
 seen_claimed o p w seen = record { goes_on = goes_on_at_all w; saw = seen; at_work = λ besides was. was }
 
--- what is seen of one object is seen of a list of it
+-- a worker that saw `o` saw each object of the list of only `o`
 sees_one : (o : ℕ) (w : Holder) → Contains w.book.account.seen o → (x : ℕ) → Contains (o ∷ []) x
     → Contains w.book.account.seen x
 sees_one o w saw x h = subst (Contains w.book.account.seen) (only_member o x h) saw
 
--- what was marked was claimed, and changes nothing
+-- an object that was found marked is claimed, and nothing else changes
 pub marked_claimed : {o : ℕ} {p q : PairState} {a b : Holder} {white : Bool} → white ≡ false
     → IsClaimed o p a q b white → AreClaimed (o ∷ []) p a q b
 marked_claimed {o} {p} {q} {a} {b} marked claim =
     let none = subst (IsClaimed o p a q b) marked claim in
     record { goes_on = none.goes_on; saw = sees_one o b none.saw; at_work = none.at_work }
 
--- what was white is at hand, beside what the worker had
+-- an object that was found white is at hand, besides those that were
 pub white_at_work : {o : ℕ} {p q : PairState} {a b : Holder} {white : Bool} (besides : List ℕ) → white ≡ true
     → IsClaimed o p a q b white → IsAtWork p besides a → IsAtWork q (o ∷ besides) b
 white_at_work {o} {p} {q} {a} {b} besides is claim = (subst (IsClaimed o p a q b) is claim).at_work besides
 
--- and was claimed after it is put
+-- once it is put, it is claimed
 pub white_claimed : {o : ℕ} {p q r : PairState} {a b c : Holder} {white : Bool} → white ≡ true
     → IsClaimed o p a q b white → IsPut o q b r c → AreClaimed (o ∷ []) p a r c
 white_claimed {o} {c = c} is claim puts = record {
@@ -248,7 +248,7 @@ white_claimed {o} {c = c} is claim puts = record {
   at_work = λ besides was. puts.at_work besides (white_at_work besides is claim was);
 }
 
--- what the pair took in was put
+-- an object that the pair took in was put
 pub is_put : {o : ℕ} {p q : PairState} (a b : Holder) → b.pool ≡ a.pool → CallEffect p a.book (o ∷ []) [] q b.book
     → IsOpen q
     → IsPut o p a q b
@@ -264,7 +264,7 @@ none_claimed p w = record {
   at_work = λ besides was. was;
 }
 
--- some objects, and then others
+-- if some objects were claimed and then others, all were claimed
 pub more_claimed : {xs ys : List ℕ} {p q r : PairState} {a b c : Holder} → AreClaimed xs p a q b → AreClaimed ys q b r c
     → AreClaimed (xs ++ ys) p a r c
 more_claimed {xs} {ys} first next = record {
@@ -317,7 +317,7 @@ pub record IsScanned (o : ℕ) (old : Holder) (p : PairState) (new : Holder) : T
   pub at_work : IsAtWork p [] new
   pub finished : new.book.account.finished ≡ old.book.account.finished ++ o ∷ []
 
--- what it refers to was claimed before
+-- a worker that claims what an object refers to and then finishes the object has scanned it
 pub claimed_and_finished : {o : ℕ} {xs : List ℕ} {p q : PairState} {a b : Holder} (c : Holder) → IsAtWork p (o ∷ []) a
     → AreClaimed xs p a q b → c.pool ≡ b.pool → c.book ≡ finished o b.book → IsScanned o a q c
 claimed_and_finished {o} c was are pool is =
@@ -336,7 +336,7 @@ all_claimable o nexts e pairs =
     All-from_get_or (MayClaim e (o ∷ [])) nexts 0
     (λ k inside. inr (o, Contains-push [] o, pairs (get_or nexts k 0) (Contains-get_or nexts k 0 inside)))
 
--- an object that was got
+-- an object that is at hand is an object of the graph
 pub got_is_object : {o : ℕ} {p : PairState} {w : Holder} → IsAtWork p (o ∷ []) w
     → ((x : ℕ) → Contains w.book.account.charge x → x < w.book.setup.objects) → o < w.book.setup.objects
 got_is_object {o} {p} {w} at_work within = within o (times_stands w.book.account.charge o (charged at_work))

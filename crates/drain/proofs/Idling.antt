@@ -1,5 +1,5 @@
--- A worker that goes idle, looks at the idle word and at the full stack, and comes back: each of these steps leaves it
--- what it had.
+-- A worker that goes idle, looks at the idle word and at the full stack, and comes back: it keeps what it had at each
+-- step.
 use Rattle.drain.proofs.Words.{AreOfSize, Book, Bool, CameFrom, CanIdle, Contains, HasAtHand, HasNoneLeft, Holder}
 use Rattle.drain.proofs.Words.{IsAtWork, IsAwake, List, PairState, Sees, Setup, [], ap, arith, false, false≢true}
 use Rattle.drain.proofs.Words.{idle_loaded, idled, inr, is_none, is_some, loaded, pair_items, refl, subst, sym, times}
@@ -9,7 +9,7 @@ use Rattle.drain.specs.working.Idle.{TurnsInVain, WaitsInVain}
 use Rattle.drain.specs.working.Idle.WaitsInVain.{more as one_more_vain, none as none_vain}
 use Rattle.drain.proofs.AtHand.{came_again, came_at_all, nothing}
 
--- it has what it had, nothing was pushed on the full stack, and that stack was found empty
+-- the worker has what it had, has no open push, and found the full stack empty
 pub record IsStill (begun w : Holder) : Type 0 where
   pub came : CameFrom begun w
   pub held : w.book.account.held ≡ begun.book.account.held
@@ -18,7 +18,7 @@ pub record IsStill (begun w : Holder) : Type 0 where
   pub open_push : w.book.account.open_push ≡ false
   pub found : w.book.account.found ≡ true
 
--- it went idle, and has what it had
+-- the worker is idle, and has what it had
 pub record IsIdling (begun w : Holder) : Type 0 where
   pub still : IsStill begun w
   pub idle : w.book.account.idle ≡ 1
@@ -29,11 +29,11 @@ may_idle {w = w} awake hand none =
     let uncharged = nothing w.book.account.charge (λ o. omega (arith, hand.charge o, ap (times o) none.0)) in
     (awake.share, awake.idle, uncharged, none.2)
 
--- and one that is not idle is at work
+-- a worker that is not idle is at work
 pub awake_at_work : {p : PairState} {w : Holder} → IsAwake w → HasAtHand p [] w → IsAtWork p [] w
 awake_at_work awake hand = record { hand = hand; busy = inr awake.idle }
 
--- it has its pair still, and nothing in it
+-- the worker still has its pair, without items
 module _ {p q : PairState} {begun w : Holder} (same : q ≡ p) (still : IsStill begun w) where
   pub hand_still : HasAtHand p [] begun → HasAtHand q [] w
   hand_still was =
@@ -48,7 +48,7 @@ module _ {p q : PairState} {begun w : Holder} (same : q ≡ p) (still : IsStill 
   none_still was = (ap pair_items same ∙ was.0, still.open_push, still.found)
 
 module _ {old : Holder} (new : Holder) (pool : new.pool ≡ old.pool) where
-  -- a book that differs in none of these
+  -- a book with the same setup, share, buffers, charge, and seen and finished objects
   module _ (b : Book) (is : new.book ≡ b) (setup : b.setup ≡ old.book.setup)
       (share : b.account.share ≡ old.book.account.share) (held : b.account.held ≡ old.book.account.held)
       (charge : b.account.charge ≡ old.book.account.charge) (seen : b.account.seen ≡ old.book.account.seen)

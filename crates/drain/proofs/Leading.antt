@@ -1,4 +1,4 @@
--- The leader while it gives away units and takes workers in.
+-- The leader while it passes units to workers and takes workers in.
 use Rattle.drain.proofs.Words.{AreOfSize, Book, Contains, Contains-append_left, HasAtHand, Holder, IsAtWork, IsAwake}
 use Rattle.drain.proofs.Words.{IsBusy, IsFree, Leads, List, PairState, Setup, [], ap, arith, inl, joined, new_book}
 use Rattle.drain.proofs.Words.{only, parted, refl, subst, sum_of-append, sym, times, ℕ, ◌++◌, ◌<◌, ◌||◌, ◌∙◌, ◌≡◌}
@@ -23,7 +23,7 @@ leads_again s t = record {
   pushed = t.pushed ∙ s.pushed;
 }
 
--- it gave units away
+-- a leader that gave units away still leads
 pub gave_away : (old new : Holder) (units : ℕ) → new.pool ≡ old.pool → new.book ≡ parted units old.book → Leads old new
 gave_away old new units pool is = record {
   pool = pool;
@@ -34,7 +34,7 @@ gave_away old new units pool is = record {
   pushed = ap (λ (b : Book). b.account.pushed) is;
 }
 
--- it took in a worker that is free
+-- and so does one that took in a free worker
 pub took_in : (old other new : Holder) → new.pool ≡ old.pool → new.book ≡ joined old.book other.book → IsFree other
     → Leads old new
 took_in old other new pool is free = record {
@@ -57,7 +57,7 @@ took_in old other new pool is free = record {
   pushed = ap (λ (b : Book). b.account.pushed) is;
 }
 
--- and it is free then if it was free before
+-- after that it is free if it was free before
 pub joined_free : (old other new : Holder) → new.book ≡ joined old.book other.book → IsFree old → IsFree other
     → IsFree new
 joined_free old other new is free other_free = record {
@@ -66,7 +66,7 @@ joined_free old other new is free other_free = record {
   open_push = ap (λ (b : Book). b.account.open_push) is ∙ (λ k. free.open_push k || other_free.open_push k);
 }
 
--- its pair is its pair still
+-- it has the same pair at hand
 leads_hand : {p : PairState} {old new : Holder} → Leads old new → HasAtHand p [] old → HasAtHand p [] new
 leads_hand {p} leads was = record {
   going = was.going;
@@ -79,7 +79,7 @@ leads_hand {p} leads was = record {
 pub several_busy : (w : Holder) → 1 < w.book.account.share → IsBusy w.book.account
 several_busy w several = inl (λ one. omega (arith, several, one))
 
--- and it goes on with its work after it has several units again
+-- it is at work again once it has several units
 pub leads_on : {p : PairState} {old new : Holder} → Leads old new → 1 < new.book.account.share → HasAtHand p [] old
     → IsAtWork p [] new
 leads_on {new = new} leads several was = record { hand = leads_hand leads was; busy = several_busy new several }

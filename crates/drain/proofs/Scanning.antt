@@ -8,12 +8,12 @@ use Rattle.drain.specs.declared.tally.Tally.{Tally}
 use Rattle.drain.specs.working.Jobs.{IsOnJob}
 use Rattle.drain.proofs.Tallies.{tally_is_small}
 
--- of the same setup
+-- the same setup has the same objects, roots and pairs
 pub same_setup : {count : ℕ} {roots : List ℕ} {pairs : List (ℕ × ℕ)} {old new : Setup} → new ≡ old
     → IsSetupOf count roots pairs old → IsSetupOf count roots pairs new
 same_setup same was = subst (IsSetupOf _ _ _) (sym same) was
 
--- a worker that came from one on a job is on it still
+-- a worker that came from one on a job is still on that job
 pub still_on_job :
     {A V G S : Type 0} {count : V → ℕ} {roots : V → List ℕ} {pairs : V → List (ℕ × ℕ)} {measure : V → Measure}
     {job : Job A V G S} {old new : PairedWorker A} {before after : Tally A}
@@ -27,11 +27,11 @@ still_on_job was came at_work tally = record {
   tally = tally;
 }
 
--- one that has its unit still is awake if it is as idle as before
+-- a worker that worked on since it was awake is awake
 pub still_awake : {old new : Holder} → IsAwake old → WorksOn old new → IsAwake new
 still_awake was on = record { share = on.came.share ∙ was.share; idle = on.idle ∙ was.idle }
 
--- the tally of a worker is that of one that finished the same
+-- workers that finished the same objects have the same tally
 pub same_tally : {m : Measure} {old new : List ℕ} {rows : List Sum} {unresolved : ℕ} → new ≡ old
     → IsTallyOf m old rows unresolved → IsTallyOf m new rows unresolved
 same_tally {m} {old} {new} {rows} {unresolved} same was = subst (λ xs. IsTallyOf m xs rows unresolved) (sym same) was

@@ -6,7 +6,7 @@ use Rattle.mark_core.specs.declared.which.Which.TheVariants.{Full}
 use Rattle.work_pair.specs.declared.stop.Stop.{Stop}
 use Rattle.drain.specs.working.Sharing.{GivesSome, SharesWork}
 
--- a list that has something has a last object
+-- a list that is not empty has a last object
 pub last_of : (xs : List ℕ) → 0 < length xs → (rest : List ℕ) × (object : ℕ) × (xs ≡ rest ++ object ∷ [])
 last_of [] some = absurd (omega (arith, some))
 last_of (x ∷ []) some = ([], x, refl)
@@ -14,7 +14,7 @@ last_of (x ∷ y ∷ ys) some =
     let later = last_of (y ∷ ys) (omega arith) in
     (x ∷ later.0, later.1, ap (λ (zs : List ℕ). x ∷ zs) later.2)
 
--- one that has nothing is empty
+-- a list of length 0 is empty
 pub none_of : (xs : List ℕ) → length xs ≤ 0 → xs ≡ []
 none_of [] few = refl
 none_of (x ∷ xs) few = absurd (omega (arith, few))
@@ -44,7 +44,7 @@ none_to_get (x ∷ xs) got other last =
     let end = last_of (x ∷ xs) (omega arith) in
     absurd (other end.1 (last end.1 end.0 end.2))
 
--- if it was got and put again, this is the definition of `PutsAgain`
+-- if the last spilled object was got and put again, this is what `PutsAgain` says
 pub puts_again : (old middle new : PairState) (before between after : Book) (object : ℕ) → 0 < length old.spill
     → ((o : ℕ) (rest : List ℕ) → old.spill ≡ rest ++ o ∷ [] → (object ≡ o) × (middle ≡ record old { spill = rest }))
     → between ≡ before → Puts middle between object new after → PutsAgain old before new after
@@ -55,13 +55,13 @@ puts_again old middle new before between after object some got same puts =
     let then = subst (λ (b : Book). Puts middle b last.1 new after) same its in
     (last.0, last.1, last.2, subst (λ (p : PairState). Puts p before last.1 new after) is.1 then)
 
--- a look that found a buffer is all that a worker did to share
+-- if the look found a buffer, sharing does nothing more
 pub needs_none : {p q : PairState} {before looked : Book} {none : Bool} → none ≡ false → q ≡ p
     → Sees Full before looked none → SharesWork p before q looked
 needs_none {looked = looked} {none} some same sees =
     (none, looked, sees, λ _. (same, refl), λ empty. absurd (false≢true (sym some ∙ empty)))
 
--- after one that found none it gave some
+-- if it found none, the worker gave some objects
 pub gives_some : {p q r : PairState} {before looked after : Book} {none : Bool} → none ≡ true → q ≡ p
     → Sees Full before looked none → GivesSome q looked r after → SharesWork p before r after
 gives_some {p} {q} {r} {looked = looked} {after} {none} empty same sees gives = (

@@ -1,10 +1,10 @@
--- The leader, turn by turn, while it gives a unit to each thread that is started.
+-- The leader, turn by turn, while it passes a unit to each thread that is started.
 use Rattle.drain.proofs.Words.{Book, Duty, HasStarted, Holder, IsDutyUnder, List, Setup, [], ap, arith, length}
 use Rattle.drain.proofs.Words.{new_book, parted, ℕ, ◌++◌, ◌+◌, ◌<◌, ◌∙◌, ◌∷◌, ◌≡◌}
 use Rattle.drain.proofs.Each.{pushed_holds}
 use Rattle.drain.proofs.Leading.{gave_away, leads_again}
 
--- one thread more
+-- one more thread
 module _ {A V X : Type 0} {graph : V} {duty : X → Duty A V} {begun old : Holder} {threads : List X} {number : ℕ}
     (was : HasStarted graph duty begun old threads number) (enough : number < begun.book.account.share) where
   pub one_more_started : {rest worker : Holder} {more : List X} {thread : X} → length threads ≡ number

@@ -1,4 +1,4 @@
--- What an addition gives: where it succeeds, and where there is room.
+-- What holds after an identifier was added, if adding succeeds and if there is room.
 use Rattle.std.specs.Prelude.{Err, Ok, OnOk, Result, length, map, ℕ, ◌%◌, ◌++◌, ◌+◌, ◌^◌, ◌≡◌}
 use Rattle.std.proofs.Common.{List, Some, [], ap, arith, length-append, slice_get, sym, take, ◌∙◌, ◌∷◌}
 use Rattle.std.proofs.Math.Nat.{mod-one}
@@ -9,21 +9,21 @@ pub on_ok : {X E : Type 0} {P Q : Type 0} (r : Result X E) → (P → Q) → OnO
 on_ok (Ok x) f h = f h
 on_ok (Err e) f h = tt
 
--- the builder has the keys of the first things of each list that fits
+-- the builder has the keys of the first `count` things of each list that fits
 pub record AreAdded {R X : Type 0} (Fits : R → Type 0) (things : R → List X) (key : X → ℕ) (ids : List ℕ)
     (count : ℕ) : Type 0 where
   pub count_is : length ids ≡ count
   pub each : (r : R) → Fits r → ids ≡ map key (take count (things r))
 
 module _ {X : Type 0} (key : X → ℕ) {id : ℕ} {old new : List ℕ} (pushed : new ≡ old ++ id ∷ []) where
-  -- one more key, of the thing behind those so far
+  -- one more key: that of the thing after those so far
   pub keys_more : (xs : List X) (i : ℕ) (x : X) → slice_get xs i ≡ Some x → id ≡ key x → old ≡ map key (take i xs)
       → new ≡ map key (take (i + 1) xs)
   keys_more xs i x here own before =
       pushed ∙ ap (λ (ids : List ℕ). ids ++ id ∷ []) before ∙ ap (λ (n : ℕ). map key (take i xs) ++ n ∷ []) own
       ∙ sym (map_one key (take i xs) x) ∙ ap (λ zs. map key zs) (sym (take_one xs i x here))
 
-  -- and of one thing more
+  -- and one more thing
   pub one_more_added : {R : Type 0} {Fits : R → Type 0} {things : R → List X} {count : ℕ}
       → AreAdded Fits things key old count
       → ((r : R) → Fits r → (x : X) × (slice_get (things r) count ≡ Some x) × (id ≡ key x))
@@ -33,7 +33,7 @@ module _ {X : Type 0} (key : X → ℕ) {id : ℕ} {old new : List ℕ} (pushed 
     each = λ r fits. let it = next r fits in keys_more (things r) count it.0 it.1 it.2 (added.each r fits);
   }
 
--- the builder takes each identifier
+-- the builder takes any identifier
 pub record TakesAll (builder : AlignedIds) : Type 0 where
   pub shift_is : builder.shift ≡ 0
   pub low_is : builder.low ≡ 0

@@ -1,4 +1,4 @@
--- What the graph of a heap list says of one object.
+-- What the graph of a heap list says of a single object.
 use Rattle.heap_graph.proofs.Words.{AreIdsIn, IsGraphOf, List, ObjectGraph, Record, RowKey, SkipEntry, Some, SubRecord}
 use Rattle.heap_graph.proofs.Words.{[], ap, arith, bytes_at, bytes_of, get_or, get_or-map, get_or_from_slice_get}
 use Rattle.heap_graph.proofs.Words.{heap_of, held_by, is_skipped, length, length-map, map, object_count, objects}

@@ -16,7 +16,7 @@ use Rattle.heap_graph.proofs.Sizes.{id_size_range}
 use Rattle.heap_graph.proofs.TargetLaws.{same_unresolved, same_targets}
 use Rattle.heap_graph.proofs.Wholeness.{is_whole}
 
--- ---- what stands in the bytes, seen by a view of them
+-- ---- the parts of the bytes, by a view of them
 
 pub seen_by : {X : Type 0} (IsAt : ℕ → List ℕ → ℕ → X → Type 0) (v : Sight) (bytes : List ℕ) (s : ℕ)
     (places known : List ℕ) (things : List X)
@@ -74,7 +74,7 @@ module _ (bytes : List ℕ) (dump : Places) (is : IsDumpOf bytes dump) where
 
 -- ---- the objects at the places of a dump
 
--- the places that a dump has handed over
+-- the places that were taken out of a dump are those of its objects
 abbrev pub handed_places : (bytes : List ℕ) (dump now : Places) (s : ℕ) (handed : List ℕ) → IsDumpOf bytes dump
     → now ≡ record dump { objects = [] } → s ≡ now.id_size → handed ≡ dump.objects → ArePlacesOf bytes s handed dump
 handed_places bytes dump now s handed is rest size_is handed_are = record {
@@ -96,7 +96,7 @@ module _ (bytes : List ℕ) (s : ℕ) (places : List ℕ) (dump : Places) (are :
         seen_by SubRecordStandsAt v bytes dump.id_size places dump.objects (objects (heap_of are.is.records)) bytes_are
         (size_is ∙ are.size_is) are.places_are placed.objects
 
-    -- indexed by one view, they are the same objects to another
+    -- objects that were indexed by a view v are the same by another view w
     pub are_indexed : {A : Type 0} (v w : Sight) (i : Indexed A) (known : List ℕ) → v.bytes ≡ bytes → v.id_size ≡ s
         → w.bytes ≡ bytes → w.id_size ≡ s → known ≡ places
         → ((heap : List SubRecord) → StandInTurn (Stands v) known (objects heap) → AreIndexed v known heap i)
@@ -140,7 +140,7 @@ graph_with s records held = record {
   unresolved = unresolved_in (heap_of records) held;
 }
 
--- the lists of identifiers of the objects, and the graph with them
+-- the lists of identifiers of the objects
 abbrev pub lists_of : {A : Type 0} (o : Objects A) (records : List Record) (skip : List SkipEntry)
     → AreLinkedOf o (heap_of records) → HaveFatesOf o (heap_of records) → List (List ℕ)
 lists_of o records skip linked told = (held_lists (is_skipped records skip) o (heap_of records) linked told).lists
@@ -205,7 +205,7 @@ text_graph_made o text dump is skip read =
           (graph_made o is.records skip read.linked read.fates);
     })
 
--- a text and a list have one graph, so what holds of one holds of each
+-- what holds of one graph of a text and a list holds of each, since there is only one
 pub given_graph : (text : List ℕ) (skip : List SkipEntry) (P : ObjectGraph → Type 0) (g : ObjectGraph)
     → IsGraphOfText text skip g → P g → (other : ObjectGraph) → ∥ IsGraphOfText text skip other ∥₁ → P other
 given_graph text skip P g is holds other given =

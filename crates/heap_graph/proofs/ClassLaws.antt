@@ -7,11 +7,11 @@ use Rattle.heap_graph.specs.ObjectGraph.{NamedClass}
 use Rattle.heap_graph.specs.working.Refinement.{named_class}
 use Rattle.heap_graph.proofs.EntryLaws.{map_one, take_one}
 
--- the class of that identifier, with the text that names it
+-- the class with identifier `id`, and the text that names it
 abbrev named_by : List Record → ℕ → NamedClass
 named_by records id = record { id = id; text = class_text records id }
 
--- the first n classes of these identifiers were named
+-- `classes` are the first n classes of `ids`, with the texts that name them
 abbrev pub AreNamed : List Record → List ℕ → ℕ → List ClassEntry → Type 0
 AreNamed records ids n classes = map named_class classes ≡ map (named_by records) (take n ids)
 
@@ -38,7 +38,7 @@ one_more_named records ids n old new e below id text added are =
     ∙ sym (ap (λ (xs : List ℕ). map (named_by records) xs)
     (take_one ids n (slice_index ids n) (slice_get-get_or ids n 0 below)))
 
--- and these are all, where the identifiers are those of the class dumps
+-- these are all classes, if the identifiers are those of the class dumps
 pub all_named : (records : List Record) (ids : List ℕ) (n : ℕ) (classes : List ClassEntry) → length ids ≤ n
     → ids ≡ map (λ (c : Class). c.object) (class_dumps (heap_of records)) → AreNamed records ids n classes
     → map named_class classes ≡ named_classes records

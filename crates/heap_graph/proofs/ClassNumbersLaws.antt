@@ -1,4 +1,4 @@
--- The numbers of the class dumps: one object more, and the table of classes from one class dump to the next.
+-- The numbers of the class dumps, for one more object; and the table of classes, from one class dump to the next.
 use Rattle.heap_graph.proofs.Words.{AreClassNumbers, AreClassesAmong, AreIndexed, AreObjects, Class, Contains}
 use Rattle.heap_graph.proofs.Words.{Contains-append_left, Contains-append_right, Indexed, IsClassNumber, List, None}
 use Rattle.heap_graph.proofs.Words.{Sight, Some, SubRecord, TableEntry, [], ap, arith, as_class, cases_lt, class_dump}
@@ -65,7 +65,7 @@ module _ (os : List SubRecord) where
         ⊎_elim (λ l. omega (arith, get_or_default_zero numbers k n l, are.below k l))
         (λ past. omega (arith, get_or_past numbers k n past)) (cases_lt k (length numbers))
 
-    -- between a class dump and the next one, or the end, stands none
+    -- no class dump comes between one class dump and the next, or the end
     none_between : (k number : ℕ) → ((j : ℕ) → j < k → j < length numbers → get_or numbers j 0 < number)
         → number < get_or numbers k n → IsClassNumber os number → ⊥
     none_between k number behind before is =
@@ -98,7 +98,7 @@ among_none v heap = record {
 
 module _ (v : Sight) (places ids : List ℕ) (heap : List SubRecord) (stand : AreObjects v places ids heap)
     (entries : List TableEntry) where
-  -- where no class dump stands, nothing is added
+  -- without a class dump among the objects nothing is added
   among_past : (n d : ℕ) → n + d ≤ length places
       → ((m : ℕ) → n ≤ m → m < n + d → IsClassNumber (objects heap) m → ⊥)
       → AreClassesAmong v heap n entries → AreClassesAmong v heap (n + d) entries
@@ -143,7 +143,7 @@ module _ (v : Sight) (places ids : List ℕ) (heap : List SubRecord) (stand : Ar
         (λ j less within. omega (arith, rises (objects heap) (length places) numbers are j k (omega (arith, less)) h))
         among
 
--- ---- the class dumps in turn, as `class_table` goes over them: `w` is what it sees, `items` is what it goes over
+-- ---- the class dumps one after another, as `class_table` goes over them: it sees `w` and goes over `items`
 
 module _ {A : Type 0} (v w : Sight) (same : w ≡ v) (places : List ℕ) (heap : List SubRecord) (i : Indexed A)
     (items : List ℕ) (are_items : items ≡ i.class_dumps.items) (entries : List TableEntry) (k : ℕ)
@@ -172,7 +172,7 @@ module _ {A : Type 0} (v w : Sight) (same : w ≡ v) (places : List ℕ) (heap :
       (subst (λ (xs : List ℕ). AreClassesAmong v heap (get_or xs k 0 + 1) entries) are_items
       (subst (λ (x : Sight). AreClassesAmong x heap (get_or items k 0 + 1) entries) same among))
 
-  -- behind the last one it is that of all objects
+  -- after the last class dump it is that of all objects
   pub all_classes : length items ≤ k
       → AreClassesAmong v heap (get_or i.class_dumps.items k (length places)) entries
       → AreClassesAmong v heap (length places) entries

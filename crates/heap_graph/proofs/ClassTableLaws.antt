@@ -1,4 +1,4 @@
--- What the table of classes says of one class, and how it grows.
+-- What the table of classes says of a class, and how it grows.
 use Rattle.heap_graph.proofs.Words.{AreClasses, Bool, Class, ClassPlace, Contains, IsUnder, List, Member, None, Option}
 use Rattle.heap_graph.proofs.Words.{Sight, Some, Stands, SubRecord, TableEntry, [], ap, arith, class_dump, class_named}
 use Rattle.heap_graph.proofs.Words.{cond, entry_at, eq-eqb, eqb-true, false, get_or_from_slice_get, ids_of, length}
@@ -9,7 +9,7 @@ use Rattle.heap_graph.specs.working.ClassTable.{IsTableEntry}
 use Rattle.heap_graph.proofs.FieldLaws.{own_size}
 use Rattle.heap_graph.proofs.Firsts.{IsHit, position_hit, position_past}
 
--- the class of a number
+-- the class with the number k
 pub record IsNumbered (v : Sight) (heap : List SubRecord) (entries : List TableEntry) (k : ℕ) : Type 0 where
   pub entry : TableEntry
   pub is : slice_get entries k ≡ Some entry
@@ -41,7 +41,7 @@ pub named_at : (v : Sight) (heap : List SubRecord) (entries : List TableEntry) (
     → class_named heap (slice_index (ids_of entries) k) ≡ Some it.holds.class
 named_at v heap entries k it = ap (λ (id : ℕ). class_named heap id) it.id_is ∙ it.holds.named
 
--- what a class of the table has above it
+-- what the table has above one of its classes
 pub under : (v : Sight) (heap : List SubRecord) (entries : List TableEntry) (k : ℕ) (it : IsNumbered v heap entries k)
     → k < length entries → IsUnder heap (ids_of entries) k it.holds.class.super
 under v heap entries k it h = record {
@@ -55,12 +55,12 @@ under v heap entries k it h = record {
 some_inj : {X : Type 0} {x y : X} → Some x ≡ Some y → x ≡ y
 some_inj {X} {x} {y} e = cc
 
--- and it is the class of that number, however it is told
+-- the entry's class is the one that its identifier names
 pub same_class : (v : Sight) (heap : List SubRecord) (entries : List TableEntry) (k : ℕ) (c : Class)
     (it : IsNumbered v heap entries k) → class_named heap (slice_index (ids_of entries) k) ≡ Some c → it.holds.class ≡ c
 same_class v heap entries k c it named = some_inj (sym (named_at v heap entries k it) ∙ named)
 
--- ---- what a look-up finds
+-- ---- the result of a look-up
 
 pub record IsFound (ids : List ℕ) (id k : ℕ) : Type 0 where
   pub below : k < length ids
@@ -104,9 +104,9 @@ pub not_found : (v : Sight) (heap : List SubRecord) (entries : List TableEntry) 
 not_found v heap entries id are none = no_class heap id (class_named heap id) refl
     (λ c named. not_there (ids_of entries) id none (are.complete id c named))
 
--- ---- what is read of a class
+-- ---- the result of reading a class
 
--- this is what is kept at that number
+-- `kept` is the class place in entry k
 abbrev pub IsKept : List TableEntry → ℕ → ClassPlace → Type 0
 IsKept entries k kept = (e : TableEntry) → slice_get entries k ≡ Some e → kept ≡ e.1
 
@@ -132,7 +132,7 @@ read_super v heap entries k kept super got are h read under says =
     (sym (read it.entry it.is)) it.holds.stands)
     ∙ ap (λ (c : Class). c.super) same ∙ under.super_is
 
--- ---- the entry of a number
+-- ---- the entry with the number k
 
 pub entry_is : (entries : List TableEntry) (k : ℕ) (e : TableEntry) → slice_get entries k ≡ Some e
     → entry_at entries k ≡ e.1
@@ -158,7 +158,7 @@ few_bytes v heap entries k are h =
     let it : IsNumbered v heap entries k = numbered v heap entries k are h in
     subst (λ (p : ClassPlace). p.size < 2 ^ 32) (sym (entry_is entries k it.entry it.is)) it.holds.few_bytes
 
--- a class without bytes has no fields, and the others have some
+-- a class whose fields have no bytes has no fields, and each other class has some
 pub no_fields : (v : Sight) (heap : List SubRecord) (entries : List TableEntry) (k : ℕ) (c : Class)
     → AreClasses v heap entries → k < length entries
     → class_named heap (slice_index (ids_of entries) k) ≡ Some c → (entry_at entries k).size ≡ 0 → c.members ≡ []

@@ -11,7 +11,7 @@ use Rattle.heap_graph.proofs.PathLaws.{path_end, path_off, path_on}
 
 module _ (v : Sight) (heap : List SubRecord) (entries : List TableEntry) (first : ℕ) (path : List ℕ)
     (known : List Fate) (at : ℕ) where
-  -- what is found above the class, when it has come onto the path
+  -- what is found above the class, once the class is on the path
   abbrev Finds : Step → Type 0
   Finds step = (super : ℕ) → AreFates v.id_size heap (ids_of entries) (path ++ at ∷ []) (set known at fates.OnPath)
       → IsUnder heap (ids_of entries) at super → IsPath heap (ids_of entries) (path ++ at ∷ []) super

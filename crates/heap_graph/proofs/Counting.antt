@@ -1,4 +1,4 @@
--- A dump has fewer objects than bytes, and fewer roots, strings and loaded classes.
+-- A dump has fewer objects than bytes, and also fewer roots, strings and loaded classes.
 use Rattle.heap_graph.proofs.Words.{Bool, IsDumpOf, IsPlaced, List, Places, Record, SubRecord, [], ap, arith, big_bytes}
 use Rattle.heap_graph.proofs.Words.{body_of, count_by-le-length, filter, flat_map, header, heap, heap_of, id_of}
 use Rattle.heap_graph.proofs.Words.{is_object, is_root, length, length-append, length-filter, length-map, limit}

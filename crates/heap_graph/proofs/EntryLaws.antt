@@ -5,14 +5,14 @@ use Rattle.heap_graph.proofs.Words.{of_static, position, position_or_len, refl, 
 use Rattle.heap_graph.proofs.Words.{sum_by-cons, sym, take, zero, ℕ, ◌++◌, ◌+◌, ◌==◌, ◌∙◌, ◌∷◌, ◌≡◌}
 use Rattle.heap_graph.proofs.Firsts.{position_at, position_or_len-map}
 
--- the number of a class, from the identifiers of the classes by their numbers
+-- the number of a class is its position among the identifiers of the classes
 pub same_number : (heap : List SubRecord) (ids : List ℕ) (id : ℕ)
     → ids ≡ map (λ (c : Class). c.object) (class_dumps heap) → position_or_len (λ x. x == id) ids ≡ class_number heap id
 same_number heap ids id are =
     ap (λ (xs : List ℕ). position_or_len (λ x. x == id) xs) are
     ∙ position_or_len-map (λ (c : Class). c.object) (λ x. x == id) (class_dumps heap)
 
--- and of the class that was found in the table
+-- and so is that of a class that was found in the table
 pub number_told : (v : Sight) (heap : List SubRecord) (entries : List TableEntry) (fates : List Fate) (id class k : ℕ)
     → HaveFates v heap entries fates → Some k ≡ position (λ x. x == id) (ids_of entries) → id ≡ class
     → IsLinked v.id_size heap → k ≡ class_number heap class

@@ -1,4 +1,4 @@
--- What is known of chains, while a path of classes is followed.
+-- What is known of chains while a path of classes is followed.
 use Rattle.heap_graph.proofs.Words.{AreFates, Class, Contains, Contains-append_left, Contains-push, Contains-push_cases}
 use Rattle.heap_graph.proofs.Words.{DoesStay, Fate, IsChain, IsChainAt, IsClimb, IsCut, IsFate, IsKnown, IsPath}
 use Rattle.heap_graph.proofs.Words.{IsSettled, IsUnder, Layout, List, NeverEnds, Some, SubRecord, TableEntry, [], ap}
@@ -35,12 +35,12 @@ module _ (known : List Fate) (k : ℕ) (f : Fate) where
   pub known_set : k < length known → IsSettled f → IsKnown (set known k f) k
   known_set h settled = record { fate = f; is = set_here known k f h; settled = settled }
 
-  -- what is known stays known where something unknown is written
+  -- if an unknown fate is overwritten, the known ones stay
   pub stay_open : (old : Fate) → slice_get known k ≡ Some old → (IsSettled old → ⊥) → DoesStay known (set known k f)
   stay_open old is unsettled =
       stay_but (λ it. absurd (unsettled (subst IsSettled (some_inj (sym it.is ∙ is)) it.settled)))
 
-  -- and where a known fate is written
+  -- they also stay if a known fate is written
   pub stay_known : k < length known → IsSettled f → DoesStay known (set known k f)
   stay_known h settled = stay_but (λ it. known_set h settled)
 
@@ -57,7 +57,7 @@ module _ {s : ℕ} {heap : List SubRecord} {ids : List ℕ} {known : List Fate} 
       (λ other. are.each j g (sym (set_there known k j f other) ∙ is))
       (cases_eq j k)
 
-  -- a class comes onto the path
+  -- a class is put on the path
   pub fates_on : {path : List ℕ} (k : ℕ) → AreFates s heap ids path known → k < length ids
       → AreFates s heap ids (path ++ k ∷ []) (set known k fates.OnPath)
   fates_on {path} k are below = record {
@@ -69,7 +69,7 @@ module _ {s : ℕ} {heap : List SubRecord} {ids : List ℕ} {known : List Fate} 
         (cases_eq j k);
   }
 
-  -- a class comes off the path
+  -- a class is taken off the path
   pub fates_off : (path : List ℕ) (k : ℕ) (f : Fate) → AreFates s heap ids (path ++ k ∷ []) known → k < length ids
       → IsFate s heap ids (slice_index ids k) f → IsSettled f → AreFates s heap ids path (set known k f)
   fates_off path k f are below fate settled = record {
@@ -83,7 +83,7 @@ module _ {s : ℕ} {heap : List SubRecord} {ids : List ℕ} {known : List Fate} 
         (cases_eq j k);
   }
 
-  -- the fate above a path
+  -- the fate above a path: endless if the path comes back to itself, and else that of the next class
   pub comes_back : {path : List ℕ} {super : ℕ} (next : ℕ) → AreFates s heap ids path known → IsPath heap ids path super
       → slice_index ids next ≡ super → slice_get known next ≡ Some fates.OnPath → NeverEnds heap super
   comes_back {path} {super} next are p is on =
@@ -93,7 +93,7 @@ module _ {s : ℕ} {heap : List SubRecord} {ids : List ℕ} {known : List Fate} 
       → slice_index ids next ≡ super → slice_get known next ≡ Some f → IsFate s heap ids super f
   fate_above next f are is here = subst (λ (id : ℕ). IsFate s heap ids id f) is (are.each next f here)
 
--- fewer are unknown
+-- fewer fates are unknown after a class was put on the path
 pub fewer_unknown : (known : List Fate) (at : ℕ) → slice_get known at ≡ Some fates.Unknown
     → count_by is_unknown (set known at fates.OnPath) < count_by is_unknown known
 fewer_unknown known at is =
@@ -129,7 +129,7 @@ settled_fate (fates.Whole l) a b = tt
 settled_fate fates.Broken a b = tt
 settled_fate fates.Endless a b = tt
 
--- ---- the fate of a class, from that of its superclass
+-- ---- the fate of a class, by that of its superclass
 
 module _ {heap : List SubRecord} {ids : List ℕ} {k super : ℕ} (under : IsUnder heap ids k super) where
   pub chain_at : (rest : List Class) → IsChain heap super rest → IsChainAt heap ids k under.class rest
@@ -153,7 +153,7 @@ pub known_here : (known : List Fate) (k : ℕ) (f : Fate) → slice_get known k 
     → (f ≡ fates.OnPath → ⊥) → IsKnown known k
 known_here known k f is a b = record { fate = f; is = is; settled = settled_fate f a b }
 
--- one more class of which nothing is known
+-- one more class whose fate is unknown
 pub unknown_more : (known new : List Fate) (f : Fate) → new ≡ known ++ f ∷ [] → f ≡ fates.Unknown
     → ((k : ℕ) (x : Fate) → slice_get known k ≡ Some x → x ≡ fates.Unknown) → (k : ℕ) (x : Fate)
     → slice_get new k ≡ Some x → x ≡ fates.Unknown

@@ -14,12 +14,12 @@ size_of_id s = refl
 pub size_of_id_type : (s t : ℕ) → t ≡ 2 → size_of s t ≡ s
 size_of_id_type s t e = ap (λ (n : ℕ). size_of s n) e ∙ size_of_id s
 
--- an identifier stands only in a field of type 2
+-- only a field of type 2 has an identifier
 pub of_id_type : (skipped typed : Bool) → (not skipped && typed) ≡ true → typed ≡ true
 of_id_type true typed e = absurd (let wrong : false ≡ true = e in cc)
 of_id_type false typed e = e
 
--- the identifier in a field, if there is one
+-- the identifier in the field `f`, if it is followed and has one
 abbrev pub ids_here : (Class → Member → Bool) → ℕ → Class × Member → List ℕ → List ℕ
 ids_here skips s f values = if not (skips f.0 f.1) && (f.1.type == 2) then big_number s (take s values) ∷ [] else []
 
@@ -38,7 +38,7 @@ ids_of_both skips s (f ∷ front) more values =
     ∙ sym (append_assoc (ids_here skips s f values) (field_ids skips s front (drop size values))
     (field_ids skips s more (drop (size_of_fields s (f ∷ front)) values)))
 
--- ---- a class with fields has a size
+-- ---- a field has a size of at least 1
 
 pub member_size : (s t : ℕ) → 1 ≤ s → is_type_at InMember t ≡ true → 1 ≤ size_of s t
 unfolding is_type_at size_of

@@ -1,4 +1,4 @@
--- What is left of the identifiers of an instance, while they are given away one after the other, and how many are left.
+-- The remaining identifiers of an instance, while they are returned one after another, and their number.
 use Rattle.heap_graph.proofs.Words.{AreUp, ClassPlan, Fate, HasFields, HaveFields, List, None, Option, Some}
 use Rattle.heap_graph.proofs.Words.{StandInside, Up, Up-prop, [], ap, arith, big_from-take, big_number, drop, drop-take}
 use Rattle.heap_graph.proofs.Words.{id_places_of, ids_at, ids_up, length, length-append, length-drop, length-map}
@@ -32,7 +32,7 @@ number_within s place own values h =
 pub fewer_left : (ids left : List ℕ) (id : ℕ) → ids ≡ id ∷ left → length left < length ids
 fewer_left ids left id e = omega (arith, ap length e)
 
--- ---- the first one that is left, of the class
+-- ---- the first remaining place in the class
 
 module _ {s own : ℕ} {here values : List ℕ} (rest : List ℕ) (place : ℕ) (stand : StandInside s here own values)
     (e : here ≡ place ∷ rest) where
@@ -46,7 +46,7 @@ module _ {s own : ℕ} {here values : List ℕ} (rest : List ℕ) (place : ℕ) 
     room = stand.room;
   }
 
-  -- it is read among the values of the class
+  -- the identifier there is read among the values of the class
   pub first_room : (own_values : List ℕ) → own_values ≡ take own values → place + s ≤ length own_values
   first_room own_values is = rw is (omega (arith, stand.room, length-take own values, first_within))
 
@@ -55,7 +55,7 @@ module _ {s own : ℕ} {here values : List ℕ} (rest : List ℕ) (place : ℕ) 
   first_read own_values id own_is is =
       is ∙ ap (λ (xs : List ℕ). big_number s (drop place xs)) own_is ∙ number_within s place own values first_within
 
--- how many classes stand there and above, no more than n of them
+-- the number of classes from `first` up, or n if there are more
 abbrev pub steps_up : List Fate → ℕ → Option ℕ → ℕ
 steps_up known zero first = 0
 steps_up known (suc n) None = 0
@@ -80,13 +80,13 @@ module _ (s : ℕ) (plans : List ClassPlan) (places : List ℕ) (known : List Fa
   abbrev all_left : List ℕ → ℕ → List ℕ → List ℕ → List ℕ
   all_left here own values ks = ids_at s here values ++ ids_up s plans places ks (drop own values)
 
-  -- these are left, of a class and of those above it
+  -- `ids` are the remaining identifiers, of a class and of those above it
   pub record IsLeft (here : List ℕ) (own : ℕ) (values ks ids : List ℕ) : Type 0 where
     pub stand : StandInside s here own values
     pub above : HaveFields s plans places known ks (drop own values)
     pub left : ids_at s here values ++ ids_up s plans places ks (drop own values) ≡ ids
 
-  -- the first class above, and those above it
+  -- k is the first class above, `ks` are all
   pub record HasNext (values : List ℕ) (k : ℕ) (ks : List ℕ) : Type 0 where
     pub rest : List ℕ
     pub are : ks ≡ k ∷ rest
@@ -94,7 +94,8 @@ module _ (s : ℕ) (plans : List ClassPlan) (places : List ℕ) (known : List Fa
     pub fields : HasFields s plans places known values k
     pub above : HaveFields s plans places known rest (drop (plan_at plans k).size values)
 
-  -- so many identifiers are counted, of that many; those of the classes from that one up are left, in that many bytes
+  -- of `all` identifiers `counted` are counted; the others are those of the classes from `first` up, of which there are
+  -- at most `most`. The count and the length of the classes' values are together at most `bytes`.
   pub record IsCounted (most bytes all : ℕ) (first : Option ℕ) (counted : ℕ) : Type 0 where
     pub classes : List ℕ
     pub values : List ℕ
@@ -113,7 +114,7 @@ module _ (s : ℕ) (plans : List ClassPlan) (places : List ℕ) (known : List Fa
       subst (λ (n : ℕ). HasNext values n (m ∷ ms)) same
       (record { rest = ms; are = refl; up = h.1; fields = have.0; above = have.1 })
 
-  -- the first one is given away
+  -- the first remaining identifier is returned
   module _ {here : List ℕ} {own : ℕ} {values ks ids : List ℕ} (ms rest : List ℕ) (next : Option ℕ) (place : ℕ)
       (it : IsLeft here own values ks ids) (e : here ≡ place ∷ rest) (h : AreUp known next ks)
       (m : AreUp known next ms) where
@@ -144,7 +145,7 @@ module _ (s : ℕ) (plans : List ClassPlan) (places : List ℕ) (known : List Fa
         let nothing = only_above ∙ ap (λ (xs : List ℕ). ids_up s plans places xs (drop own values)) no_class in
         (nothing, it.left ∙ nothing)
 
-    -- those of the next class follow
+    -- after the last identifier of a class those of the next class remain
     pub next_left : (k : ℕ) (its : List ℕ) (size : ℕ) (behind : List ℕ) (above : Option ℕ) (ms : List ℕ)
         → HasNext (drop own values) k ks → its ≡ id_places_of plans places k → size ≡ (plan_at plans k).size
         → behind ≡ drop own values → above ≡ next_above known k → AreUp known above ms → IsLeft its size behind ms ids
@@ -163,7 +164,7 @@ module _ (s : ℕ) (plans : List ClassPlan) (places : List ℕ) (known : List Fa
       let up = subst (λ (f : Option ℕ). AreUp known f ms) above_is h in
       omega (arith, ap length n.are, ap length (same_up known (next_above known k) n.rest ms n.up up))
 
-  -- ---- how many identifiers are left
+  -- ---- the number of remaining identifiers
 
   pub none_counted : {here : List ℕ} {own : ℕ} {values ks ids : List ℕ} (next : Option ℕ)
       → IsLeft here own values ks ids → AreUp known next ks

@@ -1,4 +1,4 @@
--- The identifiers in the fields of an instance, up the classes that declare fields.
+-- The identifiers in the fields of an instance, from class to class up those that declare fields.
 use Rattle.heap_graph.proofs.Words.{AreUp, BeginsAt, Bool, Class, ClassPlan, Fate, HaveFates, HaveFields, IsChain}
 use Rattle.heap_graph.proofs.Words.{IsFate, IsFirst, IsPlan, IsSettled, List, Member, None, Option, Sight, Some}
 use Rattle.heap_graph.proofs.Words.{StandInside, SubRecord, TableEntry, Up, [], ap, arith, big_from-take, big_number}
@@ -77,7 +77,7 @@ module _ (skips : Member → Bool) (s : ℕ) where
         length-append (if followed then at ∷ [] else []) (id_places skips s behind ms),
       )
 
--- what the plan tells of a class
+-- what the plan says of a class
 module _ {skips : Class → Member → Bool} {s : ℕ} {plans : List ClassPlan} {places : List ℕ} {c : Class} {k : ℕ}
     (own : AreOwnFields skips s plans places c k) (values : List ℕ) where
   own_stand : 1 ≤ s → size_together s c.members ≤ length values
@@ -138,7 +138,7 @@ module _ (v : Sight) (heap : List SubRecord) (entries : List TableEntry) (known 
       (fate_says v.id_size heap (ids_of entries) (slice_index (ids_of entries) k) b.class b.rest it.fate it.settled
       (told.settled.fates_are.each k it.fate it.is) (b.named, b.chain))
 
-  -- the classes up from the first one are finitely many
+  -- only finitely many classes are above the first one
   up_within : (n : ℕ) (fields : List (Class × Member)) (first : Option ℕ) → length fields ≤ n
       → IsFirst heap (ids_of entries) fields first → Up known first
   up_within n fields None few is = ([], refl)

@@ -1,4 +1,4 @@
--- The object that a class's plan has is the one that the identifier of the class names.
+-- The object in the plan of a class is the one that the identifier of the class names.
 use Rattle.heap_graph.proofs.Words.{AreClassObjects, Bool, Class, ClassPlan, HasPlan, IfSome, Instance, IsLinked}
 use Rattle.heap_graph.proofs.Words.{IsNamed, List, None, ObjectArray, Option, RowKey, Some, SubRecord, ap, arith}
 use Rattle.heap_graph.proofs.Words.{class_dumps, class_named, class_number, cond, eqb-true, false}
@@ -28,7 +28,7 @@ object_if all id (Some o) named =
     let bears : slice_index all o ≡ id = bears_if all id o (id == 0) (sym named) in
     (bears, ap (target_in all) bears ∙ sym named)
 
--- the identifier of the class of a number
+-- the class with the number of an identifier has that identifier
 id_of_number : (ids : List ℕ) (id : ℕ) → position_or_len (λ x. x == id) ids < length ids
     → slice_index ids (position_or_len (λ x. x == id) ids) ≡ id
 id_of_number ids id below =
@@ -49,7 +49,7 @@ module _ (heap : List SubRecord) (ids : List ℕ) (plans : List ClassPlan)
       (ap (λ (p : ClassPlan). p.object) read ∙ objects (class_number heap id) it.0 it.1
       ∙ ap (target_in all) named)
 
-  -- the object that is known of the class with that identifier, which is planned
+  -- the object in the plan of a planned class is the one that the class's identifier names
   pub known_class : (all : List ℕ) (id : ℕ) (row : RowKey) (known : Option ℕ) → AreClassObjects all ids plans
       → HasPlan plans (keys.Class (class_number heap id)) → row ≡ keys.Class (class_number heap id)
       → known ≡ object_of_row plans row → IfSome known (IsObjectOf all id)
@@ -67,7 +67,7 @@ module _ (heap : List SubRecord) (ids : List ℕ) (plans : List ClassPlan)
         length-map (class_dumps heap) (λ (c : Class). c.object),
       )
 
-  -- the classes of instances and arrays are
+  -- the classes of instances and arrays are planned
   pub instance_planned : (s n : ℕ) (i : Instance) → IsLinked s heap
       → slice_get (objects heap) n ≡ Some (instance_dump i) → HasPlan plans (keys.Class (class_number heap i.class))
   instance_planned s n i linked is = planned i.class (no_unknown s heap n i i.class linked is refl)
@@ -76,7 +76,7 @@ module _ (heap : List SubRecord) (ids : List ℕ) (plans : List ClassPlan)
       → slice_get (objects heap) n ≡ Some (object_array_dump a) → HasPlan plans (keys.Class (class_number heap a.class))
   array_planned s n a linked is = planned a.class (no_unknown_array s heap n a a.class linked is refl)
 
--- what is known is named by its identifier, and that is the one which those behind it lack
+-- a known object is named by its identifier, which comes before `ids` exactly if the object is known
 pub known_named : (all : List ℕ) (id : ℕ) (known : Option ℕ) → IfSome known (IsObjectOf all id)
     → IfSome known (IsNamed all)
 known_named all id None is = tt

@@ -11,7 +11,7 @@ slice_get_of [] n h = absurd (omega (arith, h))
 slice_get_of (x ∷ xs) zero h = (x, refl)
 slice_get_of (x ∷ xs) (suc n) h = slice_get_of xs n (omega (arith, h))
 
--- an element of a list with one more behind it
+-- an element of a list with one more element at its end
 pub slice_get_push : {X : Type 0} (xs : List X) (y : X) (k : ℕ) (x : X) → slice_get (xs ++ y ∷ []) k ≡ Some x
     → (slice_get xs k ≡ Some x) ⊎ ((k ≡ length xs) × (y ≡ x))
 slice_get_push [] y zero x is = inr (refl, same_Some y x is)
@@ -32,7 +32,7 @@ pub position-map : {X Y : Type 0} (f : X → Y) (p : Y → Bool) (xs : List X)
 position-map f p xs = ap (λ (n : ℕ). first_of n (length (map f xs))) (position_or_len-map f p xs)
     ∙ ap (λ (len : ℕ). first_of (position_or_len (λ x. p (f x)) xs) len) (length-map xs f)
 
--- at that place stands something that passes
+-- the element at place n passes
 pub record IsHit {X : Type 0} (p : X → Bool) (xs : List X) (n : ℕ) : Type 0 where
   pub what : X
   pub here : slice_get xs n ≡ Some what
@@ -51,7 +51,7 @@ position_hit p xs n h =
     let it = cond_some (nat_lt (position_or_len p xs) (length xs)) (position_or_len p xs) n h in
     subst (IsHit p xs) it.1 (hit p xs (ltb-true (position_or_len p xs) (length xs) it.0))
 
--- a filter keeps only what passes
+-- a filter keeps only elements that pass
 pub filter_passes : {X : Type 0} (p : X → Bool) (xs : List X) (n : ℕ) (x : X) → slice_get (filter p xs) n ≡ Some x
     → p x ≡ true
 filter_passes p xs n x h =

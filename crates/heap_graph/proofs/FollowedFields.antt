@@ -1,4 +1,4 @@
--- The identifiers in the fields that are followed: where the list is empty, those in all fields.
+-- The identifiers in the fields that are followed. If the list is empty, they are those in all fields.
 use Rattle.heap_graph.proofs.Words.{Class, Instance, List, Member, Record, [], ap, big_number, declared_fields, drop}
 use Rattle.heap_graph.proofs.Words.{false, field_ids, if◌then◌else◌, is_skipped, layout, map, map-append, own_fields}
 use Rattle.heap_graph.proofs.Words.{refl, size_of, take, ℕ, ◌++◌, ◌==◌, ◌∙◌, ◌∷◌, ◌≡◌}
@@ -9,7 +9,7 @@ own_members : (c : Class) (ms : List Member) → map (λ (f : Class × Member). 
 own_members c [] = refl
 own_members c (m ∷ ms) = ap (λ (xs : List Member). m ∷ xs) (own_members c ms)
 
--- without the classes that declare them, they are the layout
+-- declared fields without their classes are the layout
 pub members_of : (chain : List Class) → map (λ (f : Class × Member). f.1) (declared_fields chain) ≡ layout chain
 members_of [] = refl
 members_of (c ∷ cs) =

@@ -16,7 +16,7 @@ use Rattle.heap_graph.specs.working.GatheredParts.{AreJoined, AreOfFirst, IsOfPa
 use Rattle.heap_graph.proofs.Adding.{keys_more}
 use Rattle.heap_graph.proofs.Parts.{next_part, reaches}
 
--- before the first object stands none
+-- no object comes before the first
 none_first : (os : List SubRecord) → AreOfFirst os 0 [] []
 none_first os = record {
   ids_are = refl;
@@ -31,7 +31,7 @@ none_first os = record {
 abbrev pub Stand : Sight → List ℕ → List SubRecord → Type 0
 Stand v places heap = StandInTurn (Stands v) places (objects heap)
 
--- what a part answers
+-- the result of gathering a part
 abbrev pub Answer : Type 0 → Type 0
 Answer A = Result (Option (Gathered A)) AllocError
 
@@ -73,7 +73,7 @@ module _ {A : Type 0} (v : Sight) (places : List ℕ) (bits : LowBits) where
         };
   }
 
-  -- a part behind those before it
+  -- a part joins those before it
   pub joined : (old next new : Gathered A) (start middle end : ℕ) → HasGathered v places bits start middle old
       → HasGathered v places bits middle end next → AreJoined old next new → HasGathered v places bits start end new
   joined old next new start middle end had has are = record {
@@ -108,13 +108,22 @@ module _ {A : Type 0} (v : Sight) (places : List ℕ) (bits : LowBits) where
             (subst (λ (n : ℕ). AreClassNumbers (objects heap) n g.class_dumps.items) to it.class_dumps);
       }
 
-  -- ---- the answers of the parts, in order
+  -- ---- the results of the parts, in order
 
+<<<<<<< HEAD
   -- that is an answer for the part of that number
   abbrev pub IsAnswer : ℕ → ℕ → Answer A → Type 0
   IsAnswer size n answer = IsOfPart v places bits size n answer
+=======
+  -- the result for part n
+  pub record IsAnswer (size n : ℕ) (answer : Answer A) : Type 0 where
+    pub part : List ℕ
+    pub within : n * size + length part ≤ length places
+    pub long : length part ≡ min size (length places - n * size)
+    pub gives : IsGathering v places bits (n * size) part answer
+>>>>>>> f06842890a8861a0c3d23e1d1976696a4f69f9db
 
-  -- so many answers are left, for the parts from that number on
+  -- the remaining results are those of `left` parts from part n on
   abbrev pub AreLeft : ℕ → ℕ → ℕ → List (Answer A) → Type 0
   AreLeft size n left answers = (k : ℕ) (d : Answer A) → k < left → IsAnswer size (n + k) (get_or answers k d)
 
@@ -138,7 +147,7 @@ module _ {A : Type 0} (v : Sight) (places : List ℕ) (bits : LowBits) where
         (subst (λ (xs : List (Answer A)). IsAnswer size (n + suc k) (get_or xs (suc k) d)) is
         (are (suc k) d (omega (arith, below, one))))
 
-  -- what was gathered from the part, or that there is an identifier with other lowest bits
+  -- the result is what was gathered from the part, or that an identifier has other lowest bits
   pub answered : (size n : ℕ) (x : Answer A) (found : Option (Gathered A)) (g : Gathered A) (it : IsAnswer size n x)
       → x ≡ Ok found → found ≡ Some g
       → HasGathered v places bits (n * size) (n * size + length it.part) g
@@ -152,7 +161,7 @@ module _ {A : Type 0} (v : Sight) (places : List ℕ) (bits : LowBits) where
       MatchOption-at_none (bits.shift ≢ 0) (HasGathered v places bits (n * size) (n * size + length it.part)) none
       (IfOk-at_ok _ ok it.gives)
 
-  -- the part of that number behind those before it
+  -- part n joins those before it
   pub one_more_part : (size n : ℕ) (old next new : Gathered A) (part : List ℕ)
       → n * size + length part ≤ length places → length part ≡ min size (length places - n * size)
       → HasGathered v places bits 0 (min (n * size) (length places)) old
@@ -166,7 +175,7 @@ module _ {A : Type 0} (v : Sight) (places : List ℕ) (bits : LowBits) where
       (subst (λ (m : ℕ). HasGathered v places bits 0 m old) from had)
       (subst (λ (m : ℕ). HasGathered v places bits (n * size) m next) to has) are
 
-  -- behind the last part all are gathered
+  -- after the last part all objects are gathered
   pub all_parts : (size n : ℕ) (all : Gathered A) → 0 < size → n ≡ length places / size + min 1 (length places % size)
       → HasGathered v places bits 0 (min (n * size) (length places)) all
       → HasGathered v places bits 0 (0 + length places) all

@@ -1,4 +1,4 @@
--- What is read of the objects at their places is what the graph that they stand for tells of each of them.
+-- What is read of the objects at their places is what their graph says of each of them.
 use Rattle.heap_graph.proofs.Words.{AreLinkedOf, Bool, Class, ClassEntry, HaveFatesOf, IsPlanOf, List, Member}
 use Rattle.heap_graph.proofs.Words.{ObjectGraph, Objects, Option, Plan, RowKey, SkipEntry, StandFor, SubRecord, ap}
 use Rattle.heap_graph.proofs.Words.{bytes_at, heap_of, held_by, is_skipped, known_ids, map, references_in}
@@ -11,7 +11,7 @@ use Rattle.heap_graph.proofs.Walking.{targets_of_steps}
 
 module _ {A : Type 0} {o : Objects A} {plan : Plan A} {roots : List ℕ} {classes : List ClassEntry} {unresolved : ℕ}
     {skip : List SkipEntry} where
-  -- what the parts of a graph stand for is the graph that is seen
+  -- parts that make up the graph `inside` make up the same graph as it is seen, `now`
   pub seen : {inside now : ObjectGraph} → inside ≡ now → StandFor o plan roots classes unresolved skip inside
       → StandFor o plan roots classes unresolved skip now
   seen e stand = subst (StandFor o plan roots classes unresolved skip) e stand

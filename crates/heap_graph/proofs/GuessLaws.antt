@@ -1,4 +1,4 @@
--- A class stands where its identifier is found: no other class of the table has it.
+-- The identifier of a class is found at its entry, since no other class of the table has it.
 use Rattle.std.proofs.Common.{List, Some, length, nat_eq, slice_get, subst, sym, ℕ, ◌<◌, ◌≡◌, ◌∙◌}
 use Rattle.std.specs.Prelude.{position, ◌==◌}
 use Rattle.std.specs.List.{IsDistinct}

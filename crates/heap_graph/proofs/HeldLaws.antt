@@ -1,4 +1,4 @@
--- The identifiers that an object holds, one part after the other.
+-- The identifiers that an object holds, one part after another.
 use Rattle.heap_graph.proofs.Words.{AllByRecursion, AreIdsOf, Bool, Class, Instance, IsStatic, LabelledValue, List}
 use Rattle.heap_graph.proofs.Words.{Member, ObjectArray, Objects, Option, SubRecord, [], ap, arith, big_number}
 use Rattle.heap_graph.proofs.Words.{class_dump, declared_fields, eqb-true, false, field_ids, filter, ids_of}
@@ -15,7 +15,7 @@ use Rattle.heap_graph.proofs.FieldLaws.{size_of_id_type}
 use Rattle.heap_graph.proofs.InstanceLaws.{few_fields}
 use Rattle.heap_graph.proofs.LayoutLaws.{size_by_fields}
 
--- ---- those of a class
+-- ---- the identifiers of a class
 
 id_value : (s type : ℕ) (value : List ℕ) → 1 ≤ s → s ≤ 8 → length value ≡ size_of s type → IsIdValue type value
 id_value s type value low high size is =
@@ -38,7 +38,7 @@ few_kept : {X : Type 0} (g : X → ℕ) (x : X) (xs : List X) (n : ℕ) (b : Boo
 few_kept g x xs n true h = omega (arith, h)
 few_kept g x xs n false h = omega (arith, h)
 
--- the identifiers among the values that are taken of these things
+-- the identifiers among the values of a list of constants or static fields
 abbrev ids_among : {X : Type 0} → (X → LabelledValue) → ℕ → List X → List ℕ
 ids_among taken s xs = map (λ x. big_number s (taken x).value) (filter (λ x. (taken x).type == 2) xs)
 
@@ -48,7 +48,7 @@ few_ids taken s (x ∷ xs) =
     let h = few_kept (λ y. big_number s (taken y).value) x (filter (λ y. (taken y).type == 2) xs) (length xs)
     ((taken x).type == 2) (few_ids taken s xs) in omega (arith, h)
 
--- constants and static fields alike: each value has the size of its type
+-- constants and static fields: each value has the size of its type
 module _ {X : Type 0} (taken : X → LabelledValue) (IsFormed : X → Type 0) (s : ℕ)
     (size : (x : X) → IsFormed x → length (taken x).value ≡ size_of s (taken x).type) where
   values_fit : (xs : List X) → 1 ≤ s → s ≤ 8 → AllByRecursion IsFormed xs → AreIdValues (map taken xs)
@@ -111,7 +111,7 @@ pub class_holds : (skips : Class → Member → Bool) (s : ℕ) (heap : List Sub
     → IsClass s c → ids ≡ class_ids s c → AreIdsOf skips s heap (class_dump c) ids
 class_holds skips s heap c ids is e = record { are = e; few = omega (arith, ap length e, few_in_class s c is) }
 
--- ---- those of the other objects
+-- ---- the identifiers of the other objects
 
 pub layout_from : {A : Type 0} (o : Objects A) (heap : List SubRecord) (i : Instance) (first : Option ℕ)
     (values : List ℕ) (it : IsFirstOfInstance o.view.id_size heap (ids_of o.classes.table.entries) i first)
@@ -123,7 +123,7 @@ layout_from o heap i first values it e = record {
 
 module _ (skips : Class → Member → Bool) {s : ℕ} {heap : List SubRecord} {ids : List ℕ} {i : Instance}
     {first : Option ℕ} (it : IsFirstOfInstance s heap ids i first) where
-  -- no more identifiers than bytes
+  -- an instance has no more identifiers than bytes
   pub few_in_instance : (fields values : List ℕ) → 1 ≤ s → length i.values < 256 ^ 4 → values ≡ i.values
       → fields ≡ field_ids skips s (declared_fields it.chain) values → length fields ≤ 2 ^ 32
   few_in_instance fields values low few ev ef =
@@ -157,7 +157,7 @@ array_holds skips s heap a class elements few ec ee = record {
   few = omega (arith, few, ap length ee);
 }
 
--- with that of the class in front, where they begin behind it or do not
+-- the identifiers of an object: `class` and then `ids` if `behind` is true, else `ids` only
 pub held_behind : (skips : Class → Member → Bool) (s : ℕ) (heap : List SubRecord) (o : SubRecord) (class : ℕ)
     (ids : List ℕ) (behind : Bool) → behind ≡ true → AreIdsOf skips s heap o (class ∷ ids)
     → AreIdsOf skips s heap o (with_class behind class ids)

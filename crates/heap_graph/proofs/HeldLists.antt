@@ -1,4 +1,4 @@
--- The objects of a linked heap list hold identifiers: a list for each of them, without a call that reads them.
+-- The objects of a linked heap list hold identifiers: a list for each exists, without a call that reads it.
 use Rattle.heap_graph.proofs.Words.{AreIdLists, AreIdsOf, AreLinkedOf, Bool, Class, Fate, HaveFates, HaveFatesOf}
 use Rattle.heap_graph.proofs.Words.{Instance, IsFate, IsLinked, IsSettled, List, Member, None, Objects, Option, Sight}
 use Rattle.heap_graph.proofs.Words.{Some, Stands, SubRecord, TableEntry, [], arith, bounds, class_dump, declared_fields}
@@ -54,7 +54,7 @@ module _ (v : Sight) (heap : List SubRecord) (entries : List TableEntry) (known 
       fate_found v heap entries known i.class k told e in
       first_by n linked is it it.fate refl
 
-  -- so an object holds identifiers
+  -- an object holds identifiers
   ids_here : (skips : Class → Member → Bool) → 1 ≤ v.id_size → (n at : ℕ) (x : SubRecord)
       → slice_get (objects heap) n ≡ Some x → Stands v at x → (ids : List ℕ) × AreIdsOf skips v.id_size heap x ids
   ids_here skips low n at (root r) is stands = ([], record { are = refl; few = omega arith })
@@ -71,9 +71,9 @@ module _ (v : Sight) (heap : List SubRecord) (entries : List TableEntry) (known 
   ids_here skips low n at (primitive_array_dump a) is stands =
       ([], nothing_held skips v.id_size heap a)
 
--- ---- those of all objects
+-- ---- the identifiers of all objects
 
--- where each element has something, a list has it for all
+-- if something exists for each element of a list, a list of these exists
 chosen : {O X : Type 0} (P : O → X → Type 0) (os : List O)
     → ((n : ℕ) (o : O) → slice_get os n ≡ Some o → (x : X) × P o x)
     → (xs : List X) × (length xs ≡ length os) × ((n : ℕ) (o : O) (x : X) → slice_get os n ≡ Some o
@@ -96,7 +96,7 @@ chosen {O} {X} P (o ∷ os) each = put (each 0 o refl) (chosen P os (λ n x e. e
             subst (λ (z : X). P y z) got (subst (λ (z : O). P z first.0) same first.1)
         here (suc n) y x e h = rest.2 n y x e h
 
--- the lists of all objects; none is longer than that
+-- for each object the list of the identifiers that it holds
 pub record HoldLists (skips : Class → Member → Bool) (s : ℕ) (heap : List SubRecord) : Type 0 where
   pub lists : List (List ℕ)
   pub one_each : length lists ≡ length (objects heap)

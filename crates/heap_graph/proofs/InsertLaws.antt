@@ -1,4 +1,4 @@
--- A map with an identifier that was not in it has it last.
+-- An identifier that is not in a map is inserted at its end.
 use Rattle.heap_graph.proofs.Words.{Bool, ClassPlace, Contains, Contains-append_right, List, [], ap, arith, false}
 use Rattle.heap_graph.proofs.Words.{if◌then◌else◌, ne_eqb, refl, sym, true, ℕ, ◌++◌, ◌∷◌, ◌≡◌}
 use Rattle.std.specs.Prelude.{nat_eq}

@@ -12,7 +12,7 @@ use Rattle.heap_graph.proofs.Linking.{class_there}
 
 -- ---- a whole instance
 
--- an instance has as many bytes as its layout
+-- the values of an instance have the size of its layout
 pub right_size : (s : ℕ) (heap : List SubRecord) (n : ℕ) (i : Instance) (chain : List Class) → IsLinked s heap
     → slice_get (objects heap) n ≡ Some (instance_dump i) → IsChain heap i.class chain
     → length i.values ≡ layout_size s chain
@@ -25,7 +25,7 @@ few_if : (s t : ℕ) (values : List ℕ) (b : Bool) → (b ≡ true → t ≡ 2)
 few_if s t values true e low = omega (arith, low, size_of_id_type s t (e refl))
 few_if s t values false e low = omega arith
 
--- no more identifiers than bytes
+-- fields have no more identifiers than bytes
 pub few_fields : (skips : Class → Member → Bool) (s : ℕ) (fs : List (Class × Member)) (values : List ℕ) → 1 ≤ s
     → length (field_ids skips s fs values) ≤ size_of_fields s fs
 few_fields skips s [] values low = omega arith

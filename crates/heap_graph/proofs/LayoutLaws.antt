@@ -1,10 +1,10 @@
--- The layout of a class, from that of its superclass.
+-- The layout of a class, by that of its superclass.
 use Rattle.heap_graph.proofs.Words.{Class, IsChainAt, IsFirst, List, Member, None, Option, Some, SubRecord, [], ap}
 use Rattle.heap_graph.proofs.Words.{arith, declared_fields, layout, layout_size, map, min, most_size, own_fields, refl}
 use Rattle.heap_graph.proofs.Words.{size_of, size_of_fields, size_together, sum_by-append, sum_by-cons, sym, ℕ, ◌++◌}
 use Rattle.heap_graph.proofs.Words.{◌+◌, ◌∙◌, ◌∷◌, ◌≡◌}
 
--- ---- the sizes of fields, each told with its class
+-- ---- the sizes of fields, each with the class that declares it
 
 members_size : (s : ℕ) (c : Class) (ms : List Member) → size_of_fields s (map (λ m. (c, m)) ms) ≡ size_together s ms
 members_size s c [] = refl

@@ -1,5 +1,5 @@
--- Where the form of a text has no fault, the text is accepted or has a first fault of its links: each rule is kept or
--- broken by each object, so the first object that breaks one is found by going through them.
+-- If the form of a text has no fault, the text is accepted or its links have a first fault. Each object keeps or breaks
+-- each rule, so the first object that breaks one is found by going through them.
 use Rattle.heap_graph.proofs.Words.{Class, Contains, DuplicateObject, Fails, HasLinkFault, Instance, InstanceSize}
 use Rattle.heap_graph.proofs.Words.{IsAccepted, IsChain, IsFirstFault, IsLateRule, IsLeastRule, IsOrderly, IsPlaced}
 use Rattle.heap_graph.proofs.Words.{LinkRule, List, None, ObjectArray, Option, Record, Some, Spells, SubRecord}
@@ -91,7 +91,7 @@ module _ (s : ℕ) (heap : List SubRecord) where
       (λ first. own_told n o (record { is = is; not_zero = not_zero; first = first }) late.0 late.1)
       (contains_told (take n (map id_of (objects heap))) (id_of o))) (cases_eq (id_of o) 0)
 
-  -- ---- the first object that breaks one
+  -- ---- the first object that breaks a rule
 
   one_more : (n : ℕ) → NoneBefore s heap n → (rule : Option LinkRule) → IsLeastRule s heap n rule
       → NoneBefore s heap (n + 1) ⊎ HasFirst s heap

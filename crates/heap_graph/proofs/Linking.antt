@@ -1,4 +1,4 @@
--- What holds in a linked heap list.
+-- What holds of a linked heap list.
 use Rattle.heap_graph.proofs.Words.{Bool, Class, Instance, IsLinked, List, None, ObjectArray, Option, Some, SubRecord}
 use Rattle.heap_graph.proofs.Words.{UnknownClass, ap, as_class, class_dump, class_named, cond, eqb-true, false}
 use Rattle.heap_graph.proofs.Words.{instance_dump, number_named, object_array_dump, objects, option_and_then, refl}
@@ -44,13 +44,13 @@ there_if heap id c false h = there_named heap id c (number_named heap id) refl h
 pub class_there : (heap : List SubRecord) (id : ℕ) (c : Class) → class_named heap id ≡ Some c → IsClassThere heap id c
 class_there heap id c h = there_if heap id c (id == 0) h
 
--- the class that an instance names is there
+-- the class that an instance names exists
 pub no_unknown : (s : ℕ) (heap : List SubRecord) (n : ℕ) (i : Instance) (class : ℕ) → IsLinked s heap
     → slice_get (objects heap) n ≡ Some (instance_dump i) → class ≡ i.class → class_named heap class ≡ None → ⊥
 no_unknown s heap n i class linked is e missing =
     linked n UnknownClass (instance_dump i, is, subst (λ (id : ℕ). class_named heap id ≡ None) e missing)
 
--- and that of an array
+-- and so does the class of an array
 pub no_unknown_array : (s : ℕ) (heap : List SubRecord) (n : ℕ) (a : ObjectArray) (class : ℕ) → IsLinked s heap
     → slice_get (objects heap) n ≡ Some (object_array_dump a) → class ≡ a.class → class_named heap class ≡ None → ⊥
 no_unknown_array s heap n a class linked is e missing =

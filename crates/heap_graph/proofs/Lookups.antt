@@ -1,16 +1,16 @@
--- The first thing of a list that bears an identifier, over how the identifier is taken and what is asked of the thing.
+-- Look-ups of the first element of a list with an identifier, for any key and any part of the element.
 use Rattle.heap_graph.proofs.Words.{Bool, List, None, Option, Some, StandInTurn, [], ap, arith, cond-false, cond-true}
 use Rattle.heap_graph.proofs.Words.{cond_below, eq-eqb, eqb-false, eqb-true, fails_before_first, get_or, get_or-map}
 use Rattle.heap_graph.proofs.Words.{get_or_from_slice_get, if◌then◌else◌, length, length-map, lt_of_not-le, map, ne_eqb}
 use Rattle.heap_graph.proofs.Words.{position, position-Some, position_or_len, refl, slice_get, slice_get_within, suc}
 use Rattle.heap_graph.proofs.Words.{sym, zero, ℕ, ◌+◌, ◌<◌, ◌==◌, ◌∙◌, ◌∷◌, ◌≡◌, ◌≤◌}
 
--- what is taken of the first thing whose key is the identifier
+-- the part of the first element whose key is `id`
 abbrev pub first_of : {X Y : Type 0} → (X → ℕ) → (X → Y) → List X → ℕ → Option Y
 first_of key part [] id = None
 first_of key part (x ∷ xs) id = if key x == id then Some (part x) else first_of key part xs id
 
--- nobody bears an identifier that has no position
+-- no element has an identifier that has no position
 absent : (ids : List ℕ) (id k : ℕ) → None ≡ position (λ x. x == id) ids → k < length ids → get_or ids k 0 ≡ id → ⊥
 absent ids id k e within =
     let test : ℕ → Bool = λ x. x == id in
@@ -22,7 +22,7 @@ absent ids id k e within =
     eqb-false (get_or ids k 0) id (fails_before_first test ids k 0
     (omega (arith, within, lt_of_not-le {n = place + 1} {m = length ids} late)))
 
--- what stands in turn is found at one of the places
+-- the number of an element that is found is below the number of places
 pub found_below : {X : Type 0} {IsAt : ℕ → X → Type 0} (key : X → ℕ) (places ids : List ℕ) (xs : List X) (id i : ℕ)
     → StandInTurn IsAt places xs → ids ≡ map key xs → Some i ≡ position (λ x. x == id) ids → i < length places
 found_below key places ids xs id i stand are e =

@@ -1,4 +1,4 @@
--- The classes that entries of a list of fields are compared with: one object more, and what an entry meets.
+-- The classes that the entries of a list of fields are compared with, for one more object; and what an entry meets.
 use Rattle.heap_graph.proofs.Words.{Bool, Class, List, None, Option, Record, SkipEntry, Some, SubRecord, [], ap}
 use Rattle.heap_graph.proofs.Words.{append-nil, as_class, class_dump, class_dumps, cons_option, declares_described}
 use Rattle.heap_graph.proofs.Words.{described, filter_map, filter_map-append, heap_of, is_met, list_any, map, refl}
@@ -37,7 +37,7 @@ pub met_by_one : (records : List Record) (e : SkipEntry) (cs : List Class)
 met_by_one records e [] = refl
 met_by_one records e (c ∷ cs) = ap (λ (b : Bool). declares records e c || b) (met_by_one records e cs)
 
--- one entry more
+-- one more entry
 pub one_more_met : (records : List Record) (es : List SkipEntry) (n : ℕ) (e : SkipEntry) (b : Bool)
     (cs : List DescribedClass) (old new : List Bool) → slice_get es n ≡ Some e
     → cs ≡ map (described records) (class_dumps (heap_of records)) → b ≡ list_any (declares_described records e) cs

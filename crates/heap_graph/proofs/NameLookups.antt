@@ -1,4 +1,4 @@
--- Strings and loaded classes are two kinds of records: each stands in turn, and the first one of an identifier counts.
+-- Strings and loaded classes are two kinds of records, in the order of the file. The first with an identifier counts.
 use Rattle.heap_graph.proofs.Words.{AreNames, List, Option, Record, RecordStands, Sight, Some, [], ap, filter, get_or}
 use Rattle.heap_graph.proofs.Words.{if◌then◌else◌, is_load, is_string, length, load_class, loaded_id, name_of, refl}
 use Rattle.heap_graph.proofs.Words.{slice_get, slice_get-get_or, string, string_id, string_named, true, ℕ, ◌<◌, ◌==◌}
@@ -55,7 +55,7 @@ text_at v strings loaded records i are h =
     let it = are.string_each.each i (get_or strings i 0) (slice_get-get_or strings i 0 h) in
     text_if v records i (get_or strings i 0) it.0 (filter_passes is_string records i it.0 it.1) it.2 it.1
 
--- ---- what a name tells is told of the first record of the kind
+-- ---- a name or a text is that of the first record of its kind with the identifier
 
 abbrev pub loaded_name : Record → ℕ
 loaded_name (load_class time serial class stack name) = name

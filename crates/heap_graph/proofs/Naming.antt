@@ -1,4 +1,4 @@
--- What identifiers name: one more identifier.
+-- What identifiers name, for one more identifier.
 use Rattle.heap_graph.proofs.Words.{List, None, Option, Resolves, Some, [], ap, append_assoc, cons_option, false}
 use Rattle.heap_graph.proofs.Words.{filter_map, filter_map-append, get_or, length, refl, sym, take, target_in, true, ℕ}
 use Rattle.heap_graph.proofs.Words.{◌++◌, ◌+◌, ◌<◌, ◌∙◌, ◌∷◌, ◌≡◌}

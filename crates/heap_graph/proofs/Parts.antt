@@ -1,11 +1,11 @@
--- What the tests of parts say of the whole.
+-- What the tests of the parts say of the whole.
 use Rattle.heap_graph.proofs.Words.{AreFine, AreObjects, IsLinked, List, Sight, SubRecord, ap, arith, cases_lt, length}
 use Rattle.heap_graph.proofs.Words.{min, ℕ, ⊎_elim, ◌%◌, ◌*◌, ◌+◌, ◌/◌, ◌<◌, ◌∙◌, ◌≡◌, ◌≤◌}
 use Rattle.std.proofs.lemmas.Nat.{div-add-mod', mod_below}
 use native.Mathlib.Nat.{add-mul, one-mul}
 use Rattle.heap_graph.proofs.Standings.{number_below}
 
--- before the first object stands none
+-- no object comes before the first
 pub none_first : (s : ℕ) (heap : List SubRecord) → AreFine s heap 0
 none_first s heap k rule h f = absurd (omega (arith, h))
 

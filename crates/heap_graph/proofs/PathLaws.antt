@@ -1,4 +1,4 @@
--- Paths of classes that stand below one another.
+-- Paths from a class up to its superclasses.
 use Rattle.heap_graph.proofs.Words.{Class, Contains, Contains-append_right, IsLine, IsPath, IsUnder, List, NeverEnds}
 use Rattle.heap_graph.proofs.Words.{SubRecord, [], arith, inl, inr, length, refl, slice_index, slice_index_or, subst}
 use Rattle.heap_graph.proofs.Words.{suc, sym, zero, ℕ, ⊎_elim, ◌++◌, ◌<◌, ◌∙◌, ◌∷◌, ◌≡◌, ◌⊎◌}
@@ -40,7 +40,7 @@ module _ (heap : List SubRecord) (ids : List ℕ) where
 
   -- ---- a path that comes back to itself never ends
 
-  -- above the class stands the superclass identifier at the end of the path, or another class of it
+  -- above class k is `super`, which is above the end of the path, or another class of the path
   record LeadsOn (path : List ℕ) (super k : ℕ) : Type 0 where
     above : ℕ
     under : IsUnder heap ids k above

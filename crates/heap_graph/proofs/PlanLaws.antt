@@ -1,4 +1,4 @@
--- What is planned for the classes: the plan grows by one class after the other, and tells the fields of each.
+-- What is planned for the classes: the plan grows by one class after another, and has the fields of each.
 use Rattle.heap_graph.proofs.Words.{AddsPlan, AreClassObjects, AreClassPlans, AreClasses, Bool, Class, ClassPlace}
 use Rattle.heap_graph.proofs.Words.{ClassPlan, HasIdPlaces, IsClassPlan, IsPlan, List, Member, None, Option, Sight}
 use Rattle.heap_graph.proofs.Words.{Some, Stands, SubRecord, TableEntry, [], ap, arith, class_dump, class_named, drop}
@@ -10,7 +10,7 @@ use Rattle.heap_graph.proofs.ChainLaws.{some_none}
 use Rattle.heap_graph.proofs.Firsts.{slice_get_push}
 use Rattle.heap_graph.proofs.ClassTableLaws.{IsKept, numbered, same_class, there_is}
 
--- ---- one class more
+-- ---- one more class
 
 kept_places : (all more : List ℕ) (a b : ℕ) → a ≤ b → b ≤ length all
     → slice_range (all ++ more) a b ≡ slice_range all a b
@@ -35,7 +35,7 @@ old_plan {places = places} {p = p} more is = record {
   size_is = is.size_is;
 }
 
--- what was added is the plan of that class
+-- what was added is the plan of the class `c`
 pub record IsOfClass (skips : Class → Member → Bool) (test : Member → Bool) (members : List Member)
     (c : Class) : Type 0 where
   pub members_are : members ≡ c.members

@@ -1,4 +1,4 @@
--- The rows of a graph and the numbers below their count go together, one by one.
+-- The rows of a graph and the numbers below their count correspond, one to one.
 use Rattle.std.proofs.Common.{ap, arith, inl, inr, ne_eqb, refl, subst, sym, ℕ, ⊎_elim, ◌+◌, ◌-◌, ◌<◌, ◌∙◌, ◌≡◌, ◌⊎◌}
 use Rattle.std.proofs.lemmas.Bool.{cases_lt, le-ltb, lt-ltb}
 use Rattle.std.proofs.lemmas.List.{get_or_past}
@@ -29,7 +29,7 @@ module _ (g : ObjectGraph) where
   row_of_its_number keys.ClassObject h = refl
   row_of_its_number (keys.Class n) h = at_class n
 
-  -- the three kinds of numbers
+  -- there are three kinds of numbers
   kinds : (n : ℕ) → (n < 8) ⊎ ((n ≡ 8) ⊎ (n ≡ 9 + (n - 9)))
   kinds n = elim (cases_lt n 8) [
     | inl h ↦ inl h
@@ -55,7 +55,7 @@ module _ (g : ObjectGraph) where
     ]
   ]
 
-  -- each object has a row of the graph: one past the objects that of the class objects
+  -- each object has a row of the graph, and a number past the objects has that of the class objects
   pub row_there : IsWhole g → (o : ℕ) → IsRowIn g (row_at g o)
   row_there whole o = ⊎_elim
       (λ below. whole.rows_within o below)

@@ -10,7 +10,7 @@ use Rattle.heap_graph.specs.declared.classes.fate.Fate.TheVariants as fates
 use Rattle.heap_graph.proofs.ChainLaws.{chain_ends, cut_ends, cut_is_no_chain, one_chain, some_none}
 use Rattle.heap_graph.proofs.ClassTableLaws.{found, named_at, numbered, same_count}
 
--- the fate of the class of that number
+-- the fate of the class with the number k
 pub record IsFateFound (s : ℕ) (heap : List SubRecord) (ids : List ℕ) (fates : List Fate) (id k : ℕ) : Type 0 where
   pub fate : Fate
   pub is : slice_get fates k ≡ Some fate
@@ -36,7 +36,7 @@ module _ (s : ℕ) (heap : List SubRecord) (ids : List ℕ) (id : ℕ) where
   no_chain fates.Endless chain settled other fate is = chain_ends heap id chain is fate
   no_chain f chain settled other fate is = settled
 
-  -- a size that is told is the size, where it is one that an instance can have
+  -- a size below 2 ^ 32 is that of the layout exactly if the fate says so
   pub size_right : (n : ℕ) (l : Layout) → IsFate s heap ids id (fates.Whole l) → n < 2 ^ 32 → l.size ≡ n
       → (chain : List Class) → IsChain heap id chain → n ≡ layout_size s chain
   size_right n l fate few e chain is =
@@ -47,7 +47,7 @@ module _ (s : ℕ) (heap : List SubRecord) (ids : List ℕ) (id : ℕ) where
       → (l.size ≡ n → ⊥) → n ≡ layout_size s fate.0 → ⊥
   size_wrong n l fate few other e = other (omega (arith, few, e, fate.2.size_is))
 
-  -- the fate that was read of the class that was found
+  -- the fate of a class that was found and read
   pub record IsFateRead (fate : Fate) : Type 0 where
     pub settled : IsSettled fate
     pub says : IsFate s heap ids id fate

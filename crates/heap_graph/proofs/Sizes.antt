@@ -1,4 +1,4 @@
--- An object's bytes stand in its spelling.
+-- An object has no more bytes than its spelling.
 use Rattle.heap_graph.proofs.Words.{AllByRecursion, Field, InArray, InStatic, IsStatic, IsSubRecord, List, Static}
 use Rattle.heap_graph.proofs.Words.{SubRecord, [], ap, append-nil, arith, bounds, bytes_of, class_dump, constant_fields}
 use Rattle.heap_graph.proofs.Words.{flat_map, flat_map-append, instance_dump, length, length-append}

@@ -1,4 +1,4 @@
--- How the text of a list of fields is read: entry by entry at its commas, and each at its last dot.
+-- How the text of a list of fields is read: it is cut at its commas, and each entry at its last dot.
 use Rattle.std.proofs.Common.{Bool, List, MatchOption, None, Option, Some, [], ap, arith, drop, eqb, false, get_or}
 use Rattle.std.proofs.Common.{length, refl, subst, sym, take, true, ℕ, ◌+◌, ◌++◌, ◌<◌, ◌∙◌, ◌∷◌, ◌≡◌, ◌≢◌, ◌≤◌}
 use Rattle.std.specs.List.{AllByRecursion, Contains}
@@ -12,7 +12,7 @@ use Rattle.heap_graph.specs.Skips.{SkipEntry}
 use Rattle.heap_graph.proofs.SkipLaws.{first_cut, last_cut, there}
 use denote.Ref.{Bor}
 
--- ---- a piece, and its last dot
+-- ---- a piece of the text, and its last dot
 
 pub lacks : (k : ℕ) (xs : List ℕ) → ((i : ℕ) → i < length xs → get_or xs i 0 ≢ k) → Contains xs k → ⊥
 lacks k xs none has = none has.0 has.1 (get_or_default xs has.0 0 k has.1 ∙ has.2)
@@ -23,7 +23,7 @@ no_entry piece none e is spelled =
     lacks 46 piece (λ i inside. NoCharPasses-char 46 piece i none (omega arith) inside)
     (subst (λ (xs : List ℕ). Contains xs 46) spelled (there 46 e.class e.field))
 
--- where the last dot stands
+-- the piece is `class`, its last dot, and `field`
 pub record IsParted (piece class field : List ℕ) : Type 0 where
   pub whole : piece ≡ class ++ 46 ∷ field
   pub last : Contains field 46 → ⊥
@@ -44,7 +44,7 @@ parted piece class field w =
           lacks 46 (drop w.1 piece) none (subst (λ (xs : List ℕ). Contains xs 46) w.4 has);
     }
 
--- the parts are those of each entry that the piece spells
+-- an entry that the piece spells has these parts
 pub only_parts : (piece class field : List ℕ) → IsParted piece class field → (e : SkipEntry) → IsEntry e
     → entry_text e ≡ piece → (e.class ≡ class) × (e.field ≡ field)
 only_parts piece class field is e entry spelled =
@@ -56,7 +56,7 @@ some_from xs is_empty is fails e = false≢true (sym fails ∙ is ∙ ap (λ (ys
 pub none_from : (xs : List ℕ) (is_empty : Bool) → is_empty ≡ eqb (length xs) 0 → is_empty ≡ true → xs ≡ []
 none_from xs is_empty is holds = nil_from_length xs (eqb-true (length xs) 0 (sym is ∙ holds))
 
--- parts that are not empty are an entry
+-- parts of a piece without a comma are an entry if they are not empty
 pub entry_from : (piece class field : List ℕ) → IsParted piece class field → (Contains piece 44 → ⊥) → class ≢ []
     → field ≢ [] → (e : SkipEntry) → e.class ≡ class → e.field ≡ field → IsEntry e × (entry_text e ≡ piece)
 entry_from piece class field is no_comma some_class some_field e same_class same_field =
@@ -72,7 +72,7 @@ entry_from piece class field is no_comma some_class some_field e same_class same
 
 -- ---- the text as far as it was read
 
--- the entries, each with a comma behind it, and then the rest
+-- the entries, each followed by a comma, and then `rest`
 abbrev pub entries_and : List SkipEntry → List ℕ → List ℕ
 entries_and [] rest = rest
 entries_and (e ∷ es) rest = entry_text e ++ 44 ∷ entries_and es rest
@@ -81,7 +81,7 @@ pub record IsRead (text : List ℕ) (entries : List SkipEntry) (rest : List ℕ)
   pub each : AllByRecursion IsEntry entries
   pub spelled : text ≡ entries_and entries rest
 
--- an entry, and perhaps more behind a comma
+-- `rest` is `piece`, or `piece`, a comma and `more`
 abbrev pub IsCut : List ℕ → List ℕ → Option (Bor (List ℕ)) → Type 0
 IsCut rest piece more = MatchOption more (rest ≡ piece) (λ x. rest ≡ piece ++ 44 ∷ x.now)
 
@@ -121,7 +121,7 @@ read_all text piece es e rest read is spelled cut few =
       spelled = read.spelled ∙ ap (entries_and es) (cut ∙ sym spelled) ∙ ended es e;
     }
 
--- ---- a list that the text spells has the entries that were read, and more
+-- ---- a list that the text spells has the entries that were read, and at least one more
 
 pub record IsLeft (es list tail : List SkipEntry) (rest : List ℕ) : Type 0 where
   pub count : length list ≡ length es + length tail
@@ -155,7 +155,7 @@ left_of : (text rest : List ℕ) (es list : List SkipEntry) → IsRead text es r
     → (tail : List SkipEntry) × IsLeft es list tail rest
 left_of text rest es list read is = left es list rest read.each is.some is.each (sym read.spelled ∙ is.spelled)
 
--- so where the next piece is no entry the text spells no list
+-- so if the next piece is no entry, the text spells no list
 none_here : (tail : List SkipEntry) (rest piece : List ℕ) (more : Option (Bor (List ℕ))) → 1 ≤ length tail
     → AllByRecursion IsEntry tail → rest ≡ list_text tail → (Contains piece 44 → ⊥) → IsCut rest piece more
     → ((e : SkipEntry) → IsEntry e → entry_text e ≡ piece → ⊥) → ⊥
@@ -180,7 +180,7 @@ no_list text rest piece more es read no_comma cut none list is =
     let found = left_of text rest es list read is in
     none_here found.0 rest piece more found.1.some found.1.each found.1.spelled no_comma cut none
 
--- nor where 64 entries were read and there is a comma behind the last
+-- nor does it if 64 entries were read and a comma follows them
 pub too_many : (text rest : List ℕ) (es : List SkipEntry) → IsRead text es rest → 64 ≤ length es
     → (list : List SkipEntry) → SpellsSkips text list → ⊥
 too_many text rest es read many list is =

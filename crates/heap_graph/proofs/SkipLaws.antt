@@ -1,4 +1,4 @@
--- The text of a list of fields that are not followed, cut at its commas and each entry at its last dot: one list.
+-- The text of a list of skipped fields spells one list: it is cut at its commas, and each entry at its last dot.
 use Rattle.heap_graph.proofs.Words.{AllByRecursion, Contains-append_right, List, SkipEntry, [], arith, length, refl}
 use Rattle.heap_graph.proofs.Words.{subst, sym, ℕ, ◌++◌, ◌∙◌, ◌∷◌, ◌≡◌, ◌≤◌}
 use Rattle.std.specs.List.{Contains}
@@ -16,7 +16,7 @@ tail_of x y xs ys e = cc
 further : (x k : ℕ) (xs : List ℕ) → Contains xs k → Contains (x ∷ xs) k
 further x k xs h = Contains-append_right (x ∷ []) xs k h
 
--- cut at a number that does not stand before the cut
+-- two texts that are cut at their first k have the same parts if they are equal
 pub first_cut : (k : ℕ) (xs ys r t : List ℕ) → (Contains xs k → ⊥) → (Contains ys k → ⊥) → xs ++ k ∷ r ≡ ys ++ k ∷ t
     → (xs ≡ ys) × (r ≡ t)
 first_cut k [] [] r t no_x no_y e = (refl, tail_of k k r t e)
@@ -29,7 +29,7 @@ first_cut k (x ∷ xs) (y ∷ ys) r t no_x no_y e =
     (tail_of x y (xs ++ k ∷ r) (ys ++ k ∷ t) e) in
     (λ i. same i ∷ rest.0 i, rest.1)
 
--- cut at a number that does not stand behind the cut
+-- two texts that are cut at their last k have the same parts if they are equal
 pub last_cut : (k : ℕ) (xs ys r t : List ℕ) → (Contains r k → ⊥) → (Contains t k → ⊥) → xs ++ k ∷ r ≡ ys ++ k ∷ t
     → (xs ≡ ys) × (r ≡ t)
 last_cut k [] [] r t no_r no_t e = (refl, tail_of k k r t e)

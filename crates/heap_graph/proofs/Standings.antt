@@ -1,4 +1,4 @@
--- Objects that stand at their places.
+-- Objects at their places.
 use Rattle.heap_graph.proofs.Words.{AreObjects, Bool, IsClassNumber, IsObjectAt, List, None, ObjectKind, Option, Sight}
 use Rattle.heap_graph.proofs.Words.{Some, StandInTurn, Stands, SubRecord, ap, arith, as_class, class_dump, class_named}
 use Rattle.heap_graph.proofs.Words.{cond, false, get_or, id_of, instance_dump, is_object, length, length-map}
@@ -8,7 +8,7 @@ use Rattle.heap_graph.proofs.Words.{slice_get_read, slice_get_within, subst, sym
 use Rattle.hprof_grammar.specs.declared.kinds.ObjectKind.TheVariants as kinds
 use Rattle.heap_graph.proofs.Firsts.{filter_passes, position-map}
 
--- the object of that number, and that it stands at its place
+-- object n of the heap list is at place `at`
 pub record IsThere (v : Sight) (heap : List SubRecord) (n at : ℕ) : Type 0 where
   pub object : SubRecord
   pub is : slice_get (objects heap) n ≡ Some object
@@ -21,7 +21,7 @@ stands_there v places heap n stand h =
     let it = stand.each n (get_or places n 0) (slice_get-get_or places n 0 h) in
     record { object = it.0; is = it.1; stands = it.2; describes = filter_passes is_object heap n it.0 it.1 }
 
--- the identifier that is read there, whichever heap list's objects stand in turn
+-- the identifier that is read at a place is that of its object, for each heap list with objects at these places
 pub id_there : (v : Sight) (places : List ℕ) (n id : ℕ) → n < length places
     → ((o : SubRecord) → Stands v (get_or places n 0) o → id ≡ id_of o)
     → (heap : List SubRecord) → StandInTurn (Stands v) places (objects heap)
@@ -36,7 +36,7 @@ module _ (v : Sight) (places ids : List ℕ) (heap : List SubRecord) where
   pub there : (n : ℕ) → AreObjects v places ids heap → n < length places → IsThere v heap n (get_or places n 0)
   there n are h = stands_there v places heap n are.stand h
 
-  -- the same of a place that was read
+  -- the same for a place that was read
   pub there_at : (n at : ℕ) → AreObjects v places ids heap → n < length places → at ≡ get_or places n at
       → IsThere v heap n at
   there_at n at are h read =
@@ -70,7 +70,7 @@ pub class_is : (heap : List SubRecord) (id : ℕ) (o : Option ℕ) → (id == 0)
     → class_named heap id ≡ option_and_then as_class (option_and_then (λ n. slice_get (objects heap) n) o)
 class_is heap id o e named = class_if heap id false o e refl named
 
--- ---- the object of that number, by the kind that is read at its place
+-- ---- object n, by the kind that is read at its place
 
 pub record IsDumpBy {X : Type 0} (wrap : X → SubRecord) (o : SubRecord) : Type 0 where
   pub what : X
@@ -80,7 +80,7 @@ pub is_class_dump : (o : SubRecord) → object_kind o ≡ Some kinds.Class → I
 is_class_dump (class_dump c) h = record { what = c; same = refl }
 is_class_dump o h = absurd (cc h)
 
--- what stands there under the number of a class dump
+-- an object whose number is that of a class dump is a class dump
 pub class_number : (v : Sight) (heap : List SubRecord) (n at : ℕ) (it : IsThere v heap n at)
     → IsClassNumber (objects heap) n → IsDumpBy class_dump it.object
 class_number v heap n at it is = record {
@@ -105,7 +105,7 @@ pub no_class_dump : (o : SubRecord) (kind : ObjectKind) → object_kind o ≡ So
 no_class_dump (class_dump c) kind h other = absurd (other (cc h))
 no_class_dump o kind h other = refl
 
--- where that kind is read at the place of an object, the object is one of that kind
+-- an object at whose place this kind is read is of this kind
 abbrev pub IsReadAs : {X : Type 0} → (X → SubRecord) → ObjectKind → Type 0
 IsReadAs {X = X} wrap kind = (v : Sight) (places ids : List ℕ) (heap : List SubRecord) (n at : ℕ)
     → AreObjects v places ids heap → n < length places → at ≡ get_or places n at

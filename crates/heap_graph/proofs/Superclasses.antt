@@ -1,5 +1,5 @@
--- What becomes of the superclasses of a class, for every heap list: they end, or they never do. Each step up takes one
--- identifier away from those that were not passed yet, so a walk comes to its end, or to a class that it has passed.
+-- The superclasses of a class, for each heap list: they end, or they never do. Each step up takes one identifier away
+-- from those that were not passed yet, so a walk comes to its end, or to a class that it has passed.
 use Rattle.heap_graph.proofs.Words.{Bool, Class, Contains, IsBadSuper, IsChain, IsCut, IsLine, List, NeverEnds, None}
 use Rattle.heap_graph.proofs.Words.{Option, Some, SubRecord, [], ap, arith, cases_eq, class_dump, class_named, cond}
 use Rattle.heap_graph.proofs.Words.{eq-eqb, eqb-true, false, filter, get_or, get_or-le-sum_by, id_of, inl, inr, length}
@@ -43,13 +43,13 @@ fewer x xs c =
 
 -- ---- a walk up the superclasses
 
--- the classes from that identifier up have an end, at 0 or at a superclass that is not there, or they have none
+-- the classes from `id` up end at 0, end at a superclass that does not exist, or never end
 abbrev pub Comes : List SubRecord → ℕ → Type 0
 Comes heap id =
     ((chain : List Class) × IsChain heap id chain)
     ⊎ (((classes : List Class) × IsCut heap id classes) ⊎ NeverEnds heap id)
 
--- above each class that was passed stands another such class, or the one that the walk has come to
+-- the superclass of each class that was passed was passed too, or is the one that the walk has reached
 abbrev IsClosed : List SubRecord → List ℕ → ℕ → Type 0
 IsClosed heap passed at = (id : ℕ) → Contains passed id
     → (c : Class) × (class_named heap id ≡ Some c) × ((c.super ≡ at) ⊎ Contains passed c.super)

@@ -1,4 +1,4 @@
--- The table of classes: one more object.
+-- The table of classes, for one more object.
 use Rattle.heap_graph.proofs.Words.{AreClasses, AreClassesAmong, AreObjects, Bool, Class, Contains}
 use Rattle.heap_graph.proofs.Words.{Contains-append_left, Contains-append_right, DuplicateObject, IsLinked, List, None}
 use Rattle.heap_graph.proofs.Words.{Option, Sight, Some, Stands, SubRecord, TableEntry, ZeroObject, [], ap, append-nil}
@@ -43,7 +43,7 @@ first_bearer ids n id is new =
     ap (λ (k : ℕ). cond (nat_lt k (length ids)) (Some k) None) at
     ∙ ap (λ (b : Bool). cond b (Some n) None) (lt-ltb n (length ids) below)
 
--- ---- what the object of a number is, where an identifier names it
+-- ---- the object whose number an identifier names
 
 pub named_number : (heap : List SubRecord) (id n : ℕ) (o : SubRecord) → number_named heap id ≡ Some n
     → slice_get (objects heap) n ≡ Some o → id_of o ≡ id
@@ -64,7 +64,7 @@ class_of_number heap id n o c named e is =
 pub below_next : (k n : ℕ) → k < n + 1 → (k < n) ⊎ (k ≡ n)
 below_next k n h = ⊎_elim (λ e. inr e) (⊎_elim (λ l. inl l) (λ l. absurd (omega (arith, h, l)))) (cases_order k n)
 
--- ---- an object that is no class, or that its identifier does not name
+-- ---- an object that is no class, or is not named by its identifier
 
 pub among_skip : (v : Sight) (heap : List SubRecord) (n : ℕ) (entries : List TableEntry) (o : SubRecord)
     → AreClassesAmong v heap n entries → slice_get (objects heap) n ≡ Some o
@@ -98,7 +98,7 @@ pub zero_linked : (s : ℕ) (heap : List SubRecord) (n : ℕ) (o : SubRecord) �
     → id_of o ≡ 0 → IsLinked s heap → ⊥
 zero_linked s heap n o is zero_id linked = linked n ZeroObject (o, is, zero_id)
 
--- an identifier that an earlier object bears does not name this one
+-- an identifier that an earlier object bears names no later object
 position_low : (ids : List ℕ) (n id : ℕ) → Contains (take n ids) id → position_or_len (λ x. x == id) ids < n
 position_low ids zero id c = absurd (contains_none id c)
 position_low [] (suc n) id c = absurd (contains_none id c)
@@ -209,7 +209,7 @@ among_all v heap n entries low among all = record {
       (take_all n (objects heap) all) ∙ ap (λ (cs : List Class). map (λ (c : Class). c.object) cs) (same_classes heap);
 }
 
--- ---- what a new identifier is
+-- ---- a new identifier
 
 pub get_map : {X Y : Type 0} (f : X → Y) (xs : List X) (n : ℕ) (x : X) → slice_get xs n ≡ Some x
     → slice_get (map f xs) n ≡ Some (f x)

@@ -1,4 +1,4 @@
--- What the tests of one object show.
+-- What the tests of an object show.
 use Rattle.heap_graph.proofs.Words.{Breaks, BreaksLate, Contains, DuplicateObject, Fails, InstanceSize, IsFirstRepeat}
 use Rattle.heap_graph.proofs.Words.{IsLateRule, IsLeastFault, IsLeastRule, LinkRule, List, None, Some, SubRecord}
 use Rattle.heap_graph.proofs.Words.{SuperChain, TooLarge, UnknownClass, ZeroObject, ap, arith, cases_order, code_of}
@@ -13,13 +13,13 @@ code_range SuperChain = (omega arith, omega arith)
 code_range InstanceSize = (omega arith, omega arith)
 code_range TooLarge = (omega arith, omega arith)
 
--- a rule that is broken is 9, 10, 14 or one of the others
+-- object n has an identifier other than 0 that no earlier object has
 pub record IsOwn (heap : List SubRecord) (n : ℕ) (o : SubRecord) : Type 0 where
   pub is : slice_get (objects heap) n ≡ Some o
   pub not_zero : id_of o ≡ 0 → ⊥
   pub first : Contains (take n (map id_of (objects heap))) (id_of o) → ⊥
 
--- ---- all rules, of the object of that number
+-- ---- all rules, for object n
 
 module _ (s : ℕ) (heap : List SubRecord) (n : ℕ) (o : SubRecord) where
   module _ (e : slice_get (objects heap) n ≡ Some o) where
@@ -94,7 +94,7 @@ module _ (heap : List SubRecord) (ids : List ℕ) (n id repeat : ℕ) (o : SubRe
   own_id : slice_get ids n ≡ Some id
   own_id = rw (ids_are, id_is) (slice_get-map id_of (objects heap) n ∙ ap (option_map id_of) is)
 
-  -- that it stands before the first repeat
+  -- if the object comes before the first repeat, it is the first with its identifier
   pub own_object : n < repeat → IsOwn heap n o
   own_object before = record {
     is = is;
@@ -102,7 +102,7 @@ module _ (heap : List SubRecord) (ids : List ℕ) (n id repeat : ℕ) (o : SubRe
     first = λ h. first.first n id before own_id (rw (ids_are, id_is) h);
   }
 
-  -- and that it is that repeat
+  -- if it is the first repeat, the rule on duplicates is the least that it breaks
   pub repeated_object : (s : ℕ) → n ≡ repeat → IsLeastFault s heap n DuplicateObject
   repeated_object s same =
       let again = subst (λ (k : ℕ). slice_get ids k ≡ Some id → Contains (take k ids) id) (sym same)

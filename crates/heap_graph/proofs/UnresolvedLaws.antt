@@ -1,4 +1,4 @@
--- What each object misses, and what the roots miss, make up the number of the histogram.
+-- What the objects miss and what the roots miss add up to the number in the histogram.
 use Rattle.heap_graph.proofs.Words.{Bool, Class, IsGraphOf, List, Member, ObjectGraph, Record, SkipEntry, SubRecord, []}
 use Rattle.heap_graph.proofs.Words.{ap, arith, cases_lt, concat, cond, count_by, get_or, get_or_past, heap_of}
 use Rattle.heap_graph.proofs.Words.{is_unresolved, is_unresolved_in, length, object_count, objects, range_with_len}
@@ -45,7 +45,7 @@ sum-by_number f (ids ∷ lists) =
       sum_by-cons (λ o. f (get_or (ids ∷ lists) o [])) 0 (range_with_len (0 + 1) (length lists)),
     )
 
--- ---- both parts
+-- ---- objects and roots
 
 module _ {s : ℕ} {records : List Record} {skip : List SkipEntry} {g : ObjectGraph}
     (graph : IsGraphOf s records skip g) where

@@ -1,4 +1,4 @@
--- A visit of an object: what it misses in all stays the same.
+-- A visit of an object: all that it misses stays the same.
 use Rattle.heap_graph.proofs.Words.{Bool, List, None, Option, RowKey, Some, [], ap, arith, cond, count_by, false}
 use Rattle.heap_graph.proofs.Words.{is_unresolved_in, length, map, position, refl, subst, sum_by-cons, sym, true}
 use Rattle.heap_graph.proofs.Words.{unresolved_left, ℕ, ◌+◌, ◌==◌, ◌^◌, ◌∙◌, ◌∷◌, ◌≡◌, ◌≤◌}
@@ -44,7 +44,7 @@ null_if : (b : Bool) (p : Option ℕ) → b ≡ true → cond b false (is_none p
 null_if true p e = refl
 null_if false p e = absurd (cc e)
 
--- ---- the steps are passed
+-- the steps so far were passed
 
 pub record IsOnTheWay (old : Visited) (row : RowKey) (bytes unresolved : ℕ) (all ids : List ℕ) : Type 0 where
   pub passed : HasPassed old.left (map (step_in all) ids)
@@ -68,7 +68,7 @@ pub begun : (old : Visited) (row : RowKey) (bytes unresolved : ℕ) (all ids : L
 begun old row bytes unresolved all ids is few =
     subst (λ (v : Visited). IsOnTheWay v row bytes unresolved all ids) is (start row bytes unresolved all ids few)
 
--- one identifier is passed, and it is missed or not
+-- one more identifier is passed, which is missed or not
 module _ (old : Visited) (row : RowKey) (bytes unresolved : ℕ) (all : List ℕ) (id : ℕ) (before after : List ℕ)
     (way : IsOnTheWay old row bytes unresolved all before) (next : before ≡ id ∷ after) where
   pub few_after : unresolved + 1 + length after ≤ 2 ^ 33
@@ -107,7 +107,7 @@ module _ (old : Visited) (row : RowKey) (bytes unresolved : ℕ) (all : List ℕ
       subst (λ (n : ℕ). IsOnTheWay old row bytes n all after) same
       (passes false named (null_if (id == 0) (position (λ x. x == id) all) null) (omega arith))
 
--- a visit that goes on yields what it goes to
+-- a visit that goes on yields the object it goes to
 pub gives : (old : Visited) (object : Option ℕ) (new : Visited) → Advances old object new
     → YieldsFirst references_left old object new × Advances old object new
 gives old object new goes = (yields old.left object new.left goes.goes, goes)

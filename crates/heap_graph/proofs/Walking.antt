@@ -16,9 +16,9 @@ pub targets_of_steps : (all ids : List ℕ) → references_in (map (step_in all)
 targets_of_steps all [] = refl
 targets_of_steps all (id ∷ ids) = ap (λ (xs : List ℕ). cons_option (target_in all id) xs) (targets_of_steps all ids)
 
--- ---- up to the first that names an object
+-- ---- up to the first identifier that names an object
 
--- the steps in front of these were passed: they name no object
+-- the steps of `old` before `new` were passed, and name no object
 pub record HasPassed (old new : List Step) : Type 0 where
   pub passed : List Step
   pub none : references_in passed ≡ []
@@ -63,7 +63,7 @@ goes_to_end all old before after e f h = (
   ap (λ (xs : List ℕ). map (step_in all) xs) f,
 )
 
--- the object is the first that was left
+-- the object is the first of the remaining ones
 pub yields : (old : List Step) (object : Option ℕ) (new : List Step) → GoesPast old object new
     → YieldsFirst references_in old object new
 yields old None new g = (g.0, ap (λ (xs : List Step). references_in xs) g.1)
@@ -72,7 +72,7 @@ yields old (Some o) new (passed, id, none, is) =
     ∙ filter_map-append (λ (s : Step). s.names) passed (record { id = id; names = Some o } ∷ new)
     ∙ ap (λ (xs : List ℕ). xs ++ o ∷ references_in new) none
 
--- so fewer are left
+-- so fewer remain
 pub falls : (old : List Step) (o : ℕ) (new : List Step) → YieldsFirst references_in old (Some o) new
     → MakesProgress (λ _. Unit {0}) (item_count references_in) old (Some o) new
 falls old o new h = record { on = λ _. (tt, tt, omega (arith, ap length h)); keeps = tt; rests = λ _. tt }

@@ -17,7 +17,7 @@ use Rattle.heap_graph.proofs.UnresolvedLaws.{parts_unresolved}
 use Rattle.heap_graph.proofs.Sizes.{array_type_range, bytes_width}
 use Rattle.heap_graph.proofs.Standings.{there}
 
--- ---- what is named is there
+-- ---- an object that is named exists
 
 target_if : (heap : List SubRecord) (id : ℕ) (b : Bool) (t : ℕ) → cond b None (number_named heap id) ≡ Some t
     → t < length (objects heap)
@@ -94,7 +94,7 @@ class_number_below heap id c named =
     (found_at (λ (d : Class). d.object == id) (filter_map as_class (objects heap)) at.0 c at.1
     (eq-eqb c.object id it.id_is))
 
--- the class of an object that has one is there
+-- the class of an object that has one exists
 pub known_if : (heap : List SubRecord) (id : ℕ) (k : Option Class) → class_named heap id ≡ k
     → (class_named heap id ≡ None → ⊥) → class_number heap id < length (class_dumps heap)
 known_if heap id None e known = absurd (known e)

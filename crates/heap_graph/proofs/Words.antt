@@ -1,4 +1,4 @@
--- The words and the lemmas of libraries that the lemmas of this crate speak with, in one place.
+-- The words and the lemmas of libraries that the lemmas of this crate use, in one place.
 pub use Rattle.std.proofs.Common.{All, Bool, Contains, List, None, Ok, Option, Some, [], ap, append-nil, append_assoc}
 pub use Rattle.std.proofs.Common.{arith, cond, count_by, drop, false, filter, flat_map, get_or, inl, inr, length}
 pub use Rattle.std.proofs.Common.{length-append, map, min, not, option_copied, position, refl, rules, set, slice_get}

@@ -50,7 +50,7 @@ link_code fault = subst IsFaultCode (sym fault.code_is) (rule_code fault.rule)
 fault_code : (text : List ℕ) (code place : ℕ) → FirstFaultOf text code place → IsFaultCode code
 fault_code text code place fault = ⊎_elim form_code link_code fault
 
--- what a run may refuse before anything is written
+-- the refusals that a run may have before it writes anything
 abbrev pub IsKnown : Refusal → Type 0
 IsKnown refusal = IsRunRefusal refusal × (refusal.code ≤ 18)
 
@@ -66,7 +66,7 @@ known_unplaced code least most in_use = (
   most,
 )
 
--- a first fault, or want of memory
+-- a first fault, or out of memory
 pub known_of : (text : List ℕ) (refusal : Refusal) → RefusesFirstFault text refusal ⊎ (refusal ≡ out_of_memory)
     → IsRunRefusal refusal × (refusal.code ≤ 18)
 known_of text refusal (inl tells) =

@@ -1,4 +1,4 @@
--- The first fault of the links of a text, where its one list of records is known.
+-- The first fault of the links of a text with one known list of records.
 use Rattle.std.proofs.Common.{List, Some, inl, inr, le_antisymm, map, refl, slice_get, sym, ℕ, ⊎_elim, ◌<◌, ◌≡◌, ◌∙◌}
 use Rattle.std.proofs.Common.{◌⊎◌}
 use Rattle.std.proofs.lemmas.Bool.{cases_order}

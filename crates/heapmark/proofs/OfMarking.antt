@@ -1,4 +1,4 @@
--- What a marking refuses is want of memory, or its own.
+-- A marking refuses if it is out of memory, or for a reason of its own.
 use Rattle.std.proofs.Common.{List, arith, inl, inr, refl, subst, sym, ℕ, ◌≡◌, ◌≤◌, ◌⊎◌}
 use Rattle.drain.specs.declared.marked.RunFault.{RunFault}
 use Rattle.drain.specs.declared.marked.RunFault.TheVariants.{OutOfMemory, TagSpent, WorkerRefused}

@@ -1,10 +1,10 @@
--- What a writer took in several calls.
+-- The bytes that a writer took in several calls.
 use Rattle.std.proofs.Common.{◌≡◌, ℕ, ◌+◌, ◌-◌, ◌≤◌, List, ◌++◌, Option, length, take, drop, arith}
 use Rattle.std.specs.Io.KnownBytes.{Appends}
 use Rattle.std.proofs.KnownBytes.{Appends-trans}
 use Rattle.std.proofs.lemmas.List.{drop-take, take-append-drop, take-take}
 
--- what stands before a place, and then this many bytes behind it
+-- the bytes before `at` and `count` more are the bytes before `at + count`
 pub take_on : (bytes : List ℕ) (at count : ℕ) → count ≤ length bytes - at
     → take at bytes ++ take count (take (length bytes - at) (drop at bytes)) ≡ take (at + count) bytes
 take_on bytes at count fits = let at_most : at ≤ at + count = omega arith in

@@ -14,7 +14,7 @@ use Rattle.heap_graph.specs.RowNumbers.{numbered_row, row_count}
 use Rattle.heap_graph.proofs.RowNumberLaws.{at_class}
 use Rattle.histogram.specs.working.RowNumbers.{entries_below, row_entry}
 
--- all rows are those of the numbers below their count
+-- the rows of a graph are those of the numbers below their count
 classes_numbered : (m k n : ℕ) → m ≡ 9 + k
     → map keys.Class (range_with_len k n) ≡ map numbered_row (range_with_len m n)
 classes_numbered m k zero e = refl
@@ -40,7 +40,7 @@ pub all_entries : (g : ObjectGraph) (xs : List ℕ) (shown : List Entry) (n : �
     → shown ≡ entries_below g xs n → shown ≡ entries g xs
 all_entries g xs shown n all are = are ∙ ap (entries_below g xs) all ∙ sym (entries_numbered g xs)
 
--- what is told of a row, and a list of lines that grows by its line
+-- the numbers of a row, and a list of lines to which its line is added
 module _ {X : Type 0} (g : ObjectGraph) (xs : List ℕ) (show : X → Entry) (lines : List X) (n count bytes : ℕ)
     (told : (count, bytes) ≡ total g (of_row g (numbered_row n) xs))
     (were : map show lines ≡ entries_below g xs n) where
@@ -51,7 +51,7 @@ module _ {X : Type 0} (g : ObjectGraph) (xs : List ℕ) (show : X → Entry) (li
   unfolding f
   entry_at = ap (row_entry g (numbered_row n)) told
 
-  -- one line more
+  -- with one more line
   pub line_more :
       (pushed : List X) (line : X) (row : RowKey) → 0 < count → row ≡ numbered_row n
       → show line ≡ row_entry g row (count, bytes) → pushed ≡ lines ++ line ∷ []
@@ -69,7 +69,7 @@ module _ {X : Type 0} (g : ObjectGraph) (xs : List ℕ) (show : X → Entry) (li
         lt-ltb 0 ((f n).count) counted,
       ) refl
 
-  -- or none
+  -- or without one, if the row has no object
   pub line_less : count ≤ 0 → map show lines ≡ entries_below g xs (n + 1)
   unfolding f
   line_less none =

@@ -12,7 +12,7 @@ use Rattle.histogram.specs.Histogram.{Entry}
 use Rattle.histogram.specs.Report.{line, line_of, right_in}
 use Rattle.histogram.specs.ShownNames.{is_plain, shown_byte}
 
--- a fact of Ok, where the call answered Ok
+-- a fact about Ok, if the call returned Ok
 pub from_ok : {T E : Type 0} {P : Type 0} (r : Result T E) → is_ok r ≡ true → OnOk r P → P
 from_ok (Ok x) e h = h
 from_ok (Err x) e h = absurd (cc e)
@@ -21,7 +21,7 @@ spaces : (n : ℕ) → repeat {A = ℕ} n (32 ∷ []) ≡ replicate n 32
 spaces zero = refl
 spaces (suc n) = ap (λ xs. 32 ∷ xs) (spaces n)
 
--- padding before a text and none behind it, as std writes it
+-- padding before a text and none after it, as std writes it
 in_parts : (before after padding : ℕ) (text : List ℕ) → before ≡ padding → after ≡ 0
     → (((repeat {A = ℕ} before (32 ∷ []) ++ []) ++ []) ++ []) ++ (text ++ repeat {A = ℕ} after (32 ∷ []))
     ≡ replicate padding 32 ++ text
@@ -34,9 +34,9 @@ right_aligned width text =
     let room = width - length text in
     in_parts (room - 0 - 0) (room - 0 - 0 - (room - 0 - 0)) room text (omega arith) (omega arith)
 
--- behind an old text
+-- appended to an old text
 module _ (old : List ℕ) where
-  -- what the parts of a line were put together by
+  -- the parts of a line
   pub line_appended : (in_10 in_14 numbers named all : List ℕ) (count bytes : ℕ) (name : List ℕ)
       → in_10 ≡ styled_decimal (format_spec 32 3 0 10 (2 ^ 64 - 1)) count
       → in_14 ≡ styled_decimal (format_spec 32 3 0 14 (2 ^ 64 - 1)) bytes
@@ -52,14 +52,14 @@ module _ (old : List ℕ) where
       → new ≡ old ++ shown_byte byte
   escaped new byte small not_plain is = rw not_plain (rw (hex_byte false byte small) at is)
 
--- all rows
+-- the lines of all rows
 pub rows_told : {X : Type 0} (entry : X → Entry) {rows items : List X} (index : ℕ) {lines : List ℕ} → items ≡ rows
     → length items ≤ index → lines ≡ flat_map (λ r. line_of (entry r)) (take index items)
     → lines ≡ flat_map line_of (map entry rows)
 rows_told entry {rows} {items} index same end is =
     rw (is, take_all index items end, same, flat_map-map line_of entry rows) refl
 
--- three lines behind a text
+-- three lines after a text
 pub three_more : (first second third : List ℕ) {start lines one two all : List ℕ} → lines ≡ start
     → one ≡ lines ++ first → two ≡ one ++ second → all ≡ two ++ third → all ≡ start ++ (first ++ (second ++ third))
 three_more first second third is a b c = rw (c, b, a, is) (simp append_assoc)

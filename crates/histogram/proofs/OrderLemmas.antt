@@ -1,4 +1,4 @@
--- The order of a histogram's rows: it is total, it tells any two entries apart, and a list has one arrangement in it.
+-- The order of a histogram's rows is total, only equal entries are equal in it, and a list has one arrangement in it.
 use Rattle.std.proofs.Common.{◌≡◌, ℕ, ◌+◌, ◌<◌, Bool, IsPermutation, IsSorted, List, [], ◌∷◌, true, false, cond, suc}
 use Rattle.std.proofs.Common.{length, map, get_or, count_by, refl, sym, ap, subst, ◌∙◌, arith}
 use Rattle.std.specs.Cmp.{IsTotalOrder}
@@ -19,7 +19,7 @@ compare_total = then_total (back_total (on_total (λ (e : Entry). e.bytes) nat_c
     (then_total (on_total (λ (e : Entry). e.name) nat_list_cmp_total)
     (on_total (λ (e : Entry). e.class) nat_cmp_total)))
 
--- what is sorted by what it is shown as is shown sorted
+-- if a list is sorted by what its elements show, then what they show is sorted
 pub sorted_map : {X Y : Type 0} (show : X → Y) (lt : Y → Y → Bool) (xs : List X)
     → IsSortedBy (λ a b. lt (show a) (show b)) xs → IsSortedBy lt (map show xs)
 sorted_map show lt [] sorted = λ k d low below. absurd (omega (arith, below))
@@ -28,7 +28,7 @@ sorted_map show lt (x ∷ xs) sorted = λ k d low below.
     let here : k < length (x ∷ xs) = omega (arith, after) in
     rw (get_or-map show (x ∷ xs) (k + 1) x d after, get_or-map show (x ∷ xs) k x d here) (sorted k x low after)
 
--- two tests one after the other
+-- two comparisons one after another
 then_equal : (a b : Ordering) → ordering_then a b ≡ Equal → (a ≡ Equal) × (b ≡ Equal)
 then_equal Less b e = absurd (cc e)
 then_equal Equal b e = (refl, e)
@@ -76,7 +76,8 @@ module _ {X : Type 0} (R : X → X → Ordering) (total : IsTotalOrder R) (exact
   count_first : (p : X → Bool) (x : X) (xs : List X) → count_by p (x ∷ xs) ≡ 0 → p x ≡ false
   count_first p x xs none = not_counted (p x) (count_by p xs) (sym (sum_by-cons (λ z. cond (p z) 1 0) x xs) ∙ none)
 
-  -- of two lists that each test counts alike, where one is sorted, the other begins with nothing below its first
+  -- if two lists have equally many elements for each test and the second is sorted, the head of the first is not below
+  -- that of the second
   not_below : (x y : X) (xs ys : List X) → IsSorted R (y ∷ ys)
       → ((p : X → Bool) → count_by p (x ∷ xs) ≡ count_by p (y ∷ ys)) → is_lt (R x y) ≡ false
   not_below x y xs ys sorted alike =
@@ -99,7 +100,7 @@ module _ {X : Type 0} (R : X → X → Ordering) (total : IsTotalOrder R) (exact
       let rest = one_order xs ys (sorted_tail x xs s) (sorted_tail y ys t) alike_behind in
       λ i. first i ∷ rest i
 
--- two arrangements of one list
+-- two arrangements of one list are equal
 pub one_arrangement : (es xs ys : List Entry) → IsPermutation es xs → IsPermutation es ys → IsSorted compare xs
     → IsSorted compare ys → xs ≡ ys
 one_arrangement es xs ys p q s t = one_order compare compare_total compare_exact xs ys s t

@@ -19,7 +19,7 @@ use Rattle.drain.proofs.Passing.{passing_sum}
 use Rattle.heap_graph.proofs.RowNumberLaws.{number_of_its_row, number_within, row_of_its_number, row_there}
 use Rattle.drain.proofs.RowTests.{differ, same_itself}
 
--- a row is the one of its number, and of no other
+-- a row is the one with its number, and with no other
 row_here : (g : ObjectGraph) (row : RowKey) → IsRowIn g row → same_row (numbered_row (row_number row)) row ≡ true
 row_here g row here = ap (λ r. same_row r row) (row_of_its_number g row here) ∙ same_itself row
 
@@ -28,7 +28,7 @@ row_elsewhere : (g : ObjectGraph) (row : RowKey) (n : ℕ) → n < row_count g �
 row_elsewhere g row n below other =
     differ (numbered_row n) row (λ e. other (sym (number_of_its_row g n below) ∙ ap row_number e))
 
--- a test that passes where one of two others does, and no object passes both
+-- r passes if p or q does, and no object passes both
 two_parts :
     (f : ℕ → ℕ) (r p q : ℕ → Bool) (xs : List ℕ)
     → ((o : ℕ) → cond (r o) (f o) 0 ≡ cond (p o) (f o) 0 + cond (q o) (f o) 0)
@@ -50,7 +50,7 @@ two_parts f r p q xs each =
           weights ys,
         )
 
--- so many marked objects have the rows below that number, and so many bytes
+-- `count` marked objects have the rows with numbers below n, and their bytes add up to `bytes`
 pub record AreSums (g : ObjectGraph) (marks : List Bool) (n count bytes : ℕ) : Type 0 where
   pub count_is : count ≡ length (objects_below g n (marked_objects g marks))
   pub bytes_is : bytes ≡ sum_by (bytes_at g) (objects_below g n (marked_objects g marks))
@@ -59,7 +59,7 @@ module _ (g : ObjectGraph) (whole : IsWhole g) where
   abbrev number_at : ℕ → ℕ
   number_at o = row_number (row_at g o)
 
-  -- the rows below the next number: those below this one, and this one
+  -- the rows below n + 1 are those below n and row n
   next_row :
       (f : ℕ → ℕ) (n : ℕ) → n < row_count g → (o : ℕ)
       → cond (nat_lt (number_at o) (n + 1)) (f o) 0
@@ -141,7 +141,7 @@ module _ (g : ObjectGraph) (whole : IsWhole g) where
   pub count_none : (xs : List ℕ) → length (objects_below g 0 xs) ≡ 0
   count_none xs = sym (ones (objects_below g 0 xs)) ∙ below_none (λ o. 1) xs
 
-  -- the marked objects of some rows are few, and their bytes too
+  -- there are few marked objects in some of the rows, and they have few bytes
   pub small_part :
       (n : ℕ) (marks : List Bool)
       → (length (objects_below g n (marked_objects g marks)) ≤ 2 ^ 24)
@@ -164,7 +164,7 @@ module _ (g : ObjectGraph) (whole : IsWhole g) where
     bytes_is = sym (below_none (bytes_at g) (marked_objects g marks));
   }
 
-  -- one row more, by what is told of it
+  -- one more row, by the sums that the marks have for it
   module _ (m : MarkedObjects) (marking : IsMarkingOf g m) {n count bytes : ℕ} (row : RowKey) (told : ℕ × ℕ)
       (so : AreSums g m.marks n count bytes) (is : row ≡ numbered_row n) (tells : told ≡ sum_of_row m.sums row)
       (below : n < row_count g) where

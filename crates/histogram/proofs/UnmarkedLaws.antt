@@ -1,4 +1,4 @@
--- The objects that are not marked, one after the other, and what is counted of some of them and of others.
+-- The objects that are not marked, one after another, and the counts of some of them and of others.
 use Rattle.std.proofs.Common.{◌≡◌, ℕ, zero, suc, ◌+◌, ◌-◌, ◌^◌, ◌<◌, ◌≤◌, Bool, true, false, cond, find, filter, not}
 use Rattle.std.proofs.Common.{Some, None, List, [], ◌∷◌, ◌++◌, All, length, slice_index_or}
 use Rattle.std.proofs.Common.{ap, sym, refl, subst, ◌∙◌, arith, length-append, append-nil}
@@ -15,7 +15,7 @@ use Rattle.histogram.specs.working.Unmarked.{AddUp, AreGraphObjects, both, total
 
 -- ---- those of a range that pass a test
 
--- behind the first of them the others come
+-- after the first of them the others follow
 passes_then :
     (p : ℕ → Bool) (n a m o : ℕ) → n ≡ m - a → Some o ≡ find p (range_with_len a n)
     → (filter p (range_with_len a n) ≡ o ∷ filter p (range_with_len (o + 1) (m - (o + 1)))) × (o < m)
@@ -137,11 +137,11 @@ module _ (g : ObjectGraph) where
         unresolved = omega (arith, unresolved, sum_by-append (unresolved_at g) xs ys, are.few, whole.few_objects);
       }
 
-  -- so far the objects in front of these were counted
+  -- the objects of `all` before `rest` were counted
   abbrev pub HasCounted : List ℕ → List ℕ → Unmarked → Type 0
   HasCounted all rest left = (done : List ℕ) × (done ++ rest ≡ all) × (left ≡ totals_of g done)
 
-  -- those that come next were counted, too
+  -- the objects in `some`, which come next, were counted, too
   module _ (all rest some after : List ℕ) (left one : Unmarked) (has : HasCounted all rest left)
       (is : rest ≡ some ++ after) (told : one ≡ totals_of g some) where
     together : has.0 ++ some ++ after ≡ all

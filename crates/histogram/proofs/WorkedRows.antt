@@ -79,7 +79,7 @@ two_references :
 unfolding size_of
 two_references = refl
 
--- the histogram of these marks, where the rows are in order from the last to the first
+-- the histogram of these marks, if the rows are in order from the last to the first
 abbrev histogram_of : ObjectGraph → List Bool → Histogram
 histogram_of g marks = record {
   rows = reverse (entries g (marked_objects g marks));

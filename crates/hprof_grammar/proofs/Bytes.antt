@@ -7,11 +7,11 @@ use Rattle.hprof_grammar.proofs.Words.{slice_index, suc, sym, take, take-append-
 use Rattle.hprof_grammar.proofs.Words.{◌*◌, ◌++◌, ◌+◌, ◌/◌, ◌<◌, ◌^◌, ◌∙◌, ◌∷◌, ◌≡◌, ◌≤◌}
 use Rattle.std.proofs.Common.{Fits}
 
--- each of these numbers is a byte
+-- each number in `bytes` is a byte
 abbrev pub IsBytes : List ℕ → Type 0
 IsBytes bytes = (k : ℕ) → slice_index bytes k < 256
 
--- what the check knows of a slice of bytes
+-- numbers that fit 8 bits are bytes
 pub in_bytes : (bytes : List ℕ) → ((k : ℕ) → Fits w8 (slice_index bytes k)) → IsBytes bytes
 in_bytes bytes h k = omega (arith, h k)
 
@@ -24,7 +24,7 @@ bytes-drop n bytes h k = rw (get_or-drop n bytes k 0) (h (n + k))
 pub bytes-behind : (front back : List ℕ) → IsBytes (front ++ back) → IsBytes back
 bytes-behind front back h k = rw get_or-append-add at (h (length front + k))
 
--- the first of two parts
+-- the first of two parts of a list of bytes is bytes
 pub bytes-front : (front back : List ℕ) → IsBytes (front ++ back) → IsBytes front
 bytes-front [] back h k = omega arith
 bytes-front (b ∷ front) back h zero = h 0
@@ -46,7 +46,7 @@ zeros-bytes zero k = omega arith
 zeros-bytes (suc n) zero = omega arith
 zeros-bytes (suc n) (suc k) = zeros-bytes n k
 
--- the bytes of a number are bytes
+-- `byte_at` returns a byte
 byte_at-lt : (i x : ℕ) → byte_at i x < 256
 byte_at-lt zero x = omega arith
 byte_at-lt (suc i) x = omega arith
@@ -66,7 +66,7 @@ same_digits a b c r s h k e =
 number-cons : (n a : ℕ) (bytes : List ℕ) → big_number (suc n) (a ∷ bytes) ≡ a * 256 ^ n + big_number n bytes
 number-cons n a bytes = ap (λ (r : ℕ). a * 256 ^ n + r) (big_from-cons 0 n a bytes)
 
--- n bytes are known from the number that they make
+-- lists of n bytes that make the same number are equal
 same_bytes : (n : ℕ) (xs ys : List ℕ) → IsBytes xs → IsBytes ys → length xs ≡ n → length ys ≡ n
     → big_number n xs ≡ big_number n ys → xs ≡ ys
 same_bytes zero [] [] h k p q e = refl
@@ -82,7 +82,7 @@ same_bytes n xs ys h k p q e = absurd (omega arith)
 pub number-lt : (n : ℕ) (bytes : List ℕ) → IsBytes bytes → big_number n bytes < 256 ^ n
 number-lt n bytes h = big_from-lt 0 n bytes h
 
--- the bytes of the number in the first n bytes are those bytes
+-- the number in the first n bytes is spelled by those bytes
 pub bytes_of_number : (n : ℕ) (bytes : List ℕ) → IsBytes bytes → n ≤ length bytes
     → big_bytes n (big_number n bytes) ≡ take n bytes
 bytes_of_number n bytes h fits =
@@ -97,7 +97,7 @@ pub number_parts : (n : ℕ) (bytes : List ℕ) → IsBytes bytes → n ≤ leng
     → bytes ≡ big_bytes n (big_number n bytes) ++ drop n bytes
 number_parts n bytes h fits = rw (bytes_of_number n bytes h fits) (sym (take-append-drop n bytes))
 
--- a number of w bytes that stands at a place, and what stands behind it
+-- the bytes from `at` on are a number of w bytes, and the bytes after it
 pub number_stands : (at w : ℕ) (bytes : List ℕ) → IsBytes bytes → at + w ≤ length bytes
     → drop at bytes ≡ big_bytes w (big_number w (drop at bytes)) ++ drop (at + w) bytes
 number_stands at w bytes h room =
@@ -105,7 +105,7 @@ number_stands at w bytes h room =
     number_parts w (drop at bytes) (bytes-drop at bytes h) within
     ∙ ap (λ rest. big_bytes w (big_number w (drop at bytes)) ++ rest) (drop-drop w at bytes)
 
--- what stands behind n bytes
+-- the bytes after the first n
 pub behind_bytes : (n : ℕ) (front rest : List ℕ) → length front ≡ n → drop n (front ++ rest) ≡ rest
 behind_bytes n front rest e = rw (← e) (drop-append_seam front rest)
 
@@ -115,7 +115,7 @@ first_bytes n front rest e = rw (← e) (take-append_seam front rest)
 pub behind_number : (n x : ℕ) (rest : List ℕ) → drop n (big_bytes n x ++ rest) ≡ rest
 behind_number n x rest = behind_bytes n (big_bytes n x) rest (length-bytes_high_first n x)
 
--- two spellings of numbers of n bytes that begin one text
+-- two numbers of n bytes are equal if they begin the same text, and so is what follows them
 pub same_number : (n x y : ℕ) (rest more : List ℕ) → x < 256 ^ n → y < 256 ^ n
     → big_bytes n x ++ rest ≡ big_bytes n y ++ more → (x ≡ y) × (rest ≡ more)
 same_number n x y rest more h k e = (
@@ -124,7 +124,7 @@ same_number n x y rest more h k e = (
       ∙ ap (drop n) e ∙ behind_number n y more,
 )
 
--- two fronts of n bytes that begin one text
+-- two lists of n bytes are equal if they begin the same text, and so is what follows them
 pub same_front : (n : ℕ) (xs ys rest more : List ℕ) → length xs ≡ n → length ys ≡ n → xs ++ rest ≡ ys ++ more
     → (xs ≡ ys) × (rest ≡ more)
 same_front n xs ys rest more h k e = (

@@ -1,4 +1,4 @@
--- The parts of a class dump that have counts, as they are read.
+-- Reading the parts of a class dump that have counts.
 use Rattle.hprof_grammar.proofs.Words.{Class, Field, HasCountedValues, InConstant, InStatic, IsConstant, IsPartOf}
 use Rattle.hprof_grammar.proofs.Words.{IsStatic, LabelledValue, List, Sight, Stands, [], ap, append_assoc, arith}
 use Rattle.hprof_grammar.proofs.Words.{behind_counted_values, big_bytes, big_number-reads_back, class_dump}
@@ -13,7 +13,7 @@ use Rattle.hprof_grammar.proofs.Fields.{spelled_then}
 use Rattle.hprof_grammar.proofs.Places.{Spell, fields_in, in_sight, length-spelled}
 use Rattle.hprof_grammar.proofs.SeriesRead.{AreValues, members_again, values_again, widths-members}
 
--- a count of 2 bytes stands first
+-- the bytes begin with the count n, in 2 bytes
 pub record IsCounted (n : ℕ) (others bytes : List ℕ) : Type 0 where
   pub room : 2 ≤ length bytes
   pub count : count_in bytes ≡ n
@@ -27,7 +27,7 @@ count_again n others fits = record {
       (drop-append_seam (big_bytes 2 n) others);
 }
 
--- a count and that many values
+-- the bytes begin with a count and then with that number of values
 pub record IsCountedValues (s w : ℕ) (them : List LabelledValue) (others bytes : List ℕ) : Type 0 where
   pub room : HasCountedValues s w bytes
   pub values : counted_values_in s w bytes ≡ them
@@ -41,7 +41,7 @@ counted_values counted are = record {
   behind = rw (counted.count, counted.behind) are.behind;
 }
 
--- from the count on
+-- bytes that are spelled from a count on begin with that count
 counted_first : {X : Type 0} (fields : X → List Field) (xs : List X) (more : List Field) (rest bytes : List ℕ)
     → length xs < 256 ^ 2 → bytes ≡ spelled (counted_fields fields xs ++ more) ++ rest
     → IsCounted (length xs) (spelled (flat_map fields xs) ++ (spelled more ++ rest)) bytes
@@ -99,9 +99,9 @@ module _ {s : ℕ} {c : Class} {bytes : List ℕ} (h : IsPartOf s c (fields_from
   members_read =
       rw (members_counted.count, members_counted.behind) (members_again s c.members h.rest h.is.members)
 
--- ---- where w is what the fields of a view show, and v is the view
+-- ---- for a w that is what the fields of a view show, and the view v
 
--- a part of a class, as the view says it and as its fields do
+-- a part of a class, by the view and by its fields
 pub part_seen : {v w : Sight} {c : Class} {bytes : List ℕ} (fields : ℕ → Class → List Field) → w ≡ v
     → IsPartOf v.id_size c (fields v.id_size c) bytes → IsPartOf w.id_size c (fields w.id_size c) bytes
 part_seen fields e h = rw e h

@@ -1,4 +1,4 @@
--- Formats made of others: one behind the other, lists, the same as something else, a count and that many.
+-- Formats made of others: one after another, lists, values under other names, and a list after its count.
 use Rattle.hprof_grammar.proofs.Words.{AllByRecursion, AreAllowed, Err, Field, Flaw, IsAllowed, List, Ok, Result, []}
 use Rattle.hprof_grammar.proofs.Words.{ap, arith, as_at, counted_at, flat_map, inl, inr, length, list_at, number, refl}
 use Rattle.hprof_grammar.proofs.Words.{replicate, spelled, subst, suc, sym, then_at, zero, ℕ, ◌++◌, ◌<◌, ◌>>=◌, ◌^◌}
@@ -8,18 +8,18 @@ use Rattle.hprof_grammar.proofs.Fields.{Breaks, all_join, all_split, breaks_firs
 use Rattle.hprof_grammar.proofs.Fields.{breaks_split, spelled_then}
 use Rattle.hprof_grammar.proofs.Format.{IsFormat, Taken, bind_err, bind_ok, map_err, number_format, ok_same}
 
--- what was taken was bytes, and so is what is left
+-- the value was taken from bytes, and the rest is bytes too
 module _ {A : Type 0} {W : A → Type 0} {fields : A → List Field} {bytes : List ℕ} {x : A} {rest : List ℕ}
     (t : Taken W fields bytes x rest) where
   rest_bytes : IsBytes bytes → IsBytes rest
   rest_bytes h = bytes-behind (spelled (fields x)) rest (subst IsBytes t.bytes_are h)
 
-  -- reading breaks off behind what was taken
+  -- reading breaks off after the value that was taken
   breaks_behind : {gs : List Field} {flaw : Flaw} → Breaks flaw gs rest → Breaks flaw (fields x ++ gs) bytes
   breaks_behind {gs} {flaw} b =
       subst (Breaks flaw (fields x ++ gs)) (sym t.bytes_are) (breaks_second flaw (fields x) gs rest t.allowed b)
 
--- ---- one behind the other, where the second may depend on the value of the first
+-- ---- one format after another, which may depend on the value of the first
 
 module _ {A B : Type 0} {W : A → Type 0} {F : A → List Field} {r : List ℕ → Result (A × List ℕ) Flaw}
     {V : A → B → Type 0} {G : A → B → List Field} {q : A → List ℕ → Result (B × List ℕ) Flaw}
@@ -78,13 +78,13 @@ module _ {A B : Type 0} {W : A → Type 0} {F : A → List Field} {r : List ℕ 
   }
 
 infixr 4 ◌⨾◌
--- where the second does not depend on the first
+-- the second does not depend on the first
 pub ◌⨾◌ : {A B : Type 0} {W : A → Type 0} {F : A → List Field} {r : List ℕ → Result (A × List ℕ) Flaw} {V : B → Type 0}
     {G : B → List Field} {q : List ℕ → Result (B × List ℕ) Flaw} → IsFormat W F r → IsFormat V G q
     → IsFormat (λ (p : A × B). W p.0 × V p.1) (λ p. F p.0 ++ G p.1) (then_at r (λ _. q))
 first ⨾ second = pair_format first (λ _. second)
 
--- ---- n of one kind
+-- ---- n values of one format
 
 module _ {A : Type 0} {W : A → Type 0} {F : A → List Field} {r : List ℕ → Result (A × List ℕ) Flaw}
     (one : IsFormat W F r) where
@@ -164,7 +164,7 @@ module _ {A : Type 0} {W : A → Type 0} {F : A → List Field} {r : List ℕ �
 
 -- ---- the same values under other names
 
--- what joins the values of a format and the values that stand for them
+-- maps between the values of two formats that are spelled alike
 pub record Recasts {A B : Type 0} (W : A → Type 0) (F : A → List Field) (V : B → Type 0) (G : B → List Field)
     (to : A → B) (from : B → A) : Type 0 where
   pub well_to : (a : A) → W a → V (to a)
@@ -211,7 +211,7 @@ module _ {A B : Type 0} {W : A → Type 0} {F : A → List Field} {r : List ℕ 
     fails_again = as_fails_again;
   }
 
--- ---- a count, and that many
+-- ---- a count, and that number of values
 
 pub counted_format : {A : Type 0} {W : A → Type 0} {F : A → List Field} {r : List ℕ → Result (A × List ℕ) Flaw}
     (w : ℕ) → IsFormat W F r

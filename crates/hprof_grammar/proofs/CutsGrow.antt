@@ -1,9 +1,9 @@
--- Cuts that are all long enough, to which one more is added.
+-- One more cut joins cuts that are all long enough.
 use Rattle.std.proofs.Common.{List, [], refl, subst, sym, ℕ, ◌++◌, ◌+◌, ◌∙◌, ◌∷◌, ◌≡◌, ◌≤◌}
 use Rattle.hprof_grammar.specs.declared.cuts.Cut.{Cut}
 use Rattle.hprof_grammar.specs.working.Cuts.{AreCuts}
 
--- the cuts lead from a place to a seam, and each has `size` bytes or more
+-- the cuts lead from place `from` to place `end`, and each has `size` bytes or more
 abbrev pub AreLong : ℕ → ℕ → List Cut → ℕ → Type 0
 AreLong size from [] end = from ≡ end
 AreLong size from (cut ∷ more) end = (cut.from.place ≡ from) × (from + size ≤ cut.to) × AreLong size cut.to more end

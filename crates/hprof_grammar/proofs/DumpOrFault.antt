@@ -1,4 +1,4 @@
--- A text spells a dump or has a first fault: the parser's steps on lists, told for every text of bytes.
+-- A text spells a dump or has a first fault: for any bytes, by the parser's steps on lists.
 use Rattle.hprof_grammar.proofs.Words.{AddsAll, AddsRecord, AddsRecords, AddsSubs, AreBytes, Before, Bool, Ended, Err}
 use Rattle.hprof_grammar.proofs.Words.{Flaw, FormatFault, FrameFault, HasFirstFault, HasHeader, HasRecordFault}
 use Rattle.hprof_grammar.proofs.Words.{HasSubFault, List, None, Ok, Option, SnapshotState, Places, Result, Segments}
@@ -22,7 +22,7 @@ use Rattle.hprof_grammar.proofs.RecordSteps.{one_record, records_begin, records_
 use Rattle.hprof_grammar.proofs.SubRecords.{sub_takes}
 use Rattle.hprof_grammar.proofs.Wholes.{bytes_left, fault_at_end, fault_in_record, fault_where_cut, frame_room}
 
--- what a reading gave
+-- a reading returns a value or a flaw
 read_or_not : {A : Type 0} (r : Result A Flaw) → ((x : A) × (r ≡ Ok x)) ⊎ ((flaw : Flaw) × (r ≡ Err flaw))
 read_or_not (Ok x) = inl (x, refl)
 read_or_not (Err flaw) = inr (flaw, refl)
@@ -129,7 +129,7 @@ abbrev RecordsTold : List ℕ → Places → Type 0
 RecordsTold bytes old = ((new : Places) × AddsAll bytes old new)
     ⊎ ((fault : FormatFault) × HasRecordFault old.id_size bytes fault)
 
--- the body of a frame that stands first
+-- the body of the first frame is bytes
 body_bytes : {rest : List ℕ} {tag time : ℕ} {body left : List ℕ} → IsBytes rest → FrameTaken rest tag time body left
     → IsBytes body
 body_bytes {tag = tag} {time} {body} {left} h frame =

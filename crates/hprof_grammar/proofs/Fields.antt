@@ -1,4 +1,4 @@
--- Lists of fields: their bytes one behind the other, and the first field at which reading breaks off.
+-- Lists of fields: their bytes one after another, and the first field at which reading breaks off.
 use Rattle.hprof_grammar.proofs.Words.{AllByRecursion, AreAllowed, EndsShort, Field, Flaw, HasWrongType, IsAllowed}
 use Rattle.hprof_grammar.proofs.Words.{List, Short, UnknownTag, WrongType, [], ap, append_assoc, arith, false}
 use Rattle.hprof_grammar.proofs.Words.{field_spelling, flat_map-append, inl, inr, is_type_at, length, length-append}
@@ -6,7 +6,7 @@ use Rattle.hprof_grammar.proofs.Words.{number, raw, refl, spelled, subst, sym, t
 use Rattle.hprof_grammar.proofs.Words.{◌⊎◌}
 
 infixr 4 ◌&◌
--- a pair, and of many things one pair in the other
+-- a pair; `a & b & c` is the pair of a and `b & c`
 abbrev pub ◌&◌ : {A B : Type 0} → A → B → A × B
 a & b = (a, b)
 
@@ -23,7 +23,7 @@ all_split P (x ∷ xs) ys h = let s = all_split P xs ys h.1 in ((h.0, s.0), s.1)
 pub spelled-append : (fs gs : List Field) → spelled (fs ++ gs) ≡ spelled fs ++ spelled gs
 spelled-append fs gs = flat_map-append field_spelling fs gs
 
--- the second of two lists of fields stands behind the first
+-- the bytes of two lists of fields are those of the first, and then those of the second
 pub spelled_then : (fs gs : List Field) (rest : List ℕ)
     → spelled (fs ++ gs) ++ rest ≡ spelled fs ++ (spelled gs ++ rest)
 spelled_then fs gs rest = rw (spelled-append fs gs) (append_assoc (spelled fs) (spelled gs) rest)
@@ -31,19 +31,19 @@ spelled_then fs gs rest = rw (spelled-append fs gs) (append_assoc (spelled fs) (
 pub spelled_one : (f : Field) (rest : List ℕ) → spelled (f ∷ []) ++ rest ≡ field_spelling f ++ rest
 spelled_one f rest = append_assoc (field_spelling f) [] rest
 
--- a type code that is not allowed stands in place of the field
+-- a type code that is not allowed is in place of the field
 abbrev pub IsWrong : Field → List ℕ → Type 0
 IsWrong (number width value) bytes = ⊥
 IsWrong (type_code place code) bytes = (is_type_at place code ≡ false) × ((rest : List ℕ) × (bytes ≡ code ∷ rest))
 IsWrong (raw text) bytes = ⊥
 
--- what stands in place of a field, by the flaw that is found there
+-- what is in place of a field that has this flaw
 abbrev pub Spoils : Flaw → Field → List ℕ → Type 0
 Spoils Short field bytes = (missing : List ℕ) × (field_spelling field ≡ bytes ++ missing) × (0 < length missing)
 Spoils WrongType field bytes = IsWrong field bytes
 Spoils UnknownTag field bytes = ⊥
 
--- the bytes are the first of these fields, all allowed, and then a flaw in place of the next one
+-- the bytes spell the first of the fields, all allowed, and then have the flaw in place of the next one
 pub record Breaks (flaw : Flaw) (fields : List Field) (bytes : List ℕ) : Type 0 where
   pub front : List Field
   pub field : Field
@@ -68,7 +68,7 @@ breaks_here flaw f fs bytes h =
       spoiled = h;
     }
 
--- in other fields, of which the front and the one that is spoiled are the same
+-- other fields that begin with the same front and the same spoiled field break off there too
 breaks_among : {flaw : Flaw} {fs gs : List Field} {bytes : List ℕ} (b : Breaks flaw fs bytes) (more : List Field)
     → gs ≡ b.front ++ b.field ∷ more → Breaks flaw gs bytes
 breaks_among b more e = record {
@@ -100,7 +100,7 @@ breaks_second flaw fs gs rest h b = record {
   spoiled = b.spoiled;
 }
 
--- where one element stands in two lists together, in the first or in the second
+-- an element of two joined lists is in the first or in the second
 split_at : {A : Type 0} (xs ys front : List A) (a : A) (more : List A) → xs ++ ys ≡ front ++ a ∷ more
     → ((tail : List A) × (xs ≡ front ++ a ∷ tail)) ⊎ ((mid : List A) × (front ≡ xs ++ mid) × (ys ≡ mid ++ a ∷ more))
 split_at [] ys front a more e = inr (front, refl, e)
@@ -115,7 +115,7 @@ split_at {A = A} (x ∷ xs) ys (z ∷ front) a more e =
       | inr s ↦ inr (s.0, rw (h, s.1) refl, s.2)
     ]
 
--- reading breaks off in the first list, or behind it in the second
+-- reading breaks off in the first list, or after it in the second
 pub breaks_split : (flaw : Flaw) (fs gs : List Field) (bytes : List ℕ) → Breaks flaw (fs ++ gs) bytes
     → Breaks flaw fs bytes ⊎ ((rest : List ℕ) × AreAllowed fs × (bytes ≡ spelled fs ++ rest) × Breaks flaw gs rest)
 breaks_split flaw fs gs bytes b = elim (split_at fs gs b.front b.field b.more b.in_order) [
@@ -139,7 +139,7 @@ breaks_split flaw fs gs bytes b = elim (split_at fs gs b.front b.field b.more b.
       )
 ]
 
--- no list of fields breaks off behind its last one
+-- reading an empty list of fields does not break off
 pub breaks_never : (flaw : Flaw) (bytes : List ℕ) → Breaks flaw [] bytes → ⊥
 breaks_never flaw bytes b = omega (arith, ap length b.in_order, length-append b.front (b.field ∷ b.more))
 
@@ -152,7 +152,7 @@ breaks_one flaw f bytes b = one b.front b.in_order b.bytes_are where
       rw is (subst (λ (x : Field). Spoils flaw x b.rest) h b.spoiled)
   one (g ∷ front) e is = absurd (omega (arith, ap length e, length-append front (b.field ∷ b.more)))
 
--- ---- the two ways to break off, as the definitions say them
+-- ---- the two ways to break off, by their definitions
 
 pub ends_short : (fields : List Field) (bytes : List ℕ) → Breaks Short fields bytes → EndsShort fields bytes
 ends_short fields bytes b = record {

@@ -18,7 +18,7 @@ object_first : (s : ℕ) (sub : SubRecord) → fields_of s sub ≡ number s (id_
 object_first s (root r) = refl
 object_first s sub = refl
 
--- the stack trace stands behind the object
+-- the stack trace is the field after the object
 record StackField (s : ℕ) (sub : SubRecord) : Type 0 where
   stack : ℕ
   is : stack_of sub ≡ Some stack
@@ -111,14 +111,14 @@ module _ {v w : Sight} {at : ℕ} {a : PrimitiveArray} (e : w ≡ v) (h : Stands
   packed_elements = first_stands w.bytes (at + 10 + w.id_size) a.values []
       (fields_in packed_front (raw a.values ∷ []) (in_sight e h) refl (omega arith))
 
--- how many bytes they are, as the view says it
+-- the number of bytes of the values, by the view
 pub packed_size : {v : Sight} {at count type size : ℕ} {a : PrimitiveArray} → Stands v at (primitive_array_dump a)
     → count ≡ a.count → type ≡ a.type → size ≡ size_of v.id_size type → count * size ≡ length a.values
 packed_size {v} h counted typed sized = rw (counted, sized, typed) (sym h.is.formed.sizes)
 
 -- ---- classes
 
--- the fields before an identifier behind the stack trace
+-- the fields before identifier n of those after the stack trace, counted from 0
 abbrev before_id : ℕ → Class → ℕ → List Field
 before_id s c n = number s c.object ∷ number 4 c.stack ∷ map (number s) (take n (ids_behind_stack c))
 

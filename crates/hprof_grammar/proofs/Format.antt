@@ -1,4 +1,4 @@
--- Formats: values, the fields that spell them, and the reading of them, each with the laws that join the three.
+-- Formats: values, the fields that spell them, and how they are read, with the laws that join the three.
 use Rattle.hprof_grammar.proofs.Words.{AreAllowed, Bool, Err, Field, Flaw, List, Ok, Result, Short, TypePlace}
 use Rattle.hprof_grammar.proofs.Words.{UnknownTag, WrongType, [], ap, arith, big_bytes, big_number}
 use Rattle.hprof_grammar.proofs.Words.{big_number-reads_back, drop, false, if◌then◌else◌, inl, inr, is_type_at, le-ltb}
@@ -10,18 +10,18 @@ use Rattle.hprof_grammar.proofs.Bytes.{IsBytes, behind_bytes, behind_number, byt
 use Rattle.hprof_grammar.proofs.Bytes.{number-lt, number_parts, zeros-bytes}
 use Rattle.hprof_grammar.proofs.Fields.{Breaks, Spoils, breaks_here, breaks_one, spelled_one}
 
--- the value was spelled by the bytes, up to the rest
+-- the bytes are the spelling of `value`, and then `rest`
 pub record Taken {A : Type 0} (IsWell : A → Type 0) (fields : A → List Field) (bytes : List ℕ) (value : A)
     (rest : List ℕ) : Type 0 where
   pub well : IsWell value
   pub allowed : AreAllowed (fields value)
   pub bytes_are : bytes ≡ spelled (fields value) ++ rest
 
--- The reading gives just the values that are spelled, and a flaw just where the fields of a value break off.
--- IsWell says of a value what the types of its fields do not, but for type codes, which may be any.
+-- Reading returns exactly the values that are spelled, and a flaw exactly if the fields of a value break off. IsWell
+-- says what the types of a value's fields do not say, except that type codes may be any.
 pub record IsFormat {A : Type 0} (IsWell : A → Type 0) (fields : A → List Field)
     (read : List ℕ → Result (A × List ℕ) Flaw) : Type 0 where
-  -- some value: what follows a flaw may be anything
+  -- some value, since anything may follow a flaw
   pub sample : A
   pub sample_well : IsWell sample
   pub takes : (bytes : List ℕ) (z : A × List ℕ) → IsBytes bytes → read bytes ≡ Ok z → Taken IsWell fields bytes z.0 z.1
@@ -40,7 +40,7 @@ ok_same x y e = cc
 err_same : {X E : Type 0} (x y : E) → ◌≡◌ {A = Result X E} (Err x) (Err y) → x ≡ y
 err_same x y e = cc
 
--- a step that gave something came behind one that did
+-- if the second of two steps returned a value, so did the first
 pub bind_ok : {A B : Type 0} (r : Result A Flaw) (f : A → Result B Flaw) (y : B) → r >>= f ≡ Ok y → (x : A)
     × (r ≡ Ok x) × (f x ≡ Ok y)
 bind_ok (Ok x) f y e = (x, refl, e)
@@ -51,7 +51,7 @@ pub bind_err : {A B : Type 0} (r : Result A Flaw) (f : A → Result B Flaw) (fla
 bind_err (Ok x) f flaw e = inr (x, refl, e)
 bind_err {B = B} (Err z) f flaw e = inl (ap Err (err_same {X = B} z flaw e))
 
--- a flaw is that of the first step, where the second gives something
+-- if the second step always returns a value, a flaw is that of the first
 pub map_err : {A B : Type 0} (r : Result A Flaw) (f : A → B) (flaw : Flaw)
     → ◌≡◌ {A = Result B Flaw} (r >>= λ x. Ok (f x)) (Err flaw) → r ≡ Err flaw
 map_err (Ok x) f flaw e = absurd (cc)
@@ -100,7 +100,7 @@ number_takes w bytes z h e =
           ∙ sym (spelled_one (number w (big_number w bytes)) (drop w bytes));
     })
 
--- bytes that are too few, and zeros up to n
+-- the bytes, and zeros up to n bytes if they are fewer
 abbrev filled : ℕ → List ℕ → List ℕ
 filled n bytes = bytes ++ replicate (n - length bytes) 0
 
@@ -143,7 +143,7 @@ number_format w = record {
   fails_again = λ x bytes flaw h b. number_fails_again w x bytes flaw (breaks_one flaw (number w x) bytes b);
 }
 
--- ---- bytes that stand for themselves
+-- ---- bytes that spell themselves
 
 raw_whole : (n : ℕ) (bytes : List ℕ) → n ≤ length bytes → raw_at n bytes ≡ Ok (take n bytes, drop n bytes)
 raw_whole n bytes h = rw (le-ltb (length bytes) n h) refl

@@ -1,4 +1,5 @@
--- A sub-record is formed just where it keeps the bounds by the names of its parts: its fields are gone through once.
+-- A sub-record is formed exactly if it keeps the bounds by the names of its parts. The proof goes through the fields
+-- once, for all others.
 use Rattle.hprof_grammar.proofs.Words.{AllByRecursion, Class, Constant, Field, Fits, HasBounds, HasSizes, IsClass}
 use Rattle.hprof_grammar.proofs.Words.{IsConstant, IsFormed, IsMember, IsOrigin, IsStatic, List, Member, RootOrigin}
 use Rattle.hprof_grammar.proofs.Words.{Static, SubRecord, [], class_dump, class_fields, constant_fields, counted_fields}
@@ -85,7 +86,7 @@ bounds {s} {sub} formed = bounds_of s sub formed.numbers formed.sizes
 
 -- ---- from the bounds to the fields
 
--- the fields of each thing in a list
+-- the fields of each element of a list fit
 each_fit : {X : Type 0} (fields : X → List Field) (Is : X → Type 0)
     → ((x : X) → Is x → AllByRecursion Fits (fields x)) → (xs : List X) → AllByRecursion Is xs
     → AllByRecursion Fits (flat_map fields xs)

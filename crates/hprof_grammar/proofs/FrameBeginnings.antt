@@ -1,4 +1,4 @@
--- Headers and frames of records that begin one text.
+-- Texts that begin with a header or with the frame of a record.
 use Rattle.hprof_grammar.proofs.Words.{List, RunsPastEnd, [], ap, append-nil, append_assoc, arith, big_bytes, framed}
 use Rattle.hprof_grammar.proofs.Words.{header, is_id_size, length, length-append, length-bytes_high_first, magic, refl}
 use Rattle.hprof_grammar.proofs.Words.{sym, true, ℕ, ◌++◌, ◌+◌, ◌<◌, ◌^◌, ◌∙◌, ◌∷◌, ◌≡◌}
@@ -19,7 +19,7 @@ length-framed tag time body after =
       length-bytes_high_first 4 (length body),
     )
 
--- the parts of a frame are known from a text that begins with it
+-- two frames that begin the same text have the same parts
 pub record SameFrame (tag time : ℕ) (body after : List ℕ) (tag_too time_too : ℕ)
     (body_too after_too : List ℕ) : Type 0 where
   pub tags : tag ≡ tag_too
@@ -48,7 +48,7 @@ module _ (tag time : ℕ) (body after : List ℕ) (tag_too time_too : ℕ) (body
       let bodies = same_front (length body_too) body body_too after after_too sizes.0 refl sizes.1 in
       record { tags = cc; times = times.0; bodies = bodies.0; afters = bodies.1 }
 
--- a record that runs past the end is no whole frame
+-- a record that runs past the end of the text is no whole frame
 pub cut_or_whole : (rest : List ℕ) (tag time : ℕ) (body after : List ℕ) → length body < 256 ^ 4
     → rest ≡ framed tag time body ++ after → RunsPastEnd rest → ⊥
 cut_or_whole rest tag time body after h e cut =
@@ -73,7 +73,7 @@ pub header_parts : (s time : ℕ) (rest : List ℕ)
 header_parts s time rest = append_assoc magic (big_bytes 4 s ++ big_bytes 8 time) rest
     ∙ ap (λ (l : List ℕ). magic ++ l) (append_assoc (big_bytes 4 s) (big_bytes 8 time) rest)
 
--- the size of identifiers is known from the text, and so is what stands behind it
+-- two headers that begin the same text have the same size of identifiers, and are followed by the same bytes
 pub same_size : (s s_too : ℕ) (rest more : List ℕ) → s < 256 ^ 4 → s_too < 256 ^ 4
     → magic ++ (big_bytes 4 s ++ rest) ≡ magic ++ (big_bytes 4 s_too ++ more) → (s ≡ s_too) × (rest ≡ more)
 same_size s s_too rest more h k e =

@@ -1,4 +1,4 @@
--- What stands in the frame of a record, by its tag.
+-- What the frame of a record has in it, by its tag.
 use Rattle.hprof_grammar.proofs.Words.{AddsRecord, AddsSubs, Bool, FormatFault, FrameFault, HasSubFault, IsAt, IsOther}
 use Rattle.hprof_grammar.proofs.Words.{List, SnapshotState, Places, [], ap, append-nil, arith, big_bytes, big_number}
 use Rattle.hprof_grammar.proofs.Words.{drop, drop_of_length-le, heap, is_heap_tag, is_length_of, length, load_class}
@@ -9,7 +9,7 @@ use Rattle.hprof_grammar.proofs.Bytes.{IsBytes, bytes-drop, in_bytes, number-lt,
 use Rattle.hprof_grammar.proofs.SnapshotOrderLaws.{at_goes_on}
 use Rattle.hprof_grammar.proofs.TableLaws.{load_length, string_length}
 
--- what is known of a frame whose tag, length and order are right
+-- a frame whose tag, length and order are allowed
 pub record IsPlacedFrame (tag : ℕ) (body : List ℕ) (was next : SnapshotState) (old : Places) : Type 0 where
   pub bytes : IsBytes body
   pub length_allowed : is_length_of old.id_size tag (length body) ≡ true
@@ -25,7 +25,7 @@ placed_frame {tag} {body} bytes size test passed order = record {
   order = order;
 }
 
--- the w bytes that stand at a place of a body, as the bytes of their number
+-- the w bytes at place `at` of a body, as the bytes of their number
 abbrev spelled_at : List ℕ → ℕ → ℕ → List ℕ
 spelled_at body at w = big_bytes w (big_number w (drop at body))
 
@@ -41,7 +41,7 @@ four_numbers s body h e =
     ∙ ap (λ (l : List ℕ). spelled_at body (4 + s) 4 ++ l) (number_stands (4 + s + 4) s body h (omega arith)
     ∙ ap (λ (l : List ℕ). spelled_at body (4 + s + 4) s ++ l) last ∙ append-nil (spelled_at body (4 + s + 4) s)))))
 
--- ---- what its tag says stands in such a frame
+-- ---- the contents of an allowed frame, by its tag
 
 module _ {at tag time : ℕ} {body : List ℕ} {was next : SnapshotState} {old : Places}
     (frame : IsPlacedFrame tag body was next old) where

@@ -1,4 +1,4 @@
--- The frame of a record: what is read was spelled, what is spelled is read, and where none is read the record runs
+-- The frame of a record: what is read was spelled, what is spelled is read, and if no frame can be read the record runs
 -- past the end.
 use Rattle.hprof_grammar.proofs.Words.{EndsShort, Err, Field, Flaw, List, Ok, RunsPastEnd, Short, TypePlace, UnknownTag}
 use Rattle.hprof_grammar.proofs.Words.{WrongType, [], ap, append-nil, append_assoc, arith, big_bytes, block_at, framed}
@@ -10,7 +10,7 @@ use Rattle.hprof_grammar.proofs.Fields.{Breaks, ends_short, has_wrong_type, spel
 use Rattle.hprof_grammar.proofs.Format.{IsFormat, bind_ok, map_err, number_format, ok_same, raw_format}
 use Rattle.hprof_grammar.proofs.Combined.{as_format, pair_format}
 
--- ---- what stands behind the tag: a time, a length, and so many bytes
+-- ---- after the tag: a time, a length, and a body of that length
 
 abbrev HasRoom : ℕ × List ℕ → Type 0
 HasRoom p = (p.0 < 256 ^ 4) × (length p.1 < 256 ^ 4)
@@ -39,7 +39,7 @@ frame_spelled tag time body rest =
 
 -- ---- the three laws
 
--- the bytes are a frame, up to the rest
+-- the bytes are a frame, and then `rest`
 pub record FrameTaken (bytes : List ℕ) (tag time : ℕ) (body rest : List ℕ) : Type 0 where
   pub time_fits : time < 256 ^ 4
   pub length_fits : length body < 256 ^ 4
@@ -69,7 +69,7 @@ no_types (x ∷ y ∷ []) place code more e = cc
 no_types (x ∷ y ∷ z ∷ fs) place code more e =
     omega (arith, ap length e, length-append fs (type_code place code ∷ more))
 
--- the fields go on behind the bytes that end short
+-- the spelling of the fields goes on after bytes that end short
 cut_spelling : (fields : List Field) (rest : List ℕ) (s : EndsShort fields rest)
     → spelled fields ≡ rest ++ (s.missing ++ spelled s.more)
 cut_spelling fields rest s =
@@ -98,7 +98,7 @@ runs_past tag rest p Short room b =
       not_whole = omega (arith, length-append s.missing (spelled s.more), s.not_whole);
     }
 
--- where bytes are left and no frame is read, the record runs past the end
+-- if bytes remain and no frame can be read, the record runs past the end
 pub cut_record : {rest : List ℕ} {flaw : Flaw} → 0 < length rest → IsBytes rest → frame_at rest ≡ Err flaw
     → RunsPastEnd rest
 unfolding frame_at

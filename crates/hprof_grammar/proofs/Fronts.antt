@@ -1,14 +1,14 @@
--- Lists of spellings that begin one text: if no spelling begins another, then one list goes on where the other ends.
+-- Lists whose spellings begin the same text: if no spelling begins another, one list continues the other.
 use Rattle.hprof_grammar.proofs.Words.{AllByRecursion, List, [], ap, append-nil, append_assoc, arith, flat_map, inl}
 use Rattle.hprof_grammar.proofs.Words.{inr, length, length-append, refl, sym, ℕ, ◌++◌, ◌<◌, ◌∙◌, ◌∷◌, ◌≡◌, ◌≤◌, ◌⊎◌}
 use Rattle.hprof_grammar.proofs.Fields.{all_split}
 
--- no spelling of these begins another's
+-- no spelling begins the spelling of another value
 abbrev pub IsDetermined : {A : Type 0} → (A → List ℕ) → (A → Type 0) → Type 0
 IsDetermined {A = A} spell Is = (x y : A) (rest more : List ℕ) → Is x → Is y → spell x ++ rest ≡ spell y ++ more
     → (x ≡ y) × (rest ≡ more)
 
--- ys are xs and then some more, and the text of those stands behind xs
+-- ys are xs and then more elements, whose text is the beginning of `rest`
 abbrev pub GoesOn : {A : Type 0} → (A → List ℕ) → List A → List A → List ℕ → List ℕ → Type 0
 GoesOn {A = A} spell xs ys rest more = (zs : List A) × (ys ≡ xs ++ zs) × (rest ≡ flat_map spell zs ++ more)
 
@@ -27,7 +27,7 @@ module _ {A : Type 0} (spell : A → List ℕ) (Is : A → Type 0) (determined :
         | inr g ↦ inr (g.0, rw (d.0, g.1) refl, g.2)
       ]
 
-  -- what goes on with no more elements ends at the same place
+  -- a list that goes on with no more elements ends at the same place
   goes_nowhere : (xs ys : List A) (rest more : List ℕ) → length ys ≤ length xs → GoesOn spell xs ys rest more
       → (ys ≡ xs) × (rest ≡ more)
   goes_nowhere xs ys rest more h g = none g.0 g.1 g.2 where
@@ -35,7 +35,7 @@ module _ {A : Type 0} (spell : A → List ℕ) (Is : A → Type 0) (determined :
     none [] e k = (e ∙ append-nil xs, k)
     none (z ∷ zs) e k = absurd (omega (arith, ap length e, length-append xs (z ∷ zs)))
 
-  -- lists of one length that begin one text
+  -- lists of one length that begin the same text are equal
   pub same_fronts : (xs ys : List A) (rest more : List ℕ) → length xs ≡ length ys → AllByRecursion Is xs
       → AllByRecursion Is ys → flat_map spell xs ++ rest ≡ flat_map spell ys ++ more → (xs ≡ ys) × (rest ≡ more)
   same_fronts xs ys rest more n h k e = elim (fronts xs ys rest more h k e) [
@@ -43,7 +43,7 @@ module _ {A : Type 0} (spell : A → List ℕ) (Is : A → Type 0) (determined :
     | inr g ↦ let s = goes_nowhere ys xs more rest (omega arith) g in (s.0, sym s.1)
   ]
 
-  -- where nothing goes on, no other list is longer
+  -- if no element can follow xs, no other list is longer
   pub longest_front : (xs ys : List A) (rest more : List ℕ) → AllByRecursion Is xs → AllByRecursion Is ys
       → ((z : A) (left : List ℕ) → Is z → rest ≡ spell z ++ left → ⊥)
       → flat_map spell xs ++ rest ≡ flat_map spell ys ++ more → length ys ≤ length xs
@@ -57,7 +57,7 @@ module _ {A : Type 0} (spell : A → List ℕ) (Is : A → Type 0) (determined :
         let all = all_split Is xs (z ∷ zs) (rw p at k) in
         absurd (stops z (flat_map spell zs ++ more) all.1.0 (q ∙ append_assoc (spell z) (flat_map spell zs) more))
 
-  -- the same text is spelled by one list
+  -- a text is spelled by at most one list
   pub same_list : ((x : A) → 0 < length (spell x)) → (xs ys : List A) → AllByRecursion Is xs → AllByRecursion Is ys
       → flat_map spell xs ≡ flat_map spell ys → xs ≡ ys
   same_list some xs ys h k e = elim

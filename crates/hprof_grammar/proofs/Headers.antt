@@ -1,5 +1,5 @@
--- The header of a dump: a text that has it, what is wrong with one that has not, and what the records behind it make of
--- the text.
+-- The header of a dump: a text that has it, the fault of a text that has none, and the result of reading the records
+-- after it.
 use Rattle.hprof_grammar.proofs.Words.{AddsAll, Bool, Decides-eqb, FirstFault, FormatFault, HasHeader, HasMagic}
 use Rattle.hprof_grammar.proofs.Words.{HasRecordFault, IsDumpOf, List, Places, [], ap, append-nil, arith, bad_id_size}
 use Rattle.hprof_grammar.proofs.Words.{big_bytes, big_number, drop, false, header, in_records, is_id_size, length}
@@ -11,7 +11,7 @@ use Rattle.hprof_grammar.proofs.SnapshotOrderLaws.{done_is_orderly}
 
 -- ---- the text of the header
 
--- what the test of a text's first bytes says
+-- if the test of its first bytes is true, a text begins with the magic bytes
 pub begins_with_magic : (text : List ℕ) (r : Bool) → r ≡ starts_with nat_eq text magic → r ≡ true
     → text ≡ magic ++ drop 19 text
 begins_with_magic text r e = (starts_is Decides-eqb text magic r e).0
@@ -19,7 +19,7 @@ begins_with_magic text r e = (starts_is Decides-eqb text magic r e).0
 pub magic_is_found : (text : List ℕ) (r : Bool) → r ≡ starts_with nat_eq text magic → HasMagic text → r ≡ true
 magic_is_found text r e h = (starts_is Decides-eqb text magic r e).1 h.0 h.1
 
--- ---- the numbers behind it
+-- ---- the numbers after the magic bytes
 
 pub header_stands : (s : ℕ) (text : List ℕ) → IsBytes text → length text ≤ limit → 31 ≤ length text
     → text ≡ magic ++ drop 19 text → s ≡ big_number 4 (drop 19 text) → is_id_size s ≡ true → HasHeader s text
@@ -45,7 +45,7 @@ id_size_wrong s text bytes size room begins is wrong =
     let fits : s < 256 ^ 4 = rw is (number-lt 4 (drop 19 text) (bytes-drop 19 text bytes)) in
     bad_id_size s (drop 23 text) size room fits (begins ∙ ap (λ back. magic ++ back) sizes) wrong
 
--- ---- the records behind the header
+-- ---- the records after the header
 
 pub dump_read : (text : List ℕ) (s : ℕ) (new : Places) → HasHeader s text → AddsAll (drop 31 text) (nothing_of s) new
     → IsDumpOf text new

@@ -45,12 +45,12 @@ placed_more s at (y ∷ subs) x =
     ap (λ (l : List (ℕ × SubRecord)). (at, y) ∷ l) (placed_more s (at + length (spelling_of s y)) subs x
     ∙ ap (λ (n : ℕ). placed_subs s (at + length (spelling_of s y)) subs ++ (n, x) ∷ []) e)
 
--- what the tag of a sub-record says
+-- a sub-record is noted by the kind that its tag says
 kind_noted : (x : SubRecord) (p : Places) (at : ℕ) → noted p (sub_kind x) at ≡ with_subs p at (x ∷ [])
 kind_noted (root r) p at = rw (append-nil p.objects) refl
 kind_noted x p at = rw (append-nil p.roots) refl
 
--- ---- the loop over the sub-records, where these have come: at each turn, and at a flaw
+-- ---- the loop over the sub-records, after it has noted `adds.subs`: at each turn, and at a flaw
 
 module _ {at : ℕ} {body rest : List ℕ} {old new : Places} (adds : AddsSubs at body rest old new) where
   abbrev come : List ℕ
@@ -65,7 +65,7 @@ module _ {at : ℕ} {body rest : List ℕ} {old new : Places} (adds : AddsSubs a
   reached_is : reached ≡ at + length come
   reached_is = omega (arith, ap length adds.parts, length-append come rest)
 
-  -- one more that stands behind them
+  -- one more sub-record that follows them
   pub step_more : {left : List ℕ} {x : SubRecord} → IsSubRecord old.id_size x
       → rest ≡ spelling_of old.id_size x ++ left → AddsSubs at body left old (noted new (sub_kind x) reached)
   step_more {left} {x} is here =

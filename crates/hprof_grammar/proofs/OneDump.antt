@@ -1,4 +1,4 @@
--- A text spells at most one dump: a record is known from its spelling, and so is the list of records.
+-- A text spells at most one dump: a record is determined by its spelling, and so is the list of records.
 use Rattle.hprof_grammar.proofs.Words.{AllByRecursion, HasParts, IsDumpOf, IsRecord, IsSubRecord, List, Places, Record}
 use Rattle.hprof_grammar.proofs.Words.{Spells, SubRecord, [], ap, append-nil, arith, big_bytes, body_of, false, heap}
 use Rattle.hprof_grammar.proofs.Words.{is_heap_tag, length, load_class, other, places_of, record_spelling, refl}
@@ -29,7 +29,7 @@ module _ (s serial class stack name serial_too class_too stack_too name_too : �
 sub_some : (s : ℕ) (x : SubRecord) → 0 < length (spelling_of s x)
 sub_some s x = omega arith
 
--- the tag, the time and the body make the record
+-- tag, time and body determine the record
 one_record : (s : ℕ) (x y : Record) → HasParts s x → HasParts s y → tag_of x ≡ tag_of y → time_of x ≡ time_of y
     → body_of s x ≡ body_of s y → x ≡ y
 one_record s (string t id text) (string u id_too text_too) h k tags times e =
@@ -62,7 +62,7 @@ one_record s (other tag t body) (load_class u serial class stack name) h k tags 
 one_record s (other tag t body) (heap tag_too u subs) h k tags times e =
     absurd (let no_heap : is_heap_tag tag_too ≡ false = rw (← tags) h.2 in let is = k.0 in cc)
 
--- no spelling of a record begins another's
+-- no spelling of a record begins that of another
 pub records_determined : (s : ℕ) → IsDetermined (record_spelling s) (IsRecord s)
 records_determined s x y rest more h k e =
     let f = same_frame (tag_of x) (time_of x) (body_of s x) rest (tag_of y) (time_of y)
@@ -73,13 +73,13 @@ records_determined s x y rest more h k e =
 record_some : (s : ℕ) (x : Record) → 0 < length (record_spelling s x)
 record_some s x = omega arith
 
--- one list of records is spelled by a text
+-- a text is spelled by at most one list of records
 same_records : (s : ℕ) (xs ys : List Record) → AllByRecursion (IsRecord s) xs → AllByRecursion (IsRecord s) ys
     → spellings s xs ≡ spellings s ys → xs ≡ ys
 same_records s xs ys h k e = same_list (record_spelling s) (IsRecord s) (records_determined s)
     (record_some s) xs ys h k e
 
--- a text spells one list of records, with identifiers of one size
+-- a text spells at most one list of records, with one size of identifiers
 pub one_list : (text : List ℕ) (s s_too : ℕ) (xs ys : List Record) → Spells text s xs → Spells text s_too ys
     → (s ≡ s_too) × (xs ≡ ys)
 one_list text s s_too xs ys h k =

@@ -14,13 +14,13 @@ use Rattle.hprof_grammar.proofs.OneDump.{records_determined}
 use Rattle.hprof_grammar.proofs.SubRecords.{one_sub_fault}
 use Rattle.hprof_grammar.proofs.TableLaws.{heap_length, is_id_size-lt}
 
--- ---- what is wrong behind the records
+-- ---- what is wrong after the records
 
 -- two faults have the same code and the same place
 abbrev Agree : ℕ → ℕ → ℕ → ℕ → Type 0
 Agree code place code_too place_too = (code ≡ code_too) × (place ≡ place_too)
 
--- no frame stands at the end
+-- there is no frame at the end
 no_frame : (tag time : ℕ) (body after : List ℕ) → [] ≡ framed tag time body ++ after → ⊥
 no_frame tag time body after e = omega (arith, ap length e, length-framed tag time body after)
 
@@ -91,7 +91,7 @@ one_longest_records {s} {records = records} {records_too} {rest} {rest_too} h k 
     same_fronts (record_spelling s) (IsRecord s) (records_determined s) records records_too rest rest_too
     (omega arith) h.each k.each (sym h.parts ∙ k.parts)
 
--- a list of records that is the whole text is the longest
+-- an orderly list of records that spells all the bytes is the longest
 whole_is_longest : (s : ℕ) (records : List Record) → AllByRecursion (IsRecord s) records
     → IsOrderly (map tag_of records) → LongestRecords s (spellings s records) records []
 whole_is_longest s records each orderly = record {
@@ -104,7 +104,7 @@ whole_is_longest s records each orderly = record {
       (append-nil (spellings s records) ∙ e);
 }
 
--- behind a whole list nothing is wrong
+-- nothing is wrong after an orderly list that spells all the bytes
 no_fault_behind : {s at : ℕ} {records : List Record} {rest : List ℕ} {code place : ℕ} → rest ≡ []
     → IsOrderly (map tag_of records) → RecordFault s records at rest code place → ⊥
 no_fault_behind e orderly (no_snapshot h) = h orderly
@@ -122,7 +122,7 @@ header_whole : (s time : ℕ) (text rest : List ℕ) → text ≡ header s time 
 header_whole s time text rest e h =
     omega (arith, h, ap length e, length-append (header s time) rest, length-header s time)
 
--- a size of identifiers that is not allowed stands in no header
+-- a header has no size of identifiers that is not allowed
 module _ (s s_too time : ℕ) (text rest body : List ℕ) where
   bad_size_there : s < 256 ^ 4 → is_id_size s ≡ false
       → text ≡ magic ++ (big_bytes 4 s ++ rest) → is_id_size s_too ≡ true → text ≡ header s_too time ++ body → ⊥

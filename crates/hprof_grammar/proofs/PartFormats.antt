@@ -124,7 +124,7 @@ primitive_array_format s = as_format
       back = λ a h. refl;
     })
 
--- roots: an object; and a number; and two of 4 bytes
+-- roots: an object; an object and a number; an object and two numbers of 4 bytes
 
 pub two_numbers : (a b : ℕ) → IsFormat (λ (p : ℕ × ℕ). (p.0 < 256 ^ a) × (p.1 < 256 ^ b))
     (λ p. number a p.0 ∷ number b p.1 ∷ []) (numbers_at a b)

@@ -1,4 +1,4 @@
--- Parts that are joined one behind another.
+-- Parts that are joined one after another.
 use Rattle.hprof_grammar.proofs.Words.{AddsAll, AddsRecords, AddsRecordsFrom, Before, Bool, IsReadPart, List}
 use Rattle.hprof_grammar.proofs.Words.{SnapshotState, Part, Places, Seam, [], ap, arith, drop, drop-drop}
 use Rattle.hprof_grammar.proofs.Words.{drop_of_length-le, eqb, eqb-true, false, is_done, length, length-drop, not}
@@ -11,14 +11,14 @@ both_hold true true e = (refl, refl)
 both_hold true false e = absurd (cc)
 both_hold false y e = absurd (cc)
 
--- what the test of two seams says
+-- the test of two seams is false only if they are equal
 pub same_seam : (a b : Seam) → not (eqb a.place b.place && sameb the_type a.order b.order) ≡ false → a ≡ b
 same_seam a b e =
     let same = both_hold (eqb a.place b.place) (sameb the_type a.order b.order) e in
     ap (λ (n : ℕ). record { place = n; order = a.order }) (eqb-true a.place b.place same.0)
     ∙ ap (λ (o : SnapshotState). record { place = b.place; order = o }) (same_true the_type tt a.order b.order same.1)
 
--- the records behind the header and up to a seam have joined
+-- the records after the header and before the seam have joined
 pub record Reaches (text : List ℕ) (s : ℕ) (seam : Seam) (dump : Places) : Type 0 where
   pub behind : 31 ≤ seam.place
   pub fits : seam.place < 2 ^ 32
@@ -58,7 +58,7 @@ part_joins {A} {text} {s} {seam} {dump} {newer} part was is begins e room =
           (arith, length-drop 31 text, length-drop from text, here.behind, is.forward, is.within)));
     }
 
--- where they reach the end and the snapshot has its own, they are all
+-- if they reach the end and the snapshot is complete, they are all records
 pub all_joined : {text : List ℕ} {s : ℕ} {seam : Seam} {dump : Places} → Reaches text s seam dump
     → seam.place ≡ length text → is_done seam.order ≡ true → AddsAll (drop 31 text) (nothing_of s) dump
 all_joined {text} {s} {seam} {dump} reaches end done = (

@@ -1,4 +1,4 @@
--- Bytes that stand at a place, and what is read there.
+-- Bytes at a place, and what is read there.
 use Rattle.hprof_grammar.proofs.Words.{AllByRecursion, Field, Fits, List, Sight, Some, Stands, SubRecord}
 use Rattle.hprof_grammar.proofs.Words.{SubRecordStandsAt, [], ap, append_assoc, arith, big_bytes, big_number}
 use Rattle.hprof_grammar.proofs.Words.{big_number-reads_back, drop, drop-append_seam, drop-drop, field_spelling}
@@ -10,13 +10,13 @@ use Rattle.hprof_grammar.specs.SubRecord.{tag_of}
 use Rattle.hprof_grammar.proofs.Fields.{all_split, spelled-append}
 use Rattle.hprof_grammar.proofs.TableLaws.{kind_says}
 
--- from that place on stand these bytes
+-- the bytes from `at` on begin with xs
 pub record Spell (bytes : List ℕ) (at : ℕ) (xs : List ℕ) : Type 0 where
   pub inside : at + length xs ≤ length bytes
   pub rest : List ℕ
   pub bytes_are : drop at bytes ≡ xs ++ rest
 
--- one byte or more, so the place is inside
+-- the bytes are at least one, so the place is inside
 pub some_stand : (bytes : List ℕ) (at x : ℕ) (xs rest : List ℕ) → drop at bytes ≡ x ∷ xs ++ rest
     → Spell bytes at (x ∷ xs)
 some_stand bytes at x xs rest e = record {
@@ -46,7 +46,7 @@ next_stands bytes at xs ys h = record {
 pub raw_read : (bytes : List ℕ) (at : ℕ) (xs : List ℕ) → Spell bytes at xs → take (length xs) (drop at bytes) ≡ xs
 raw_read bytes at xs h = ap (take (length xs)) h.bytes_are ∙ take-append_seam xs h.rest
 
--- a number of w bytes stands at that place
+-- the number n, of w bytes, is at place `at`
 pub record NumberAt (bytes : List ℕ) (at w n : ℕ) : Type 0 where
   pub room : at + w ≤ length bytes
   pub value : big_number w (drop at bytes) ≡ n
@@ -57,7 +57,7 @@ number_read bytes at w n fits h = record {
   value = ap (big_number w) h.bytes_are ∙ big_number-reads_back w n h.rest fits;
 }
 
--- a byte stands at that place
+-- the byte n is at place `at`
 pub record ByteAt (bytes : List ℕ) (at n : ℕ) : Type 0 where
   pub room : at < length bytes
   pub value : slice_index bytes at ≡ n
@@ -69,7 +69,7 @@ byte_read bytes at n xs h = record {
       ∙ ap (λ (l : List ℕ). slice_index l 0) h.bytes_are;
 }
 
--- ---- fields, one after the other
+-- ---- fields, one after another
 
 abbrev pub width_of : Field → ℕ
 width_of (number width value) = width
@@ -95,11 +95,11 @@ pub sub_stands : (s : ℕ) (bytes : List ℕ) (at : ℕ) (sub : SubRecord) → S
     → Spell bytes at (spelling_of s sub)
 sub_stands s bytes at sub h = some_stand bytes at (tag_of sub) (spelled (fields_of s sub)) h.rest h.bytes_are
 
--- what stands in sight of the fields of a view
+-- if a view has a sub-record at a place, the view's fields have it there too
 pub in_sight : {v w : Sight} {at : ℕ} {sub : SubRecord} → w ≡ v → Stands v at sub → Stands w at sub
 in_sight {v} {w} {at} {sub} e h = subst (λ (x : Sight). Stands x at sub) (sym e) h
 
--- the byte of the tag stands there, and says the kind
+-- the tag's byte is at the sub-record's place, and says its kind
 pub record TagAt (bytes : List ℕ) (at : ℕ) (sub : SubRecord) : Type 0 where
   pub tag : ByteAt bytes at (tag_of sub)
   pub says : kind_of (slice_index bytes at) ≡ Some (sub_kind sub)
@@ -111,7 +111,7 @@ tagged {w = w} {at = at} {sub = sub} e h =
     record { tag = there; says = ap kind_of there.value ∙ kind_says sub }
 
 module _ {s at place : ℕ} {bytes : List ℕ} {sub : SubRecord} (front : List Field) where
-  -- behind the tag and the first fields stand the others
+  -- the other fields follow the tag and the first fields
   pub fields_in : (more : List Field) → SubRecordStandsAt s bytes at sub → fields_of s sub ≡ front ++ more
       → place ≡ at + (1 + widths front) → Spell bytes place (spelled more)
   fields_in more h are place_is =
@@ -124,7 +124,7 @@ module _ {s at place : ℕ} {bytes : List ℕ} {sub : SubRecord} (front : List F
       subst (λ (n : ℕ). Spell bytes n (spelled more)) there
       (next_stands bytes at (tag ∷ spelled front) (spelled more) parted)
 
-  -- a number among them: it fits its bytes, as all fields do
+  -- a number among them fits its bytes, as all fields do
   pub number_in : {w n : ℕ} (more : List Field) → SubRecordStandsAt s bytes at sub
       → fields_of s sub ≡ front ++ number w n ∷ more → place ≡ at + (1 + widths front) → NumberAt bytes place w n
   number_in {w} {n} more h are place_is =

@@ -1,4 +1,4 @@
--- The loop over the records: before it, and at each turn. Records that were read by themselves join those before them.
+-- The loop over the records: before it, and at each turn. Records that were read separately join those before them.
 use Rattle.hprof_grammar.proofs.Words.{AddsRecord, AddsRecordsFrom, AllByRecursion, IsAt, IsRecord, List, SnapshotState}
 use Rattle.hprof_grammar.proofs.Words.{Places, Record, [], ap, append-nil, append_assoc, arith, filter-append}
 use Rattle.hprof_grammar.proofs.Words.{flat_map-append, framed, length, length-append, map, map-append, nothing_of}
@@ -19,13 +19,13 @@ placed_join s at (q ∷ xs) ys =
     ap (λ (l : List (ℕ × Record)). (at, q) ∷ l) (placed_join s (at + length (record_spelling s q)) xs ys
     ∙ ap (λ (n : ℕ). placed s (at + length (record_spelling s q)) xs ++ placed s n ys) e)
 
--- the places of the records that stand behind these
+-- the places of the records that follow xs
 joined_places : (p : Places) (at : ℕ) (xs ys : List Record) (place : ℕ) → place ≡ at + length (spellings p.id_size xs)
     → with_records p at (xs ++ ys) ≡ with_records (with_records p at xs) place ys
 joined_places p at xs ys place e =
     rw e (simp (placed_join, flat_map-append, filter-append, map-append, append_assoc))
 
--- one record adds what a list of one record does
+-- adding one record is adding a list of one record
 one_alone : (p : Places) (at : ℕ) (r : Record) → with_records p at (r ∷ []) ≡ with_record p at r
 one_alone p at r = rw (append-nil (placed_subs p.id_size (at + 9) (subs_of r))) refl
 
@@ -42,7 +42,7 @@ records_begin {before = before} bytes p = record {
 }
 
 module _ {at : ℕ} {was next : SnapshotState} {rest left : List ℕ} where
-  -- records that stand behind those that have come join them
+  -- the records that were read after the others join them
   pub records_join : {begin : ℕ} {before : SnapshotState} {bytes : List ℕ} {old new newer : Places}
       → AddsRecordsFrom begin before bytes rest was old new → AddsRecordsFrom at was rest left next new newer
       → at ≡ begin + (length bytes - length rest) → AddsRecordsFrom begin before bytes left next old newer
@@ -67,7 +67,7 @@ module _ {at : ℕ} {was next : SnapshotState} {rest left : List ℕ} where
             ∙ sym (joined_places old begin xs ys at there);
       }
 
-  -- a record whose frame stands here is a list of one record
+  -- a record whose frame begins here is a list of one record
   pub one_record : {body : List ℕ} {old new : Places} {tag time : ℕ} → FrameTaken rest tag time body left
       → AddsRecord at tag time body was next old new → AddsRecordsFrom at was rest left next old new
   one_record {body} {old = old} {tag = tag} {time} frame one =
@@ -88,7 +88,7 @@ module _ {at : ℕ} {was next : SnapshotState} {rest left : List ℕ} where
         joined = one.joined ∙ sym (one_alone old at one.is);
       }
 
-  -- records that were read by themselves, with nothing before them, add what they add to places that are there
+  -- records that were read separately, with nothing before them, add the same to places that were noted before
   pub read_apart : {body : List ℕ} {more : Places} (p : Places)
       → AddsRecordsFrom at was body [] next (nothing_of p.id_size) more → rest ≡ body ++ left
       → AddsRecordsFrom at was rest left next p (with_places p more)

@@ -7,7 +7,7 @@ use Rattle.hprof_grammar.proofs.Words.{◌++◌, ◌+◌, ◌∷◌, ◌≡◌}
 use Rattle.hprof_grammar.proofs.Places.{NumberAt, Spell, first_stands, next_stands, number_read}
 use Rattle.hprof_grammar.proofs.Stands.{body_stands, record_stands}
 
--- bytes that stand a number of bytes behind a place
+-- bytes that come `size` bytes after a place
 moved : (bytes : List ℕ) (at size : ℕ) (xs ys : List ℕ) → length xs ≡ size → Spell bytes at (xs ++ ys)
     → Spell bytes (at + size) ys
 moved bytes at size xs ys len h = subst (λ (n : ℕ). Spell bytes (at + n) ys) len (next_stands bytes at xs ys h)
@@ -41,7 +41,7 @@ module _ {v w : Sight} {at : ℕ} {r : Record} (e : w ≡ v) (h : RecordStands v
       (moved w.bytes at 5 front (size ++ body) (omega (arith, length-bytes_high_first 4 (time_of r)))
       (record_stands w.id_size w.bytes at r record_seen)))
 
--- the same, as the view says it
+-- the length of a body, by the view
 pub length_shown : {v w : Sight} → w ≡ v → (r : Record) → length (body_of w.id_size r) ≡ length (body_of v.id_size r)
 length_shown e r = ap (λ (x : Sight). length (body_of x.id_size r)) e
 

@@ -5,7 +5,7 @@ use Rattle.hprof_grammar.proofs.Words.{origin_fields, reference_of, root, thread
 use Rattle.hprof_grammar.proofs.Words.{trace_of, ℕ, ◌+◌, ◌∷◌, ◌≡◌}
 use Rattle.hprof_grammar.proofs.Places.{NumberAt, in_sight, number_in}
 
--- the number behind the object, and the one behind that
+-- the first and the second number after the object
 behind_object : {s at w n : ℕ} {bytes : List ℕ} {r : Root} {more : List Field} → SubRecordStandsAt s bytes at (root r)
     → origin_fields s r.origin ≡ number w n ∷ more → NumberAt bytes (at + 1 + s) w n
 behind_object {s} {r = r} h e =
@@ -17,7 +17,7 @@ behind_thread {s} {m = m} {r = r} h e =
     let front = number s r.object ∷ number 4 m ∷ [] in
     number_in front _ h (ap (λ (fields : List Field). number s r.object ∷ fields) e) (omega arith)
 
--- which of them is what the root says
+-- the number that the root says is the first or the second of them
 reference_first : (s : ℕ) (o : RootOrigin) (n : ℕ) → reference_of o ≡ Some n → origin_fields s o ≡ number s n ∷ []
 reference_first s (jni_global reference) n e = cc
 reference_first s o n e = absurd (cc)

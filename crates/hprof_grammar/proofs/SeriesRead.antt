@@ -1,4 +1,4 @@
--- What is spelled one after the other is read one after the other.
+-- Values that are spelled one after another are read one after another.
 use Rattle.hprof_grammar.proofs.Words.{AllByRecursion, Field, HasValues, IsMember, LabelledValue, List, Member}
 use Rattle.hprof_grammar.proofs.Words.{TypePlace, [], ap, append-nil, append_assoc, arith, behind_values, big_bytes}
 use Rattle.hprof_grammar.proofs.Words.{big_number, big_number-reads_back, drop, drop-append_seam, drop-drop, flat_map}
@@ -29,9 +29,9 @@ numbers_again w (x ∷ xs) rest fit =
     let behind : drop w (big_bytes w x ++ others) ≡ others = behind_number w x others in
     rw (append_assoc, first, behind, numbers_again w xs rest fit.1) refl
 
--- ---- values behind type codes
+-- ---- values after type codes
 
--- some bytes, a type code, a value, and others
+-- w bytes, a type code, a value, and other bytes
 pub record IsValue (w size t : ℕ) (text others bytes : List ℕ) : Type 0 where
   pub type : slice_index bytes w ≡ t
   pub value : take size (drop (w + 1) bytes) ≡ text
@@ -56,7 +56,7 @@ is_value w size t front value others front_len value_len =
       room = omega (arith, length-append front (t ∷ (value ++ others)), length-append value others);
     }
 
--- n values that stand in the bytes, and what stands behind them
+-- the bytes begin with n values, and `others` follow
 pub record AreValues (s w n : ℕ) (them : List LabelledValue) (others bytes : List ℕ) : Type 0 where
   pub room : HasValues s w n bytes
   pub values : values_in s w n bytes ≡ them

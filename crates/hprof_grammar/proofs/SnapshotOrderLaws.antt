@@ -1,11 +1,11 @@
--- What the order of the snapshot's records says of the tags that have come.
+-- What the order of the snapshot's records says of the tags so far.
 use Rattle.hprof_grammar.proofs.Words.{Before, Bool, CanGoOn, Ended, IsAt, IsOrderly, IsSnapshot, List, SnapshotState}
 use Rattle.hprof_grammar.proofs.Words.{Segments, Whole, [], add-one, ap, append-nil, append_assoc, arith, cond, false}
 use Rattle.hprof_grammar.proofs.Words.{filter-append, inl, inr, is_done, is_snapshot_tag, refl, replicate}
 use Rattle.hprof_grammar.proofs.Words.{replicate_more, snapshot_tags, subst, suc, sym, true, zero, ℕ, ◌++◌, ◌∙◌, ◌∷◌}
 use Rattle.hprof_grammar.proofs.Words.{◌≡◌, ◌≢◌}
 
--- ---- rows of one number, and what ends them
+-- ---- repeats of a number, and the number that ends them
 
 module _ (c a d : ℕ) (na : a ≢ c) (nd : d ≢ c) where
   row_end : (n m : ℕ) (xs ys : List ℕ) → replicate n c ++ a ∷ xs ≡ replicate m c ++ d ∷ ys → (a ≡ d) × (xs ≡ ys)
@@ -65,9 +65,9 @@ next_segment tags h = (
 pub segments_end : (tags : List ℕ) → IsAt Segments tags → IsAt Ended (tags ++ 0x2C ∷ [])
 segments_end tags h = (h.0, comes tags 0x2C refl ∙ ap (λ (front : List ℕ). front ++ 0x2C ∷ []) h.1)
 
--- ---- what is no beginning of a snapshot
+-- ---- beginnings that no snapshot has
 
--- a heap dump, and more
+-- more after a heap dump
 after_whole : (tag : ℕ) (more : List ℕ) → IsSnapshot (0x0C ∷ tag ∷ more) → ⊥
 after_whole tag more (inl e) = cc
 after_whole tag more (inr (n, e)) = dump_is_no_segment (cc)
@@ -77,13 +77,13 @@ end_first : (more : List ℕ) → IsSnapshot (0x2C ∷ more) → ⊥
 end_first more (inl e) = end_is_no_dump (cc)
 end_first more (inr (n, e)) = end_is_no_segment (cc)
 
--- segments, and a heap dump
+-- a heap dump after segments
 dump_in_segments : (n : ℕ) (more : List ℕ) → IsSnapshot (replicate (suc n) 0x1C ++ 0x0C ∷ more) → ⊥
 dump_in_segments n more (inl e) = dump_is_no_segment (cc)
 dump_in_segments n more (inr (m, e)) =
     end_is_no_dump (sym (row_end 0x1C 0x0C 0x2C dump_is_no_segment end_is_no_segment (suc n) (suc m) more [] e).0)
 
--- segments and their end, and more
+-- more after segments and their end
 after_end : (n tag : ℕ) (more : List ℕ) → IsSnapshot ((replicate (suc n) 0x1C ++ 0x2C ∷ []) ++ tag ∷ more) → ⊥
 after_end n tag more (inl e) = dump_is_no_segment (cc)
 after_end n tag more (inr (m, e)) =
@@ -94,7 +94,7 @@ after_end n tag more (inr (m, e)) =
 
 -- ---- a record that breaks the order
 
--- what a snapshot with one record more would have to be
+-- if the tags can go on after one more, a snapshot begins with them
 too_many : (tags front : List ℕ) (tag : ℕ) → is_snapshot_tag tag ≡ true → snapshot_tags tags ≡ front
     → CanGoOn (tags ++ tag ∷ []) → (more : List ℕ) × IsSnapshot (front ++ tag ∷ more)
 too_many tags front tag is come (more, orderly) = (snapshot_tags more, subst IsSnapshot parts orderly)
@@ -119,7 +119,7 @@ no_more Ended tags tag done is h on = let found = too_many tags (replicate (suc 
     in after_end h.0 tag found.0 found.1
 no_more order tags tag done is h on = cc
 
--- ---- where the records end
+-- ---- the end of the records
 
 -- each order can go on to an orderly list
 pub at_goes_on : (order : SnapshotState) (tags : List ℕ) → IsAt order tags → CanGoOn tags
@@ -128,7 +128,7 @@ at_goes_on Whole tags h = ([], inl (ap snapshot_tags (append-nil tags) ∙ h))
 at_goes_on Segments tags h = (0x2C ∷ [], inr (segments_end tags h))
 at_goes_on Ended tags h = ([], inr (h.0, ap snapshot_tags (append-nil tags) ∙ h.1))
 
--- the list is orderly just where the order is done
+-- the list is orderly exactly if the order is done
 pub done_is_orderly : (order : SnapshotState) (tags : List ℕ) → is_done order ≡ true → IsAt order tags → IsOrderly tags
 done_is_orderly Whole tags e h = inl h
 done_is_orderly Ended tags e h = inr h

@@ -1,4 +1,4 @@
--- The places of a dump hold its parts: each record and sub-record stands where the sum of the spellings before it ends.
+-- The places of a dump hold its parts: each record and sub-record begins where the spellings before it end.
 use Rattle.hprof_grammar.proofs.Words.{AllByRecursion, Bool, IsDumpOf, IsPlaced, IsRecord, IsSubRecord, List, Places}
 use Rattle.hprof_grammar.proofs.Words.{Record, RecordStandsAt, Some, StandInTurn, SubRecord, SubRecordStandsAt, [], ap}
 use Rattle.hprof_grammar.proofs.Words.{append-nil, arith, big_bytes, body_of, cond, false, filter, flat_map, framed}
@@ -16,7 +16,7 @@ pub record_stands : (s : ℕ) (text : List ℕ) (at : ℕ) (r : Record) → Reco
 record_stands s text at r h = some_stand text at (tag_of r)
     (big_bytes 4 (time_of r) ++ (big_bytes 4 (length (body_of s r)) ++ body_of s r)) h.rest h.bytes_are
 
--- behind a tag, a time and a length
+-- the body follows a tag, a time and a length
 pub body_stands : (text : List ℕ) (at tag time : ℕ) (body : List ℕ) → Spell text at (framed tag time body)
     → Spell text (at + 9) body
 body_stands text at tag time body h =

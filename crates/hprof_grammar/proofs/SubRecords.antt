@@ -31,11 +31,11 @@ pub record SubTaken (s : ℕ) (bytes : List ℕ) (sub : SubRecord) (rest : List 
   pub is : IsSubRecord s sub
   pub bytes_are : bytes ≡ spelling_of s sub ++ rest
 
--- a sub-record with this tag, but for type codes, breaks off behind it
+-- a formed sub-record with this tag, whose type codes may be any, breaks off after the tag
 abbrev pub SubBreaks : ℕ → ℕ → List ℕ → Flaw → Type 0
 SubBreaks s tag rest flaw = (x : SubRecord) × IsFormed s x × (tag_of x ≡ tag) × Breaks flaw (fields_of s x) rest
 
--- ---- one kind of sub-record behind its tag
+-- ---- one kind of sub-record after its tag
 
 -- what is read was spelled, and a flaw shows where a sub-record breaks off
 record ReadsKind (s tag : ℕ) (read : List ℕ → Result (SubRecord × List ℕ) Flaw) : Type 0 where
@@ -96,7 +96,7 @@ module _ {A : Type 0} {s tag : ℕ} {make : A → SubRecord} {W : A → Type 0} 
     fails_again = λ rest flaw b. kind_fails_again a rest flaw h b;
   }
 
--- ---- roots, by how many numbers stand behind the object
+-- ---- roots, by the number of numbers after the object
 
 no_number : (s tag : ℕ) (o : RootOrigin) → origin_fields s o ≡ [] → IsOrigin s o → tag ≡ origin_tag o
     → KindFormat s tag (lone_root o) (λ n. n < 256 ^ s) (λ n. number s n ∷ []) (number_at s)
@@ -261,7 +261,7 @@ fault_read s bytes code (short x rest h b) =
 fault_read s bytes code (wrong_type x rest h b) =
     (WrongType, body_fails_again s x rest WrongType h (breaks_wrong (fields_of s x) rest b), refl)
 
--- one place has one fault, and none where a sub-record stands
+-- a place has at most one fault, and none if it has a sub-record
 pub one_sub_fault : (s : ℕ) (bytes : List ℕ) (code other : ℕ) → SubFault s bytes code → SubFault s bytes other
     → code ≡ other
 one_sub_fault s bytes code other h k =
@@ -278,7 +278,7 @@ no_sub_fault s x rest code h k =
     let both : ◌≡◌ {A = Result (SubRecord × List ℕ) Flaw} (Ok (x, rest)) (Err a.0) = sym (sub_again s x rest h) ∙ a.1 in
     cc
 
--- no spelling of a sub-record begins another's
+-- no spelling of a sub-record begins that of another
 pub subs_determined : (s : ℕ) (x y : SubRecord) (rest more : List ℕ) → IsSubRecord s x → IsSubRecord s y
     → spelling_of s x ++ rest ≡ spelling_of s y ++ more → (x ≡ y) × (rest ≡ more)
 subs_determined s x y rest more h k e =

@@ -33,7 +33,7 @@ pub heap_length : (s tag n : ℕ) → is_heap_tag tag ≡ true → is_length_of 
 unfolding is_length_of
 heap_length s tag n h = grind (arith, nat_tests)
 
--- ---- one tag says that a sub-record is of a kind
+-- ---- a kind of object has only one tag
 
 root_is : (r : Option RootKind) (kind : Kind) → root_of r ≡ Some kind → (k : RootKind) × (kind ≡ Root k)
 root_is None kind e = absurd (cc)
@@ -55,7 +55,7 @@ pub primitive_array_tag : (tag : ℕ) → kind_of tag ≡ Some (Object Primitive
 unfolding kind_of
 primitive_array_tag tag h = grind (arith, nat_tests, root_is (root_kind tag) (Object PrimitiveArray))
 
--- ---- and one that it is a root of a kind
+-- ---- and so has a kind of root
 
 root_found : (r : Option RootKind) (kind : RootKind) → root_of r ≡ Some (Root kind) → r ≡ Some kind
 root_found None kind e = absurd (cc)
@@ -123,7 +123,7 @@ tag_known x = by (is_sub_tag (tag_of x)) refl
     by true e = e
     by false e = absurd (let both = sym (kind_says x) ∙ no_kind (tag_of x) e in cc)
 
--- ---- the lengths of the records of which the body is read
+-- ---- the lengths of the records whose body is read
 
 pub string_length : (s n : ℕ) → is_length_of s 0x01 n ≡ true → s ≤ n
 unfolding is_length_of

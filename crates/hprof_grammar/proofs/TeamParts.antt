@@ -1,4 +1,4 @@
--- The quotient, rounded up, times the threads is less than the length and the threads together.
+-- `t` parts of the length divided by `t`, rounded up, are together shorter than twice the length.
 use Rattle.std.proofs.Common.{arith, max, ◌*◌, ◌<◌, ◌≤◌, ℕ}
 use Rattle.std.proofs.lemmas.Grind.{div_ceil_times}
 use Rattle.std.specs.Int.{div_ceil}

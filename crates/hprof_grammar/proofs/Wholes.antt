@@ -1,4 +1,4 @@
--- The records that the bytes behind the header begin with.
+-- The records that the bytes after the header begin with.
 use Rattle.hprof_grammar.proofs.Words.{AddsRecords, AddsRecordsFrom, AllByRecursion, Before, CanGoOn, FormatFault}
 use Rattle.hprof_grammar.proofs.Words.{FrameFault, HasRecordFault, IsAt, IsOrderly, IsRecord, IsSubRecord, List}
 use Rattle.hprof_grammar.proofs.Words.{LongestSubs, SnapshotState, Places, Record, RecordFault, RunsPastEnd, SubFault}
@@ -22,11 +22,11 @@ tags_of records = map tag_of records
 
 -- ---- the longest list of records
 
--- what can go on with more tags can go on without them
+-- tags that can go on with `more` can go on without them
 goes_on_front : (tags more : List ℕ) → CanGoOn (tags ++ more) → CanGoOn tags
 goes_on_front tags more h = (more ++ h.0, subst IsOrderly (append_assoc tags more h.0) h.1)
 
--- no record stands here with which the list can go on
+-- no record that is here can continue the list
 abbrev IsStuck : ℕ → List Record → List ℕ → Type 0
 IsStuck s records rest = (z : Record) (left : List ℕ) → IsRecord s z → rest ≡ record_spelling s z ++ left
     → CanGoOn (map tag_of records ++ tag_of z ∷ []) → ⊥
@@ -51,7 +51,7 @@ module _ (s : ℕ) (records others : List Record) (rest left : List ℕ) where
             (q ∙ append_assoc (record_spelling s z) (spellings s zs) left)
             (goes_on_front (tags_of records ++ tag_of z ∷ []) (tags_of zs) (subst CanGoOn tags go)))
 
--- ---- where the list is stuck
+-- ---- places at which the list is stuck
 
 stuck_at_end : (s : ℕ) (records : List Record) → IsStuck s records []
 stuck_at_end s records z left is e go =
@@ -61,13 +61,13 @@ stuck_where_cut : (s : ℕ) (records : List Record) (rest : List ℕ) → RunsPa
 stuck_where_cut s records rest cut z left is e go =
     cut_or_whole rest (tag_of z) (time_of z) (body_of s z) left is.length_fits e cut
 
--- something stands where a sub-record has a fault
+-- if a sub-record has a fault, some bytes are left
 fault_some : (s : ℕ) (rest : List ℕ) (code : ℕ) → SubFault s rest code → rest ≡ [] → ⊥
 fault_some s rest code (unknown_tag tag left e) h = cc
 fault_some s rest code (short x left f e) h = cc
 fault_some s rest code (wrong_type x left f e) h = cc
 
--- a body in which a sub-record has a fault is no list of whole sub-records
+-- a body in which a sub-record has a fault is not spelled by whole sub-records
 no_whole_body : {s code : ℕ} {body : List ℕ} {subs : List SubRecord} (others : List SubRecord) {rest : List ℕ}
     → LongestSubs s body subs rest → SubFault s rest code → AllByRecursion (IsSubRecord s) others
     → body ≡ flat_map (spelling_of s) others → ⊥
@@ -98,7 +98,7 @@ heap_body s z is h = absurd (cc)
 
 module _ {s at tag time : ℕ} {body after rest : List ℕ} {fault : FormatFault} (records : List Record)
     (was : SnapshotState) (frame : FrameTaken rest tag time body after) (comes : IsAt was (map tag_of records)) where
-  -- a fault in a frame leaves no whole record there with which the list can go on
+  -- after a fault in a frame no whole record can continue the list
   stuck_in_frame : FrameFault s at tag body was fault → IsStuck s records rest
   stuck_in_frame wrong z left is e go =
       let same = same_frame tag time body after (tag_of z) (time_of z)
@@ -134,7 +134,7 @@ module _ {s at tag time : ℕ} {body after rest : List ℕ} {fault : FormatFault
 
 -- ---- the loop over the records: its faults
 
--- records have come up to this place
+-- the records so far lead up to this place
 module _ {bytes rest : List ℕ} {was : SnapshotState} {old new : Places}
     (adds : AddsRecords bytes rest was old new) where
   come : IsAt was (map tag_of adds.records)
@@ -182,11 +182,11 @@ fault_at_end {was = was} {old} adds undone f =
     rw f (fault_here adds (omega arith) (stuck_at_end old.id_size adds.records)
     (no_snapshot (not_done_is_not was (map tag_of adds.records) undone (come adds))))
 
--- ---- what is left to read at a turn of the loop
+-- ---- what remains to be read at a turn of the loop
 
 module _ {at : ℕ} {before was : SnapshotState} {bytes rest : List ℕ} {old new : Places}
     (adds : AddsRecordsFrom at before bytes rest was old new) where
-  -- records that begin behind the header, of which none has come, are those of the whole file
+  -- records that begin after the header, with no record before them, are those of the whole file
   pub from_header : at ≡ 31 → before ≡ Before → AddsRecords bytes rest was old new
   from_header place order = subst (λ (o : SnapshotState). AddsRecordsFrom 31 o bytes rest was old new) order
       (subst (λ (n : ℕ). AddsRecordsFrom n before bytes rest was old new) place adds)

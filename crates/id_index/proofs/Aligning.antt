@@ -1,4 +1,4 @@
--- Identifiers that agree in their lowest bits, by what stands above those.
+-- Identifiers that agree in their lowest bits, by the bits above those.
 use Rattle.id_index.proofs.Words.{IsFirstRepeat, List, None, Option, Some, ap, arith, div-add-mod', div-mul-add, eq-eqb}
 use Rattle.id_index.proofs.Words.{eqb-false, eqb-true, get_or, get_or-map, get_or_from_slice_get, length, length-map}
 use Rattle.id_index.proofs.Words.{mod-mul-add, ne_eqb, position, position-Some, slice_get, slice_get-get_or}
@@ -7,7 +7,7 @@ use Rattle.id_index.proofs.Words.{◌∙◌, ◌≡◌, ◌≢◌}
 use Rattle.id_index.proofs.Bearers.{before_in, in_before, absent, position_is, position_none}
 
 module _ (shift low : ℕ) (fits : low < 2 ^ shift) where
-  -- the identifier at a place
+  -- the identifier of object k
   whole_at : (highs : List ℕ) (k : ℕ) → k < length highs
       → get_or (whole_ids shift low highs) k 0 ≡ whole_id shift low (get_or highs k 0)
   whole_at highs k h = get_or-map (whole_id shift low) highs k 0 0 h
@@ -54,7 +54,7 @@ module _ (shift low : ℕ) (fits : low < 2 ^ shift) where
       (whole_at highs n it.0 ∙ ap (whole_id shift low) (eqb-true (get_or highs n 0) (id / 2 ^ shift) it.1)
       ∙ whole_again id same))
 
-  -- an identifier's object is that of what stands above the lowest bits
+  -- the object of an identifier is that of the bits above the lowest ones
   high_at : (highs : List ℕ) (k id : ℕ) → slice_get (whole_ids shift low highs) k ≡ Some id
       → (slice_get highs k ≡ Some (id / 2 ^ shift)) × (whole_id shift low (id / 2 ^ shift) ≡ id)
   high_at highs k id e =

@@ -1,4 +1,4 @@
--- Runs that are apart stay so in another order, and ascending runs of a page stand in the order of their objects.
+-- Runs that are apart stay apart in another order, and ascending runs of a page are in the order of their objects.
 use Rattle.id_index.proofs.Words.{AreInTurn, ArePairwiseApart, DoPagesRise, IsApart, IsPermutation, IsPermutation-keeps}
 use Rattle.id_index.proofs.Words.{IsSorted, IsStrictWeakOrder, List, Run, ap, arith, cases_eq, cases_lt, count_ones}
 use Rattle.id_index.proofs.Words.{end_of, false, inl, inr, is_lt, length, length-swap, nat_cmp_total, nat_tests, no_run}
@@ -17,7 +17,7 @@ apart_in_turn runs turn i j differ left right =
       | inr more ↦ inr (turn j i (omega (arith, differ, more)) left)
     ]
 
--- where a run stood before a swap
+-- the place that a run had before a swap
 came_from : (runs : List Run) (a b i : ℕ) → a < length runs → b < length runs → i < length runs
     → (k : ℕ) × (k < length runs) × (run_in (swap runs a b) i ≡ run_in runs k)
     × (((i ≡ a) × (k ≡ b)) ⊎ (((i ≡ b) × (k ≡ a)) ⊎ ((i ≡ a → ⊥) × ((i ≡ b → ⊥) × (k ≡ i)))))
@@ -59,7 +59,7 @@ run_order : IsStrictWeakOrder (λ (x y : Run). is_lt (run_cmp x y))
 run_order = ranks_by (then_total (then_total (on_total (λ (l : Run). l.page) nat_cmp_total)
     (on_total (λ (l : Run). l.first) nat_cmp_total)) (on_total (λ (l : Run). l.places) nat_cmp_total)) (λ l. l)
 
--- a run that is not before another
+-- x is not after y in the order of runs
 abbrev pub NotAfter : Run → Run → Type 0
 NotAfter x y =
     (x.page < y.page)
@@ -80,7 +80,7 @@ pages_rise runs up i j le below = elim (runs_rise runs i j up le below) [
   | inr equal ↦ omega (arith, equal.0)
 ]
 
--- of two runs of a page that are apart the earlier one's objects come first
+-- if two runs of a page are apart, the objects of the earlier run come first
 first_ends : (x y : Run) → NotAfter x y → IsApart x y → x.page ≡ y.page → end_of x ≤ y.first
 first_ends x y order (inl before) same = before
 first_ends x y order (inr behind) same =

@@ -10,11 +10,11 @@ use Rattle.id_index.proofs.Words.{subst, sym, take, true, ℕ, ◌%◌, ◌+◌,
 use Rattle.id_index.proofs.Words.{◌⊎◌}
 use Rattle.id_index.proofs.Ones.{rank_less_than_all}
 
--- where a run stands
+-- the place of a run
 pub stands : (runs : List Run) (x : Run) → Contains runs x → (k : ℕ) × (k < length runs) × (run_in runs k ≡ x)
 stands runs x h = (h.0, h.1, sym (get_or_read runs h.0 x h.1 (sym h.2) no_run))
 
--- the first place that passes
+-- the first place that passes a test
 pub position_is : (p : ℕ → Bool) (xs : List ℕ) (i : ℕ) → i < length xs → ((k : ℕ) → k < i → p (get_or xs k 0) ≡ false)
     → p (get_or xs i 0) ≡ true → Some i ≡ position p xs
 position_is p xs i below before here =
@@ -29,7 +29,7 @@ position_none p xs before =
     position_or_len_is p xs (length xs) 0 (omega arith) before (λ h. absurd (omega (arith, h))) in
     cond_above (position_or_len p xs) (length xs) (Some (position_or_len p xs)) None None (omega (arith, e)) refl
 
--- an object before the first run's does not bear the identifier
+-- no object before the number of the first run has the identifier
 others : (runs : List Run) (ids : List ℕ) (id number at k : ℕ) → AreAscending runs
     → Tell runs ids → IsBearerAt runs id number at → k < number → slice_get ids k ≡ Some id → ⊥
 others runs ids id number at k up tell it less e =
@@ -63,7 +63,7 @@ named runs ids id (Some number) up tell (at, it) =
     (slice_get-get_or ids k 0 (omega (arith, h, slice_get_within ids number id e)) ∙ ap Some same)))
     (eq-eqb (get_or ids number 0) id (get_or_from_slice_get ids number id 0 e))
 
--- the first run of its page has the identifiers that it tells of before all other runs
+-- if the first run of a page has an identifier, no run before it has
 pub bearer_at : (runs : List Run) (id at : ℕ) → at < length runs → page_in runs at ≡ id / 64
     → ((k : ℕ) → k < at → page_in runs k < id / 64) → (result : Option ℕ)
     → MatchOption result (bit_at (run_in runs at).places (id % 64) ≢ 1) (λ n. IsNumberAt (run_in runs at) (id % 64) n)
@@ -76,7 +76,7 @@ bearer_at runs id at within page below (Some n) it = record {
   first = λ k less has. let other : page_in runs k < id / 64 = below k less in omega (arith, other, has.page);
 }
 
--- behind a run of a greater page
+-- if no run before one of a greater page has the identifier, no run has it
 pub none_behind : (runs : List Run) (id from at : ℕ) → AreAscending runs
     → IsFirstFrom runs (id / 64) from → from ≤ at → at < length runs
     → ((k : ℕ) → k < at → HasBearer (run_in runs k) id → ⊥) → page_in runs at ≢ id / 64
@@ -88,7 +88,7 @@ none_behind runs id from at up first after within before other k below has =
     let rise : page_in runs at ≤ page_in runs k = up.rise at k (omega (arith, early)) below in
     other (omega (arith, page, low, rise))
 
--- no run of the page stands 64 runs on
+-- no run of the page is 64 or more runs after the first one
 pub none_past : (runs : List Run) (id from stop : ℕ) → AreAscending runs
     → AreFewAPage runs → IsFirstFrom runs (id / 64) from → (length runs ≤ stop) ⊎ (from + 64 ≤ stop)
     → ((k : ℕ) → k < stop → HasBearer (run_in runs k) id → ⊥)
@@ -106,7 +106,7 @@ none_past runs id from stop up few first (inr many) before k below has =
     let same : page_in runs back ≡ page_in runs k = omega (arith, page, low, rise) in
     few back (omega (arith, e, below)) (same ∙ ap (λ (m : ℕ). page_in runs m) (sym e))
 
--- an earlier object with an identifier, by its number
+-- the number of an earlier object with an identifier
 pub before_in : (ids : List ℕ) (number id : ℕ) → Contains (take number ids) id
     → (k : ℕ) × (k < number) × (slice_get ids k ≡ Some id)
 before_in ids number id has =
@@ -116,7 +116,7 @@ pub in_before : (ids : List ℕ) (number id k : ℕ) → k < number → slice_ge
     → Contains (take number ids) id
 in_before ids number id k below e = (k, grind (arith, common_steps, gets), grind (arith, common_steps, gets))
 
--- an earlier object bears the identifier exactly where the first one that bears it is earlier
+-- an earlier object has the identifier exactly if the first object that has it is earlier
 pub earlier : (ids : List ℕ) (id number first : ℕ) → Some first ≡ position (λ x. x == id) ids
     → IsTrue (nat_lt first number) ↔ Contains (take number ids) id
 earlier ids id number first e =
@@ -129,7 +129,7 @@ earlier ids id number first e =
           lt-ltb first number (omega (arith, below, late))),
     )
 
--- nobody bears an identifier that has no position
+-- no object has an identifier that has no position
 pub absent : (ids : List ℕ) (id k : ℕ) → None ≡ position (λ x. x == id) ids → k < length ids → get_or ids k 0 ≡ id → ⊥
 absent ids id k e within =
     let test : ℕ → Bool = λ x. x == id in
@@ -146,7 +146,7 @@ nowhere ids id number e has =
     let (k, below, is) = before_in ids number id has in
     absent ids id k e (slice_get_within ids k id is) (get_or_from_slice_get ids k id 0 is)
 
--- what is found is there
+-- an identifier that has a position is in the list
 pub bears : (ids : List ℕ) (id n : ℕ) → Some n ≡ position (λ x. x == id) ids → Contains ids id
 bears ids id n e =
     let it = position-Some (λ x. x == id) ids n 0 (sym e) in

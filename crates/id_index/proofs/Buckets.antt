@@ -1,4 +1,4 @@
--- Where the runs of a bucket stand.
+-- The places of the runs of a bucket.
 use Rattle.id_index.proofs.Words.{DoPagesRise, IsAround, IsBeginning, List, Run, [], arith, bucket_of, cases_lt}
 use Rattle.id_index.proofs.Words.{eq-or-lt_of_le, get_or, get_or-append, get_or-append_seam, inl, inr, length}
 use Rattle.id_index.proofs.Words.{lt_of_not-le, page_in, shr_mono, ℕ, ◌++◌, ◌+◌, ◌<◌, ◌∷◌, ◌≡◌, ◌≤◌}
@@ -16,7 +16,7 @@ bucket_below least shift a b h =
     (λ le. let up : bucket_of least shift b ≤ bucket_of least shift a = shr_mono shift (omega (arith, le)) in
     omega (arith, up, h))
 
--- between the beginnings of its bucket and of the next stand all runs of a page
+-- all runs of a page are between the beginning of its bucket and that of the next
 pub around_bucket : (runs : List Run) (least shift page begin end : ℕ)
     → IsBeginning runs least shift (bucket_of least shift page) begin
     → IsBeginning runs least shift (bucket_of least shift page + 1) end → IsAround runs page begin end

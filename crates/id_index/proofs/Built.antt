@@ -1,4 +1,4 @@
--- Runs while they are made.
+-- Runs while they are built.
 use Rattle.id_index.proofs.Words.{AreBuilt, AreBuiltUpTo, AreFewBuilt, AreInTurn, AreOpen, List, None, Option, Run}
 use Rattle.id_index.proofs.Words.{Some, [], ap, append-nil, arith, bit_or, cases_eq, end_of, get_or-append}
 use Rattle.id_index.proofs.Words.{get_or-append_seam, id_of_number, ids_built, inl, inr, length, length-append}
@@ -42,7 +42,7 @@ more_before runs run count before end i within =
 
 -- ---- the last run
 
--- the last run is one of the others
+-- appending the last run to the others keeps them built
 closed : (runs : List Run) (last : Run) (ids : List ℕ) → AreOpen runs last ids → AreBuilt (runs ++ last ∷ []) ids
 closed runs last ids it = record {
   sound = it.sound;
@@ -65,7 +65,7 @@ gives runs last ids count it len =
 pub ids_count : (runs : List Run) (last : Option Run) (count : ℕ) → length (ids_built runs last count) ≡ count
 ids_count runs last count = length-map-range_with_len (id_of_number (with_last runs last)) 0 count
 
--- a last run in place of another
+-- a new last run in place of the old one adds at most one run
 as_many : (runs : List Run) (last : Option Run) (run : Run) (count : ℕ) → length (with_last runs last) ≤ count
     → length (runs ++ run ∷ []) ≤ count + 1
 as_many runs last run count few =
@@ -73,7 +73,7 @@ as_many runs last run count few =
 
 -- ---- one more object
 
--- a last run with nothing in it
+-- a last run without objects
 emptied : (runs : List Run) (ids : List ℕ) (page : ℕ) → AreBuilt runs ids
     → AreOpen runs (run_of page (length ids) 0) ids
 emptied runs ids page it = record {
@@ -84,7 +84,7 @@ emptied runs ids page it = record {
   end = omega (arith, ones_of_bit 0 (omega arith));
 }
 
--- an object in a place above the others of the last run
+-- an object that joins the last run, at a place above its other places
 placed : (runs : List Run) (ids : List ℕ) (page first word id : ℕ) → AreOpen runs (run_of page first word) ids
     → page ≡ id / 64 → word < 2 ^ (id % 64)
     → AreOpen runs (run_of page first (bit_or word (1 * 2 ^ (id % 64) % 2 ^ 64))) (ids ++ id ∷ [])
@@ -101,7 +101,7 @@ placed runs ids page first word id it at above = record {
   );
 }
 
--- an object in a run of its own
+-- an object with a run of its own
 begun : (runs : List Run) (ids : List ℕ) (count id : ℕ) → AreBuilt runs ids → count ≡ length ids
     → AreOpen runs (run_of (id / 64) count (1 * 2 ^ (id % 64) % 2 ^ 64)) (ids ++ id ∷ [])
 begun runs ids count id it len =
@@ -110,7 +110,7 @@ begun runs ids count id it len =
     (subst (λ (w : ℕ). AreOpen runs (run_of (id / 64) (length ids) w) (ids ++ id ∷ [])) (or_zero_l bit)
     (placed runs ids (id / 64) (length ids) 0 id (emptied runs ids (id / 64) it) refl (pow_pos (id % 64))))
 
--- what a builder has then
+-- what a builder has after that
 module _ (runs : List Run) (last : Option Run) (count : ℕ)
     (it : AreFewBuilt runs last (ids_built runs last count) count) where
   abbrev ids : List ℕ

@@ -1,4 +1,4 @@
--- One more object: in a place above all others of the last run, or in a run of its own.
+-- One more object, at a place above all others of the last run, or in a run of its own.
 use Rattle.id_index.proofs.Words.{AreComplete, AreSound, Contains-append_left, Contains-push, Contains-push_cases}
 use Rattle.id_index.proofs.Words.{HasBearer, List, Run, Some, [], ap, arith, bit_at, bit_at-zero, bit_or, cases_eq}
 use Rattle.id_index.proofs.Words.{common_steps, count_ones, gets, inl, inr, length, length-append, mod_below, number_in}
@@ -6,7 +6,7 @@ use Rattle.id_index.proofs.Words.{run_of, slice_get, subst, sym, ℕ, ◌%◌, �
 use Rattle.id_index.proofs.Words.{◌≢◌, ◌⊎◌}
 use Rattle.id_index.proofs.Ones.{rank_at_set, rank_below_set, set_before, set_elsewhere, set_here}
 
--- ---- a list with one more
+-- ---- a list with one more element
 
 pub push_length : {X : Type 0} (xs : List X) (x : X) → length (xs ++ x ∷ []) ≡ length xs + 1
 push_length xs x = length-append xs (x ∷ [])
@@ -25,7 +25,7 @@ get_either xs x k y e =
       | inr other ↦ inl (grind (arith, common_steps, gets))
     ]
 
--- ---- a run with nothing in it
+-- ---- a run without objects
 
 nothing_in : (page first id : ℕ) → HasBearer (run_of page first 0) id → ⊥
 nothing_in page first id has = omega (arith, has.set, bit_at-zero (id % 64))
@@ -61,7 +61,7 @@ module _ (runs : List Run) (ids : List ℕ) (page first word id : ℕ) (at : pag
   number_there : number_in new (id % 64) ≡ length ids
   number_there = omega (arith, end, rank_at_set word (id % 64) inside above)
 
-  -- places below that one are as they were
+  -- places below the new one are as before
   as_before : (place : ℕ) → place < id % 64
       → (bit_at new.places place ≡ bit_at word place) × (number_in new place ≡ number_in old place)
   as_before place less = (

@@ -1,4 +1,4 @@
--- What one look into ascending runs tells of all of them.
+-- What one look into ascending runs says of all of them.
 use Rattle.id_index.proofs.Words.{DoPagesRise, IsAround, IsFirstFrom, List, Run, arith, length, page_in, ℕ, ◌+◌, ◌<◌}
 use Rattle.id_index.proofs.Words.{pow-add, pow_mono, zero, suc, ◌*◌, ◌/◌, ◌^◌, ◌≤◌}
 
@@ -24,7 +24,7 @@ module _ (runs : List Run) (up : DoPagesRise runs) (page low high at : ℕ)
         let rise : page_in runs at ≤ page_in runs k = up at k from h in omega (arith, rise, more);
   }
 
--- the first run in turn whose page is not smaller
+-- the first run with a page that is not smaller, if the runs before it were passed in turn
 pub first_in_turn : (runs : List Run) (page at : ℕ) → DoPagesRise runs → at < length runs
     → ((k : ℕ) → k < at → page_in runs k < page) → page ≤ page_in runs at → IsFirstFrom runs page at
 first_in_turn runs page at up inside below here = record {
@@ -34,12 +34,12 @@ first_in_turn runs page at up inside below here = record {
       let rise : page_in runs at ≤ page_in runs k = up at k from h in omega (arith, rise, here);
 }
 
--- with so many looks left more than 64 runs are halved until 64 are left: one look at least
+-- if `left` looks are enough to halve more than 64 runs until 64 are left, there is at least one look
 pub look_left : (left many : ℕ) → 64 < many → many ≤ 64 * 2 ^ left → 0 < left
 look_left zero many more few = absurd (omega (arith, more, few))
 look_left (suc left) many more few = omega arith
 
--- and so it is with a look less for the half of them
+-- and for half of the runs one look less is enough
 pub half_left : (left left' many half : ℕ) → many ≤ 64 * 2 ^ left → left ≤ left' + 1 → half ≤ many / 2
     → half ≤ 64 * 2 ^ left'
 half_left left left' many half few less halved =

@@ -1,4 +1,4 @@
--- The objects of one list behind those of another.
+-- The objects of one list, and then those of another.
 use Rattle.id_index.proofs.Words.{AreBuilt, AreComplete, AreFewBuilt, AreInTurn, AreSound, Contains}
 use Rattle.id_index.proofs.Words.{Contains-append_cases, Contains-append_left, Contains-append_right, Contains-get_or}
 use Rattle.id_index.proofs.Words.{HasBearer, List, None, Option, Run, Some, ap, append-nil, arith, cases_lt}
@@ -8,7 +8,7 @@ use Rattle.id_index.proofs.Words.{number_in, raised_by, run_in, slice_get, subst
 use Rattle.id_index.proofs.Words.{◌-◌, ◌<◌, ◌^◌, ◌∙◌, ◌≡◌, ◌≤◌}
 use Rattle.id_index.proofs.Built.{all_built, gives, ids_count}
 
--- ---- one list behind another
+-- ---- one list after another
 
 get_first : (xs ys : List ℕ) (k x : ℕ) → slice_get xs k ≡ Some x → slice_get (xs ++ ys) k ≡ Some x
 get_first xs ys k x e = grind (arith, common_steps, gets)
@@ -16,16 +16,16 @@ get_first xs ys k x e = grind (arith, common_steps, gets)
 get_second : (xs ys : List ℕ) (k x : ℕ) → slice_get ys k ≡ Some x → slice_get (xs ++ ys) (length xs + k) ≡ Some x
 get_second xs ys k x e = grind (arith, common_steps, gets)
 
--- what stands in the first list
+-- an element of the first list
 from_first : (xs ys : List ℕ) (k x : ℕ) → k < length xs → slice_get (xs ++ ys) k ≡ Some x → slice_get xs k ≡ Some x
 from_first xs ys k x h e = grind (arith, common_steps, gets)
 
--- or in the second one
+-- or of the second list
 from_second : (xs ys : List ℕ) (k x : ℕ) → length xs ≤ k → slice_get (xs ++ ys) k ≡ Some x
     → slice_get ys (k - length xs) ≡ Some x
 from_second xs ys k x h e = grind (arith, common_steps, gets)
 
--- ---- the runs of the second list, raised by how many objects the first one has
+-- ---- the runs of the second list, raised by the number of objects in the first
 
 module _ (xs ys : List Run) (ids more : List ℕ) where
   abbrev raised : Run → Run
@@ -127,7 +127,7 @@ module _ (xs ys : List Run) (ids more : List ℕ) where
 
 -- ---- what a builder has
 
--- its last run is one of the others
+-- the builder's last run joins the others
 pub all_few : (runs : List Run) (last : Option Run) (count : ℕ)
     → AreFewBuilt runs last (ids_built runs last count) count
     → AreFewBuilt (with_last runs last) None (ids_built (with_last runs last) None count) count
@@ -152,7 +152,7 @@ module _ (xs ys : List Run) (last next : Option Run) (count many : ℕ)
     ids_count ys next many,
   )
 
-  -- no number is too great to be raised
+  -- no number is too large to be raised
   pub may_raise : count + many < 2 ^ 32 → (k : ℕ) → k < length (with_last ys next)
       → (run_in (with_last ys next) k).first + count < 2 ^ 32
   may_raise few k h =
@@ -162,7 +162,7 @@ module _ (xs ys : List Run) (last next : Option Run) (count many : ℕ)
   abbrev both : List Run
   both = with_last xs last ++ map (raised_by count) (with_last ys next)
 
-  -- what `push_raised` leaves
+  -- the runs after `push_raised`
   pub both_runs : (runs front more : List Run) → runs ≡ front ++ map (raised_by count) more
       → front ≡ with_last xs last → more ≡ with_last ys next → runs ≡ both
   both_runs runs front more are closed closed_more =

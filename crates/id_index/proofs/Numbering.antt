@@ -1,4 +1,4 @@
--- The identifiers that runs give back.
+-- The identifiers that can be read from runs.
 use Rattle.id_index.proofs.Words.{AreComplete, AreSound, Bool, Contains-get_or, HasBearer, List, Run, Some, ap, arith}
 use Rattle.id_index.proofs.Words.{bit_at, div-mul-add, fails_before_first, false, fill_by_all, find, find_at, get_or}
 use Rattle.id_index.proofs.Words.{get_or-range_with_len, get_or_from_slice_get, id_in, id_of_number, ids_of_runs}

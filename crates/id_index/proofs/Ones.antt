@@ -1,4 +1,4 @@
--- How many bits of a number are set below a place.
+-- The number of set bits below a place.
 use Rattle.id_index.proofs.Words.{and_comm, and_mask, and_or_self, ap, arith, bit_and, bit_at, bit_at-lt, bit_at_above}
 use Rattle.id_index.proofs.Words.{bit_at_or, bit_at_set_other, bit_at_set_same, bit_or, cases_lt, count_ones}
 use Rattle.id_index.proofs.Words.{div-eq_of_lt, inl, inr, le-max_left, le_or_l, lt_of_not-le, mod-pow-add, mod_below}
@@ -16,7 +16,7 @@ ones_of_bit b h = elim (zero_or_one b h) [
   | inr e ↦ ap count_ones e ∙ sym e
 ]
 
--- one place more: the bit there is counted
+-- one more place: its bit is counted
 pub rank_more : (n k : ℕ) → rank n (k + 1) ≡ bit_at n k + rank n k
 rank_more n k =
     let turn : k + 1 ≡ 1 + k = omega arith in
@@ -29,12 +29,12 @@ pub rank_none : (n : ℕ) → rank n 0 ≡ 0
 unfolding lib.Count.ones
 rank_none n = let e : n % 1 ≡ 0 = omega (arith, mod_below n 1 (omega arith)) in ap count_ones e
 
--- a mask of the places below keeps what is left by a division
+-- masking n by the places below k keeps the bits that `rank` counts
 pub rank_masked : (n k : ℕ) → k < 64 → count_ones (bit_and n (1 * 2 ^ k % 2 ^ 64 - 1)) ≡ rank n k
 rank_masked n k h =
     ap (λ (m : ℕ). count_ones (bit_and n (m - 1))) (one_shl k 64 h) ∙ ap count_ones (and_mask n k)
 
--- all bits: those below a place and those from it on
+-- the set bits are those below a place and those from it on
 pub ones_split : (n k : ℕ) → count_ones n ≡ count_ones (n / 2 ^ k) + rank n k
 ones_split n k =
     ap count_ones (sym (shr_split n k)) ∙ ones_cat k (n / 2 ^ k) (n % 2 ^ k) (mod_below n (2 ^ k) (pow_pos k))
@@ -46,7 +46,7 @@ rank_whole n k h =
     let few : count_ones (n / 2 ^ k) ≡ 0 = ap count_ones none ∙ ones_of_bit 0 (omega arith) in
     omega (arith, all, few)
 
--- below a set bit are fewer bits than in all
+-- below a set bit are fewer set bits than in all
 pub rank_less_than_all : (n k : ℕ) → bit_at n k ≡ 1 → rank n k < count_ones n
 rank_less_than_all n k set = omega (arith, ones_split n (k + 1), rank_more n k, set)
 
@@ -56,7 +56,7 @@ rank_grows n i (suc d) =
     let e : i + suc d ≡ i + d + 1 = omega arith in
     subst (λ (m : ℕ). rank n i ≤ rank n m) (sym e) (omega (arith, rank_grows n i d, rank_more n (i + d)))
 
--- numbers with the same bits below a place
+-- numbers with the same bits below a place have the same rank there
 pub rank_same : (a b k : ℕ) → ((i : ℕ) → i < k → bit_at a i ≡ bit_at b i) → rank a k ≡ rank b k
 rank_same a b zero same = rank_none a ∙ sym (rank_none b)
 rank_same a b (suc k) same =
@@ -65,10 +65,10 @@ rank_same a b (suc k) same =
     subst (λ (m : ℕ). rank a m ≡ rank b m) (sym e)
     (omega (arith, below, rank_more a k, rank_more b k, same k (omega arith)))
 
--- ---- a word that is moved up until the bit of a place is the highest
+-- ---- a word that is shifted up until the bit at a place is the highest
 
 module _ (n place up : ℕ) (whole : place + 1 + up ≡ 64) where
-  -- the bits up to the place are left
+  -- only the bits up to the place remain
   moved : n * 2 ^ up % 2 ^ 64 ≡ n % 2 ^ (place + 1) * 2 ^ up
   moved =
       let kept : n * 2 ^ up % 2 ^ 64 ≡ n * 2 ^ up / 2 ^ up % 2 ^ (place + 1) * 2 ^ up + n * 2 ^ up % 2 ^ up =
@@ -111,11 +111,11 @@ module _ (n place : ℕ) (inside : place < 64) where
 
 -- ---- more bits
 
--- the other has no fewer bits set below a place, and as many only where they are the same
+-- c has no fewer bits set below k than a, and the same number only if the bits are the same
 abbrev AreNoFewer : ℕ → ℕ → ℕ → Type 0
 AreNoFewer a c k = (rank a k ≤ rank c k) × (rank a k ≡ rank c k → (p : ℕ) → p < k → bit_at a p ≡ bit_at c p)
 
--- so it is where each bit of one number is set in the other
+-- this holds if each bit that is set in a is set in c
 no_fewer : (a c k : ℕ) → ((p : ℕ) → bit_at a p ≤ bit_at c p) → AreNoFewer a c k
 no_fewer a c zero all = (omega (arith, rank_none a, rank_none c), λ same p h. absurd (omega (arith, h)))
 no_fewer a c (suc k) all =
@@ -131,7 +131,7 @@ no_fewer a c (suc k) all =
     ] in
     subst (λ (m : ℕ). AreNoFewer a c m) (omega arith) (less, bits)
 
--- bits that are not all there yet are more bits
+-- if not all bits of b are set in a, setting them sets more
 pub ones_grow : (a b : ℕ) → bit_or a b < 2 ^ 64 → bit_and b a ≢ b → count_ones a < count_ones (bit_or a b)
 ones_grow a b fits some =
     let c : ℕ = bit_or a b in
@@ -158,7 +158,7 @@ module _ (n place : ℕ) (inside : place < 64) (above : n < 2 ^ place) where
   pub set_elsewhere : (i : ℕ) → i ≢ place → bit_at (with_bit n place) i ≡ bit_at n i
   set_elsewhere i other = bit_at_set_other w64 n place inside i other
 
-  -- what was set stands below
+  -- bits that were set before are below the place
   pub set_before : (i : ℕ) → bit_at n i ≡ 1 → i < place
   set_before i set = lt_of_not-le {n = place} {m = i} (λ le. omega (arith, bit_at_above n place i above le, set))
 

@@ -1,4 +1,4 @@
--- Pairs that ascend: searched by halving, and the identifiers that they agree with.
+-- Ascending pairs: searching them by halving, and identifiers that agree with them.
 use Rattle.std.proofs.Common.{Err, Ok}
 use Rattle.std.proofs.lemmas.Bool.Decides.{nat_tests}
 use Rattle.std.proofs.lemmas.Cmp.{ranked}

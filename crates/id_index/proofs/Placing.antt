@@ -1,4 +1,4 @@
--- Pairs are placed: each object's goes where none is set, so that the numbers of those before it find theirs still.
+-- Pairs are placed: that of each object goes to a free place, so the numbers of earlier objects still find theirs.
 use Rattle.std.proofs.Common.{length-set, slice_set}
 use Rattle.std.proofs.Math.Seq.{get_or-set_other, get_or-set_same}
 use Rattle.std.proofs.lemmas.List.FromFn.{get_or-map-range_with_len}
@@ -15,7 +15,7 @@ use Rattle.id_index.proofs.Words.{true}
 use Rattle.id_index.proofs.Words.{ℕ, ◌++◌, ◌+◌, ◌-◌, ◌<◌, ◌^◌, ◌∙◌, ◌∷◌, ◌≡◌, ◌≢◌}
 
 module _ (pairs : List Pair) (lowest : ℕ) where
-  -- a number that one pair alone has finds that pair
+  -- a number that only one pair has finds that pair
   only_paired : (k n : ℕ) → k < length pairs → (pair_in pairs k).number ≡ n
       → ((j : ℕ) → j < length pairs → (pair_in pairs k).number ≡ (pair_in pairs j).number → k ≡ j)
       → id_paired pairs lowest n ≡ lowest + (pair_in pairs k).at
@@ -48,7 +48,7 @@ module _ (pairs : List Pair) (lowest : ℕ) where
         → id_paired pairs lowest n ≡ lowest + (pair_in pairs k).at
     id_is k n h is below = only_paired k n h is (λ j l same. it.one k j (h, set_below k n is below) l same)
 
-    -- if all are set they are those of all objects
+    -- if all pairs are set, they are those of all objects
     pub agree : count ≡ length pairs → AreSet pairs (length pairs)
         → Agree pairs lowest (ids_of_pairs pairs lowest (length pairs))
     agree all set = record {
@@ -70,7 +70,7 @@ module _ (pairs : List Pair) (lowest : ℕ) where
           (k, record { within = h; id_is = same; number_is = is });
     }
 
--- ---- one pair more
+-- ---- one more pair
 
 module _ (pairs : List Pair) (lowest count slot at : ℕ) (it : ArePlaced pairs count) (within : slot < length pairs)
     (free : (pair_in pairs slot).number ≡ 2 ^ 32 - 1) (room : count < length pairs) where
@@ -92,7 +92,7 @@ module _ (pairs : List Pair) (lowest count slot at : ℕ) (it : ArePlaced pairs 
   number_there : (k : ℕ) → k ≢ slot → (pair_in next k).number ≡ (pair_in pairs k).number
   number_there k other = ap (λ (p : Pair). p.number) (there k other)
 
-  -- another pair that is set has the number of an object before
+  -- any other set pair has the number of an earlier object
   lower : (k : ℕ) → k ≢ slot → k < length next → (pair_in next k).number ≢ 2 ^ 32 - 1 → (pair_in next k).number < count
   lower k other h set =
       let same : (pair_in next k).number ≡ (pair_in pairs k).number = number_there k other in
@@ -122,7 +122,7 @@ module _ (pairs : List Pair) (lowest count slot at : ℕ) (it : ArePlaced pairs 
         ]
       ]
 
-  -- the pair of an object before is another one
+  -- the pair of an earlier object is another one
   not_slot : (k n : ℕ) → (pair_in pairs k).number ≡ n → n < count → k ≢ slot
   not_slot k n is h e =
       omega (arith, is, h, ap (λ (m : ℕ). (pair_in pairs m).number) e, free, it.fits, it.few)

@@ -1,4 +1,4 @@
--- Repeats among ascending runs, and the first object whose identifier an earlier one bears.
+-- Repeats among ascending runs, and the first object whose identifier an earlier object has.
 use Rattle.id_index.proofs.Words.{AreComplete, AreSeen, AreSorted, AreSound, Contains, Contains-get_or, HasBearer}
 use Rattle.id_index.proofs.Words.{IsFirstRepeat, IsLeastRepeat, IsLowered, IsRepeatAt, List, Run, Some, and_le_r, ap}
 use Rattle.id_index.proofs.Words.{arith, bit_and, bit_at, bit_at-lt, bit_at-trailing_zeros, bit_at-zero, bit_at_and}
@@ -114,7 +114,7 @@ some_same x y e = cc
 module _ (runs : List Run) (ids : List ℕ) (count number : ℕ) (sorted : AreSorted runs)
     (sound : AreSound runs ids) (complete : AreComplete runs ids) (len : length ids ≡ count)
     (it : IsLeastRepeat runs (length runs) count number) where
-  -- of two objects with one identifier the earlier one's run comes first
+  -- if two objects have one identifier, the run of the earlier object comes first
   in_run_order : (id j k a b : ℕ) → a < length runs → b < length runs → HasBearer (run_in runs a) id
       → HasBearer (run_in runs b) id → number_in (run_in runs a) (id % 64) ≡ j
       → number_in (run_in runs b) (id % 64) ≡ k → j < k → a < b
@@ -134,7 +134,7 @@ module _ (runs : List Run) (ids : List ℕ) (count number : ℕ) (sorted : AreSo
         ]
       ]
 
-  -- the object of a run at a place of its page
+  -- the object at a place of a run's page
   object_at : (k place : ℕ) → k < length runs → place < 64 → bit_at (run_in runs k).places place ≡ 1
       → slice_get ids (number_in (run_in runs k) place) ≡ Some (page_in runs k * 64 + place)
   object_at k place h inside set =

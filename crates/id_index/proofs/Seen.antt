@@ -1,4 +1,4 @@
--- The places of a page that ascending runs have so far.
+-- The places of a page that the ascending runs so far have.
 use Rattle.id_index.proofs.Words.{AreSeen, AreSorted, List, Run, ap, arith, bit_at, bit_at-lt, bit_at-zero, bit_at_or}
 use Rattle.id_index.proofs.Words.{bit_or, cases_eq, inl, inr, le-max_left, le-max_right, length, max, page_in, refl}
 use Rattle.id_index.proofs.Words.{run_in, sym, ℕ, ◌+◌, ◌-◌, ◌<◌, ◌∙◌, ◌≡◌, ◌≤◌, ◌⊎◌}
@@ -16,7 +16,7 @@ module _ (runs : List Run) (at page seen before : ℕ) (sorted : AreSorted runs)
   abbrev here : Run
   here = run_in runs at
 
-  -- no earlier run is of this one's page, where the last one is of another
+  -- if the last run is of another page, no earlier run is of this page
   pub no_earlier : (last i : ℕ) → last ≡ page_in runs (at - 1) → i < at → page_in runs i ≡ here.page → here.page ≡ last
   no_earlier last i is less page_i =
       let low : page_in runs i ≤ page_in runs (at - 1) =

@@ -11,7 +11,7 @@ use Rattle.id_index.proofs.Extending.{push_length}
 use Rattle.id_index.proofs.Ones.{ones_grow, ones_split}
 use Rattle.id_index.proofs.Seen.{below_or_at, no_earlier, seen_only}
 
--- a run's number is before the end
+-- the number at a place of a run is at most its end
 pub before_end : (run : Run) (p : ℕ) → number_in run p ≤ end_of run
 before_end run p = omega (arith, ones_split run.places p)
 
@@ -25,14 +25,14 @@ module _ (runs : List Run) (at : ℕ) (kept : List Run) (sorted : AreSorted runs
   abbrev more : List Run
   more = kept ++ here ∷ []
 
-  -- runs of the page end before this one begins
+  -- earlier runs of the page end before this run begins
   ends_before : (i : ℕ) → i < at → page_in runs i ≡ here.page → end_of (run_in runs i) ≤ here.first
   ends_before i less page = ends_in_turn runs i at sorted.sorted sorted.apart less below page
 
   from_here : (i : ℕ) → i ≡ at → run_in runs i ≡ here
   from_here i e = ap (λ (m : ℕ). run_in runs m) e
 
-  -- a run that says nothing new
+  -- a run whose places were all seen
   dropped : ((p : ℕ) → bit_at here.places p ≡ 1 → (i : ℕ) × (i < at) × (page_in runs i ≡ here.page)
       × (bit_at (run_in runs i).places p ≡ 1)) → AreKept runs (at + 1) kept
   dropped seen = record {
@@ -92,7 +92,7 @@ module _ (runs : List Run) (at : ℕ) (kept : List Run) (sorted : AreSorted runs
         ];
   }
 
-  -- a run that says something new
+  -- a run with a place that was not seen
   added : AreKept runs (at + 1) more
   added = record {
     ascending = still_ascending;
@@ -114,12 +114,12 @@ module _ (runs : List Run) (at : ℕ) (kept : List Run) (sorted : AreSorted runs
     ];
   }
 
-  -- ---- no more runs of a page than it has places
+  -- ---- there are no more runs of a page than the page has places
 
   module _ (page seen before : ℕ) (same : here.page ≡ page → before ≡ seen)
       (other : (here.page ≡ page → ⊥) → before ≡ 0) (had : AreSeen runs at page seen)
       (few : AreFewSeen runs at page seen kept) where
-    -- the kept runs of this run's page
+    -- the kept runs of this page are at most the places that were seen before
     held_before : (k : ℕ) → k < length kept → page_in kept k ≡ here.page → length kept ≤ k + count_ones before
     held_before k h own =
         let (i, less, is) = it.from k h in
@@ -165,9 +165,9 @@ module _ (runs : List Run) (at : ℕ) (kept : List Run) (sorted : AreSorted runs
           ];
         }
 
--- ---- the runs where they stand
+-- ---- the runs at their places in the list
 
--- the run at a place goes behind the kept ones
+-- the run at a place is moved to the end of the kept ones
 moved : (now : List Run) (kept at : ℕ) → kept ≤ at → at < length now
     → take (kept + 1) (swap now kept at) ≡ take kept now ++ run_in now at ∷ []
 moved now kept at le below =

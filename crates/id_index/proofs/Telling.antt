@@ -1,4 +1,4 @@
--- What settled runs tell of the objects.
+-- What settled runs say of the objects.
 use Rattle.id_index.proofs.Words.{All-from_get_or, All-permutation, AreBuilt, AreComplete, AreFewBuilt}
 use Rattle.id_index.proofs.Words.{AreSettledBefore, AreSorted, AreSound, Contains-get_or, Contains-permutation}
 use Rattle.id_index.proofs.Words.{IsFirstRepeat, IsLeastRepeat, IsPermutation, IsPermutation-sym, IsSorted, List}
@@ -11,7 +11,7 @@ use Rattle.id_index.proofs.Built.{all_built, ids_count}
 use Rattle.id_index.proofs.Numbering.{given_back}
 use Rattle.id_index.proofs.Repeating.{first_repeat}
 
--- ---- in another order
+-- ---- runs in another order
 
 module _ (runs ordered : List Run) (ids : List ℕ) (same : IsPermutation runs ordered) where
   pub still_sound : AreSound runs ids → AreSound ordered ids
@@ -32,7 +32,7 @@ module _ (runs ordered : List Run) (ids : List ℕ) (same : IsPermutation runs o
         (λ i less. omega (arith, few, it.before i less))) k no_run h;
   }
 
--- ---- those that are kept
+-- ---- the runs that are kept
 
 module _ (runs now : List Run) (kept : ℕ) (ids : List ℕ) (it : AreSettledBefore runs now (length runs) kept)
     (sound : AreSound runs ids) (complete : AreComplete runs ids) where
@@ -76,7 +76,7 @@ module _ (runs : List Run) (last : Option Run) (count : ℕ) (all ordered : List
   complete : AreComplete ordered ids
   complete = still_complete all ordered ids same built.complete
 
-  -- what an index of them has
+  -- what an index of these runs has
   module _ (now : List Run) (kept : ℕ) (settled : AreSettledBefore ordered now (length ordered) kept) where
     pub same_ids : ids ≡ ids_of_runs now count
     same_ids = told ordered now kept ids settled sound complete count len

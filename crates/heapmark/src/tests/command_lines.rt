@@ -192,7 +192,7 @@ fn no_words_are_told(rt: HostRuntime) {
     assert_eq!(rt; answered_unheard(&rt, &[]), 2);
 }
 
-/// Words that ask for a text, and that text.
+/// Words for which the program prints a text, and that text.
 static TEXTS: [(&str, &str); 4] = [
     ("--help", HELP),
     ("-h", HELP),

@@ -92,7 +92,7 @@ fn runs_are_answered<T: Threads + Wait + Sync>(
     true
 }
 
-/// Tests whether the runs on the first `length` bytes of the file are refused by this code and place.
+/// Tests whether the runs on the first `length` bytes of the file are refused with `code` and `place`.
 fn file_is_refused<T: Threads + Wait + Sync>(
     rt: &T,
     alloc: Global,

@@ -1,4 +1,4 @@
-//! A reader that gives one byte a call changes no result.
+//! A reader that returns one byte a call changes no result.
 
 use super::rows::Reading::ByteByByte;
 use super::rows::{faults_are_found, reports_are_written};

@@ -75,7 +75,7 @@ fn run_late_on<T: Clock + Threads + Wait + Sync>(
     ((outcome, length), gate.has_met())
 }
 
-/// Returns the same for a run on the array.
+/// Like [`run_late_on`], for a run on the array.
 fn run_late<T: Clock + Threads + Wait + Sync>(rt: &T, alloc: Global) -> Option<(Answered, bool)> {
     let Ok(options) = Options::new(2, 2, 1024, 0) else {
         return None;

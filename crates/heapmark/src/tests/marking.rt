@@ -33,7 +33,7 @@ static ROWS: [Row; 13] = [
     (LongArray, (1, 256, 1024, LAST_TAG), Ok(LONG_ARRAY_REPORT)),
     (LongArray, (2, 256, 1024, LAST_TAG), Ok(LONG_ARRAY_REPORT)),
     (LongArray, (64, 256, 1024, LAST_TAG), Ok(LONG_ARRAY_REPORT)),
-    // seven roots take all four buffers: the worker has no pair, and the leader scans what it could not give away
+    // seven roots take all four buffers: the worker has no pair, and the leader scans what it could not pass on
     (Roots(7), (1, 2, 4, LAST_TAG), Ok(SEVEN_ROOTS_REPORT)),
     // the ninth root goes to the leader's own list
     (Roots(9), (1, 2, 4, LAST_TAG), Ok(NINE_ROOTS_REPORT)),

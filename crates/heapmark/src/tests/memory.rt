@@ -1,4 +1,4 @@
-//! Allocations that fail: each allocation of a run fails in turn, together with all later ones and alone.
+//! Allocations that fail: each allocation of a run fails in turn, once as the only one and once with all later ones.
 
 use super::dumps::Sample::{Records, TwoObjects, WideArray};
 use super::dumps::Sub::{Class, Objects, Root, Values};
@@ -92,8 +92,8 @@ static WITH_A_LIST: [Row; 1] = [(
     SUPERCLASS_SKIPPED_REPORT,
 )];
 
-/// Returns the result of a run whose allocation `request` fails, `alone` or with all later ones; how much of the report
-/// it has written; and how many allocations failed.
+/// Returns the result of a run whose allocation `request` fails, only that one if `alone` is true, else with all later
+/// ones; how much of the report it has written; and how many allocations failed.
 fn run_refusing<T: Threads + Wait + Sync>(
     rt: &T,
     alloc: Global,
@@ -133,7 +133,7 @@ fn first_other<T: Threads + Wait + Sync>(
         let (outcome, written, refusals) = run_refusing(
             rt, alloc, dump, options, skip, report, request, alone,
         );
-        // a list that asks for less after it was refused more may be served then
+        // if only this allocation failed, a list may succeed by allocating less
         let want = if refusals == 0 || alone && outcome.is_ok() {
             (Ok(()), Some(report.len()))
         } else {
@@ -160,7 +160,7 @@ fn skip_of(
     }
 }
 
-/// Tests whether each allocation of `row` on `dump` is reported if it fails, with all later ones and alone.
+/// Tests whether each allocation of `row` on `dump` is reported if it fails, as the only one and with all later ones.
 fn requests_are_told<T: Threads + Wait + Sync>(
     rt: &T,
     alloc: Global,

@@ -157,7 +157,7 @@ static LINES: [(&str, u8, &str); 7] = [
     ),
 ];
 
-/// A file is reported, and each word after it counts, on a terminal and off it.
+/// A file is reported, at a terminal or not, and each word after it counts.
 #[test]
 fn a_line_is_answered_to_its_end(rt: HostRuntime) {
     // The blanks, also the last one, are part of the name.

@@ -52,7 +52,7 @@ fn end_at(alloc: Global, bytes: &[u8], place: u64) -> (Option<u64>, u64) {
     (end, calls.load(Ordering::SeqCst))
 }
 
-/// Tests whether the record at each of these offsets ends where it should, with at most 200 calls.
+/// Tests whether the record at each offset of `cases` has the end that the case names, found with at most 200 calls.
 fn ends_are_found(alloc: Global, bytes: &[u8], cases: &[(u64, Option<u64>)]) -> bool {
     for (place, want) in cases {
         let (end, calls) = end_at(alloc, bytes, *place);

@@ -39,7 +39,7 @@ pub fn report_of(alloc: Global, lines: &[Line]) -> Result<String, AllocError> {
 pub enum Reading {
     /// A read fills the whole buffer; with 1, 2 and 64 workers.
     Whole,
-    /// A read gives one byte; with two workers and the least buffers.
+    /// A read returns one byte; with two workers and the least buffers.
     ByteByByte,
 }
 
@@ -181,7 +181,7 @@ fn long_string(alloc: Global) -> Result<Bytes, AllocError> {
     Ok(dump)
 }
 
-/// Tests whether the runs on it are refused.
+/// Tests whether the runs on the file of [`long_string`] are refused.
 fn long_string_is_refused<T: Threads + Wait + Sync>(rt: &T, alloc: Global) -> bool {
     let (reading, want) = (Reading::Whole, refused(3, Some(31)));
     match long_string(alloc) {

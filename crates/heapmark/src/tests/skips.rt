@@ -125,7 +125,7 @@ fn runs_are_reported<T: Threads + Wait + Sync>(
     true
 }
 
-/// Tests whether these runs write the report of `lines`.
+/// Like [`runs_are_reported`], for the report of `lines`.
 fn lines_are_written<T: Threads + Wait + Sync>(
     rt: &T,
     alloc: Global,
@@ -139,7 +139,7 @@ fn lines_are_written<T: Threads + Wait + Sync>(
     }
 }
 
-/// Tests whether these runs without the fields of `list` write the report of `lines`.
+/// Like [`lines_are_written`], without the fields of `list`.
 fn list_is_skipped<T: Threads + Wait + Sync>(
     rt: &T,
     alloc: Global,
@@ -195,7 +195,7 @@ fn is_reported<T: AllocGlobal + Env + Files + Threads + Wait + Sync>(
     }
 }
 
-/// Tests whether it does for a command line with `list`.
+/// Like [`is_reported`], for a command line with `list`.
 fn list_is_reported<T: AllocGlobal + Env + Files + Threads + Wait + Sync>(
     rt: &T,
     list: Option<&'static str>,

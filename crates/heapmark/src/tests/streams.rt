@@ -10,7 +10,7 @@ use std::io::{ErrorKind, Read, Write};
 use std::sync::Wait;
 use std::thread::Threads;
 
-/// A reader that gives one byte a call, and fails at one call only.
+/// A reader that returns one byte a call, and fails at one call only.
 #[derive(Drop)]
 pub struct Drip<'a> {
     bytes: &'a [u8],
@@ -138,7 +138,7 @@ fn a_read_fault_is_told_and_not_tried_again(rt: HostRuntime) {
     ] {
         for calls_left in 0..176usize {
             let told = read_failing(&rt, rt.alloc(), calls_left, kind);
-            // 174 reads give a byte each, and one more finds the end
+            // 174 reads return a byte each, and one more finds the end
             let want = if calls_left < 175 {
                 (refused(19, None), Some(0))
             } else {

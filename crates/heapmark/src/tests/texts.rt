@@ -1,4 +1,4 @@
-//! The whole texts that the program prints for words that ask about it or are wrong, as clap words them.
+//! The whole texts that the program prints about itself or about wrong words, as clap words them.
 
 /// The help.
 pub const HELP: &str = "\

@@ -97,7 +97,7 @@ fn run_meeting_on<T: Clock + Threads + Wait + Sync>(
     ((outcome, length_of(written.as_slice(), report)), counts)
 }
 
-/// Returns the same for a run on `roots` roots.
+/// Like [`run_meeting_on`], for a run on `roots` roots.
 fn run_meeting<T: Clock + Threads + Wait + Sync>(
     rt: &T,
     alloc: Global,

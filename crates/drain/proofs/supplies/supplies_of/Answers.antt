@@ -1,4 +1,4 @@
--- Each tally has as many rows as the graph's measure, so each is of no object.
+-- Each tally has a row for each row of the graph's measure, so each is of no object.
 use Rattle.drain.proofs.Words.{arith, sym}
 use Rattle.drain.proofs.supplies.supplies_of.Goals as goal
 

@@ -1,4 +1,4 @@
--- After `number` turns as many threads were started, each with a unit of the leader's and a tally of its own.
+-- After `number` turns `number` threads were started, each with a unit of the leader's and a tally of its own.
 use Rattle.drain.proofs.Words.{AreTalliesOfNone, HasStarted, vec_capacity, vec_len, ◌+◌, ◌≡◌, ◌≤◌}
 use Rattle.drain.proofs.worker_threads.start_all.Given as goal
 

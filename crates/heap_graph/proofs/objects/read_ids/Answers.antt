@@ -1,4 +1,4 @@
--- At the next place stands the next sub-record, so its identifier follows those so far.
+-- The next sub-record is at the next place, so its identifier follows those so far.
 use Rattle.heap_graph.proofs.Words.{List, SubRecord, ap, arith, get_or, map, slice_get-get_or, take_all, ℕ, ◌∙◌}
 use Rattle.hprof_grammar.specs.Dump.{id_of}
 use Rattle.heap_graph.proofs.Adding.{keys_more}

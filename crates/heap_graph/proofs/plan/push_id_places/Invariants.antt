@@ -1,4 +1,4 @@
--- The places so far and those of the fields that are left make up the places of all.
+-- The places so far and those of the remaining fields are the places of all fields.
 use Rattle.heap_graph.proofs.Words.{Bool, Member, id_places, length, size_together, ◌*◌, ◌++◌, ◌+◌, ◌≡◌, ◌≤◌}
 use Rattle.heap_graph.specs.working.ClassSkips.{IsSkipTest}
 use Rattle.heap_graph.proofs.plan.push_id_places.Given as goal

@@ -1,4 +1,4 @@
--- One identifier more is resolved as its look-up says, and is one more that is missing where that says so.
+-- One more identifier is resolved as its look-up says, and counts as missing if `push_target` returns true.
 use Rattle.std.proofs.Common.{Bool, arith, false, length, subst, sym, true, ℕ, ◌+◌, ◌<◌, ◌≡◌, take, get_or}
 use Rattle.heap_graph.specs.working.Resolving.{Resolves, ResolvesOne}
 use Rattle.heap_graph.proofs.Naming.{resolves_found, resolves_unresolved}

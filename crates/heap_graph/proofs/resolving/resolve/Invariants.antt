@@ -1,4 +1,4 @@
--- The identifiers so far are resolved, and no more of them are missing than there were.
+-- The identifiers so far are resolved, and the missing ones are no more than those so far.
 use Rattle.heap_graph.proofs.Words.{Resolves, take, ◌≤◌}
 use Rattle.heap_graph.proofs.resolving.resolve.Given as goal
 

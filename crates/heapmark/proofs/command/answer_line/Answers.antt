@@ -1,4 +1,5 @@
--- Words that give no arguments: 0 is for the help and the version, which they ask for then, and else nothing is written.
+-- If the words are no valid arguments, the status is 0 only if they request the help or the version. Else nothing is
+-- written.
 use Rattle.std.proofs.Common.{arith, inl, inr, rules, subst, ◌≡◌, ◌≢◌, ◌⊎◌}
 use Rattle.clap.specs.Words.{IsAmong, Kinds, kind_of}
 use Rattle.clap.specs.declared.error.kind.ErrorKind.{ErrorKind}
@@ -6,7 +7,7 @@ use Rattle.clap.specs.declared.error.kind.ErrorKind.TheVariants as variant
 use Rattle.command_line.specs.Line.{AsksAboutProgram, faults_of, texts_of}
 use Rattle.heapmark.proofs.command.answer_line.Goals as goal
 
--- an error that is a wish is one of what the words ask for
+-- an error that prints the help or the version is one of those that the words request
 asks : (kinds : Kinds) (kind : ErrorKind) → (kind ≡ variant.DisplayHelp) ⊎ (kind ≡ variant.DisplayVersion)
     → (kind ≡ variant.OutOfMemory) ⊎ IsAmong kind kinds
     → IsAmong variant.DisplayHelp kinds ⊎ IsAmong variant.DisplayVersion kinds

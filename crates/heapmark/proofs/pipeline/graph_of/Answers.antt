@@ -1,4 +1,4 @@
--- The codes of refusals: reading and linking tell first faults.
+-- The codes of refusals: reading and linking report first faults.
 use Rattle.std.proofs.Common.{rules}
 use Rattle.heapmark.proofs.Codes.{known_of}
 use Rattle.heapmark.proofs.pipeline.graph_of.Goals as goal

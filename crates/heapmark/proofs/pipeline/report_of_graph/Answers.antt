@@ -1,4 +1,4 @@
--- What a marking refuses is its own, or want of memory.
+-- A marking refuses if it is out of memory, or for a reason of its own.
 use Rattle.heapmark.proofs.OfMarking.{known_marking}
 use Rattle.heapmark.proofs.pipeline.report_of_graph.Goals as goal
 

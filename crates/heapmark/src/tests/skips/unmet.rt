@@ -137,7 +137,7 @@ fn is_told<T: AllocGlobal + Env + Files + Threads + Wait + Sync>(
     }
 }
 
-/// They are printed only if standard error is a terminal.
+/// The lines are printed only if standard error is a terminal.
 #[test]
 fn entries_that_name_no_field_are_told(rt: HostRuntime) {
     for case in &UNMET {
@@ -147,7 +147,7 @@ fn entries_that_name_no_field_are_told(rt: HostRuntime) {
     }
 }
 
-/// Returns a command line with a list of 25,000 bytes, whose last entry alone names a field.
+/// Returns a command line with a list of 25,000 bytes, of which only the last entry names a field.
 fn long_line(alloc: Global) -> Result<String, AllocError> {
     let mut line = String::new(alloc);
     line.push_str("FILE --skip ")?;
@@ -158,7 +158,7 @@ fn long_line(alloc: Global) -> Result<String, AllocError> {
     Ok(line)
 }
 
-/// Tests whether the process writes the report without the field of the last entry for that line.
+/// Tests whether the process, for [`long_line`], writes the report without the field of the last entry.
 fn long_line_is_read<T: AllocGlobal + Env + Files + Threads + Wait + Sync>(
     rt: &T,
     is_terminal: bool,
@@ -180,7 +180,7 @@ fn a_long_word_is_read_to_its_end(rt: HostRuntime) {
     assert!(rt; long_line_is_read(&rt, true), "a terminal");
 }
 
-/// A list that is refused has its own second line, and nothing is read if the version is asked for.
+/// A list that is refused has its own second line, and nothing is read if the version is requested.
 #[test]
 fn other_lines_are_told_nothing_of_entries(rt: HostRuntime) {
     let (name, sample) = ("heapmark_unmet_else.hprof", Sample::Records(4, REFERENCES));

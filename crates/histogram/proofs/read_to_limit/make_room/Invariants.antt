@@ -1,4 +1,4 @@
--- Zeroes are added at the end, so what was read stays, and the length stays within the limit.
+-- Zeros are added at the end, so the bytes that were read stay. The length stays within the limit.
 use Rattle.std.proofs.Common.{take, vec_len, ◌-◌, ◌≡◌, ◌≤◌}
 use Rattle.histogram.proofs.read_to_limit.make_room.Given as goal
 

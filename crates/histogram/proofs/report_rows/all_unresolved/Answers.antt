@@ -1,4 +1,4 @@
--- Marked and unmarked objects are all objects, and those and the roots make up the graph's number.
+-- All objects are marked or unmarked. What both miss and what the roots miss add up to the graph's number.
 use Rattle.std.proofs.Common.{Bool, List, arith, false, slice_index_or, ℕ, ◌+◌, ◌^◌, ◌≡◌, ◌≤◌}
 use Rattle.std.proofs.lemmas.List.FromFn.{length-range_with_len}
 use Rattle.std.proofs.lemmas.List.Sums.{sum_by-le}

@@ -1,4 +1,4 @@
--- One row more adds its line exactly where it has a marked object, and behind the last number all rows are there.
+-- One more row adds its line exactly if it has a marked object. After the last number all rows were visited.
 use Rattle.std.proofs.Common.{ap, arith, map, subst, sym, ◌∙◌, ◌<◌, ◌≡◌}
 use Rattle.heap_graph.specs.Whole.{IsRowIn}
 use Rattle.heap_graph.proofs.RowNumberLaws.{row_within}

@@ -1,4 +1,4 @@
--- The rows' lines and the three last ones are the report.
+-- The lines of the rows and the last three lines are the report.
 use Rattle.histogram.specs.HistogramOf.{entry_of}
 use Rattle.histogram.proofs.LineText.{rows_told, three_more}
 use Rattle.histogram.proofs.report_text.text_of.Goals as goal

@@ -1,4 +1,4 @@
--- The first rows stand in the text.
+-- The text so far has the lines of the first rows.
 use Rattle.std.proofs.Common.{◌≡◌, flat_map, take}
 use Rattle.histogram.specs.Report.{line_of}
 use Rattle.histogram.specs.HistogramOf.{entry_of}

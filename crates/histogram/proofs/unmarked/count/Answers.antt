@@ -1,4 +1,4 @@
--- An object more is the next of the list.
+-- One more object is the next of the list.
 use Rattle.std.proofs.Common.{[], ◌+◌, ◌∷◌, drop, slice_index}
 use Rattle.std.proofs.lemmas.List.{drop_more}
 use Rattle.histogram.proofs.UnmarkedLaws.{counted_more, more_add_up}

@@ -1,11 +1,11 @@
--- A batch is what comes next of the objects that are not marked.
+-- A batch has the next ones of the objects that are not marked.
 use Rattle.std.proofs.Common.{◌≡◌, ◌++◌, ◌∙◌, ap, arith, length, rules, sym}
 use Rattle.histogram.specs.working.Unmarked.{unmarked_from}
 use Rattle.histogram.proofs.UnmarkedLaws.{counted_more, more_add_up, next_are_objects, unmarked_are_objects}
 use Rattle.histogram.proofs.unmarked.count_in_batches.Goals as goal
 use Rattle.histogram.proofs.unmarked.count_in_batches.Goals.{After-as_slice}
 
--- what was to come is the batch and what is to come
+-- the objects that remained are the batch and those that still remain
 next_batch : (g : _) (c : After-as_slice g) → c.loop-first.numbers ≡ c.as_slice.result.now ++ c.batch_from.new.self
 next_batch g c =
     c.in-Some.ensures.steps

@@ -1,4 +1,4 @@
--- The objects in front of those that are still to come are counted.
+-- The objects before the remaining ones are counted.
 use Rattle.histogram.specs.working.Unmarked.{unmarked_from}
 use Rattle.histogram.proofs.UnmarkedLaws.{HasCounted}
 use Rattle.histogram.proofs.unmarked.count_in_batches.Given as goal

@@ -1,4 +1,4 @@
--- An object more is what comes next of the objects that are not marked.
+-- One more object is the next one of those that are not marked.
 use Rattle.std.proofs.Common.{ℕ, ◌<◌, [], ◌∷◌}
 use Rattle.std.proofs.lemmas.List.Elements.{All-head}
 use Rattle.heap_graph.specs.ObjectGraph.{object_count}

@@ -1,4 +1,4 @@
--- A frame has nine bytes at least.
+-- A frame has at least nine bytes.
 use Rattle.std.proofs.Common.{ap, arith, length, subst, sym}
 use Rattle.hprof_grammar.proofs.Bytes.{IsBytes, in_bytes}
 use Rattle.hprof_grammar.proofs.Frames.{frame_takes}

@@ -1,5 +1,5 @@
--- The cuts lead to the last seam while records are left, and to the end of the bytes then. No more is left to read than
--- there was, and it gets less.
+-- The cuts lead to the last seam while records remain, and to the end of the bytes after that. What remains to be read
+-- is never more than at the start, and it shrinks.
 use Rattle.std.proofs.Common.{length, ◌+◌, ◌<◌, ◌≡◌, ◌≤◌}
 use Rattle.hprof_grammar.specs.working.Cuts.{AreCuts}
 use Rattle.hprof_grammar.proofs.CutsGrow.{AreLong}

@@ -1,4 +1,4 @@
--- A text spells one list of records, and the places of its dump are counted from that list alone.
+-- A text spells one list of records, which alone determines the places of its dump.
 use Rattle.hprof_grammar.proofs.OneDump.{one_dump}
 use Rattle.hprof_grammar.proofs.laws.one_dump.Goals as goal
 

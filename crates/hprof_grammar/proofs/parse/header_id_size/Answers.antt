@@ -1,4 +1,4 @@
--- A test that fails is the first fault, since those before it were passed. Where all four are passed the header stands.
+-- A test that fails is the first fault, since the tests before it passed. If all four pass, the text has a header.
 use Rattle.hprof_grammar.proofs.Words.{ap, arith, bad_header, big_number, drop, short_header, sym, too_large, true, ◌∙◌}
 use Rattle.hprof_grammar.proofs.Words.{◌≡◌, ◌≤◌}
 use Rattle.std.proofs.lemmas.List.{take_rest}

@@ -1,4 +1,4 @@
--- The header ends at byte 31: what is told of the bytes from there on is told of the whole text.
+-- The header ends at byte 31: what is known of the bytes from there on holds of the whole text.
 use Rattle.hprof_grammar.proofs.Words.{AddsAll, FirstFault, HasRecordFault, List, Places, ap, arith, drop, length}
 use Rattle.hprof_grammar.proofs.Words.{subst, take, ℕ, ◌-◌, ◌≡◌}
 use Rattle.std.proofs.lemmas.List.{take_rest}

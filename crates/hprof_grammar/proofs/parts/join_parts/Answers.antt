@@ -1,4 +1,4 @@
--- A part that begins where the one before ended joins it. At the end of the bytes all records have come.
+-- A part that begins at the end of the one before joins it. At the end of the bytes all records have joined.
 use Rattle.std.proofs.Common.{All, arith, subst, suc, sym, ◌∙◌}
 use Rattle.hprof_grammar.specs.working.Parts.{MayBePart}
 use Rattle.hprof_grammar.proofs.PartsJoin.{all_joined, none_joined, part_joins, same_seam}

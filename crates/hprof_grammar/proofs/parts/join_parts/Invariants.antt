@@ -1,4 +1,4 @@
--- The records behind the header and up to the last seam have joined, and the answers that are left are parts.
+-- The records after the header and before the last seam have joined, and the remaining results are parts.
 use Rattle.std.proofs.Common.{All}
 use Rattle.std.specs.Vec.Iter.{into_iter_items}
 use Rattle.hprof_grammar.specs.working.Parts.{MayBePart}

@@ -1,4 +1,4 @@
--- What a thread answers is what the reading of its part says.
+-- The result of a thread is that of reading its part.
 use Rattle.std.proofs.Common.{arith}
 use Rattle.hprof_grammar.proofs.TableLaws.{id_size_high, id_size_low}
 use Rattle.hprof_grammar.proofs.parts.read_in_parts.Goals as goal

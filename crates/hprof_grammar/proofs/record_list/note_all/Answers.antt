@@ -1,4 +1,4 @@
--- Where all records have come and the snapshot has not its end, it is missing at the end of the bytes.
+-- If all records were read and the snapshot is not done, the rest of it is missing at the end of the bytes.
 use Rattle.std.proofs.Common.{refl, sym, ◌∙◌}
 use Rattle.hprof_grammar.proofs.Wholes.{fault_at_end}
 use Rattle.hprof_grammar.proofs.record_list.note_all.Goals as goal

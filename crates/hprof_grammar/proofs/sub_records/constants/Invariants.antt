@@ -1,4 +1,4 @@
--- To read the constants that are left ends as reading all of them does: in the same bytes, or in the same flaw.
+-- Reading the remaining constants ends as reading all of them does: in the same bytes, or in the same flaw.
 use Rattle.hprof_grammar.proofs.Words.{behind, constant_at, list_at, ◌-◌, ◌≡◌}
 use Rattle.hprof_grammar.proofs.sub_records.constants.Given as goal
 

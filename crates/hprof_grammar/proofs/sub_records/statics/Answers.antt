@@ -1,4 +1,4 @@
--- A flaw in the static field of this turn is the flaw of all that were to be read.
+-- A flaw in the static field of this turn is the flaw of reading all static fields.
 use Rattle.hprof_grammar.proofs.Words.{arith, static_at, ◌<◌}
 use Rattle.hprof_grammar.proofs.Counts.{list_stops}
 use Rattle.hprof_grammar.proofs.sub_records.statics.Goals as goal

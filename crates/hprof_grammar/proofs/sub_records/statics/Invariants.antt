@@ -1,4 +1,4 @@
--- To read the static fields that are left ends as reading all of them does: in the same bytes, or in the same flaw.
+-- Reading the remaining static fields ends as reading all of them does: in the same bytes, or in the same flaw.
 use Rattle.hprof_grammar.proofs.Words.{behind, list_at, static_at, ◌-◌, ◌≡◌}
 use Rattle.hprof_grammar.proofs.sub_records.statics.Given as goal
 

@@ -1,4 +1,4 @@
--- Buckets rise with pages, so behind a run that is in no earlier bucket no run is in one.
+-- Buckets rise with pages, so after a run that is in no earlier bucket no run is in one.
 use Rattle.id_index.proofs.Words.{arith, bucket_of, page_in, ℕ, ◌≤◌}
 use Rattle.id_index.proofs.Buckets.{buckets_rise}
 use Rattle.id_index.proofs.beginnings.start_of.Goals as goal

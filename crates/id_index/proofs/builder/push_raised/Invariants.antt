@@ -1,4 +1,4 @@
--- The runs so far stand behind the old ones, raised, and there is room for the rest.
+-- The old runs are followed by the runs so far, raised, and there is room for the rest.
 use Rattle.id_index.proofs.Words.{length, map, raised_by, take, vec_capacity, vec_len, ◌++◌, ◌+◌, ◌-◌, ◌≡◌, ◌≤◌}
 use Rattle.id_index.proofs.builder.push_raised.Given as goal
 

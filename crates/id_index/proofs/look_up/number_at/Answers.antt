@@ -1,4 +1,4 @@
--- The run before it is of a smaller page, or there is none, so no run before it is of its page.
+-- The run before it is of a smaller page, or there is none. So no run before it is of its page.
 use Rattle.id_index.proofs.Words.{arith, page_in, ℕ, ◌-◌, ◌/◌, ◌<◌, ◌≤◌}
 use Rattle.id_index.proofs.Bearers.{bearer_at}
 use Rattle.id_index.proofs.look_up.number_at.Goals as goal

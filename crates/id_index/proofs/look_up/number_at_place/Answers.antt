@@ -1,4 +1,4 @@
--- The highest bit tells of the place, and the bits below it are those below the place.
+-- The highest bit is that of the place, and the bits below it are those below the place.
 use Rattle.id_index.proofs.Words.{arith, bit_at, ◌≡◌}
 use Rattle.id_index.proofs.Ones.{ones_up_to, rank_less_than_all, top_bit, top_bit_not}
 use Rattle.id_index.proofs.look_up.number_at_place.Goals as goal

@@ -1,4 +1,4 @@
--- Pages rise, so behind a run of another page no run is of this one; and a run's numbers fit 32 bits.
+-- Pages rise, so after a run of another page no run is of this page. The numbers of a run fit 32 bits.
 use Rattle.id_index.proofs.Words.{arith, cases_lt, inl, inr, length}
 use Rattle.id_index.proofs.Bearers.{none_behind, none_past}
 use Rattle.id_index.proofs.look_up.number_from.Goals as goal

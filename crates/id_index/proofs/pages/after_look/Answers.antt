@@ -1,4 +1,4 @@
--- The run that is looked at tells on which side of it the first one of a page is.
+-- The run at `at` shows on which side of it the first run of a page is.
 use Rattle.std.proofs.Common.{arith}
 use Rattle.id_index.proofs.Halving.{lower_half, upper_half}
 use Rattle.id_index.proofs.pages.after_look.Goals as goal

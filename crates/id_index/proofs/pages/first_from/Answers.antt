@@ -1,4 +1,5 @@
--- On the way down the last run of a smaller page is met, or the low end; then the first whose page is not smaller.
+-- The way down ends at the last run of a smaller page or at the low end, the way up at the first run of no smaller
+-- page.
 use Rattle.id_index.proofs.Words.{arith, page_in, ◌-◌, ◌≤◌}
 use Rattle.id_index.proofs.Halving.{first_in_turn}
 use Rattle.id_index.proofs.pages.first_from.Goals as goal

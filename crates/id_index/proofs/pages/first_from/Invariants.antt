@@ -1,5 +1,5 @@
--- The run is between the two ends, and there is a look left for each run on the way to either; on the way up, the runs
--- that were passed have smaller pages.
+-- The run is between the two ends, and a look remains for each run on the way to either. On the way up, the runs that
+-- were passed have smaller pages.
 use Rattle.id_index.proofs.Words.{IsAround, page_in, ℕ, ◌+◌, ◌-◌, ◌<◌, ◌≤◌}
 use Rattle.id_index.proofs.pages.first_from.Given as goal
 

@@ -1,4 +1,4 @@
--- What is left has the first run of the page, each look leaves less of it, and there are looks for all halvings.
+-- The range has the first run of the page, it shrinks with each look, and there are looks for all halvings.
 use Rattle.id_index.proofs.Words.{IsAround, ◌*◌, ◌-◌, ◌^◌, ◌≤◌}
 use Rattle.id_index.proofs.pages.narrow.Given as goal
 

@@ -1,4 +1,4 @@
--- A binary search by key ends at the pair, or where it would stand.
+-- A binary search by key ends at the pair, or at the place that it would have.
 use Rattle.std.proofs.Common.{rules}
 use Rattle.std.proofs.lemmas.List.Sorted.{answers_always}
 use Rattle.id_index.proofs.Pairing.{found, not_found}

@@ -1,4 +1,4 @@
--- One more run lowers it to the least of its repeats.
+-- One more run lowers the least repeat to the least of the run's repeats, if that is lower.
 use Rattle.id_index.proofs.Repeating.{least_more}
 use Rattle.id_index.proofs.Seen.{seen_more}
 use Rattle.id_index.proofs.repeats.least_repeat.Goals as goal

@@ -1,4 +1,4 @@
--- It is the least repeat among the runs before this index, and the places of the last one's page were seen.
+-- `least` is the least repeat among the runs before this index, and `seen` has the places of the last run's page.
 use Rattle.id_index.specs.working.RunRepeats.{AreSeen, IsLeastRepeat}
 use Rattle.id_index.proofs.repeats.least_repeat.Given as goal
 

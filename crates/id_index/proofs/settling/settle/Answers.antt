@@ -1,4 +1,4 @@
--- A run is taken as its places were seen, so one more run is settled.
+-- A run is kept unless all its places were seen, so one more run is settled.
 use Rattle.id_index.proofs.Words.{List, Run, arith, get_or_read, length, no_run, run_in, ℕ, ◌<◌, ◌∙◌, ◌≡◌}
 use Rattle.id_index.proofs.Seen.{seen_more}
 use Rattle.id_index.proofs.Settled.{few_more, settled_more}

@@ -1,4 +1,4 @@
--- The unfinished objects are the unmarked ones, and there are as many marks as objects.
+-- The unfinished objects are the unmarked ones, and each object has one mark.
 use Rattle.drain.proofs.Words.{AreFinished, Bool, List, MarkedObjects, Option, ap, arith, false, find, is_set, le-leb}
 use Rattle.drain.proofs.Words.{length, length-map, map, not, refl, slice_index, slice_index_or, suc, sym, zero, ℕ, ◌-◌}
 use Rattle.drain.proofs.Words.{◌==◌, ◌∙◌, ◌≡◌, ◌≤◌}

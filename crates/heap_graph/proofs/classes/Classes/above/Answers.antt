@@ -1,4 +1,4 @@
--- The superclass that is read is the dump's, and the table has a class of an identifier where the heap has one.
+-- The superclass that is read is that of the dump, and the table has a class with an identifier if the heap has one.
 use Rattle.heap_graph.proofs.Words.{None, arith, class_named, ids_of, subst, sym, ℕ, ◌∙◌, ◌≡◌}
 use Rattle.heap_graph.proofs.ClassTableLaws.{found, not_found, read_super, stands_at}
 use Rattle.heap_graph.proofs.classes.Classes.above.Goals as goal

@@ -1,4 +1,4 @@
--- The dump at the place has the fields that are read, so the bytes of these are those of the class.
+-- The dump at the place has the fields that are read, so the bytes of these fields are those of the class.
 use Rattle.heap_graph.proofs.Words.{List, Member, ap, arith, bounds, length, refl, size_together, ◌<◌, ◌^◌, ◌∙◌}
 use Rattle.heap_graph.proofs.classes.Classes.add.Goals as goal
 

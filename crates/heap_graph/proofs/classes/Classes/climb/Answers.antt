@@ -1,4 +1,4 @@
--- A class that comes onto the path is unknown no more, so fewer are; where the climb ends, it ends above the path.
+-- A class that is put on the path is no longer unknown, so fewer are. If the climb ends, it ends above the path.
 use Rattle.heap_graph.proofs.Words.{AreFates, Contains, IsClimb, IsTop, List, [], ids_of, set, subst, sym, ℕ, ◌++◌, ◌∙◌}
 use Rattle.heap_graph.proofs.Words.{◌∷◌}
 use lib.ListN.{length-set}

@@ -1,4 +1,4 @@
--- What was known is known, and the climb from the first class has come to this one.
+-- What was known is known, and the climb from the first class has reached this one.
 use Rattle.heap_graph.proofs.Words.{AreClassesOf, DoesStay, IsClimbOf, List, SubRecord, count_by, is_unknown}
 use Rattle.heap_graph.proofs.classes.Classes.climb.Given as goal
 

@@ -1,4 +1,4 @@
--- Below a whole layout comes that of the class; a chain that is cut or endless above is so from the class on.
+-- If the layout above is whole, so is that of the class. If the chain above is cut or endless, so is that of the class.
 use Rattle.heap_graph.proofs.Words.{Fate, IsChain, IsFate, ids_of, subst, sym, ℕ, ◌∷◌}
 use Rattle.heap_graph.specs.declared.classes.fate.Fate.TheVariants as fates
 use Rattle.heap_graph.proofs.FateLaws.{chain_at, fate_up}

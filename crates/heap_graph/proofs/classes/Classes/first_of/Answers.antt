@@ -1,4 +1,4 @@
--- A class whose fields have no bytes declares none, so the first with fields is the one above; else it is this one.
+-- A class whose fields have no bytes declares none, so the first with fields is the one above. Else it is this class.
 use Rattle.heap_graph.proofs.Words.{ClassPlace, ap, ids_of, sym, ◌∙◌}
 use Rattle.heap_graph.proofs.ClassTableLaws.{no_fields, read_entry, some_fields}
 use Rattle.heap_graph.proofs.LayoutLaws.{first_above, first_here}

@@ -1,4 +1,4 @@
--- The identifier stands in the entry of that number.
+-- The identifier is that of the entry with this number.
 use Rattle.std.proofs.Common.{ap, sym, ◌∙◌}
 use Rattle.heap_graph.specs.working.ClassList.{TableEntry}
 use Rattle.heap_graph.proofs.ClassTableLaws.{id_at, there_is}

@@ -1,4 +1,4 @@
--- The bytes of the class and those above are bounded, so the sum fits; to cut it at each step is to cut it once.
+-- The bytes of the class and of those above are bounded, so the sum fits. Cutting it at each step is cutting it once.
 use Rattle.heap_graph.proofs.Words.{ClassPlace, ap, arith, entry_at, layout_size, min, most_size, size_together, sym, ℕ}
 use Rattle.heap_graph.proofs.Words.{◌+◌, ◌<◌, ◌^◌, ◌∙◌, ◌≡◌}
 use Rattle.heap_graph.proofs.ClassTableLaws.{few_bytes, read_entry, size_of_class}

@@ -1,4 +1,5 @@
--- Nothing above ends the chain, a missing class cuts it, one on the path leads round, and a known fate is the fate.
+-- Nothing above ends the chain, a missing class cuts it, one on the path makes it endless, and a known fate is the
+-- fate.
 use Rattle.std.proofs.Common.{[], arith, length, refl, ◌<◌}
 use Rattle.heap_graph.specs.declared.classes.fate.Fate.TheVariants as fates
 use Rattle.heap_graph.proofs.ClassTableLaws.{numbered, same_count, under}

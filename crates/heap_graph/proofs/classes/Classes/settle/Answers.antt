@@ -1,4 +1,4 @@
--- An unknown class starts a climb with an empty path; any other is known, since none can be on an empty path.
+-- An unknown class starts a climb with an empty path. Any other class is known, since no class is on an empty path.
 use Rattle.std.proofs.Common.{arith, length, refl, ◌<◌}
 use Rattle.heap_graph.proofs.ClassTableLaws.{same_count}
 use Rattle.heap_graph.proofs.FateLaws.{first_climb, known_here, read_fate}

@@ -1,4 +1,4 @@
--- The path is empty, what is said of fates is so, and each class so far is known.
+-- The path is empty, what the list says of fates holds, and each class so far is known.
 use Rattle.heap_graph.proofs.Words.{AreClassesOf, AreFatesOf, IsKnown, List, SubRecord, [], ℕ, ◌<◌, ◌≡◌}
 use Rattle.heap_graph.proofs.classes.Classes.settle_all.Given as goal
 

@@ -1,4 +1,4 @@
--- What was known is known, so is each class that left the path, and the fate is that of what stands above the path.
+-- What was known is known, and so is each class that left the path. `fate` is that of what is above the path.
 use Rattle.heap_graph.proofs.Words.{AreClassesOf, AreFatesOf, Contains, DoesStay, IsKnown, List, SubRecord, length, ℕ}
 use Rattle.heap_graph.proofs.Words.{◌⊎◌}
 use Rattle.heap_graph.specs.working.Chains.{IsTopOf}

@@ -1,4 +1,4 @@
--- What was added and what is left make up the bytes of all, and a value has at most 255.
+-- The bytes that were added and those of the remaining fields are the bytes of all. A value has at most 255.
 use Rattle.heap_graph.proofs.Words.{length, size_together, ◌*◌, ◌+◌, ◌≡◌, ◌≤◌}
 use Rattle.heap_graph.proofs.classes.builder.bytes_of_fields.Given as goal
 

@@ -1,4 +1,4 @@
--- Behind fates that are all unknown comes one more that is.
+-- After fates that are all unknown one more unknown fate is added.
 use Rattle.std.proofs.Common.{ap, arith, length, length-append, refl, ◌∷◌, []}
 use Rattle.heap_graph.specs.declared.classes.fate.Fate.TheVariants as fates
 use Rattle.heap_graph.proofs.FateLaws.{unknown_more}

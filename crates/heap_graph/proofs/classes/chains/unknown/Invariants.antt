@@ -1,4 +1,4 @@
--- There are no more than asked for, and all are unknown.
+-- There are at most `count` fates, and all are unknown.
 use Rattle.heap_graph.proofs.Words.{Fate, Some, length, slice_get, ℕ, ◌-◌, ◌≡◌, ◌≤◌}
 use Rattle.heap_graph.specs.declared.classes.fate.Fate.TheVariants as fates
 use Rattle.heap_graph.proofs.classes.chains.unknown.Given as goal

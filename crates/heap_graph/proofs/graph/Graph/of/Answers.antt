@@ -1,4 +1,4 @@
--- The graph of linked objects: the lists of their identifiers are there by a lemma, without a call that reads them.
+-- The graph of linked objects: a lemma has the lists of their identifiers, so no call needs to read them.
 use Rattle.heap_graph.proofs.Words.{AreNamedOf, IsGraphOfText, List, SkipEntry, StandFor, rules, subst, sym, ◌≡◌}
 use Rattle.heap_graph.proofs.Building.{given_graph, graph_read, stand_for, text_graph_made}
 use Rattle.heap_graph.proofs.Counting.{few_roots_in_dump}

@@ -1,4 +1,4 @@
--- What the visit missed and what it has still to miss are what the object misses.
+-- What the visit missed and what it will still miss are what the object misses.
 use Rattle.heap_graph.proofs.Words.{length, unresolved_left, ◌+◌, ◌≡◌}
 use Rattle.heap_graph.specs.Whole.{unresolved_at}
 use Rattle.heap_graph.proofs.graph.Graph.unresolved_of.Given as goal

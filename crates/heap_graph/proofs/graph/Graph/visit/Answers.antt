@@ -1,4 +1,4 @@
--- Row, bytes and identifiers are those of the one object of that number; nothing is missed before the first step.
+-- Row, bytes and identifiers are those of the object with this number. Nothing is missed before the first step.
 use Rattle.heap_graph.proofs.Words.{IsRowIn, List, RowKey, ap, arith, held_by, references_in, subst, sym}
 use Rattle.heap_graph.proofs.Words.{unresolved_left, ◌∙◌}
 use Rattle.heap_graph.specs.Walks.{Step, Visited}

@@ -1,4 +1,4 @@
--- The places that were handed over are the dump's own, so what is read at them is of the dump.
+-- The places that were taken out are the dump's own, so what is read at them is of the dump.
 use Rattle.heap_graph.proofs.Words.{ArePlacesOf, HaveFatesOf, IfOk-weaker, IsDumpOf, IsReadFrom, Places, heap_of}
 use Rattle.heap_graph.proofs.Building.{handed_places}
 use Rattle.heap_graph.proofs.graph.build.take_objects.Goals as goal

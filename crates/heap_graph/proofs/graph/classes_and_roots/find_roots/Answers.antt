@@ -1,4 +1,4 @@
--- The identifiers are those of the roots, and what they name is looked for among the objects.
+-- The identifiers are those of the roots, and the objects that they name are looked up.
 use Rattle.heap_graph.proofs.Words.{filter, is_root, ◌∙◌}
 use Rattle.heap_graph.proofs.Building.{roots_resolved}
 use Rattle.heap_graph.proofs.graph.classes_and_roots.find_roots.Goals as goal

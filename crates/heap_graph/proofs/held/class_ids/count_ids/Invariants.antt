@@ -1,4 +1,4 @@
--- Those counted, with those among the values that are left, are all; no value counts for more than one.
+-- The count and the identifiers among the remaining values are all. No value counts for more than one.
 use Rattle.heap_graph.proofs.Words.{length, values_ids, ◌+◌, ◌≡◌, ◌≤◌}
 use Rattle.heap_graph.proofs.held.class_ids.count_ids.Given as goal
 

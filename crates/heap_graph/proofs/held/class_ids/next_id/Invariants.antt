@@ -1,4 +1,4 @@
--- The values that were passed hold no identifier, so the values that are left hold the same ones.
+-- The values so far hold no identifier, so the remaining values hold the same identifiers as all.
 use Rattle.std.proofs.Common.{◌≡◌}
 use Rattle.heap_graph.specs.working.Values.{AreClassValues, values_ids}
 use Rattle.heap_graph.proofs.held.class_ids.next_id.Given as goal

@@ -1,4 +1,4 @@
--- At the next place stands the next loaded class, so its identifier follows those so far.
+-- The next loaded class is at the next place, so its identifier follows those so far.
 use Rattle.heap_graph.proofs.Words.{arith, load_class}
 use Rattle.heap_graph.proofs.Adding.{one_more_added, still_takes, takes}
 use Rattle.heap_graph.proofs.NameLookups.{loaded_at}

@@ -1,4 +1,4 @@
--- The builder takes each identifier, and has those of the loaded classes so far.
+-- The builder takes any identifier, and has those of the loaded classes so far.
 use Rattle.heap_graph.proofs.Words.{AreNamesOf, List, Record, filter, is_load, loaded_id}
 use Rattle.heap_graph.proofs.Adding.{AreAdded, TakesAll}
 use Rattle.heap_graph.proofs.names.Names.loaded_by_id.Given as goal

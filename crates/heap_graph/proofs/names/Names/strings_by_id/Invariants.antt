@@ -1,4 +1,4 @@
--- The builder takes each identifier, and has those of the strings so far.
+-- The builder takes any identifier, and has those of the strings so far.
 use Rattle.heap_graph.proofs.Words.{AreNamesOf, List, Record, filter, is_string, string_id}
 use Rattle.heap_graph.proofs.Adding.{AreAdded, TakesAll}
 use Rattle.heap_graph.proofs.names.Names.strings_by_id.Given as goal

@@ -1,4 +1,4 @@
--- The index finds the first loaded class that bears the identifier, and that one's name counts.
+-- The index finds the first loaded class with the identifier, and the name of that class counts.
 use Rattle.heap_graph.proofs.Words.{Some, ap, loaded_id, ℕ, ◌∙◌}
 use Rattle.heap_graph.proofs.Lookups.{found, found_below, missing}
 use Rattle.heap_graph.proofs.NameLookups.{first_name, loaded_at, loaded_name}

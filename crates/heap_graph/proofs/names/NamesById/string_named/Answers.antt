@@ -1,4 +1,4 @@
--- The index finds the first string that bears the identifier, and that one's text counts.
+-- The index finds the first string with the identifier, and the text of that string counts.
 use Rattle.heap_graph.proofs.Words.{List, Some, ap, string_id, ℕ, ◌∙◌}
 use Rattle.heap_graph.proofs.Lookups.{found, found_below, missing}
 use Rattle.heap_graph.proofs.NameLookups.{first_text, string_text, text_at}

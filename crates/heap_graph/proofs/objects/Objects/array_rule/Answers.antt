@@ -1,4 +1,4 @@
--- The table has a class of that identifier where the heap has one, and an array has no other rule to break.
+-- The table has a class with the identifier if the heap has one, and an array has no other rule to break.
 use Rattle.heap_graph.proofs.Words.{None, Some, class_named, subst, sym, ℕ, ◌≡◌}
 use Rattle.heap_graph.proofs.ClassTableLaws.{not_found}
 use Rattle.heap_graph.proofs.RuleLaws.{array_fine, array_unknown, fate_found}

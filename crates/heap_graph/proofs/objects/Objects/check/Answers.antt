@@ -1,4 +1,4 @@
--- The first part with a fault has the first fault; else all objects keep the rules.
+-- The first part with a fault has the first fault. If no part has one, all objects keep the rules.
 use Rattle.std.proofs.Common.{Ok, ap, arith, get_or, length, min, sym, ◌*◌, ◌+◌, ◌∙◌, ◌≡◌, ◌≤◌}
 use Rattle.std.proofs.lemmas.Result.{IfErr-at_err, IfErr-weaker, IfOk-at_ok, on_ok_weaker}
 use Rattle.heap_graph.proofs.Parts.{all_linked, next_part, none_first, reaches}

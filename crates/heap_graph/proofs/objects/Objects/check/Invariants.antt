@@ -1,4 +1,4 @@
--- No object of a part whose answer was seen breaks a rule, and the first repeat is none of them.
+-- No object of the parts so far breaks a rule, and the first repeat is none of these objects.
 use Rattle.heap_graph.proofs.Words.{AreFine, AreOf, HaveFatesOf, List, SubRecord, length, min, ◌*◌, ◌≤◌}
 use Rattle.heap_graph.proofs.objects.Objects.check.Given as goal
 

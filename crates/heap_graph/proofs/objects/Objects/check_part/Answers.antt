@@ -1,4 +1,4 @@
--- No object before breaks a rule, so the first that is found to break one has the first fault; else all keep them.
+-- No object before breaks a rule, so the first that is found to break one has the first fault. Else all keep the rules.
 use Rattle.heap_graph.proofs.Words.{Some, ap, arith, slice_get-get_or, sym, ℕ, ◌∙◌}
 use Rattle.heap_graph.proofs.Testing.{none_before}
 use Rattle.heap_graph.proofs.objects.Objects.check_part.Goals as goal

@@ -1,4 +1,4 @@
--- No object so far breaks a rule, and the first repeat is none of them.
+-- No object so far breaks a rule, and the first repeat is none of these objects.
 use Rattle.heap_graph.proofs.Words.{AreFine, AreOf, HaveFatesOf, List, SubRecord, ◌≤◌}
 use Rattle.heap_graph.proofs.objects.Objects.check_part.Given as goal
 

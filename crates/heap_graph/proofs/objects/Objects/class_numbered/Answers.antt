@@ -1,4 +1,4 @@
--- The class is there, so the table has it, and in a linked heap its place there is its number among the dumps.
+-- The class exists, so the table has it. In a linked heap its number in the table is its number among the class dumps.
 use Rattle.std.proofs.Common.{refl, sym}
 use Rattle.heap_graph.proofs.ClassTableLaws.{not_found}
 use Rattle.heap_graph.proofs.EntryLaws.{number_told}

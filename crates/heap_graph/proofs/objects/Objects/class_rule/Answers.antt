@@ -1,4 +1,4 @@
--- 0 is no superclass; another is sound where the table has it and the fate of its chain is not endless.
+-- 0 is no superclass. Another superclass is sound if the table has it and the fate of its chain is not endless.
 use Rattle.heap_graph.proofs.Words.{None, arith, class_named, common_steps, length, refl, subst, sym, ℕ, ◌<◌, ◌≡◌}
 use Rattle.heap_graph.proofs.ClassTableLaws.{not_found}
 use Rattle.heap_graph.proofs.RuleLaws.{class_bad, class_fine, endless_super, ends, fate_found, fate_read, fine_super}

@@ -1,4 +1,4 @@
--- An array holds its class and then its elements, of which its form allows no more than the walk has room for.
+-- An array holds its class and then its elements. Its form allows no more of them than the walk has room for.
 use Rattle.heap_graph.proofs.Words.{ap, arith, bounds, length, refl}
 use Rattle.heap_graph.proofs.HeldLaws.{array_holds, held_behind, held_whole}
 use Rattle.heap_graph.proofs.objects.Objects.ids_of_array.Goals as goal

@@ -1,4 +1,4 @@
--- An instance holds its class and then the fields of its layout, of which there are no more than bytes of values.
+-- An instance holds its class and then the fields of its layout, which are no more than the bytes of its values.
 use Rattle.heap_graph.proofs.Words.{arith, bounds, declared_fields, refl}
 use Rattle.heap_graph.proofs.HeldLaws.{few_in_instance, held_behind, held_whole, instance_holds, layout_from}
 use Rattle.heap_graph.proofs.objects.Objects.ids_of_instance.Goals as goal

@@ -1,4 +1,4 @@
--- The fate of its class tells the size that the values must have, or that no chain is whole, which asks for no size.
+-- The fate of its class says what size the values must have, or that no chain is whole, and then any size is allowed.
 use Rattle.heap_graph.proofs.Words.{None, ap, arith, bounds, class_named, common_steps, length, refl, subst, sym, ℕ}
 use Rattle.heap_graph.proofs.Words.{◌<◌, ◌≡◌}
 use Rattle.heap_graph.proofs.ClassTableLaws.{not_found}

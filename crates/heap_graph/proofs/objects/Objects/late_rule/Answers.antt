@@ -1,4 +1,4 @@
--- The object at the place is of the kind that was read there, so the rules of that kind are those that it is tested by.
+-- The object at the place is of the kind that was read there, so it is tested by the rules of its kind.
 use Rattle.heap_graph.proofs.Words.{IsLateRule, Some, Stands, SubRecord, class_dump, instance_dump, refl, subst, sym, ◌≡◌}
 use Rattle.heap_graph.proofs.Words.{object_array_dump, object_kind}
 use Rattle.heap_graph.proofs.Standings.{IsDumpBy, is_class_dump, is_instance_dump}

@@ -1,4 +1,4 @@
--- The class of each number stands at its place, so the fields that are read there are those that are planned.
+-- The class with each number is at its place, so the fields that are read there are the planned ones.
 use Rattle.heap_graph.proofs.Words.{Class, List, Record, SkipEntry, Some, [], ap, arith, bounds, class_named, heap_of}
 use Rattle.heap_graph.proofs.Words.{ids_of, is_skipped, is_skipped_in, length, length-append, slice_index, sym}
 use Rattle.heap_graph.proofs.Words.{target_in, ℕ, ◌<◌, ◌^◌, ◌∙◌, ◌∷◌, ◌≡◌}
@@ -7,7 +7,7 @@ use Rattle.heap_graph.proofs.Linking.{IsClassThere, class_there}
 use Rattle.heap_graph.proofs.PlanLaws.{fields_read, no_object, no_plan, objects_more, plan_more}
 use Rattle.heap_graph.proofs.objects.Objects.plan.Goals as goal
 
--- the class of a number bears its identifier, so the test of that identifier is the test of the class
+-- a class with a number has its identifier, so the test of the identifier is the test of the class
 same_test : (records : List Record) (skip : List SkipEntry) (ids : List ℕ) (k id : ℕ) (c : Class)
     → id ≡ slice_index ids k → class_named (heap_of records) (slice_index ids k) ≡ Some c
     → is_skipped_in records skip id ≡ is_skipped records skip c

@@ -1,5 +1,5 @@
--- One object of the kind that was read stands at the place, so row, bytes and identifiers are told of the same; in a
--- linked heap the class that it names is there, and is planned.
+-- The object at the place is of the kind that was read, so row, bytes and identifiers are those of this object. In a
+-- linked heap its class exists and is planned.
 use Rattle.heap_graph.proofs.Words.{AreIdsOf, List, ap, class_dump, class_number, instance_dump, length}
 use Rattle.heap_graph.proofs.Words.{object_array_dump, primitive_array_dump, refl, subst, sym, ℕ, ◌<◌, ◌∙◌}
 use Rattle.heap_graph.specs.declared.row.RowKey.TheVariants as keys

@@ -1,4 +1,4 @@
--- The bytes so far, with those of the values that are left, are all; no value has more than 255.
+-- The bytes so far and those of the remaining values are all. No value has more than 255.
 use Rattle.heap_graph.proofs.Words.{length, size_of, sum_by, ◌*◌, ◌+◌, ◌≡◌, ◌≤◌}
 use Rattle.heap_graph.proofs.objects.bytes.bytes_together.Given as goal
 

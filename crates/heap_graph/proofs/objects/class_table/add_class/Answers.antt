@@ -1,4 +1,5 @@
--- What has identifier 0 or an earlier object's is no class that an identifier names: the rest are added.
+-- An object with identifier 0 or that of an earlier object is no class that an identifier names. Other classes are
+-- added.
 use Rattle.heap_graph.proofs.Words.{Contains, Option, Some, Stands, SubRecord, ap, arith, as_class, class_dump}
 use Rattle.heap_graph.proofs.Words.{class_named, get_or, ne_eqb, number_named, option_and_then, refl, subst, sym, take}
 use Rattle.heap_graph.proofs.Words.{ℕ, ◌∙◌, ◌≡◌}

@@ -1,4 +1,4 @@
--- The table so far has the classes among the objects before the next class dump, and in the end those among all.
+-- The table so far has the classes among the objects before the next class dump, and at the end those among all.
 use Rattle.heap_graph.proofs.Words.{AreClasses, Sight, arith, subst, sym, ◌∙◌}
 use Rattle.heap_graph.proofs.ClassNumbersLaws.{all_classes, among_first, next_added, next_class}
 use Rattle.heap_graph.proofs.TableGrowth.{among_all}

@@ -1,4 +1,4 @@
--- At the next place stands the next object: its identifier follows those so far, and it is noted if it is a class dump.
+-- The next object is at the next place: its identifier follows those so far, and it is noted if it is a class dump.
 use Rattle.heap_graph.proofs.Words.{HasGathered, arith, subst, ℕ}
 use Rattle.heap_graph.proofs.Gathering.{nothing, one_more}
 use Rattle.heap_graph.proofs.Standings.{id_there}

@@ -1,4 +1,4 @@
--- What the objects of the part so far give is gathered.
+-- The objects of the part so far are gathered.
 use Rattle.heap_graph.specs.working.GatheredParts.{HasGathered}
 use Rattle.heap_graph.proofs.objects.gathering.gather_part.Given as goal
 

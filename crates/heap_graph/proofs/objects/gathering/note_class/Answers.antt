@@ -1,4 +1,4 @@
--- What is read as a class is a class dump, and its number is noted; another object is none.
+-- An object that is read as a class is a class dump, and its number is noted. Any other object is none.
 use Rattle.heap_graph.proofs.Words.{AreClassNumbers, List, None, Some, SubRecord, [], ap, as_class, class_dump, objects}
 use Rattle.heap_graph.proofs.Words.{subst, sym, ℕ, ◌++◌, ◌+◌, ◌∙◌, ◌∷◌, ◌≡◌}
 use Rattle.std.proofs.lemmas.List.{append_assoc}

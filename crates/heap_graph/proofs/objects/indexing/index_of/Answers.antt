@@ -1,4 +1,4 @@
--- What was gathered from all objects is indexed; without lowest bits there is always something gathered.
+-- What was gathered from all objects is indexed. Without lowest bits something is always gathered.
 use Rattle.heap_graph.proofs.Words.{IfOk-weaker, arith}
 use Rattle.std.proofs.lemmas.Option.{MatchOption-at_some}
 use Rattle.heap_graph.proofs.Gathering.{all_indexed}

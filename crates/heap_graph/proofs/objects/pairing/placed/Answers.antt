@@ -1,4 +1,4 @@
--- At the next place is the next object, as while parts are gathered: the index has all identifiers in the end.
+-- The next object is at the next place, as in the gathering of parts, so at the end the index has all identifiers.
 use Rattle.heap_graph.proofs.Words.{arith, refl}
 use Rattle.heap_graph.proofs.Gathering.{all_indexed, one_more}
 use Rattle.heap_graph.proofs.Standings.{id_there, stands_there}

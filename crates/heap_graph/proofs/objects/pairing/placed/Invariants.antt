@@ -1,4 +1,4 @@
--- What the objects so far give is what a gathering from the first one on would have.
+-- The identifiers and class dumps so far are those that gathering from the first object on would have.
 use Rattle.heap_graph.specs.working.GatheredParts.{HasGathered}
 use Rattle.heap_graph.proofs.objects.pairing.placed.Given as goal
 

@@ -1,4 +1,4 @@
--- A piece that is no entry, or a 65th one, leaves no list. Else each turn reads an entry, and the last ends the list.
+-- If a piece is no entry, or a 65th one, there is no list. Else each turn reads an entry, and the last ends the list.
 use Rattle.std.proofs.Common.{[], arith, rules, subst, ◌++◌, ◌∷◌, ◌≡◌}
 use Rattle.heap_graph.proofs.SkipCutting.{IsCut, no_list, read_all, read_on, too_many}
 use Rattle.heap_graph.proofs.skip.Skip.new.Goals as goal

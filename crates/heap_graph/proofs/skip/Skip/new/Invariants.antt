@@ -1,4 +1,4 @@
--- What was read are entries of the text, each with a comma behind it. Each turn adds one.
+-- The entries so far are those of the text, each followed by a comma. Each turn adds one.
 use Rattle.std.proofs.Common.{length, ◌-◌}
 use denote.Text.{Utf8}
 use denote.Shadow.{shadow}

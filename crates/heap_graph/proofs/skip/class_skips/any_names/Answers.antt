@@ -1,4 +1,4 @@
--- Behind the last entry none names the class.
+-- After the last entry no entry names the class.
 use Rattle.heap_graph.proofs.Words.{arith, list_any_none, names_class, option_copied, sym}
 use Rattle.heap_graph.proofs.skip.class_skips.any_names.Goals as goal
 

@@ -1,4 +1,4 @@
--- The last dot parts each entry that the piece spells, so its parts are these.
+-- An entry that the piece spells is cut at its last dot, so it has these parts.
 use Rattle.std.proofs.Common.{◌∙◌}
 use Rattle.heap_graph.proofs.SkipCutting.{entry_from, no_entry, none_from, only_parts, parted, some_from}
 use Rattle.heap_graph.proofs.skip.entry.entry_of.Goals as goal

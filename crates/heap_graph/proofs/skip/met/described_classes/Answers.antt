@@ -1,4 +1,4 @@
--- What is read as a class is a class dump, and is described; another object is none.
+-- An object that is read as a class is a class dump, and is described. Any other object is none.
 use Rattle.heap_graph.proofs.Words.{Class, List, SubRecord, ap, arith, as_class, class_dump, described, filter_map}
 use Rattle.heap_graph.proofs.Words.{heap_of, map, objects, take_all, ℕ, ◌∙◌}
 use Rattle.heap_graph.proofs.MetLaws.{no_class_more, one_class_more}

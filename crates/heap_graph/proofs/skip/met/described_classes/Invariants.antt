@@ -1,4 +1,4 @@
--- The classes so far are those whose dumps stand among the first objects.
+-- The classes so far are those with dumps among the objects so far.
 use Rattle.heap_graph.proofs.Words.{AreNamesByIdOf, List, Record, StandInTurn, Stands, as_class, described, filter_map}
 use Rattle.heap_graph.proofs.Words.{heap_of, map, objects, take, ◌≡◌}
 use Rattle.heap_graph.proofs.skip.met.described_classes.Given as goal

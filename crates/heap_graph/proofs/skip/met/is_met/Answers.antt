@@ -1,4 +1,4 @@
--- Behind the last class none declares the field.
+-- After the last class no class declares the field.
 use Rattle.heap_graph.proofs.Words.{arith, declares_described, list_any_none, sym}
 use Rattle.heap_graph.proofs.skip.met.is_met.Goals as goal
 

@@ -1,4 +1,5 @@
--- The names are those of the records whose classes are described, so an entry is met by one where a class declares it.
+-- The names are those of the records whose classes are described. So an entry is met if one of these declares its
+-- field.
 use Rattle.heap_graph.proofs.Words.{List, SkipEntry, Some, ap, heap_of, is_met, map, slice_get-get_or, sym, take_all, ◌∙◌}
 use Rattle.heap_graph.proofs.MetLaws.{one_more_met}
 use Rattle.heap_graph.proofs.skip.met.met_among.Goals as goal

@@ -1,4 +1,4 @@
--- The first entries are answered.
+-- The results so far say which of the first entries are met.
 use Rattle.heap_graph.proofs.Words.{AreNamesOf, List, Record, StandInTurn, Stands, heap_of, is_met, map, objects, take}
 use Rattle.heap_graph.proofs.Words.{◌≡◌}
 use Rattle.heap_graph.proofs.skip.met.met_among.Given as goal

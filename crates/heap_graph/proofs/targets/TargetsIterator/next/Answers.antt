@@ -1,4 +1,4 @@
--- Each identifier that is passed is 0, missing or names the object: what is missed in all stays the same.
+-- Each identifier that is passed is 0, missing, or names the object, so all that the visit misses stays the same.
 use Rattle.heap_graph.proofs.Words.{ap, arith, eq-eqb, length, ne_eqb, sym, ◌∙◌}
 use Rattle.heap_graph.proofs.Visiting.{begun, gives, goes_named, goes_null, goes_unresolved}
 use Rattle.heap_graph.proofs.Walking.{none_of}

@@ -1,4 +1,4 @@
--- The visit is on its way: what was passed named nothing, and what was missed is counted.
+-- The visit is on its way: the identifiers so far named nothing, and the missed ones among them are counted.
 use Rattle.std.proofs.Common.{length}
 use Rattle.heap_graph.proofs.Visiting.{IsOnTheWay}
 use Rattle.heap_graph.proofs.targets.TargetsIterator.next.Given as goal

@@ -1,4 +1,4 @@
--- The read wrote into the part behind the front, so the front stays and what was read follows it.
+-- The read wrote into the part after the front, so the front stays and the bytes that were read follow it.
 use Rattle.std.proofs.Common.{arith, length-take-le}
 use borrow.Rule.Slice.PartMut.{take_put}
 use Rattle.histogram.proofs.ReadInPlace.{read_in_place}

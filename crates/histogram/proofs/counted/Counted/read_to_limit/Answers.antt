@@ -1,4 +1,4 @@
--- Making room and reading leave what is filled, and each read adds to it what the reader lost.
+-- Making room and reading keep the filled bytes, and each read adds to them the bytes that the reader lost.
 use Rattle.std.proofs.Common.{ap, arith, length, length-take, rules, take, ◌<◌, ◌∙◌}
 use Rattle.std.proofs.KnownBytes.{Consumes-kept}
 use Rattle.std.proofs.lemmas.List.{places, with_items_is}

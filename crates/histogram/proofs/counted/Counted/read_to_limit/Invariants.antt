@@ -1,4 +1,4 @@
--- No read has failed, and what was read is what the reader lost.
+-- No read has failed, and the bytes so far are those that the reader lost.
 use Rattle.std.proofs.Common.{◌≡◌, ◌-◌, ◌≤◌, take, vec_len}
 use Rattle.std.specs.Io.KnownBytes.{Consumes}
 use Rattle.histogram.specs.Counting.{failures_of}

@@ -1,4 +1,4 @@
--- What the visit missed and what it has still to miss are what the object misses.
+-- What the visit missed and what it will still miss are what the object misses.
 use Rattle.std.proofs.Common.{◌+◌, ◌≡◌, length}
 use Rattle.heap_graph.specs.ObjectGraph.{bytes_at}
 use Rattle.heap_graph.specs.Walks.{unresolved_left}

@@ -1,4 +1,4 @@
--- The batch and what is still to come are the first number and what was to come.
+-- The batch and the numbers that still remain are the first number and those that remained at first.
 use Rattle.std.proofs.Common.{◌≡◌, ◌≤◌, ◌++◌, ◌∷◌, length}
 use Rattle.histogram.proofs.unmarked_numbers.UnmarkedNumbers.batch_from.Given as goal
 

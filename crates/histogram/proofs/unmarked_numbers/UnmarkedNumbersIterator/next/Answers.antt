@@ -1,4 +1,4 @@
--- The first that is not marked stands in front of those behind it.
+-- The first object that is not marked comes before the others that are not.
 use Rattle.std.proofs.Common.{◌≡◌, [], ap, arith, length, rules, sym, ◌∙◌}
 use Rattle.histogram.proofs.UnmarkedLaws.{none_unmarked, unmarked_then}
 use Rattle.histogram.proofs.unmarked_numbers.UnmarkedNumbersIterator.next.Goals as goal

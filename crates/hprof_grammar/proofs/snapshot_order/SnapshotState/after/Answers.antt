@@ -1,4 +1,4 @@
--- Behind segments a dump breaks the order and a segment goes on; behind a whole snapshot no tag of a snapshot may come.
+-- After segments a dump breaks the order and a segment keeps it. No tag of a snapshot may follow a whole snapshot.
 use Rattle.hprof_grammar.proofs.Words.{CanGoOn, Ended, IsAt, SnapshotState, Segments, Whole, [], inl, inr, is_done}
 use Rattle.hprof_grammar.proofs.Words.{is_snapshot_tag, refl, subst, sym, true, ℕ, ◌++◌, ◌∷◌, ◌≡◌, ◌⊎◌}
 use Rattle.hprof_grammar.proofs.SnapshotOrderLaws.{next_segment, no_dump_in_segments, no_more}
@@ -25,7 +25,7 @@ done_at order h = elim h [ inl e ↦ rw e refl | inr e ↦ rw e refl ]
 of_the_snapshot : (tag : ℕ) → (tag ≡ 0x0C) ⊎ ((tag ≡ 0x1C) ⊎ (tag ≡ 0x2C)) → is_snapshot_tag tag ≡ true
 of_the_snapshot tag h = elim h [ inl e ↦ rw e refl | inr k ↦ elim k [ inl e ↦ rw e refl | inr e ↦ rw e refl ] ]
 
--- more behind a whole snapshot
+-- more after a whole snapshot
 pub returns-in-12-tag-2 : goal.returns-in-12-tag-2
 returns-in-12-tag-2 c = λ tags h on. no_more c.args.self tags c.args.tag (done_at c.args.self c.in-Whole.is)
     (of_the_snapshot c.args.tag c.in-12-tag-2.is) h on

@@ -1,4 +1,4 @@
--- The class of an object array stands behind its identifier, its stack trace and its count.
+-- The class of an object array follows its identifier, its stack trace and its count.
 use Rattle.std.proofs.Common.{◌∙◌}
 use Rattle.hprof_grammar.proofs.FieldsStand.{array_class}
 use Rattle.hprof_grammar.proofs.view.View.array_class.Goals as goal

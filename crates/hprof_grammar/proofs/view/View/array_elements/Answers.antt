@@ -1,4 +1,4 @@
--- The count says how many elements the array has, and the array lies in the bytes: so there is room for that many.
+-- The count is the number of elements, and the array lies in the bytes, so there is room for all elements.
 use Rattle.std.proofs.Common.{length, subst, sym, ℕ, ◌*◌, ◌+◌, ◌∙◌, ◌≤◌}
 use Rattle.hprof_grammar.proofs.FieldsStand.{array_count, array_elements, array_room}
 use Rattle.hprof_grammar.proofs.view.View.array_elements.Goals as goal

@@ -1,4 +1,4 @@
--- Six identifiers stand one after the other behind the stack trace, so one is found by its place among them.
+-- Six identifiers follow the stack trace one after another, so one is found by its number among them.
 use Rattle.std.proofs.Common.{◌∙◌}
 use Rattle.hprof_grammar.proofs.FieldsStand.{class_id}
 use Rattle.hprof_grammar.proofs.view.View.class_id.Goals as goal

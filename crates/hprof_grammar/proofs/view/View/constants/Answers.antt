@@ -1,4 +1,4 @@
--- The bytes begin with the constants' count, so they have room for that many, and read as those of the class.
+-- The bytes begin with the constants' count, so they have room for the constants, and read as those of the class.
 use Rattle.hprof_grammar.proofs.Words.{fields_from_constants, ◌∙◌}
 use Rattle.hprof_grammar.proofs.ClassPartsRead.{constants_read, part_seen}
 use Rattle.hprof_grammar.proofs.view.View.constants.Goals as goal

@@ -1,4 +1,4 @@
--- Seven identifiers, stack trace and instance size stand before the constants: the rest begins with their count.
+-- Seven identifiers, stack trace and instance size come before the constants: the rest begins with their count.
 use Rattle.hprof_grammar.proofs.ClassPartsRead.{constants_part, constants_stand}
 use Rattle.std.proofs.Common.{arith}
 use Rattle.hprof_grammar.proofs.view.View.constants_from.Goals as goal

@@ -1,4 +1,4 @@
--- The count of a primitive array stands behind its identifier and its stack trace.
+-- The count of a primitive array follows its identifier and its stack trace.
 use Rattle.std.proofs.Common.{◌∙◌}
 use Rattle.hprof_grammar.proofs.FieldsStand.{element_count}
 use Rattle.hprof_grammar.proofs.view.View.element_count.Goals as goal

@@ -1,4 +1,4 @@
--- The type code of a primitive array is one byte, behind its count.
+-- The type code of a primitive array is one byte, after its count.
 use Rattle.hprof_grammar.proofs.FieldsStand.{element_type}
 use Rattle.hprof_grammar.proofs.view.View.element_type.Goals as goal
 

@@ -1,4 +1,4 @@
--- The class of an instance stands behind its identifier and its stack trace.
+-- The class of an instance follows its identifier and its stack trace.
 use Rattle.std.proofs.Common.{◌∙◌}
 use Rattle.hprof_grammar.proofs.FieldsStand.{instance_class}
 use Rattle.hprof_grammar.proofs.view.View.instance_class.Goals as goal

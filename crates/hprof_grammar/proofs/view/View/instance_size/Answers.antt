@@ -1,4 +1,4 @@
--- The instance size of a class stands behind its stack trace and seven identifiers, its own among them.
+-- The instance size of a class follows its stack trace and seven identifiers, its own among them.
 use Rattle.std.proofs.Common.{◌∙◌}
 use Rattle.hprof_grammar.proofs.FieldsStand.{instance_size}
 use Rattle.hprof_grammar.proofs.view.View.instance_size.Goals as goal

@@ -1,4 +1,4 @@
--- The number behind the class is the length of the values, so that many bytes behind it are the values.
+-- The number after the class is the length of the values, so that number of bytes after it are the values.
 use Rattle.std.proofs.Common.{arith, ◌*◌, ◌+◌}
 use Rattle.hprof_grammar.proofs.FieldsStand.{instance_count, instance_values}
 use Rattle.hprof_grammar.proofs.Places.{raw_read}

@@ -1,4 +1,4 @@
--- Superclass, loader, signers and domain stand one after the other, so four numbers read from the first on are they.
+-- Superclass, loader, signers and domain follow one another, so four numbers read from the first on are those four.
 use Rattle.std.proofs.Common.{◌∙◌}
 use Rattle.hprof_grammar.proofs.FieldsStand.{leading_ids, leading_ids_room}
 use Rattle.hprof_grammar.proofs.view.View.leading_ids.Goals as goal

@@ -1,4 +1,4 @@
--- The class of a LOAD CLASS stands behind its serial number.
+-- The class of a LOAD CLASS follows its serial number.
 use Rattle.std.proofs.Common.{◌∙◌}
 use Rattle.hprof_grammar.proofs.RecordsStand.{loaded_class_id}
 use Rattle.hprof_grammar.proofs.view.View.loaded_class_id.Goals as goal

@@ -1,4 +1,4 @@
--- The name of a LOAD CLASS is the last of its fields, behind the stack trace.
+-- The name of a LOAD CLASS is the last of its fields, after the stack trace.
 use Rattle.std.proofs.Common.{◌∙◌}
 use Rattle.hprof_grammar.proofs.RecordsStand.{loaded_class_name}
 use Rattle.hprof_grammar.proofs.view.View.loaded_class_name.Goals as goal

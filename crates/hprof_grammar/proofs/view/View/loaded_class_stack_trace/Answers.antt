@@ -1,4 +1,4 @@
--- The stack trace of a LOAD CLASS stands behind its serial number and its class.
+-- The stack trace of a LOAD CLASS follows its serial number and its class.
 use Rattle.std.proofs.Common.{◌∙◌}
 use Rattle.hprof_grammar.proofs.RecordsStand.{loaded_class_stack}
 use Rattle.hprof_grammar.proofs.view.View.loaded_class_stack_trace.Goals as goal

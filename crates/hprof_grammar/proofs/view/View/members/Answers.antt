@@ -1,4 +1,4 @@
--- Behind the static fields, which are passed one by one, the bytes begin with the members' count, and read as members.
+-- After the static fields, which are passed one by one, the bytes begin with the members' count, and read as members.
 use Rattle.hprof_grammar.proofs.Words.{fields_from_statics, ◌∙◌}
 use Rattle.hprof_grammar.proofs.ClassPartsRead.{behind_statics, members_read, members_room, part_seen, statics_read}
 use Rattle.hprof_grammar.proofs.view.View.members.Goals as goal

@@ -1,4 +1,4 @@
--- Every sub-record has an identifier right behind its tag.
+-- Each sub-record has an identifier right after its tag.
 use Rattle.std.proofs.Common.{◌∙◌}
 use Rattle.hprof_grammar.proofs.FieldsStand.{object_id}
 use Rattle.hprof_grammar.proofs.view.View.object_id.Goals as goal

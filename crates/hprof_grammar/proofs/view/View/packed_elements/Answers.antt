@@ -1,4 +1,4 @@
--- Count times size of an element is the length of the values, so that many bytes behind the type code are the values.
+-- The count times the size of an element is the length of the values, which follow the type code.
 use Rattle.hprof_grammar.proofs.Words.{◌+◌}
 use Rattle.hprof_grammar.proofs.FieldsStand.{packed_elements, packed_size}
 use Rattle.hprof_grammar.proofs.Places.{raw_read}

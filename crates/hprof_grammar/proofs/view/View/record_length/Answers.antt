@@ -1,4 +1,4 @@
--- The frame has the length of the body in 4 bytes, behind the tag and the time.
+-- The frame has the length of the body in 4 bytes, after the tag and the time.
 use Rattle.std.proofs.Common.{◌∙◌}
 use Rattle.hprof_grammar.proofs.RecordsStand.{length_shown, record_length}
 use Rattle.hprof_grammar.proofs.view.View.record_length.Goals as goal

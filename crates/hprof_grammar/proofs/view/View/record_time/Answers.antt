@@ -1,4 +1,4 @@
--- The frame has the time in the 4 bytes behind the tag, whatever record it is.
+-- The frame has the time in the 4 bytes after the tag, whatever record it is.
 use Rattle.std.proofs.Common.{◌∙◌}
 use Rattle.hprof_grammar.proofs.RecordsStand.{record_time}
 use Rattle.hprof_grammar.proofs.view.View.record_time.Goals as goal

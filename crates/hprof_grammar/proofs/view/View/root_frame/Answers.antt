@@ -1,4 +1,4 @@
--- A kind of root that has a frame has it behind its object and its thread.
+-- A kind of root that has a frame has it after its object and its thread.
 use Rattle.std.proofs.Common.{◌∙◌}
 use Rattle.hprof_grammar.proofs.RootsStand.{root_frame}
 use Rattle.hprof_grammar.proofs.view.View.root_frame.Goals as goal

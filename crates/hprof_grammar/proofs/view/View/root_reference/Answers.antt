@@ -1,4 +1,4 @@
--- Of the roots a JNI global has a reference, behind its object.
+-- Only a JNI global among the roots has a reference, which follows its object.
 use Rattle.std.proofs.Common.{◌∙◌}
 use Rattle.hprof_grammar.proofs.RootsStand.{root_reference}
 use Rattle.hprof_grammar.proofs.view.View.root_reference.Goals as goal

@@ -1,4 +1,4 @@
--- Of the roots a thread object has a stack trace, behind its object and its thread.
+-- Only a thread object among the roots has a stack trace, which follows its object and its thread.
 use Rattle.std.proofs.Common.{◌∙◌}
 use Rattle.hprof_grammar.proofs.RootsStand.{root_trace}
 use Rattle.hprof_grammar.proofs.view.View.root_stack_trace.Goals as goal

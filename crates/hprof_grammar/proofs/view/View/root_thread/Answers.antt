@@ -1,4 +1,4 @@
--- A kind of root that has a thread has it right behind its object.
+-- A kind of root that has a thread has it right after its object.
 use Rattle.std.proofs.Common.{◌∙◌}
 use Rattle.hprof_grammar.proofs.RootsStand.{root_thread}
 use Rattle.hprof_grammar.proofs.view.View.root_thread.Goals as goal

@@ -1,4 +1,4 @@
--- All four dumps of objects have the stack trace behind the identifier.
+-- All four dumps of objects have the stack trace after the identifier.
 use Rattle.std.proofs.Common.{Some, ap, sym, ◌∙◌}
 use Rattle.hprof_grammar.proofs.FieldsStand.{stack_trace}
 use Rattle.hprof_grammar.proofs.view.View.stack_trace.Goals as goal

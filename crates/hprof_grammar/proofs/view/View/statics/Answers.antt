@@ -1,4 +1,4 @@
--- The bytes begin with the static fields' count, so they have room for that many, and read as those of the class.
+-- The bytes begin with the static fields' count, so they have room for the fields, and read as those of the class.
 use Rattle.hprof_grammar.proofs.Words.{fields_from_statics, ◌∙◌}
 use Rattle.hprof_grammar.proofs.ClassPartsRead.{part_seen, statics_read}
 use Rattle.hprof_grammar.proofs.view.View.statics.Goals as goal

@@ -1,4 +1,4 @@
--- The bytes behind the values that are left are those behind all of them, and the rest has room for those.
+-- The bytes after the remaining values are those after all values, and the rest has room for the remaining ones.
 use Rattle.hprof_grammar.proofs.Words.{HasValues, behind_counted_values, behind_values, ◌≡◌}
 use Rattle.hprof_grammar.proofs.view.values.skip_values.Given as goal
 

@@ -1,4 +1,4 @@
--- Buckets rise with pages, so the runs of one stand between the beginnings of its bucket and of the next.
+-- Buckets rise with pages, so the runs of a page are between the beginning of its bucket and that of the next.
 use Rattle.id_index.proofs.Words.{IsBeginning, arith, get_or_read, shr_mono, subst, ℕ, ◌%◌, ◌+◌, ◌-◌, ◌/◌, ◌^◌, ◌≡◌}
 use Rattle.id_index.proofs.Words.{◌≤◌}
 use Rattle.id_index.proofs.Buckets.{around_bucket}

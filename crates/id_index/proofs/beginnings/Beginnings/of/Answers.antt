@@ -1,4 +1,4 @@
--- Before the beginning of a bucket are the runs of the earlier ones, so the next is looked for from there on.
+-- Before the beginning of a bucket are the runs of earlier ones, so the next beginning is looked for from there on.
 use Rattle.id_index.proofs.Words.{IsBeginning, List, [], ap, arith, bucket_of, length, length-append, page_in}
 use Rattle.id_index.proofs.Words.{slice_index, subst, sym, ℕ, ◌++◌, ◌<◌, ◌∷◌, ◌≡◌}
 use Rattle.id_index.proofs.Buckets.{one_more}

@@ -1,4 +1,4 @@
--- With their numbers raised, the runs of the other list have its objects behind those of this one.
+-- With raised numbers, the runs of the other list have its objects after those of this list.
 use Rattle.id_index.proofs.Words.{AreFewBuilt, List, None, Run, ap, arith, ids_built, length, run_in, subst, sym, ℕ}
 use Rattle.id_index.proofs.Words.{◌++◌, ◌+◌, ◌<◌, ◌^◌, ◌∙◌}
 use Rattle.id_index.proofs.Joining.{all_few, both_runs, few_both, joined_few, joined_ids, may_raise}

@@ -1,4 +1,4 @@
--- To sort runs loses none, and settled they tell of the same objects.
+-- Sorting loses no run, and settled runs have the same objects.
 use Rattle.std.proofs.Common.{arith, sym, ◌∙◌}
 use Rattle.id_index.proofs.Telling.{first_repeated, kept_few, kept_tell, same_ids, sorted_runs}
 use Rattle.id_index.proofs.builder.RunIndexBuilder.finish.Goals as goal

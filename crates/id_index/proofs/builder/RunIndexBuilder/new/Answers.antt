@@ -1,4 +1,4 @@
--- No run has no object.
+-- Without runs there are no objects.
 use Rattle.id_index.proofs.Words.{AreBuilt, List, None, Run, [], ap, arith, length, subst, sym, with_last}
 use Rattle.id_index.proofs.Built.{nothing}
 use Rattle.id_index.proofs.builder.RunIndexBuilder.new.Goals as goal

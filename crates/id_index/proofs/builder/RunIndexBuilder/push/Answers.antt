@@ -1,4 +1,4 @@
--- Where the place is above all others of the last run it is set there, else the object begins a run.
+-- If the place is above all others of the last run, it is set there. Else the object begins a run.
 use Rattle.std.proofs.Common.{List, [], ap, arith, ℕ, ◌++◌, ◌∙◌, ◌∷◌}
 use Rattle.id_index.proofs.Built.{begins, joins, may_add}
 use Rattle.id_index.proofs.builder.RunIndexBuilder.push.Goals as goal

@@ -1,4 +1,4 @@
--- What is above the lowest bits is looked up, if these are the common ones.
+-- The bits above the lowest ones are looked up if the lowest bits are the common ones.
 use Rattle.id_index.proofs.Words.{List, and_mask, ap, arith, bit_and, position, sym, whole_ids, ℕ, ◌%◌, ◌==◌, ◌^◌, ◌∙◌}
 use Rattle.id_index.proofs.Words.{◌≡◌}
 use Rattle.id_index.specs.Forms.{ids_held}

@@ -1,4 +1,4 @@
--- Identifiers repeat where what is above their lowest bits does.
+-- Identifiers repeat exactly if the bits above their lowest ones do.
 use Rattle.id_index.proofs.Words.{IsFirstRepeat, List, ap, subst, sym, whole_ids, ℕ, ◌∙◌}
 use Rattle.id_index.specs.Forms.{ids_held}
 use Rattle.id_index.specs.declared.index.Form.{Form}

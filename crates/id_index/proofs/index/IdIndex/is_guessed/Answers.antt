@@ -1,4 +1,4 @@
--- What is found is there.
+-- An identifier that is found is in the list.
 use Rattle.id_index.proofs.Bearers.{bears}
 use Rattle.id_index.proofs.index.IdIndex.is_guessed.Goals as goal
 

@@ -1,4 +1,4 @@
--- The look-up gives the first object that bears the identifier: an earlier one bears it where that one is earlier.
+-- The look-up returns the first object with the identifier. An earlier object has it exactly if the first is earlier.
 use Rattle.id_index.proofs.Bearers.{earlier, nowhere}
 use Rattle.id_index.proofs.index.IdIndex.is_repeated.Goals as goal
 

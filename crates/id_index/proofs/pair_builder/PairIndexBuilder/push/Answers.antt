@@ -1,4 +1,4 @@
--- The pair goes where none is set.
+-- The pair goes to a place at which no pair is set.
 use Rattle.id_index.proofs.Words.{List, [], ap, arith, get_or_read, length, sym, ℕ, ◌++◌, ◌+◌, ◌-◌, ◌<◌, ◌∙◌}
 use Rattle.id_index.proofs.Words.{◌∷◌, ◌≡◌}
 use Rattle.id_index.specs.working.Pairs.{pair_in, pair_of}

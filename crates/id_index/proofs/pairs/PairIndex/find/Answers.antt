@@ -1,4 +1,4 @@
--- The pairs and the identifiers agree. Where the guess is another pair, halving decides.
+-- The pairs and the identifiers agree. If the guess is another pair, halving decides.
 use Rattle.id_index.proofs.Words.{List, None, Some, ap, arith, get_or_read, length, position, sym, ℕ, ◌<◌, ◌==◌, ◌∙◌}
 use Rattle.id_index.proofs.Words.{◌≡◌}
 use Rattle.id_index.specs.working.Pairs.{IsPairAt, ids_of_pairs, pair_in, pair_of}

@@ -1,4 +1,4 @@
--- The runs tell of the objects, so the first of them with an identifier has the first object that bears it.
+-- The runs describe the objects, so the first run with an identifier has the first object that bears it.
 use Rattle.id_index.proofs.Words.{IsFirstBearer, List, Run, ap, ids_of_runs, position, subst, take, ℕ, ◌==◌, ◌∙◌}
 use Rattle.id_index.proofs.Bearers.{named}
 use Rattle.id_index.proofs.run_index.RunIndex.find.Goals as goal

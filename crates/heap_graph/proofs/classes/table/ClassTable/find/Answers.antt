@@ -1,4 +1,4 @@
--- The class that was guessed has the identifier, and no other has it.
+-- The guessed class has the identifier, and no other class has it.
 use Rattle.std.proofs.Common.{nat_eq, subst}
 use Rattle.std.specs.List.{IsDistinct}
 use Rattle.heap_graph.specs.working.ClassList.{ClassList, ids_of}

@@ -1,4 +1,4 @@
--- The dump of a class is formed, which bounds its parts, and read one behind the other they are what it holds.
+-- The dump of a class is formed, which bounds its parts. Read one after another they are what the class holds.
 use Rattle.heap_graph.proofs.Words.{ap, arith, bounds, length}
 use Rattle.heap_graph.proofs.HeldLaws.{class_constants, class_parts, class_statics}
 use Rattle.heap_graph.proofs.held.class_ids.ClassIds.new.Goals as goal

@@ -1,4 +1,4 @@
--- Each class up adds its places to the count, and where no class is above, all are counted.
+-- Each class up adds the number of its places, and all are counted if no class is above.
 use Rattle.std.proofs.Common.{arith}
 use Rattle.heap_graph.proofs.FieldsLeft.{IsLeft, all_counted, counted_fits, fewer_steps, more_counted, next_counted}
 use Rattle.heap_graph.proofs.FieldsLeft.{none_counted}

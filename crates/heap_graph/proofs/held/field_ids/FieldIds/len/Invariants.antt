@@ -1,4 +1,4 @@
--- Those counted, with those of the classes that are still above, are all that are left.
+-- The identifiers counted so far and those of the classes above are all remaining ones.
 use Rattle.std.proofs.Common.{length}
 use Rattle.heap_graph.proofs.FieldsLeft.{IsCounted, steps_up}
 use Rattle.heap_graph.proofs.held.field_ids.FieldIds.len.Given as goal

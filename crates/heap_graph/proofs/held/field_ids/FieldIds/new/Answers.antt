@@ -1,4 +1,4 @@
--- The layout begins at the first class, so all its identifiers stand at the classes from there up, and none at first.
+-- The layout begins at the first class, so all its identifiers are in the classes from there up. None was read yet.
 use Rattle.std.proofs.Common.{rules}
 use Rattle.heap_graph.proofs.FieldsLeft.{nothing_stands}
 use Rattle.heap_graph.proofs.FieldsUpLaws.{have_fields, ids_up_are, up_from}

@@ -1,4 +1,4 @@
--- The first place that is left is given away; where none is left, the next class up brings its own.
+-- The identifier at the first remaining place is returned. If no place remains, the next class up brings its own.
 use Rattle.std.proofs.Common.{rules}
 use Rattle.heap_graph.proofs.FieldsLeft.{fewer_above, fewer_left, first_given, first_gone, first_read, first_room}
 use Rattle.heap_graph.proofs.FieldsLeft.{has_next, next_left, none_left}

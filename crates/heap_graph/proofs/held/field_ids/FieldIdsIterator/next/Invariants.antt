@@ -1,4 +1,4 @@
--- Those that are left are those of the call: going up a class gives none away.
+-- The remaining identifiers are those of the call, since going up a class returns none.
 use Rattle.std.proofs.Common.{length}
 use Rattle.heap_graph.proofs.FieldsLeft.{IsLeft}
 use Rattle.heap_graph.proofs.held.field_ids.FieldIdsIterator.next.Given as goal

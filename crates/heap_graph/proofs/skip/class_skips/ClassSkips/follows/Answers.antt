@@ -1,4 +1,4 @@
--- The field is of type 2, and then the list decides.
+-- A field of type 2 is followed unless the list has it.
 use Rattle.std.proofs.Common.{Bool, ap, false, not, refl, sym, true, ℕ, ◌&&◌, ◌==◌, ◌∙◌, ◌≡◌}
 use Rattle.hprof_grammar.specs.MemberFields.{member_of}
 use Rattle.heap_graph.proofs.skip.class_skips.ClassSkips.follows.Goals as goal

@@ -1,4 +1,5 @@
--- The field is on the list where an entry names its class and its name; the class's text counts where it has one.
+-- The list has the field exactly if an entry has its class's text and its name. Without entries the text does not
+-- matter.
 use Rattle.heap_graph.proofs.Words.{Bool, List, Member, Option, Record, SkipEntry, [], ap, arith, class_text}
 use Rattle.heap_graph.proofs.Words.{is_skipped_in, list_any, list_any_none, names_field, option_copied, sym, ℕ, ⊎_elim}
 use Rattle.heap_graph.proofs.Words.{◌∙◌, ◌≡◌, ◌⊎◌}

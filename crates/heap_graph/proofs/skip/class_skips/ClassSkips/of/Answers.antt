@@ -1,4 +1,4 @@
--- Where no entry names the class the whole list skips what the empty one does: no field of it.
+-- If no entry names the class, the list skips none of its fields, like the empty list.
 use Rattle.heap_graph.proofs.Words.{Bool, List, Option, Record, SkipEntry, [], ap, class_text, eqb-true, false, get_or}
 use Rattle.heap_graph.proofs.Words.{inl, inr, is_skipped_in, length, list_any, list_any_none, names_class, names_field}
 use Rattle.heap_graph.proofs.Words.{option_copied, refl, string_named, subst, sym, true, ℕ, ◌&&◌, ◌∙◌, ◌≡◌, ◌⊎◌}

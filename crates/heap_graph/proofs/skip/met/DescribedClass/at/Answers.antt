@@ -1,4 +1,4 @@
--- What is read at the class's place is the class's own.
+-- The text and the fields that are read at the class's place are the class's own.
 use Rattle.heap_graph.proofs.Words.{ap, class_dump, class_text, ◌∙◌}
 use Rattle.heap_graph.proofs.skip.met.DescribedClass.at.Goals as goal
 

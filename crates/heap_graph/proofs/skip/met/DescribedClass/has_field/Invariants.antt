@@ -1,4 +1,4 @@
--- One of the fields that are left has the name exactly where one of all has it.
+-- One of the remaining fields has the name exactly if one of all fields has it.
 use Rattle.heap_graph.proofs.Words.{AreNamesByIdOf, List, Record, list_any, ◌≡◌}
 use Rattle.heap_graph.specs.MetEntries.{is_called}
 use Rattle.heap_graph.proofs.skip.met.DescribedClass.has_field.Given as goal

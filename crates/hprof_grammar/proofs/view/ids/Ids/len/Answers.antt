@@ -1,4 +1,4 @@
--- The view reads one identifier for each that is left.
+-- The view reads one identifier for each that remains.
 use Rattle.hprof_grammar.proofs.SeriesRead.{length-numbers_in}
 use Rattle.hprof_grammar.proofs.view.ids.Ids.len.Goals as goal
 

@@ -1,4 +1,4 @@
--- The view reads one member for each that is left.
+-- The view reads one member for each that remains.
 use Rattle.hprof_grammar.proofs.SeriesRead.{length-members_in}
 use Rattle.hprof_grammar.proofs.view.members.Members.len.Goals as goal
 

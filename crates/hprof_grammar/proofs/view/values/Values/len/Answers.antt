@@ -1,4 +1,4 @@
--- The view reads one value for each that is left.
+-- The view reads one value for each that remains.
 use Rattle.hprof_grammar.proofs.SeriesRead.{length-values_in}
 use Rattle.hprof_grammar.proofs.view.values.Values.len.Goals as goal
 

@@ -1,4 +1,4 @@
--- Where there is room for all that are left, there is room for the others behind the first one.
+-- If there is room for all remaining values, there is room for those after the first of them.
 use Rattle.hprof_grammar.proofs.Words.{HasValues, List, arith, drop, subst, suc, sym, value_end, zero, ℕ, ◌-◌, ◌≡◌, ◌≢◌}
 use Rattle.hprof_grammar.proofs.view.values.ValuesIterator.next.Goals as goal
 
