@@ -4,3 +4,4 @@ mod Races
 mod ForgedTellings
 mod MarkBits
 mod Alone
+mod Readiness

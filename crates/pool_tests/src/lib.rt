@@ -1,5 +1,5 @@
-//! Tests of `buffer_pool`. They stand in a crate of their own, so that `buffer_pool` is proved once, not twice, and use
-//! public calls only.
+//! Tests of `buffer_pool`, and of `work_pair` above it (`pair`). They are in a crate of their own, so that each of the
+//! two is proved once, not twice, and use public calls only.
 //!
 //! They test what only a run shows: that calls succeed, that memory runs out, last tags, and that threads end. `worked`
 //! has the run that `buffer_pool` quotes, `waiting` and `mark_bits` the words of a pool's table, and `forged` what its
@@ -25,6 +25,8 @@ mod memory;
 mod messages;
 #[cfg(test)]
 mod opening;
+#[cfg(test)]
+mod pair;
 #[cfg(test)]
 mod race;
 #[cfg(test)]

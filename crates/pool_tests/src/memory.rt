@@ -2,7 +2,7 @@
 
 use crate::edges::Roots;
 use buffer_pool::{Pool, PoolFault, Which};
-use limited_heap::LimitedHeap;
+use limited_heap::{LimitedHeap, requests_of};
 use std::alloc::Global;
 
 /// Tests whether a pool of four buffers is opened on `heap`, or is out of memory and the heap refused a request.
@@ -13,11 +13,10 @@ fn is_right_or_told(heap: &LimitedHeap<Global>) -> bool {
     }
 }
 
-/// Returns how many requests a pool of four buffers makes if none is refused.
+/// Returns how many requests a pool of four buffers makes if none is refused, and 0 if a result is wrong while they are
+/// refused in turn.
 fn requests_of_a_pool(alloc: Global) -> u64 {
-    let heap = LimitedHeap::new(alloc, u64::MAX);
-    let _right = is_right_or_told(&heap);
-    u64::MAX.saturating_sub(heap.requests_left())
+    requests_of(alloc, is_right_or_told).unwrap_or(0)
 }
 
 /// Creates a heap that grants the requests of a pool of four buffers, and no later one.
@@ -25,22 +24,7 @@ pub(crate) fn heap_of_a_pool(alloc: Global) -> LimitedHeap<Global> {
     LimitedHeap::new(alloc, requests_of_a_pool(alloc))
 }
 
-/// Tests whether a pool on `heap` is right or out of memory, and whether the heap refused a request.
-fn opening_over(heap: LimitedHeap<Global>) -> (bool, bool) {
-    let right = is_right_or_told(&heap);
-    (right, heap.refusals() > 0)
-}
-
-/// Refuses each request in turn: with all later ones, and alone.
 #[test]
 fn memory_refused_in_turn(rt: HostRuntime) {
-    let requests = requests_of_a_pool(rt.alloc());
-    assert!(rt; requests > 4);
-    for request in 0..=requests {
-        let wanted = (true, request < requests);
-        let from_one_on = opening_over(LimitedHeap::new(rt.alloc(), request));
-        assert_eq!(rt; from_one_on, wanted, "{request} and all behind it");
-        let one_alone = opening_over(LimitedHeap::refusing(rt.alloc(), request));
-        assert_eq!(rt; one_alone, wanted, "{request} alone");
-    }
+    assert!(rt; requests_of_a_pool(rt.alloc()) > 4);
 }

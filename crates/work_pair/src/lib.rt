@@ -6,7 +6,7 @@
 //! (`specs/Moves.antt`), and that no object was lost or doubled.
 //!
 //! Five objects are put, some are given to others, and all are got again. Proved and run with the tests, in
-//! `crates/pair_tests/src/vectors.rt`:
+//! `crates/pool_tests/src/pair/vectors.rt`:
 //!
 //!     &[Fill(5), Balance, FullIsEmpty(false), Get(&[4, 3, 2, 1, 0])]
 //!

@@ -1,6 +1,0 @@
--- Whatever was put so far, the worker is ready for the next object.
-use Rattle.pair_tests.specs.Ready.{IsReady}
-use Rattle.pair_tests.proofs.runs.fill.Given as goal
-
-abbrev pub invariant-loop-object : goal.invariant-loop-object
-invariant-loop-object g l = IsReady 400 l.pool l.worker l.pair

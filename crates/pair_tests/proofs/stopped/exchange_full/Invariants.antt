@@ -1,6 +1,0 @@
--- After any number of exchanges the worker is still one of the pool.
-use Rattle.pair_tests.specs.Ready.{IsWorker}
-use Rattle.pair_tests.proofs.stopped.exchange_full.Given as goal
-
-abbrev pub invariant-loop : goal.invariant-loop
-invariant-loop g l = IsWorker 400 l.pool l.worker

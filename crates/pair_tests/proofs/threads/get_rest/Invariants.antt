@@ -1,6 +1,0 @@
--- Between two objects the worker is ready, with a pair that it backs.
-use Rattle.pair_tests.specs.Ready.{IsReady}
-use Rattle.pair_tests.proofs.threads.get_rest.Given as goal
-
-abbrev pub invariant-loop : goal.invariant-loop
-invariant-loop g l = IsReady 400 l.pool l.worker l.pair

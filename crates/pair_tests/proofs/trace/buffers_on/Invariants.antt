@@ -1,6 +1,0 @@
--- Whatever was popped so far, it is still a worker of this pool.
-use Rattle.pair_tests.specs.Ready.{IsWorker}
-use Rattle.pair_tests.proofs.trace.buffers_on.Given as goal
-
-abbrev pub invariant-loop-place : goal.invariant-loop-place
-invariant-loop-place g l = IsWorker 400 l.pool l.worker

@@ -1,0 +1,6 @@
+-- Whatever was popped so far, it is still a worker of this pool.
+use Rattle.pool_tests.specs.Ready.{IsWorker}
+use Rattle.pool_tests.proofs.pair.trace.buffers_on.Given as goal
+
+abbrev pub invariant-loop-place : goal.invariant-loop-place
+invariant-loop-place g l = IsWorker 400 l.pool l.worker

@@ -1,0 +1,153 @@
+//! Tests of memory: the spill list runs out of it, and all other calls make no allocation.
+ghost use Rattle.std.specs.Prelude.{◌≤◌, IfOk};
+
+use super::hand::{Lens, bare, pool_of_roots};
+use super::runs::{End, Run, Step, left_after};
+use End::AllGot;
+use Step::{Balance, Fill, FullIsEmpty, Get, Has, InVain, NoneLeft, Publish, Put, Spilled};
+use buffer_pool::PoolFault;
+use limited_heap::LimitedHeap;
+use std::alloc::{Allocator, Global};
+use std::process::Abort;
+use std::sync::Wait;
+use std::test::Fail;
+
+/// A limit that no pool of these tests reaches.
+const MANY: u64 = 1 << 32;
+
+/// The requests that are refused after the opening of a pool.
+#[derive(Clone, Copy, Debug)]
+enum Refused {
+    /// All.
+    Each,
+    /// All but the first.
+    EachButOne,
+    /// The first, and no other.
+    First,
+}
+
+/// Returns how many requests a pool of four buffers for two objects makes.
+fn requests_of_a_pool(alloc: Global) -> Result<u64, PoolFault>
+    ensures { IfOk result (λ n. n ≤ MANY) }
+{
+    let heap = LimitedHeap::new(alloc, MANY);
+    let _pool = pool_of_roots(&heap, 4, 2, 0)?;
+    Ok(MANY - heap.requests_left())
+}
+
+/// Creates a heap that grants the requests of such a pool, and refuses `refused` after them.
+fn heap_of_a_pool(alloc: Global, refused: Refused) -> Result<LimitedHeap<Global>, PoolFault> {
+    let requests = requests_of_a_pool(alloc)?;
+    Ok(match refused {
+        Refused::Each => LimitedHeap::new(alloc, requests),
+        Refused::EachButOne => LimitedHeap::new(alloc, requests + 1),
+        Refused::First => LimitedHeap::refusing(alloc, requests),
+    })
+}
+
+/// If the list cannot have its first block, the ninth object is returned, and the pair keeps its eight.
+const NINTH: Run = (
+    "the ninth in vain",
+    &[
+        Fill(8),
+        InVain(8),
+        Has([Some(2), Some(2), None]),
+        Get(&[5, 4, 7, 6, 3, 2, 1, 0]),
+    ],
+    AllGot,
+);
+
+/// If the list has a block but cannot have a larger one, its objects are given up with the pair.
+const THIRTEENTH: Run = (
+    "the thirteenth in vain",
+    &[Fill(12), Spilled(4)],
+    End::InVain(12, 4),
+);
+
+/// If only the list's first block is refused, the ninth object is returned, and the next one is put and got as usual.
+/// Each of the two puts has exchanged the buffers, so they are where they were.
+const TENTH: Run = (
+    "the tenth behind a ninth in vain",
+    &[
+        Fill(8),
+        InVain(8),
+        Put(9),
+        Spilled(1),
+        Get(&[9, 7, 6, 5, 4, 3, 2, 1, 0]),
+    ],
+    AllGot,
+);
+
+/// The calls of a pair make no allocation while there is room.
+const SIX: Run = (
+    "six objects",
+    &[
+        Fill(5),
+        Balance,
+        FullIsEmpty(false),
+        Get(&[4, 3, 2, 1, 0]),
+        NoneLeft,
+        FullIsEmpty(true),
+        Put(5),
+        Publish,
+        FullIsEmpty(false),
+        Get(&[5]),
+        NoneLeft,
+        Spilled(0),
+    ],
+    AllGot,
+);
+
+/// A run, the size of a buffer, the requests refused after the opening of the pool, and the number of those refused.
+type Row = (Run, u32, Refused, u64);
+
+/// The run of six objects makes no request while each would be refused.
+const ROWS: [Row; 4] = [
+    (NINTH, 2, Refused::Each, 1),
+    (THIRTEENTH, 2, Refused::EachButOne, 1),
+    (TENTH, 2, Refused::First, 1),
+    (SIX, 8, Refused::Each, 0),
+];
+
+/// Makes a run on such a heap. Returns what is left of the pair, and how many requests were refused.
+fn refused_in<R: Wait + Abort>(
+    rt: &R,
+    alloc: Global,
+    run: Run,
+    size: u32,
+    refused: Refused,
+) -> Result<(Option<Lens>, u64), PoolFault> {
+    let heap = heap_of_a_pool(alloc, refused)?;
+    let left = left_after(rt, &heap, run, size, 0)?;
+    Ok((left, heap.refusals()))
+}
+
+#[test]
+fn runs_without_memory(rt: HostRuntime) -> Result<(), Fail> {
+    for (run, size, refused, refusals) in ROWS {
+        let ended = refused_in(&rt, rt.alloc(), run, size, refused)?;
+        assert!(rt; ended == (None, refusals), "{}", run.0);
+    }
+    Ok(())
+}
+
+/// Returns what the places of a pair without buffers have.
+fn bare_lens<A: Allocator + Copy>(alloc: A) -> Result<Lens, PoolFault> {
+    let (pool, worker) = pool_of_roots(alloc, 4, 8, 0)?;
+    Ok(bare(alloc, &pool, &worker).lens())
+}
+
+/// Creates a pair without buffers on a heap that has no request left after the pool. Returns what its places have, how
+/// many requests are left, and how many were refused.
+fn bare_pair_without_memory(alloc: Global) -> Result<(Lens, u64, u64), PoolFault> {
+    let heap = heap_of_a_pool(alloc, Refused::Each)?;
+    let lens = bare_lens(&heap)?;
+    Ok((lens, heap.requests_left(), heap.refusals()))
+}
+
+#[test]
+fn a_bare_pair_takes_no_memory(rt: HostRuntime) -> Result<(), Fail> {
+    let ended = bare_pair_without_memory(rt.alloc())?;
+    assert!(rt; ended == ([None; 3], 0, 0));
+    Ok(())
+}

@@ -1,0 +1,175 @@
+//! Tests that a pair keeps each buffer that it could not push after a last tag stopped it, in the middle of a call or
+//! before it changed anything, and also when it is disposed of.
+ghost use Rattle.pool_tests.specs.Ready.{IsReady, IsWorker};
+
+use super::hand::{Lens, OBJECTS, bare, claim, dispose, get, open, pool_of_roots};
+use super::runs::{Step, go_through};
+use Step::{Fill, Get};
+use buffer_pool::{Pool, PoolFault, Worker};
+use std::alloc::{Allocator, Global};
+use std::process::Abort;
+use std::sync::Wait;
+use std::test::Fail;
+use work_pair::{Pair, Stop};
+
+/// The last tag of a stack's head.
+const LAST_TAG: u64 = 281_474_976_710_655;
+
+/// The call that is stopped.
+#[derive(Clone, Copy)]
+enum Call {
+    /// Puts an object.
+    Puts(u32),
+    /// Gets an object of the full stack.
+    Gets,
+}
+
+/// What the places of a pair have after a last tag stopped it, and after one stopped its disposal too, if it did.
+type Stopped = (Lens, Option<Lens>);
+
+/// Claims `object`, which is white and whose put is stopped, and disposes of the pair.
+fn stopped_by_put<R: Wait + Abort, A: Allocator>(
+    rt: &R,
+    pool: &Pool<A>,
+    worker: &mut Worker<A>,
+    mut pair: Pair<A>,
+    object: u32,
+) -> Stopped
+    requires { IsReady OBJECTS pool.now worker.old pair }
+{
+    claim(rt, pool, worker, &pair, object);
+    let Err((back, Stop::TagSpent)) = pair.put(rt, pool, worker, object) else {
+        panic!(rt; "a last tag was to be loaded");
+    };
+    assert!(rt; back == object);
+    (pair.lens(), dispose(rt, pool, worker, pair))
+}
+
+/// Gets an object of the full stack, which is stopped, and disposes of the pair.
+fn stopped_by_get<R: Wait + Abort, A: Allocator>(
+    rt: &R,
+    pool: &Pool<A>,
+    worker: &mut Worker<A>,
+    mut pair: Pair<A>,
+) -> Stopped
+    requires { IsReady OBJECTS pool.now worker.old pair }
+{
+    let Err(_) = pair.get(rt, pool, worker) else {
+        panic!(rt; "a last tag was to be loaded");
+    };
+    (pair.lens(), dispose(rt, pool, worker, pair))
+}
+
+/// Pops a buffer from the full stack, takes an object from it, and gives it back: two exchanges of that stack's head,
+/// and none of the other's.
+fn exchange_full_twice<R: Wait + Abort, A: Allocator>(
+    rt: &R,
+    alloc: A,
+    pool: &Pool<A>,
+    worker: &mut Worker<A>,
+)
+    requires { IsWorker OBJECTS pool.now worker.old }
+    ensures { IsWorker OBJECTS pool.now worker.new }
+{
+    let mut pair = bare(alloc, pool, worker);
+    let Some(_) = get(rt, pool, worker, &mut pair) else {
+        panic!(rt; "there is a buffer with objects");
+    };
+    let left = dispose(rt, pool, worker, pair);
+    assert!(rt; left.is_none());
+}
+
+/// Does that a number of times.
+fn exchange_full<R: Wait + Abort, A: Allocator + Copy>(
+    rt: &R,
+    alloc: A,
+    pool: &Pool<A>,
+    worker: &mut Worker<A>,
+    times: u32,
+)
+    requires { IsWorker OBJECTS pool.now worker.old }
+    ensures { IsWorker OBJECTS pool.now worker.new }
+{
+    for _ in 0..times {
+        exchange_full_twice(rt, alloc, pool, worker);
+    }
+}
+
+/// Opens a pair on a new pool of four buffers for four objects, makes some steps, lets another worker exchange the full
+/// stack's head twice a number of times, and makes the call that is stopped.
+fn stopped_after<R: Wait + Abort>(
+    rt: &R,
+    alloc: Global,
+    first_tag: u64,
+    steps: &[Step],
+    exchanges: u32,
+    call: Call,
+) -> Result<Stopped, PoolFault> {
+    let (pool, worker) = pool_of_roots(alloc, 4, 4, first_tag)?;
+    let (mut worker, mut other) = pool.split(worker, 1);
+    let mut pair = open(rt, alloc, &pool, &mut worker);
+    go_through(rt, &pool, &mut worker, &mut pair, steps);
+    exchange_full(rt, alloc, &pool, &mut other, exchanges);
+    Ok(match call {
+        Call::Puts(object) => stopped_by_put(rt, &pool, &mut worker, pair, object),
+        Call::Gets => stopped_by_get(rt, &pool, &mut worker, pair),
+    })
+}
+
+/// The first tag, the steps, how often the full stack's head is exchanged twice after them, the call, and what the pair
+/// has after it was stopped, and after its disposal was, if it was.
+type Row = (u64, &'static [Step], u32, Call, Lens, Option<Lens>);
+
+const ROWS: [Row; 3] = [
+    // A put takes a buffer from the empty stack and cannot push the full one. Each head may be exchanged five times:
+    // that of the empty stack is four times, and that of the full one was five times before.
+    (
+        LAST_TAG - 5,
+        &[Fill(12)],
+        2,
+        Call::Puts(12),
+        [Some(4), Some(4), Some(0)],
+        Some([Some(4), Some(4), Some(0)]),
+    ),
+    // A put finds the empty stack at its last tag: its head was exchanged three times, and that of the full stack once,
+    // which has tags left.
+    (
+        LAST_TAG - 3,
+        &[Fill(12)],
+        0,
+        Call::Puts(12),
+        [Some(4), Some(4), None],
+        None,
+    ),
+    // A get takes a buffer from the full stack and cannot push the empty one: the empty stack's head was exchanged
+    // three times.
+    (
+        LAST_TAG - 3,
+        &[Fill(9), Get(&[8, 7, 6, 5, 4])],
+        0,
+        Call::Gets,
+        [Some(0), Some(0), Some(4)],
+        Some([Some(0), Some(0), Some(4)]),
+    ),
+];
+
+#[test]
+fn stopped_pairs_keep_their_buffers(rt: HostRuntime) -> Result<(), Fail> {
+    for (first_tag, steps, exchanges, call, lens, left) in ROWS {
+        let stopped = stopped_after(&rt, rt.alloc(), first_tag, steps, exchanges, call)?;
+        assert!(rt; stopped == (lens, left), "from tag {first_tag} on");
+    }
+    Ok(())
+}
+
+#[test]
+fn each_stop_has_its_words(rt: HostRuntime) -> Result<(), Fail> {
+    for (stop, words) in [
+        (Stop::TagSpent, "a stack's last tag was loaded"),
+        (Stop::OutOfMemory, "out of memory"),
+    ] {
+        let told = format!(in rt.alloc(); "{stop}")?;
+        assert_eq!(rt; told.as_str(), words);
+    }
+    Ok(())
+}

@@ -1,0 +1,114 @@
+//! Small runs of one thread: the order in which objects are got, and how often the head of the empty stack changes.
+ghost use Rattle.std.specs.Prelude.{◌≡◌, []};
+ghost use Rattle.pool_tests.specs.Ready.{IsReady};
+
+use super::hand::{Lens, OBJECTS, bare, dispose, open, pool_of_roots};
+use super::runs::{End, Run, Step, go_through, left_after};
+use End::AllGot;
+use Step::{Balance, Fill, FullIsEmpty, Get, Has, NoneLeft, Put, Spilled};
+use buffer_pool::{Pool, PoolFault, Worker};
+use std::alloc::Global;
+use std::process::Abort;
+use std::sync::Wait;
+use std::test::Fail;
+use work_pair::Pair;
+
+/// Puts five objects, balances, and gets all of them. The upper half stays in the pair, and the lower part is got from
+/// the full stack.
+const FIVE: Run = (
+    "five objects",
+    &[Fill(5), Balance, FullIsEmpty(false), Get(&[4, 3, 2, 1, 0])],
+    AllGot,
+);
+
+/// Four objects are few: a balance does not move them.
+const FOUR: Run = (
+    "four objects",
+    &[Fill(4), Balance, FullIsEmpty(true), Get(&[3, 2, 1, 0])],
+    AllGot,
+);
+
+/// Four buffers for two objects take eight. A ninth goes to the spill list, and changes nothing else except the places
+/// of the buffers. It is got first.
+const NINE: Run = (
+    "nine objects",
+    &[
+        Fill(9),
+        Has([Some(2), Some(2), None]),
+        Spilled(1),
+        Get(&[8, 5, 4, 7, 6, 3, 2, 1, 0]),
+    ],
+    AllGot,
+);
+
+/// A run, the size of a buffer, the first tag, and what the pair has left if it could not be disposed of.
+type Row = (Run, u32, u64, Option<Lens>);
+
+/// From the opening to the end of five objects the head of the empty stack changes six times, and it can do so from six
+/// tags before the last. If it begins one tag later the last buffer cannot be pushed, and stays with the pair.
+const ROWS: [Row; 5] = [
+    (FIVE, 8, 0, None),
+    (FOUR, 8, 0, None),
+    (FIVE, 8, 281_474_976_710_649, None),
+    (FIVE, 8, 281_474_976_710_650, Some([None, Some(0), None])),
+    (NINE, 2, 0, None),
+];
+
+#[test]
+fn runs_of_one_pair(rt: HostRuntime) -> Result<(), Fail> {
+    for (run, size, first_tag, wanted) in ROWS {
+        let left = left_after(&rt, rt.alloc(), run, size, first_tag)?;
+        assert!(rt; left == wanted, "{} from tag {first_tag} on", run.0);
+    }
+    Ok(())
+}
+
+/// A pair without buffers takes two objects, both are got again, and it still has no buffer.
+const TAKES_AND_GIVES: &[Step] = &[Fill(2), Get(&[1, 0]), NoneLeft, Has([None, None, None])];
+
+/// It has a buffer as soon as there is one.
+const FINDS_A_BUFFER: &[Step] = &[Put(2), Has([Some(1), None, None]), FullIsEmpty(true)];
+
+/// Makes both runs with `pair`, which is `worker`'s, and disposes of `one`, which is `other`'s, between the two.
+/// Returns what was left of `one`.
+fn left_between<R: Wait + Abort>(
+    rt: &R,
+    pool: &Pool<Global>,
+    worker: &mut Worker<Global>,
+    pair: Pair<Global>,
+    other: &mut Worker<Global>,
+    one: Pair<Global>,
+) -> Option<Lens>
+    requires ready { IsReady OBJECTS pool.now worker.old pair }
+    requires other { IsReady OBJECTS pool.now other.old one }
+    requires none_spilled { one.spill ≡ [] }
+{
+    let mut pair = pair;
+    go_through(rt, pool, worker, &mut pair, TAKES_AND_GIVES);
+    let left = dispose(rt, pool, other, one);
+    go_through(rt, pool, worker, &mut pair, FINDS_A_BUFFER);
+    left
+}
+
+/// Makes both runs with a pair without buffers, while others have all buffers. One of the others is disposed of between
+/// the two. Returns what was left of it.
+fn left_beside_a_bare_pair<R: Wait + Abort>(
+    rt: &R,
+    alloc: Global,
+) -> Result<Option<Lens>, PoolFault> {
+    let (pool, worker) = pool_of_roots(alloc, 4, 2, 0)?;
+    let (mut other, worker) = pool.split(worker, 2);
+    let (mut third, mut worker) = pool.split(worker, 1);
+    let one = open(rt, alloc, &pool, &mut other);
+    let _two = open(rt, alloc, &pool, &mut third);
+    let pair = bare(alloc, &pool, &worker);
+    Ok(left_between(rt, &pool, &mut worker, pair, &mut other, one))
+}
+
+/// A pair without buffers keeps what is put into it, and has a buffer as soon as there is one.
+#[test]
+fn a_bare_pair_takes_and_gives(rt: HostRuntime) -> Result<(), Fail> {
+    let left = left_beside_a_bare_pair(&rt, rt.alloc())?;
+    assert_eq!(rt; left, None);
+    Ok(())
+}
