@@ -110,18 +110,9 @@ module _ {A : Type 0} (v : Sight) (places : List ℕ) (bits : LowBits) where
 
   -- ---- the results of the parts, in order
 
-<<<<<<< HEAD
-  -- that is an answer for the part of that number
+  -- the result for part n
   abbrev pub IsAnswer : ℕ → ℕ → Answer A → Type 0
   IsAnswer size n answer = IsOfPart v places bits size n answer
-=======
-  -- the result for part n
-  pub record IsAnswer (size n : ℕ) (answer : Answer A) : Type 0 where
-    pub part : List ℕ
-    pub within : n * size + length part ≤ length places
-    pub long : length part ≡ min size (length places - n * size)
-    pub gives : IsGathering v places bits (n * size) part answer
->>>>>>> f06842890a8861a0c3d23e1d1976696a4f69f9db
 
   -- the remaining results are those of `left` parts from part n on
   abbrev pub AreLeft : ℕ → ℕ → ℕ → List (Answer A) → Type 0

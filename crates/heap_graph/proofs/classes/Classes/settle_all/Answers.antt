@@ -1,14 +1,8 @@
-<<<<<<< HEAD
--- Before the first class nothing is known; behind the last one each is, and what is said of fates is so with no path.
+-- Before the first class no fate is known, after the last each is. What the list says of fates holds with an empty
+-- path.
 use Rattle.heap_graph.proofs.Words.{AreFatesOf, IsFate, IsKnown, List, [], arith, drop, ids_of, length, rules}
 use Rattle.heap_graph.proofs.Words.{slice_index, subst, sym, take, take-append-le, take_all, ℕ, ⊎_elim, ◌++◌, ◌∙◌}
 use Rattle.heap_graph.proofs.Words.{◌≡◌}
-=======
--- Before the first class no fate is known, after the last each is. What the list says of fates holds with an empty
--- path.
-use Rattle.std.proofs.Common.{arith, rules, subst, sym, ◌∙◌}
-use Rattle.heap_graph.proofs.Words.{IsFate, ids_of, slice_index}
->>>>>>> f06842890a8861a0c3d23e1d1976696a4f69f9db
 use Rattle.heap_graph.specs.declared.classes.fate.Fate.{Fate}
 use Rattle.heap_graph.specs.declared.classes.fate.Fate.TheVariants as fates
 use Rattle.heap_graph.proofs.ClassTableLaws.{same_count}

@@ -1,11 +1,6 @@
-<<<<<<< HEAD
--- The last class of the path stands right below what has the fate, so its own fate follows, and so on down.
+-- The superclass of the last class of the path has the fate, so the class's own fate follows, and so on down.
 use Rattle.heap_graph.proofs.Words.{AreFatesOf, Contains, List, [], arith, inl, length, rules, subst, ℕ, ⊎_elim, ◌<◌}
 use Rattle.heap_graph.proofs.Words.{◌≡◌}
-=======
--- The superclass of the last class of the path has the fate, so the class's own fate follows, and so on down.
-use Rattle.heap_graph.proofs.Words.{AreFatesOf, List, [], arith, length, rules, subst, ℕ, ◌<◌, ◌≡◌}
->>>>>>> f06842890a8861a0c3d23e1d1976696a4f69f9db
 use Rattle.heap_graph.proofs.ClassTableLaws.{same_count}
 use Rattle.heap_graph.proofs.ClimbLaws.{back_fates, back_known, back_top, last_under}
 use Rattle.heap_graph.proofs.FateLaws.{stay_known}

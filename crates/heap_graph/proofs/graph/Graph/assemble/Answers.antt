@@ -1,9 +1,4 @@
-<<<<<<< HEAD
 -- The parts of the linked objects are read of the records of their dump.
-=======
--- What was found of the objects holds of the dump's records.
-use Rattle.heap_graph.specs.Heap.{heap_of}
->>>>>>> f06842890a8861a0c3d23e1d1976696a4f69f9db
 use Rattle.heap_graph.proofs.graph.Graph.assemble.Goals as goal
 
 pub read_parts-requires : goal.read_parts-requires

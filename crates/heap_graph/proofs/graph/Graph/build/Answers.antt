@@ -1,15 +1,8 @@
-<<<<<<< HEAD
 -- What is read of the objects is of the dump, and so are its names and its roots.
 use Rattle.heap_graph.proofs.Words.{IsGraphOfText, IsPlaced, List, Places, SkipEntry, SubRecordStandsAt, [], ap, arith}
 use Rattle.heap_graph.proofs.Words.{filter, heap_of, is_root, subst, ℕ, ◌∙◌, ◌≡◌}
 use Rattle.heap_graph.proofs.Building.{are_names, seen_by}
 use Rattle.heap_graph.proofs.Sizes.{id_size_range}
-=======
--- The places are those of the dump, so what the tests say of the objects there holds of the dump's heap.
-use Rattle.heap_graph.proofs.Words.{IsPlaced, IsReadOf, Places, SubRecordStandsAt, [], ap, filter, heap_of, is_root}
-use Rattle.heap_graph.proofs.Words.{◌∙◌, ◌≡◌}
-use Rattle.heap_graph.proofs.Building.{are_linked, are_names, has_fault, seen_by}
->>>>>>> f06842890a8861a0c3d23e1d1976696a4f69f9db
 use Rattle.heap_graph.proofs.graph.Graph.build.Goals as goal
 
 pub new-requires-clause-low : goal.new-requires-clause-low

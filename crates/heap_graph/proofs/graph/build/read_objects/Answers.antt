@@ -1,12 +1,6 @@
-<<<<<<< HEAD
--- At the places stand the objects of one heap, so index, table and fates, made one from another, are all of it.
+-- The objects at the places are of one heap, so index, table and fates, made one from another, are of this heap.
 use Rattle.heap_graph.proofs.Words.{ArePlacesOf, HaveFates, Sight, arith, heap_of, subst, sym, ◌∙◌, ◌≡◌}
 use Rattle.heap_graph.proofs.Building.{are_indexed, objects_stand, same_sight, size_in_range}
-=======
--- The objects at the places are of one heap, so index, table and fates, made one from another, are of this heap.
-use Rattle.heap_graph.proofs.Words.{AreClasses, ArePlacesOf, HaveFates, Sight, arith, heap_of, subst, sym, ◌∙◌, ◌≡◌}
-use Rattle.heap_graph.proofs.Building.{are_indexed, few_objects, objects_stand, same_sight, size_in_range}
->>>>>>> f06842890a8861a0c3d23e1d1976696a4f69f9db
 use Rattle.heap_graph.proofs.Counting.{few_placed}
 use Rattle.heap_graph.proofs.graph.build.read_objects.Goals as goal
 

@@ -1,10 +1,6 @@
-<<<<<<< HEAD
--- By their identifiers the names are those of the records, so what is looked up by them is of these.
+-- The names by identifier are those of the records, so what is planned and read by them is of these records.
 use Rattle.heap_graph.proofs.Words.{AreLinkedOf, AreNamedOf, AreNamesByIdOf, AreNamesOf, HaveFatesOf, IfOk-weaker}
 use Rattle.heap_graph.proofs.Words.{List, Record, heap_of}
-=======
--- The names by identifier are those of the records, so what is planned and read by them is of these records.
->>>>>>> f06842890a8861a0c3d23e1d1976696a4f69f9db
 use Rattle.heap_graph.proofs.graph.classes_and_roots.name_classes.Goals as goal
 
 pub look_up_names-requires-clause-names : goal.look_up_names-requires-clause-names

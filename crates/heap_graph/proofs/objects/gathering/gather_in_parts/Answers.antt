@@ -1,12 +1,5 @@
-<<<<<<< HEAD
 -- What each thread returns is the result of its part, and those of all parts are joined.
 use Rattle.heap_graph.proofs.Words.{arith}
-=======
--- Each part follows those before it, so joined in order they are what is gathered from all objects.
-use Rattle.heap_graph.proofs.Words.{HasGathered, arith, subst, sym, ℕ, ◌+◌, ◌∙◌}
-use Rattle.heap_graph.proofs.Gathering.{all_left, all_parts, answered, next_answer, nothing, one_more_part, others_left}
-use Rattle.heap_graph.proofs.Gathering.{unanswered}
->>>>>>> f06842890a8861a0c3d23e1d1976696a4f69f9db
 use Rattle.heap_graph.proofs.objects.gathering.gather_in_parts.Goals as goal
 
 pub join_parts-requires : goal.join_parts-requires
