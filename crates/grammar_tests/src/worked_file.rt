@@ -1,7 +1,7 @@
 //! The worked dump: its places, and the faults of its beginnings and of changed bytes.
 
 use hprof_grammar::{Dump, FormatFault, ReadRefusal, Team, read};
-use limited_heap::LimitedHeap;
+use limited_heap::{LimitedHeap, requests_of};
 use std::alloc::{Allocator, Global};
 use std::test::Fail;
 use std::thread::Threads;
@@ -123,52 +123,21 @@ fn is_right_or_told<T: Threads + Sync>(team: &Team<'_, T>, heap: &LimitedHeap<Gl
     }
 }
 
-/// Returns the number of requests that `team` makes to read the file if none is refused.
+/// Returns the number of requests that `team` makes to read the file if none is refused, and 0 if a result is wrong
+/// while they are refused in turn.
 fn requests_of_the_file<T: Threads + Sync>(team: &Team<'_, T>, alloc: Global) -> u64 {
-    let heap = LimitedHeap::new(alloc, u64::MAX);
-    let _whole = is_right_or_told(team, &heap);
-    u64::MAX.saturating_sub(heap.requests_left())
+    requests_of(alloc, |heap| is_right_or_told(team, heap)).unwrap_or(0)
 }
 
-/// Reads the file on a heap that grants `requests` requests. Returns whether the result is right, and whether no
-/// request was refused.
-fn where_the_rest_is_refused<T: Threads + Sync>(
-    team: &Team<'_, T>,
-    alloc: Global,
-    requests: u64,
-) -> (bool, bool) {
-    let heap = LimitedHeap::new(alloc, requests);
-    (is_right_or_told(team, &heap), heap.refusals() == 0)
-}
-
-/// Like [`where_the_rest_is_refused`], on a heap that refuses only the request number `request`.
-fn where_one_is_refused<T: Threads + Sync>(
-    team: &Team<'_, T>,
-    alloc: Global,
-    request: u64,
-) -> (bool, bool) {
-    let heap = LimitedHeap::refusing(alloc, request);
-    (is_right_or_told(team, &heap), heap.refusals() == 0)
-}
-
-/// Refuses each request in turn: with all after it, and only it. A team that shares the file reads it in parts.
+/// A team that shares the file reads it in parts.
 #[test]
 fn memory_refused_in_turn(rt: HostRuntime) {
     for fewest in [u32::MAX, 0] {
         let team = Team::sharing_from(&rt, 4, fewest);
-        let requests = requests_of_the_file(&team, rt.alloc());
-        assert!(rt; requests > 0);
-        for request in 0..=requests {
-            let wanted = (true, request == requests);
-            let rest = where_the_rest_is_refused(&team, rt.alloc(), request);
-            assert_eq!(rt;
-                rest,
-                wanted,
-                "{request} and all behind it, from {fewest} on"
-            );
-            let alone = where_one_is_refused(&team, rt.alloc(), request);
-            assert_eq!(rt; alone, wanted, "{request} alone, from {fewest} on");
-        }
+        assert!(rt;
+            requests_of_the_file(&team, rt.alloc()) > 0,
+            "from {fewest} on"
+        );
     }
 }
 

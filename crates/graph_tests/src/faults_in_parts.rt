@@ -1,8 +1,9 @@
 //! Dumps with so many objects that the rules of the links are tested in parts. If several parts have faults, the first
 //! in the order of the file is reported, even if there is no memory for the results of the parts.
 
-use heap_graph::{Graph, LinkFault, LinkRefusal, Skip};
-use hprof_grammar::{Team, read};
+use crate::graphs::build;
+use heap_graph::{LinkFault, LinkRefusal, Skip};
+use hprof_grammar::Team;
 use limited_heap::LimitedHeap;
 use std::alloc::{AllocError, Allocator, Global};
 use std::test::Fail;
@@ -96,9 +97,7 @@ fn answer<T: Threads + Sync, A: Allocator + Copy + Send + Sync>(
     threads: u32,
 ) -> Answer {
     let skip = Skip::none(alloc);
-    let team = Team::new(rt, threads);
-    let dump = read(&team, heap, bytes).ok()?;
-    match Graph::build(&team, heap, bytes, dump, &skip) {
+    match build(&Team::new(rt, threads), heap, bytes, &skip) {
         Ok(graph) => Some(Ok(graph.len())),
         Err(LinkRefusal::Fault(LinkFault { code, offset })) => Some(Err((code, offset))),
         Err(LinkRefusal::OutOfMemory) => None,

@@ -2,7 +2,7 @@
 //! ascend, descend or stand in no order, in each place one has other lowest bits than the others, and classes stand in
 //! each part. Each object that is no class refers to all objects, so each identifier is looked up.
 
-use crate::graphs::gives;
+use crate::graphs::{build, gives};
 use heap_graph::{Graph, Skip};
 use hprof_grammar::{Team, read};
 use limited_heap::{LimitedHeap, requests_of};
@@ -103,6 +103,11 @@ fn tells_classes<A: Allocator>(graph: &Graph<'_, A>, ids: &[u32]) -> bool {
     graph.classes() as usize == ids.len().div_ceil(CLASSES_EACH as usize)
 }
 
+/// Tests whether `graph` has the objects and classes of `ids`, and each array refers to all `references`.
+fn tells_all<A: Allocator>(graph: &Graph<'_, A>, ids: &[u32], references: &[u32]) -> bool {
+    tells_objects(graph, ids, references) && tells_classes(graph, ids)
+}
+
 /// Whether the graph that a team of so many threads makes of the dump is right. None where memory is missing.
 fn is_right<T: Threads + Sync, A: Allocator + Copy + Send + Sync>(
     rt: &T,
@@ -136,19 +141,10 @@ fn tells<T: Threads + Sync, A: Allocator + Copy + Send + Sync>(
 ) -> Option<bool> {
     let skip = Skip::none(alloc);
     let team = Team::sharing_from(rt, threads, 1);
-    let graph = graph_by(&team, heap, bytes, &skip)?;
-    Some(tells_objects(&graph, ids, references) && tells_classes(&graph, ids))
-}
-
-/// The graph that the team makes of these bytes. None where memory is missing.
-fn graph_by<'a, T: Threads + Sync, A: Allocator + Copy + Send + Sync>(
-    team: &Team<'_, T>,
-    heap: A,
-    bytes: &'a [u8],
-    skip: &'a Skip<'_, Global>,
-) -> Option<Graph<'a, A>> {
-    let dump = read(team, heap, bytes).ok()?;
-    Graph::build(team, heap, bytes, dump, skip).ok()
+    match build(&team, heap, bytes, &skip) {
+        Ok(graph) => Some(tells_all(&graph, ids, references)),
+        Err(_) => None,
+    }
 }
 
 /// Whether teams of one thread, two and four make the right graph.
@@ -238,27 +234,45 @@ fn requests_by_bits<T: Threads + Sync>(
     ])
 }
 
+/// Tests whether identifiers that agree take as much memory whichever their lowest bits are, and less than those of
+/// which one differs.
+fn are_gathered_once<T: Threads + Sync>(
+    rt: &T,
+    alloc: Global,
+    order: Order,
+) -> Result<bool, AllocError> {
+    let [agree, others, odd] = requests_by_bits(rt, alloc, order)?;
+    Ok(agree.is_some() && agree == others && agree < odd)
+}
+
 /// Identifiers that agree in their lowest bits, whichever these are, are gathered once.
 #[test]
 fn gathered_once(rt: HostRuntime) -> Result<(), Fail> {
     for order in ORDERS {
-        let [agree, others, odd] = requests_by_bits(&rt, rt.alloc(), order)?;
-        assert!(rt; agree.is_some() && agree == others, "order {order:?}");
-        assert!(rt; agree < odd, "order {order:?}");
+        assert!(rt;
+            are_gathered_once(&rt, rt.alloc(), order)?,
+            "order {order:?}"
+        );
     }
     Ok(())
+}
+
+/// Returns the number of allocations that one thread makes for objects in `order` that agree in their lowest bits.
+fn requests_in_order<T: Threads + Sync>(
+    rt: &T,
+    alloc: Global,
+    order: Order,
+) -> Result<Option<u64>, AllocError> {
+    let ids = ids_of(alloc, order, MOST, MOST)?;
+    Ok(requests_by_one(rt, alloc, &ids))
 }
 
 /// Objects in no order take no more requests than objects in order: their places and their pairs are asked for at once.
 /// A list of their runs would grow step by step.
 #[test]
 fn pairs_are_asked_for_at_once(rt: HostRuntime) -> Result<(), Fail> {
-    let mut requests = [None, None];
-    for (count, order) in [(0, 1), (15, 15)].into_iter().enumerate() {
-        let ids = ids_of(rt.alloc(), order, MOST, MOST)?;
-        requests[count] = requests_by_one(&rt, rt.alloc(), &ids);
-    }
-    let [ascending, descending] = requests;
+    let ascending = requests_in_order(&rt, rt.alloc(), (0, 1))?;
+    let descending = requests_in_order(&rt, rt.alloc(), (15, 15))?;
     assert!(rt;
         descending.is_some() && descending <= ascending,
         "{descending:?} and {ascending:?}"

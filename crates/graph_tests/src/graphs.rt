@@ -1,12 +1,26 @@
 //! The graphs of worked dumps.
 
 use crate::worked::{ClassRow, Object, WORKED, Worked};
-use heap_graph::{Graph, Skip, Successors, Visit};
+use heap_graph::{Graph, LinkRefusal, Skip, Successors, Visit};
 use hprof_grammar::{Team, read};
 use std::alloc::{Allocator, Global};
 use std::test::Fail;
 use std::thread::Threads;
 use test_dumps::Bytes;
+
+/// Reads the dump `bytes`, which is whole, and builds its graph, both on `heap`. Returns out of memory also if the dump
+/// is not read.
+pub fn build<'a, T: Threads + Sync, A: Allocator + Copy + Send + Sync>(
+    team: &Team<'_, T>,
+    heap: A,
+    bytes: &'a [u8],
+    skip: &'a Skip<'_, Global>,
+) -> Result<Graph<'a, A>, LinkRefusal> {
+    let Ok(dump) = read(team, heap, bytes) else {
+        return Err(LinkRefusal::OutOfMemory);
+    };
+    Graph::build(team, heap, bytes, dump, skip)
+}
 
 /// Returns the graph of the dump `bytes`, which is whole and linked.
 pub fn graph_of<'a, T: Threads + Sync>(

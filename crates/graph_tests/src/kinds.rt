@@ -36,7 +36,8 @@ const PARTS: [Parts; 4] = [
     (Kind::Nothing, None, &[], RowKey::Primitive(8), 2, 0),
 ];
 
-/// Whether a walk has this row and these bytes, gives these objects and then none, and counts so many that name none.
+/// Tests whether the walk `rest` has the row and the bytes of `wanted`, yields its objects and then none, and counts
+/// its number of identifiers that name none.
 fn walks<A: Allocator, I: IdSource>(rest: Targets<'_, A, I>, wanted: &Parts) -> bool {
     let (_, _, objects, row, bytes, unresolved) = *wanted;
     let mut rest = rest;
@@ -49,7 +50,7 @@ fn walks<A: Allocator, I: IdSource>(rest: Targets<'_, A, I>, wanted: &Parts) -> 
     told && rest.next().is_none() && rest.unresolved() == unresolved
 }
 
-/// Whether these are the parts of a visit.
+/// Tests whether `wanted` are the parts of `visit`.
 fn are_parts<A: Allocator>(visit: Visit<'_, A>, wanted: &Parts) -> bool {
     let (kind, known, _, _, _, _) = *wanted;
     match visit.by_kind() {
@@ -66,7 +67,12 @@ fn are_parts<A: Allocator>(visit: Visit<'_, A>, wanted: &Parts) -> bool {
     }
 }
 
-/// Whether they are those of an object of the dump.
+/// Tests whether `graph` has `object`, and `wanted` are the parts of its visit.
+fn visits<A: Allocator>(graph: &Graph<'_, A>, object: u32, wanted: &Parts) -> bool {
+    object < graph.len() && are_parts(graph.visit(object), wanted)
+}
+
+/// Tests whether this holds for the graph of the dump.
 fn has_parts<T: Threads + Sync>(
     rt: &T,
     alloc: Global,
@@ -76,8 +82,8 @@ fn has_parts<T: Threads + Sync>(
     let skip = Skip::none(alloc);
     let file = Bytes::dump(alloc, 4, EACH_KIND)?;
     match graph_of(rt, alloc, &file.bytes, &skip) {
-        Some(graph) => return Ok(object < graph.len() && are_parts(graph.visit(object), wanted)),
-        None => return Ok(false),
+        Some(graph) => Ok(visits(&graph, object, wanted)),
+        None => Ok(false),
     }
 }
 
@@ -110,45 +116,42 @@ fn is_array_of<A: Allocator>(graph: &Graph<'_, A>, object: u32, class: u32) -> b
     }
 }
 
-/// Tests whether each array's class is known in the graph of the dump.
-fn knows_classes<T: Threads + Sync>(rt: &T, alloc: Global) -> Result<bool, AllocError> {
-    let skip = Skip::none(alloc);
-    let file = arrays(alloc)?;
-    match graph_of(rt, alloc, &file.bytes, &skip) {
-        Some(graph) => return Ok((0..CLASSES).all(|class| is_array_of(
-            &graph,
-            CLASSES + class,
-            class,
-        ))),
-        None => return Ok(false),
-    }
+/// Tests whether each array's class is known in `graph`.
+fn knows_classes<A: Allocator>(graph: &Graph<'_, A>) -> bool {
+    (0..CLASSES).all(|class| is_array_of(graph, CLASSES + class, class))
 }
 
-/// Counts the classes of the dump that are found by a guess.
-fn count_guessed<T: Threads + Sync>(rt: &T, alloc: Global) -> Result<usize, AllocError> {
+/// Counts the classes of `graph` that are found by a guess.
+fn count_guessed<A: Allocator>(graph: &Graph<'_, A>) -> usize {
+    let guessed = |class: &u32| *class < graph.classes() && graph.is_class_guessed(*class);
+    (0..CLASSES).filter(guessed).count()
+}
+
+/// Returns what both say of the graph of the dump.
+fn known_and_guessed<T: Threads + Sync>(
+    rt: &T,
+    alloc: Global,
+) -> Result<Option<(bool, usize)>, AllocError> {
     let skip = Skip::none(alloc);
     let file = arrays(alloc)?;
     match graph_of(rt, alloc, &file.bytes, &skip) {
-        Some(graph) => {
-            let guessed = |class: &u32| *class < graph.classes() && graph.is_class_guessed(*class);
-            return Ok((0..CLASSES).filter(guessed).count());
-        }
-        None => return Ok(0),
+        Some(graph) => Ok(Some((knows_classes(&graph), count_guessed(&graph)))),
+        None => Ok(None),
     }
 }
 
 /// Classes are guessed at different places: at least three of four are alone at theirs or were noted last there.
 #[test]
 fn classes_are_guessed(rt: HostRuntime) -> Result<(), Fail> {
-    let guessed = count_guessed(&rt, rt.alloc())?;
-    assert!(rt; guessed >= 24, "{guessed} classes");
+    let told = known_and_guessed(&rt, rt.alloc())?;
+    assert!(rt; told.is_some_and(|(_, guessed)| guessed >= 24), "{told:?}");
     Ok(())
 }
 
 #[test]
 fn no_array_is_of_any_kind(rt: HostRuntime) -> Result<(), Fail> {
-    let known = knows_classes(&rt, rt.alloc())?;
-    assert!(rt; known);
+    let told = known_and_guessed(&rt, rt.alloc())?;
+    assert!(rt; told.is_some_and(|(known, _)| known));
     Ok(())
 }
 

@@ -1,5 +1,5 @@
-//! Tests of `heap_graph`, and of `id_index` below it (`index`). They are in a crate of their own, so that the two are not
-//! proved again together with their tests, and use only public calls. The crate exports nothing.
+//! Tests of `heap_graph`, and of `id_index` below it (`index`). They are in a crate of their own, so that the two are
+//! not proved again together with their tests, and use only public calls. The crate exports nothing.
 //!
 //! `worked` has dumps with their expected graphs, and `skipped` has dumps of which some fields are not followed.
 //! `chains` and `faults` have dumps that are not linked, with the first fault of each; `faults_in_parts` has large

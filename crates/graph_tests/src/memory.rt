@@ -1,12 +1,12 @@
 //! Out of memory: each allocation of `read` and `build` fails in turn, with all after it and as the only one. The calls
 //! on a graph allocate nothing.
 
-use crate::graphs::{is_worked, tells};
+use crate::graphs::{build, is_worked, tells};
 use crate::skipped::SKIPPED;
 use crate::walks::{MANY, long_array};
 use crate::worked::{WORKED, Worked};
 use heap_graph::{Graph, LinkFault, LinkRefusal, RowKey, Skip};
-use hprof_grammar::{Team, read};
+use hprof_grammar::Team;
 use limited_heap::{LimitedHeap, requests_of};
 use std::alloc::{AllocError, Allocator, Global};
 use std::test::Fail;
@@ -14,18 +14,14 @@ use std::thread::Threads;
 use test_dumps::Sub::{Class, Instance};
 use test_dumps::{Bytes, Record};
 
-/// Reads a whole dump, and builds its graph.
-fn build<'a, T: Threads + Sync, A: Allocator + Copy + Send + Sync>(
+/// Tests whether a team of four builds a graph on `heap`.
+fn is_built<T: Threads + Sync>(
     rt: &T,
-    heap: A,
-    bytes: &'a [u8],
-    skip: &'a Skip<'_, Global>,
-) -> Result<Graph<'a, A>, LinkRefusal> {
-    let team = Team::new(rt, 4);
-    let Ok(dump) = read(&team, heap, bytes) else {
-        return Err(LinkRefusal::OutOfMemory);
-    };
-    Graph::build(&team, heap, bytes, dump, skip)
+    heap: &LimitedHeap<Global>,
+    bytes: &[u8],
+    skip: &Skip<'_, Global>,
+) -> bool {
+    build(&Team::new(rt, 4), heap, bytes, skip).is_ok()
 }
 
 /// Returns the number of allocations that `build` makes.
@@ -36,7 +32,7 @@ fn requests_to_build<T: Threads + Sync>(
     skip: &Skip<'_, Global>,
 ) -> u64 {
     let heap = LimitedHeap::new(alloc, u64::MAX);
-    let _built = build(rt, &heap, bytes, skip);
+    let _built = is_built(rt, &heap, bytes, skip);
     u64::MAX - heap.requests_left()
 }
 
@@ -74,7 +70,7 @@ fn comes<T: Threads + Sync>(
     skip: &Skip<'_, Global>,
     wanted: &Wanted<'_>,
 ) -> bool {
-    match build(rt, heap, bytes, skip) {
+    match build(&Team::new(rt, 4), heap, bytes, skip) {
         Ok(graph) => is_graph(wanted, &graph),
         Err(refusal) => is_refusal(wanted, refusal, heap.refusals()),
     }
@@ -117,6 +113,15 @@ fn is_right_of<T: Threads + Sync>(
     Ok(is_right_in_turn(rt, alloc, &file.bytes, worked, skip))
 }
 
+/// Tests whether this holds for the dump of `worked` if all fields are followed.
+fn is_right_whole<T: Threads + Sync>(
+    rt: &T,
+    alloc: Global,
+    worked: &Worked,
+) -> Result<bool, AllocError> {
+    is_right_of(rt, alloc, worked, &Skip::none(alloc))
+}
+
 /// Tests whether this holds for the dump of `worked` if the fields of `list` are not followed.
 fn is_right_without<T: Threads + Sync>(
     rt: &T,
@@ -131,19 +136,23 @@ fn is_right_without<T: Threads + Sync>(
 }
 
 #[test]
-fn worked_graphs_or_want_of_memory(rt: HostRuntime) {
+fn worked_graphs_or_want_of_memory(rt: HostRuntime) -> Result<(), Fail> {
     for worked in &WORKED {
-        let right = is_right_of(&rt, rt.alloc(), worked, &Skip::none(rt.alloc()));
-        assert_eq!(rt; right, Ok(true), "{}", worked.name);
+        assert!(rt; is_right_whole(&rt, rt.alloc(), worked)?, "{}", worked.name);
     }
+    Ok(())
 }
 
 #[test]
-fn graphs_without_fields_or_want_of_memory(rt: HostRuntime) {
+fn graphs_without_fields_or_want_of_memory(rt: HostRuntime) -> Result<(), Fail> {
     for (list, worked) in &SKIPPED {
-        let right = is_right_without(&rt, rt.alloc(), worked, list);
-        assert_eq!(rt; right, Ok(true), "{}", worked.name);
+        assert!(rt;
+            is_right_without(&rt, rt.alloc(), worked, list)?,
+            "{}",
+            worked.name
+        );
     }
+    Ok(())
 }
 
 /// An instance without the fields of its superclass.
@@ -179,7 +188,7 @@ fn walks_over<T: Threads + Sync>(
     skip: &Skip<'_, Global>,
     elements: &[u32],
 ) -> bool {
-    match build(rt, heap, bytes, skip) {
+    match build(&Team::new(rt, 4), heap, bytes, skip) {
         Ok(graph) => tells(&graph, 3, &(elements, RowKey::Class(0), 400_000, 0)),
         Err(_) => false,
     }

@@ -3,7 +3,7 @@
 use heap_graph::Skip;
 use hprof_grammar::{Team, read};
 use limited_heap::{LimitedHeap, requests_of};
-use std::alloc::{AllocError, Global};
+use std::alloc::{AllocError, Allocator, Global};
 use std::test::Fail;
 use std::thread::Threads;
 use test_dumps::Record::{Heap, Load, Text};
@@ -56,28 +56,25 @@ static LISTS: [(&str, &[bool]); 7] = [
     ("T.count,T.f,T.count", &[true, false, true]),
 ];
 
-/// Tests whether the entries of `list` are met by the dump `bytes` as in `want`.
-fn is_met<T: Threads + Sync>(
+/// Tests whether the entries of `list` are met by the dump `bytes` as in `want`. Returns `None` if the list or the dump
+/// is not read on `heap`, or if there is no memory for the answer.
+fn is_met<T: Threads + Sync, A: Allocator + Copy + Send + Sync>(
     rt: &T,
-    alloc: Global,
+    heap: A,
     bytes: &[u8],
     list: &str,
     want: &[bool],
-) -> bool {
-    let team = Team::new(rt, 4);
-    let (Ok(skip), Ok(dump)) = (Skip::new(alloc, list), read(&team, alloc, bytes)) else {
-        return false;
-    };
-    match skip.met(alloc, bytes, &dump) {
-        Ok(met) => met.as_slice() == want,
-        Err(_) => false,
-    }
+) -> Option<bool> {
+    let skip = Skip::new(heap, list).ok()?;
+    let dump = read(&Team::new(rt, 4), heap, bytes).ok()?;
+    let met = skip.met(heap, bytes, &dump).ok()?;
+    Some(met.as_slice() == want)
 }
 
 /// Tests whether the entries of `list` are met by `CLASSES` as in `want`.
 fn is_met_by_classes<T: Threads + Sync>(rt: &T, alloc: Global, list: &str, want: &[bool]) -> bool {
     match Bytes::dump(alloc, 4, CLASSES) {
-        Ok(dump) => is_met(rt, alloc, dump.bytes.as_slice(), list, want),
+        Ok(dump) => is_met(rt, alloc, dump.bytes.as_slice(), list, want) == Some(true),
         Err(_) => false,
     }
 }
@@ -98,13 +95,9 @@ fn is_answered<T: Threads + Sync>(
     list: &str,
     want: &[bool],
 ) -> bool {
-    let team = Team::new(rt, 4);
-    let (Ok(skip), Ok(dump)) = (Skip::new(heap, list), read(&team, heap, bytes)) else {
-        return heap.refusals() > 0;
-    };
-    match skip.met(heap, bytes, &dump) {
-        Ok(met) => met.as_slice() == want,
-        Err(_) => heap.refusals() > 0,
+    match is_met(rt, heap, bytes, list, want) {
+        Some(met) => met,
+        None => heap.refusals() > 0,
     }
 }
 

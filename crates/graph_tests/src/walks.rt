@@ -2,7 +2,7 @@
 
 use crate::graphs::graph_of;
 use crate::worked::{WORKED, Worked};
-use heap_graph::{Skip, Successors};
+use heap_graph::{Graph, Skip, Successors};
 use std::alloc::{AllocError, Allocator, Global};
 use std::test::Fail;
 use std::thread::Threads;
@@ -68,6 +68,11 @@ fn leaves<A: Allocator>(walk: Successors<'_, A>, left: &[u64]) -> bool {
     true
 }
 
+/// Tests whether `graph` has `object`, and the numbers of its remaining identifiers are `left`.
+fn leaves_of<A: Allocator>(graph: &Graph<'_, A>, object: u32, left: &[u64]) -> bool {
+    object < graph.len() && leaves(graph.successors(object), left)
+}
+
 /// Tests whether the numbers of remaining identifiers of `object` are `left`, in the dump of `worked`.
 fn leaves_in<T: Threads + Sync>(
     rt: &T,
@@ -79,22 +84,39 @@ fn leaves_in<T: Threads + Sync>(
     let skip = Skip::none(alloc);
     let file = Bytes::dump(alloc, worked.id_size, worked.records)?;
     match graph_of(rt, alloc, &file.bytes, &skip) {
-        Some(graph) => return Ok(object < graph.len() && leaves(graph.successors(object), left)),
-        None => return Ok(false),
+        Some(graph) => Ok(leaves_of(&graph, object, left)),
+        None => Ok(false),
+    }
+}
+
+/// Returns the dump of `WORKED` with that `name`.
+fn worked_of(name: &str) -> Option<&'static Worked> {
+    for worked in &WORKED {
+        if worked.name == name {
+            return Some(worked);
+        }
+    }
+    None
+}
+
+/// Tests whether the numbers of remaining identifiers are those of `walk`.
+fn is_walk<T: Threads + Sync>(rt: &T, alloc: Global, walk: &Walk) -> Result<bool, AllocError> {
+    let (name, object, left) = *walk;
+    match worked_of(name) {
+        Some(worked) => leaves_in(rt, alloc, worked, object, left),
+        None => Ok(false),
     }
 }
 
 #[test]
 fn identifiers_left(rt: HostRuntime) -> Result<(), Fail> {
-    let alloc = rt.alloc();
-    for (name, object, left) in &WALKS {
-        let mut known = false;
-        for worked in &WORKED {
-            if worked.name == *name {
-                known = leaves_in(&rt, alloc, worked, *object, left)?;
-            }
-        }
-        assert!(rt; known, "{name}, object {object}");
+    for walk in &WALKS {
+        assert!(rt;
+            is_walk(&rt, rt.alloc(), walk)?,
+            "{}, object {}",
+            walk.0,
+            walk.1
+        );
     }
     Ok(())
 }
@@ -147,8 +169,12 @@ const SKIPS: [(&str, u64, u64); 3] = [
     ("java/lang/ref/Reference.referent", 2, 0),
 ];
 
-/// Tests whether object 0x201 holds `left` identifiers if the fields of `list` are not followed, and `unresolved` of
-/// those of object 0x203 name no object.
+/// Tests whether object 0x201 holds `left` identifiers, and `unresolved` of those of object 0x203 name no object.
+fn has_left<A: Allocator>(graph: &Graph<'_, A>, left: u64, unresolved: u64) -> bool {
+    graph.len() == 5 && graph.successors(2).left() == left && graph.unresolved_of(4) == unresolved
+}
+
+/// Tests whether this holds if the fields of `list` are not followed.
 fn leaves_without<T: Threads + Sync>(
     rt: &T,
     alloc: Global,
@@ -161,12 +187,8 @@ fn leaves_without<T: Threads + Sync>(
         return Ok(false);
     };
     match graph_of(rt, alloc, &file.bytes, &skip) {
-        Some(graph) => return Ok(
-            graph.len() == 5
-                && graph.successors(2).left() == left
-                && graph.unresolved_of(4) == unresolved,
-        ),
-        None => return Ok(false),
+        Some(graph) => Ok(has_left(&graph, left, unresolved)),
+        None => Ok(false),
     }
 }
 

@@ -1,9 +1,9 @@
-//! An index beside a search one by one.
+//! Compares an index with a search through the list, one by one.
 
 use id_index::IdIndex;
 use std::alloc::Allocator;
 
-/// The place of the identifier among these, if it is one of them.
+/// Returns the place of the first of `ids` that is `id`.
 pub fn first_of(ids: &[u64], id: u64) -> Option<usize> {
     for (place, other) in ids.iter().enumerate() {
         if *other == id {
@@ -13,7 +13,7 @@ pub fn first_of(ids: &[u64], id: u64) -> Option<usize> {
     None
 }
 
-/// The place of the first of these that stands before it already, and how many there are where none does.
+/// Returns the place of the first of `ids` that repeats an earlier one, or their number if none does.
 fn first_repeat_of(ids: &[u64]) -> usize {
     for (place, id) in ids.iter().enumerate() {
         if first_of(ids, *id) != Some(place) {
@@ -23,7 +23,7 @@ fn first_repeat_of(ids: &[u64]) -> usize {
     ids.len()
 }
 
-/// Whether the index finds an identifier there, or not at all.
+/// Tests whether the index finds `id` at `first`, or not at all if that is `None`.
 pub fn finds<A: Allocator>(index: &IdIndex<A>, id: u64, first: Option<usize>) -> bool {
     match index.find(id) {
         Some(number) => return first == Some(number as usize),
@@ -31,8 +31,8 @@ pub fn finds<A: Allocator>(index: &IdIndex<A>, id: u64, first: Option<usize>) ->
     }
 }
 
-/// Whether the index answers for this identifier as a search one by one does: where it stands, and whether it stands
-/// before each of the first places.
+/// Tests whether the index says the same of `id` as a search one by one: its first place, and whether it is before each
+/// of the first places.
 fn answers<A: Allocator>(index: &IdIndex<A>, ids: &[u64], id: u64) -> bool {
     let first = first_of(ids, id);
     for number in 0..ids.len() {
@@ -44,8 +44,8 @@ fn answers<A: Allocator>(index: &IdIndex<A>, ids: &[u64], id: u64) -> bool {
     index.is_repeated(id, usize::MAX) == first.is_some() && finds(index, id, first)
 }
 
-/// Whether it answers so for an identifier, and for others beside it: of its page and of the next ones, with other
-/// lowest bits, and far away.
+/// Tests the same for `id` and for others beside it: of its page and of the next ones, with other lowest bits, and far
+/// away.
 fn answers_around<A: Allocator>(index: &IdIndex<A>, ids: &[u64], id: u64) -> bool {
     answers(index, ids, id)
         && answers(index, ids, id.wrapping_add(1))
@@ -56,7 +56,7 @@ fn answers_around<A: Allocator>(index: &IdIndex<A>, ids: &[u64], id: u64) -> boo
         && answers(index, ids, id ^ 0x8000_0000_0000_0000)
 }
 
-/// Whether it answers so for each of them and those around it, and tells the first repeat.
+/// Tests the same for each of `ids` and those around it, and whether the index has their first repeat.
 pub fn answers_all<A: Allocator>(index: &IdIndex<A>, ids: &[u64]) -> bool {
     for id in ids {
         if !answers_around(index, ids, *id) {

@@ -1,4 +1,4 @@
-//! An index of lists of identifiers that are gathered apart and joined.
+//! Makes an index of lists of identifiers that are gathered apart and joined.
 
 ghost use Rattle.std.specs.Prelude.{IfOk, IfSome, length, ◌<◌, ◌^◌, ◌≡◌, ◌≤◌};
 
@@ -8,7 +8,7 @@ use id_index::{IdIndex, IdIndexBuilder, LowBits};
 use limited_heap::{LimitedHeap, requests_of};
 use std::alloc::{AllocError, Allocator, Global};
 
-/// These identifiers, if all have those lowest bits.
+/// Returns a builder with `ids`, if all have the lowest bits `bits`.
 fn gathered<A: Allocator>(
     alloc: A,
     ids: &[u64],
@@ -30,8 +30,8 @@ fn gathered<A: Allocator>(
     Ok(Some(builder))
 }
 
-/// The index of objects with these identifiers, if all have those lowest bits. They are gathered in three lists: the
-/// first so many, up to three behind those, and the rest.
+/// Returns the index of objects with the identifiers `ids`, if all have the lowest bits `bits`. They are gathered in
+/// three lists: the first `at`, up to three after those, and the rest.
 fn joined_index<A: Allocator + Copy>(
     alloc: A,
     ids: &[u64],
@@ -64,13 +64,13 @@ fn joined_index<A: Allocator + Copy>(
 #[derive(Drop)]
 struct Joining<'a> {
     ids: &'a [u64],
-    /// How many of the lowest bits are left out, at most 3.
+    /// The number of lowest bits that are dropped, at most 3.
     shift: u32,
     at: usize,
 }
 
 impl Joining<'_> {
-    /// The lowest bits that are left out of the first identifier.
+    /// Returns the lowest bits of the first identifier that are dropped.
     fn bits(&self) -> LowBits
         ensures shifted { result.shift < 64 }
         ensures low { result.low < 2 ^ result.shift }
@@ -86,7 +86,7 @@ impl Joining<'_> {
         }
     }
 
-    /// Whether an identifier has other lowest bits than the first one.
+    /// Tests whether an identifier has other lowest bits than the first one.
     fn differs(&self) -> bool {
         let bits = self.bits();
         self.ids
@@ -108,7 +108,7 @@ impl Joining<'_> {
     }
 }
 
-/// Lists are cut at each place. Each request is refused in turn, and then the joined index is as a search one by one.
+/// Lists are cut at each place. Each allocation fails in turn, and then the joined index is as a search one by one.
 #[test]
 fn joined_as_one_by_one_or_want_of_memory(rt: HostRuntime) {
     for ids in LISTS {

@@ -83,8 +83,8 @@ pub const LISTS: [&[u64]; 21] = [
     ],
 ];
 
-/// Neighbours: the first of them, how far each is from the one before it, and how many they are. They ascend and
-/// descend, within pages and from page to page, by whole pages and by multiples of eight.
+/// Neighbours: the first of them, how far each is from the one before it, and their number. They ascend and descend,
+/// within pages and from page to page, by whole pages and by multiples of eight.
 const NEIGHBOURS: [(u64, u64, usize); 16] = [
     (0, 1, 63),
     (0, 1, 64),
@@ -116,7 +116,7 @@ fn is_right(heap: &LimitedHeap<Global>, ids: &[u64]) -> bool {
     }
 }
 
-/// Each request is refused in turn, and then the index is as a search one by one.
+/// Each allocation fails in turn, and then the index is as a search one by one.
 #[test]
 fn as_one_by_one_or_want_of_memory(rt: HostRuntime) {
     for ids in LISTS {
@@ -125,7 +125,7 @@ fn as_one_by_one_or_want_of_memory(rt: HostRuntime) {
     }
 }
 
-/// So many identifiers from that one on, each so far from the one before it.
+/// Returns `count` identifiers from `first` on, each `step` after the one before it.
 fn neighbours(alloc: Global, first: u64, step: u64, count: usize) -> Result<Vec<u64>, AllocError> {
     let mut ids = Vec::new(alloc);
     let mut id = first;
@@ -146,7 +146,7 @@ fn neighbours_or_want_of_memory(rt: HostRuntime) -> Result<(), Fail> {
     Ok(())
 }
 
-/// Whether the index finds each of the first identifiers where a search one by one does.
+/// Tests whether the index finds each identifier below `most` where a search one by one does.
 fn finds_all<A: Allocator>(index: &IdIndex<A>, ids: &[u64], most: u64) -> bool {
     for id in 0..most {
         if !finds(index, id, first_of(ids, id)) {
@@ -156,7 +156,7 @@ fn finds_all<A: Allocator>(index: &IdIndex<A>, ids: &[u64], most: u64) -> bool {
     true
 }
 
-/// A thousand identifiers, of which some repeat.
+/// Returns a thousand identifiers, some of them repeated.
 fn thousand(alloc: Global) -> Result<Vec<u64>, AllocError> {
     let mut ids = Vec::new(alloc);
     let mut id = 1u64;
@@ -169,7 +169,7 @@ fn thousand(alloc: Global) -> Result<Vec<u64>, AllocError> {
     Ok(ids)
 }
 
-/// Whether an index of these finds them so.
+/// Tests whether an index of `ids` finds each identifier below `most` so.
 fn is_found(alloc: Global, ids: &[u64], most: u64) -> Result<bool, AllocError> {
     if ids.len() > 1000 {
         return Ok(false);

@@ -1,11 +1,11 @@
-//! An index of a list of identifiers, made as callers make it.
+//! Makes an index of a list of identifiers, as callers do.
 
 ghost use Rattle.std.specs.Prelude.{IfOk, IfSome, length, ◌<◌, ◌^◌, ◌≡◌};
 
 use id_index::{IdIndex, IdIndexBuilder, LowBits};
 use std::alloc::{AllocError, Allocator};
 
-/// The lowest three bits of the first of these identifiers.
+/// Returns the lowest three bits of the first of `ids`, or 0.
 fn first_low(ids: &[u64]) -> u64
     ensures { result < 8 }
 {
@@ -15,7 +15,7 @@ fn first_low(ids: &[u64]) -> u64
     }
 }
 
-/// The index of objects with these identifiers, without their three lowest bits, if those are the same in all of them.
+/// Returns the index of objects with the identifiers `ids` without their three lowest bits, if those are `low` in all.
 fn aligned_index<A: Allocator + Copy>(
     alloc: A,
     ids: &[u64],
@@ -35,7 +35,7 @@ fn aligned_index<A: Allocator + Copy>(
     Ok(Some(builder.finish(alloc)?))
 }
 
-/// The index of objects with these identifiers, with all their bits.
+/// Returns the index of objects with the identifiers `ids`, with all their bits.
 fn whole_index<A: Allocator + Copy>(alloc: A, ids: &[u64]) -> Result<IdIndex<A>, AllocError>
     requires few { length ids.now < 2 ^ 32 }
     ensures { IfOk result (λ index. index ≡ ids.now) }
@@ -47,8 +47,8 @@ fn whole_index<A: Allocator + Copy>(alloc: A, ids: &[u64]) -> Result<IdIndex<A>,
     builder.finish(alloc)
 }
 
-/// The index of objects with these identifiers: without their three lowest bits where those are the same in all of
-/// them, as in dumps whose objects stand at multiples of eight.
+/// Returns the index of objects with the identifiers `ids`: without their three lowest bits if those are the same in
+/// all, as in dumps whose objects are at multiples of eight.
 pub fn index_of<A: Allocator + Copy>(alloc: A, ids: &[u64]) -> Result<IdIndex<A>, AllocError>
     requires few { length ids.now < 2 ^ 32 }
     ensures { IfOk result (λ index. index ≡ ids.now) }

@@ -1,4 +1,4 @@
-//! An index by pairs of lists of identifiers, made as callers make it.
+//! Makes an index by pairs of a list of identifiers, as callers do.
 
 ghost use Rattle.std.specs.Prelude.{IfOk, IfSome, length, ◌<◌, ◌^◌, ◌≡◌};
 
@@ -94,8 +94,8 @@ const PAIRED: [(&[u64], bool); 14] = [
     ),
 ];
 
-/// Tests whether the index by pairs of `ids` that is made on `heap` is as a search one by one, is none unless pairs
-/// serve, or is out of memory after an allocation failed. `serves` tells whether they do.
+/// Tests whether the index by pairs of `ids` that is made on `heap` is as a search one by one if pairs serve, as
+/// `serves` says, and is none otherwise; or is out of memory after an allocation failed.
 fn is_right(heap: &LimitedHeap<Global>, ids: &[u64], serves: bool) -> bool {
     if ids.len() > 1000 {
         return false;
@@ -107,8 +107,7 @@ fn is_right(heap: &LimitedHeap<Global>, ids: &[u64], serves: bool) -> bool {
     }
 }
 
-/// Each request is refused in turn, and then the index is as a search one by one, or there is none if pairs do not
-/// serve.
+/// Each allocation fails in turn, and then the index is as a search one by one, or there is none if pairs do not serve.
 #[test]
 fn paired_as_one_by_one_or_out_of_memory(rt: HostRuntime) {
     for (ids, serves) in PAIRED {

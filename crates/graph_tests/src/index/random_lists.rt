@@ -8,7 +8,7 @@ use super::pairing::paired_index;
 use std::alloc::{AllocError, Global};
 use std::test::Fail;
 
-/// How many lists are tried.
+/// The number of lists that are tried.
 const LISTS: usize = 100_000;
 
 /// Where identifiers begin: at the least one, within a page, near a page's end, and near the greatest one.
@@ -21,7 +21,7 @@ struct Numbers {
 }
 
 impl Numbers {
-    /// A number below that one, which is at most 2^31.
+    /// Returns a number below `end`, which is at most 2^31.
     fn below(&mut self, end: u64) -> u64
         requires { 0 < end }
         ensures { result < end }
@@ -33,7 +33,7 @@ impl Numbers {
         (self.state >> 33) % end
     }
 
-    /// An identifier of the same kind as the others: the next one or one near by, or any of a few pages.
+    /// Returns an identifier like the others: the next after `last` or one near by, or any of a few pages.
     fn next_id(&mut self, last: u64, base: u64, step: u64) -> u64 {
         match self.below(4) {
             0 => return base.wrapping_add(self.below(200).wrapping_mul(step)),
@@ -41,7 +41,7 @@ impl Numbers {
         }
     }
 
-    /// Up to 40 identifiers, which agree in their three lowest bits or do not.
+    /// Returns up to 40 identifiers, which agree in their three lowest bits or do not.
     fn list(&mut self, alloc: Global) -> Result<Vec<u64>, AllocError> {
         let base = BASES[self.below(4) as usize];
         let step = match self.below(2) {
@@ -58,7 +58,7 @@ impl Numbers {
     }
 }
 
-/// Whether an index of these answers as a search one by one does.
+/// Tests whether an index of `ids` is as a search one by one.
 fn is_right(alloc: Global, ids: &[u64]) -> Result<bool, AllocError> {
     if ids.len() > 1000 {
         return Ok(false);
@@ -78,7 +78,7 @@ fn random_lists(rt: HostRuntime) -> Result<(), Fail> {
     Ok(())
 }
 
-/// How many lists of identifiers in no order are tried.
+/// The number of lists of identifiers in no order that are tried.
 const SCATTERED: usize = 2_000;
 
 impl Numbers {
