@@ -2,7 +2,7 @@
 use Rattle.std.specs.Prelude.{List, None, Option, Some, codes, decimal, if◌then◌else◌, ℕ, ◌++◌, ◌==◌}
 use Rattle.heapmark.specs.declared.refusal.Refusal.{Refusal}
 
--- the name of a code; 17 is withdrawn, and no run reports it
+-- the name of a code; 17 is withdrawn, and no run reports it; other numbers are codes of no refusal
 abbrev pub code_name : ℕ → List ℕ
 code_name code =
     if code == 1 then codes "BadHeader" else (
@@ -25,7 +25,8 @@ code_name code =
     if code == 18 then codes "WorkerRefused" else (
     if code == 19 then codes "ReadFault" else (
     if code == 20 then codes "WriteFault" else (
-    codes "BadOptions"))))))))))))))))))))
+    if code == 21 then codes "BadOptions" else (
+    codes "NoRefusal")))))))))))))))))))))
 
 -- the text of a code and a place: the code, its name, and the place if there is one
 abbrev pub text_of : ℕ → Option ℕ → List ℕ

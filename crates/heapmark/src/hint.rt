@@ -11,12 +11,14 @@ ghost use Rattle.heapmark.specs.working.Hint.{HasHint};
 ghost use Rattle.heapmark.specs.working.NoReport.{HasTooFewBuffers};
 
 use crate::refusal::Refusal;
+use crate::refusal::codes::{BAD_OPTIONS, OUT_OF_MEMORY, TAG_SPENT, WORKER_REFUSED};
 use crate::reopened::open_again;
 use crate::shown::Shown;
 use beginning::Beginning;
 use command_line::Arguments;
 use file_hint::FileHint;
 use hprof_grammar::LIMIT;
+use hprof_grammar::fault_codes::{BAD_HEADER, DUMP_ORDER, SUB_TRUNCATED, TOO_LARGE, TRUNCATED};
 use option_hint::{OptionHint, least_buffers};
 use records::record_end;
 use std::io::{Read, Write};
@@ -69,20 +71,20 @@ fn hint_of<'a, T: Files + AllocGlobal>(
     } = *arguments;
     let shown = Shown(file);
     match refusal.code {
-        1 => Some(Hint::File(shown, hint_of_beginning(rt, file))),
-        3 => Some(Hint::File(shown, FileHint::EndsEarly)),
-        6 if is_in_last_record(rt, file, refusal.offset, length) => {
+        BAD_HEADER => Some(Hint::File(shown, hint_of_beginning(rt, file))),
+        TRUNCATED => Some(Hint::File(shown, FileHint::EndsEarly)),
+        SUB_TRUNCATED if is_in_last_record(rt, file, refusal.offset, length) => {
             Some(Hint::File(shown, FileHint::EndsEarly))
         }
-        8 if is_at_end(refusal.offset, length) => Some(Hint::File(shown, FileHint::EndsEarly)),
-        14 => Some(Hint::File(shown, hint_of_excess(refusal.offset))),
-        15 => Some(Hint::File(shown, hint_of_memory(rt, file, workers))),
-        16 => Some(Hint::Option(OptionHint::FirstTag(first_tag))),
-        18 => Some(Hint::Option(OptionHint::Threads(workers))),
-        21 if u64::from(buffers) < least_buffers(workers) => {
+        DUMP_ORDER if is_at_end(refusal.offset, length) => Some(Hint::File(shown, FileHint::EndsEarly)),
+        TOO_LARGE => Some(Hint::File(shown, hint_of_excess(refusal.offset))),
+        OUT_OF_MEMORY => Some(Hint::File(shown, hint_of_memory(rt, file, workers))),
+        TAG_SPENT => Some(Hint::Option(OptionHint::FirstTag(first_tag))),
+        WORKER_REFUSED => Some(Hint::Option(OptionHint::Threads(workers))),
+        BAD_OPTIONS if u64::from(buffers) < least_buffers(workers) => {
             Some(Hint::Option(OptionHint::Buffers(buffers, workers)))
         }
-        21 => Some(Hint::Option(OptionHint::Fields)),
+        BAD_OPTIONS => Some(Hint::Option(OptionHint::Fields)),
         _ => None,
     }
 }

@@ -1,6 +1,6 @@
 //! Why a run has no report.
 
-mod codes;
+pub(crate) mod codes;
 mod from_parts;
 mod text;
 

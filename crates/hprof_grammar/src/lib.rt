@@ -20,7 +20,7 @@
 
 mod cuts;
 mod dump;
-mod fault_codes;
+pub mod fault_codes;
 mod flaw;
 mod frame;
 mod kinds;

@@ -127,6 +127,25 @@ fn is_met<A: Allocator>(
     Ok(false)
 }
 
+/// Returns for each of `entries` whether one of `classes`, those that the dump describes, declares its field.
+fn met_by<A: Allocator, B: Allocator>(
+    alloc: B,
+    entries: &[SkipEntry<'_>],
+    by_id: &NamesById<'_, '_, A>,
+    classes: &[DescribedClass<'_>],
+) -> Result<Vec<bool, B>, AllocError>
+    requires { (records : List Record) × AreNamesByIdOf by_id.now records }
+    ensures { IfOk result (λ met. (records : List Record) → AreNamesByIdOf by_id.now records
+        → classes.now ≡ map (described records) (class_dumps (heap_of records))
+        → met.items ≡ map (met_entries.is_met records) entries.now) }
+{
+    let mut met = Vec::new(alloc);
+    for entry in entries {
+        met.push(is_met(by_id, classes, entry)?)?;
+    }
+    Ok(met)
+}
+
 /// Returns for each of `entries` whether a class among the objects at `places` declares its field.
 fn met_among<B: Allocator + Copy>(
     alloc: B,
@@ -142,11 +161,7 @@ fn met_among<B: Allocator + Copy>(
 {
     let by_id = NamesById::new(alloc, names)?;
     let classes = described_classes(alloc, &names.view, &by_id, places)?;
-    let mut met = Vec::new(alloc);
-    for entry in entries {
-        met.push(is_met(&by_id, &classes, entry)?)?;
-    }
-    Ok(met)
+    met_by(alloc, entries, &by_id, &classes)
 }
 
 impl<'t, A: Allocator> Skip<'t, A> {

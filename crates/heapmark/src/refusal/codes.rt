@@ -2,43 +2,61 @@
 
 use super::Refusal;
 
+/// An allocation failed.
+pub(crate) const OUT_OF_MEMORY: u8 = 15;
+
+/// A stack's last tag was loaded before an exchange that needed one more.
+pub(crate) const TAG_SPENT: u8 = 16;
+
+/// A worker's thread could not be started.
+pub(crate) const WORKER_REFUSED: u8 = 18;
+
+/// The reader failed, or the file could not be opened.
+pub(crate) const READ_FAULT: u8 = 19;
+
+/// The writer failed.
+pub(crate) const WRITE_FAULT: u8 = 20;
+
+/// There are too few buffers for the workers, or the text of `--skip` lists no fields.
+pub(crate) const BAD_OPTIONS: u8 = 21;
+
 impl Refusal {
     ghost use Rattle.std.specs.Prelude.{◌≡◌};
     ghost use Rattle.heapmark.specs.RefusalText.{code_name};
 
     /// An allocation failed.
     pub const OUT_OF_MEMORY: Refusal = Refusal {
-        code: 15,
+        code: OUT_OF_MEMORY,
         offset: None,
     };
 
     /// A stack's last tag was loaded before an exchange that needed one more.
     pub const TAG_SPENT: Refusal = Refusal {
-        code: 16,
+        code: TAG_SPENT,
         offset: None,
     };
 
     /// A worker's thread could not be started.
     pub const WORKER_REFUSED: Refusal = Refusal {
-        code: 18,
+        code: WORKER_REFUSED,
         offset: None,
     };
 
     /// The reader failed, or the file could not be opened.
     pub const READ_FAULT: Refusal = Refusal {
-        code: 19,
+        code: READ_FAULT,
         offset: None,
     };
 
     /// The writer failed.
     pub const WRITE_FAULT: Refusal = Refusal {
-        code: 20,
+        code: WRITE_FAULT,
         offset: None,
     };
 
     /// There are too few buffers for the workers, or the text of `--skip` lists no fields.
     pub const BAD_OPTIONS: Refusal = Refusal {
-        code: 21,
+        code: BAD_OPTIONS,
         offset: None,
     };
 
@@ -61,13 +79,14 @@ impl Refusal {
             12 => "SuperChain",
             13 => "InstanceSize",
             14 => "TooLarge",
-            15 => "OutOfMemory",
-            16 => "TagSpent",
+            OUT_OF_MEMORY => "OutOfMemory",
+            TAG_SPENT => "TagSpent",
             17 => "NoBuffer",
-            18 => "WorkerRefused",
-            19 => "ReadFault",
-            20 => "WriteFault",
-            _ => "BadOptions",
+            WORKER_REFUSED => "WorkerRefused",
+            READ_FAULT => "ReadFault",
+            WRITE_FAULT => "WriteFault",
+            BAD_OPTIONS => "BadOptions",
+            _ => "NoRefusal",
         }
     }
 }

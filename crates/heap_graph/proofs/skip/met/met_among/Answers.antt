@@ -1,7 +1,13 @@
+<<<<<<< HEAD
 -- The names are those of the records whose classes are described. So an entry is met if one of these declares its
 -- field.
 use Rattle.heap_graph.proofs.Words.{List, SkipEntry, Some, ap, heap_of, is_met, map, slice_get-get_or, sym, take_all, ◌∙◌}
 use Rattle.heap_graph.proofs.MetLaws.{one_more_met}
+=======
+-- The names are those of the records whose classes are described, so an entry is met by one where a class declares it.
+use Rattle.heap_graph.proofs.Words.{AreNamesByIdOf, AreNamesOf, IfOk-weaker, List, Record, StandInTurn, Stands}
+use Rattle.heap_graph.proofs.Words.{class_dumps, described, heap_of, is_met, map, objects, ◌∙◌, ◌≡◌}
+>>>>>>> fd4fd329 (heap_graph: which entries are met is answered by a function that holds no index)
 use Rattle.heap_graph.proofs.skip.met.met_among.Goals as goal
 
 pub new-requires : goal.new-requires
@@ -13,22 +19,19 @@ described_classes-requires-clause-names g c = (c.requires.0, c.in_ok-by_id.ensur
 pub described_classes-requires-clause-stand : goal.described_classes-requires-clause-stand
 described_classes-requires-clause-stand g c = (heap_of c.requires.0, c.requires.2)
 
-pub is_met-requires : goal.is_met-requires
-is_met-requires g c = (c.requires.0, c.in_ok-by_id.ensures c.requires.0 c.requires.1)
-
-pub loop-entry-preserved : goal.loop-entry-preserved
-loop-entry-preserved g c = λ records names stand.
-    let entries = c.args.entries.now in
-    let entry : SkipEntry = c.entry-item.result in
-    let by_id = c.in_ok-by_id.ensures records names in
-    one_more_met records entries c.loop-entry.entry-index entry c.in_ok-is_met.field-0 c.deref.result.now
-    c.loop-entry.met.items c.push.new.self.items
-    (slice_get-get_or entries c.loop-entry.entry-index entry c.loop-entry-test.true ∙ ap (λ (e : SkipEntry). Some e) (sym c.entry-item.is))
-    (c.deref.ensures.value ∙ c.in_ok-classes.ensures records by_id stand) (c.in_ok-is_met.ensures records by_id)
-    c.in_ok-push.ensures.items (c.loop-entry.invariant records names stand)
+pub met_by-requires : goal.met_by-requires
+met_by-requires g c = (c.requires.0, c.in_ok-by_id.ensures c.requires.0 c.requires.1)
 
 pub returns : goal.returns
-returns g c = λ records names stand.
-    c.loop-entry.invariant records names stand
-    ∙ ap (λ (es : List SkipEntry). map (is_met records) es)
-    (take_all c.loop-entry.entry-index c.args.entries.now c.loop-entry-test.false)
+returns g c =
+    let entries = c.args.entries.now in IfOk-weaker c.met_by.result
+    (λ met. (records : List Record) → AreNamesByIdOf c.in_ok-by_id.by_id records
+    → c.deref.result.now ≡ map (described records) (class_dumps (heap_of records))
+    → met.items ≡ map (is_met records) entries)
+    (λ met. (records : List Record) → AreNamesOf c.args.names.now records
+    → StandInTurn (Stands c.args.names.now.view) c.args.places.now (objects (heap_of records))
+    → met.items ≡ map (is_met records) entries)
+    (λ met told records names stand.
+    let by_id = c.in_ok-by_id.ensures records names in
+    told records by_id (c.deref.ensures.value ∙ c.in_ok-classes.ensures records by_id stand))
+    c.met_by.ensures
