@@ -1,13 +1,6 @@
-<<<<<<< HEAD
--- The names are those of the records whose classes are described. So an entry is met if one of these declares its
--- field.
-use Rattle.heap_graph.proofs.Words.{List, SkipEntry, Some, ap, heap_of, is_met, map, slice_get-get_or, sym, take_all, ◌∙◌}
-use Rattle.heap_graph.proofs.MetLaws.{one_more_met}
-=======
 -- The names are those of the records whose classes are described, so an entry is met by one where a class declares it.
 use Rattle.heap_graph.proofs.Words.{AreNamesByIdOf, AreNamesOf, IfOk-weaker, List, Record, StandInTurn, Stands}
 use Rattle.heap_graph.proofs.Words.{class_dumps, described, heap_of, is_met, map, objects, ◌∙◌, ◌≡◌}
->>>>>>> fd4fd329 (heap_graph: which entries are met is answered by a function that holds no index)
 use Rattle.heap_graph.proofs.skip.met.met_among.Goals as goal
 
 pub new-requires : goal.new-requires
