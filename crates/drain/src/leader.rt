@@ -9,10 +9,10 @@ ghost use Rattle.drain.specs.working.Tallying.{HasTallied};
 
 use crate::gate::Gate;
 use crate::job::Job;
+use crate::joins::gather;
 use crate::marked::{Marked, RunFault};
 use crate::options::Options;
 use crate::prepared_leader::prepare_leader;
-use crate::joins::gather;
 use crate::start_hook::{StartHook, StartsAll};
 use crate::tallied_worker::TalliedWorker;
 use crate::walk::Walk;

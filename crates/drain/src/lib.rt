@@ -20,6 +20,7 @@
 mod gate;
 pub mod inside;
 mod job;
+mod joins;
 mod laws;
 mod leader;
 mod marked;
@@ -30,7 +31,6 @@ mod pause;
 mod prepared_leader;
 mod recently_seen;
 mod scanned_object;
-mod joins;
 mod start_hook;
 mod sum;
 mod supplies;

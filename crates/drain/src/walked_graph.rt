@@ -7,7 +7,7 @@ use crate::measured::Measured;
 use crate::scanned_object::ScannedObject;
 use crate::walk::{Reads, Walk};
 use buffer_pool::Edges;
-use heap_graph::{Graph, IdSource, Targets, RowKey, Visit};
+use heap_graph::{Graph, IdSource, RowKey, Targets, Visit};
 use std::alloc::Allocator;
 
 /// A graph of bytes that live for `'b`, with the roots and references that marking walks.

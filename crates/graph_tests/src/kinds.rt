@@ -1,7 +1,7 @@
 //! Visits by the kind of the object: where its identifiers stand, and that its class is known without a look-up.
 
 use crate::graphs::graph_of;
-use heap_graph::{ByKind, Graph, IdSource, Targets, RowKey, Skip, Visit};
+use heap_graph::{ByKind, Graph, IdSource, RowKey, Skip, Targets, Visit};
 use std::alloc::{AllocError, Allocator, Global};
 use std::test::Fail;
 use std::thread::Threads;

@@ -94,7 +94,10 @@ fn read_of(alloc: Global, entries: u32) -> Result<(usize, bool), SkipRefusal> {
         return Err(SkipRefusal::OutOfMemory);
     };
     let skip = Skip::new(alloc, &text)?;
-    Ok((skip.entries().len(), ends_with(&skip, b"Class63", b"field63")))
+    Ok((
+        skip.entries().len(),
+        ends_with(&skip, b"Class63", b"field63"),
+    ))
 }
 
 #[test]

@@ -12,8 +12,8 @@ ghost use Rattle.heap_graph.specs.Walks.{ids_in, unresolved_left, references_in,
 ghost use Rattle.heap_graph.specs.working.GraphOf.{GraphOf, GraphOf-prop};
 
 use crate::class_entry::ClassEntry;
-use crate::plan::Plan;
 use crate::objects::Objects;
+use crate::plan::Plan;
 use crate::row::{FIXED_ROWS, RowKey};
 use crate::skip::SkipEntry;
 use crate::successors::Successors;

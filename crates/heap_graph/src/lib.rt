@@ -19,28 +19,28 @@
 
 mod class_entry;
 mod classes;
-mod plan;
 mod graph;
 mod held;
 mod laws;
-mod targets;
 mod names;
 mod objects;
+mod plan;
 mod refusal;
 mod resolving;
 mod row;
 mod rule;
 mod skip;
 mod successors;
+mod targets;
 mod types;
 mod visit;
 
 pub use graph::Graph;
 pub use laws::{always_linked_or_fault, an_empty_list_skips_nothing, one_graph, one_skip_list};
-pub use targets::{IdSource, Targets, ElementTargets, FieldTargets, NoTargets};
 pub use refusal::{LinkFault, LinkRefusal};
 pub use row::RowKey;
 pub use rule::LinkRule;
 pub use skip::{Skip, SkipEntry, SkipRefusal};
 pub use successors::Successors;
+pub use targets::{ElementTargets, FieldTargets, IdSource, NoTargets, Targets};
 pub use visit::{ByKind, Visit};

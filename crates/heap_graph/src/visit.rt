@@ -3,8 +3,8 @@
 ghost use Rattle.heap_graph.specs.ByKind.{AreByKind};
 
 use crate::held::{HeldIds, Rest};
-use crate::targets::{Targets, ElementTargets, FieldTargets, HeldTargets, NoTargets, NoIds};
 use crate::row::RowKey;
+use crate::targets::{ElementTargets, FieldTargets, HeldTargets, NoIds, NoTargets, Targets};
 use id_index::IdIndex;
 use std::alloc::Allocator;
 use std::marker::Model;

@@ -76,7 +76,10 @@ fn hint_of<'a, T: Files + AllocGlobal>(
         SUB_TRUNCATED if is_in_last_record(rt, file, refusal.offset, length) => {
             Some(Hint::File(shown, FileHint::EndsEarly))
         }
-        DUMP_ORDER if is_at_end(refusal.offset, length) => Some(Hint::File(shown, FileHint::EndsEarly)),
+        DUMP_ORDER if is_at_end(refusal.offset, length) => Some(Hint::File(
+            shown,
+            FileHint::EndsEarly,
+        )),
         TOO_LARGE => Some(Hint::File(shown, hint_of_excess(refusal.offset))),
         OUT_OF_MEMORY => Some(Hint::File(shown, hint_of_memory(rt, file, workers))),
         TAG_SPENT => Some(Hint::Option(OptionHint::FirstTag(first_tag))),

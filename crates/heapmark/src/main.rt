@@ -37,7 +37,7 @@ pub use refusal::Refusal;
 #[cfg(test)]
 mod tests;
 
-use command::{program_at_terminal, refuse_bytes, print_refusal};
+use command::{print_refusal, program_at_terminal, refuse_bytes};
 use std::alloc::{AllocError, Global};
 use std::io::{ErrorKind, IsTerminal, Write};
 use std::process::ExitCode;

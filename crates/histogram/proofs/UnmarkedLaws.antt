@@ -165,4 +165,4 @@ module _ (g : ObjectGraph) where
   next_are_objects all rest some after left has is are =
       let together : has.0 ++ (some ++ after) ≡ all = ap (λ r. has.0 ++ r) (sym is) ∙ has.1 in
       before_are_objects some after (behind_are_objects has.0 (some ++ after) (subst (AreGraphObjects g) (sym together)
-          are))
+      are))

@@ -12,9 +12,9 @@ ghost use Rattle.heap_graph.specs.working.HeldIds.{AreLinkedOf};
 ghost use Rattle.heap_graph.specs.working.PlacedNames.{AreNamesByIdOf, AreNamesOf};
 
 use crate::class_entry::ClassEntry;
-use crate::plan::Plan;
 use crate::names::{Names, NamesById};
 use crate::objects::{Objects, read_ids};
+use crate::plan::Plan;
 use crate::resolving::resolve;
 use crate::skip::SkipEntry;
 use std::alloc::{AllocError, Allocator};

@@ -3,8 +3,8 @@
 ghost use Rattle.std.specs.Prelude.{drop, length, take, ◌<◌, ◌≡◌, ◌≤◌};
 ghost use Rattle.heap_graph.specs.working.FieldsUp.{Up, Up-prop};
 
-use crate::plan::Plan;
 use crate::objects::Objects;
+use crate::plan::Plan;
 use std::alloc::Allocator;
 use std::marker::Model;
 

@@ -7,9 +7,9 @@ ghost use Rattle.heap_graph.specs.Heap.{heap_of};
 ghost use Rattle.heap_graph.specs.Skips.{is_skipped};
 ghost use Rattle.heap_graph.specs.working.PlacedNames.{AreNamesByIdOf};
 
-use crate::plan::Plan;
 use crate::names::NamesById;
 use crate::objects::Objects;
+use crate::plan::Plan;
 use crate::resolving::target;
 use crate::skip::{ClassSkips, SkipEntry};
 use std::alloc::{AllocError, Allocator};

@@ -5,9 +5,9 @@ ghost use Rattle.hprof_grammar.specs.Standing.{Stands};
 ghost use Rattle.hprof_grammar.specs.SubRecord.{Class, Instance, Member, ObjectArray, SubRecord};
 ghost use Rattle.hprof_grammar.specs.SubRecord.SubRecord.{class_dump, instance_dump, object_array_dump};
 
-use crate::plan::Plan;
 use crate::held::{ClassIds, FieldIds, HeldIds, Rest};
 use crate::objects::Objects;
+use crate::plan::Plan;
 use std::alloc::Allocator;
 
 impl<'d, A: Allocator> Objects<'d, A> {

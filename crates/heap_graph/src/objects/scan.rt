@@ -3,10 +3,10 @@
 ghost use Rattle.std.specs.Prelude.{Bool, List, length, ◌<◌};
 ghost use Rattle.hprof_grammar.specs.SubRecord.{Class, Member, SubRecord};
 
-use crate::plan::Plan;
 use crate::held::{HeldIds, Rest};
 use crate::objects::Objects;
 use crate::objects::bytes::{array_bytes, class_bytes, primitive_bytes};
+use crate::plan::Plan;
 use crate::row::RowKey;
 use hprof_grammar::ObjectKind;
 use std::alloc::Allocator;

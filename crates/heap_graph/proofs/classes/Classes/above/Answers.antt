@@ -26,7 +26,7 @@ pub returns-in-None : goal.returns-in-None
 returns-in-None g c = λ heap super are under.
     let is : c.superclass-superclass.result ≡ super = read_super c.args.self.now.view heap c.args.self.now.table.entries
     c.args.number c.class_place.result super c.superclass-superclass.result are c.requires.below c.class_place.ensures
-        under
+    under
     c.superclass-superclass.ensures in (
       λ e. omega (arith, is, e),
       subst (λ (id : ℕ). class_named heap id ≡ None) is (not_found _ _ _ _ are (sym c.in-None.ensures)),

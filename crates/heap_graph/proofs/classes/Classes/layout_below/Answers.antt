@@ -10,20 +10,20 @@ overflow_add-bytes g c =
     let few : (entry_at c.args.self.now.table.entries c.args.number).size < 2 ^ 32 =
     few_bytes _ _ _ _ c.requires.heap.3 c.requires.below in
     let is = read_entry c.args.self.now.table.entries c.args.number c.class_place.result c.requires.below
-        c.class_place.ensures in
+    c.class_place.ensures in
     omega (arith, few, ap (λ (p : ClassPlace). p.size) is, c.requires.heap.5.size_is)
 
 pub returns : goal.returns
 returns g c = λ heap dump rest are at above.
     let s : ℕ = c.args.self.now.view.id_size in
     let is = read_entry c.args.self.now.table.entries c.args.number c.class_place.result c.requires.below
-        c.class_place.ensures in
+    c.class_place.ensures in
     let own : c.class_place.result.size ≡ size_together s dump.members =
     ap (λ (p : ClassPlace). p.size) is ∙ size_of_class _ _ _ _ _ are c.requires.below at.named in
     record {
       size_is =
           size_told c.class_place.result.size c.args.above.size (layout_size s rest) c.min.result above.size_is
-              c.min.ensures
+          c.min.ensures
           ∙ ap (λ (n : ℕ). min most_size (n + layout_size s rest)) own
           ∙ ap (λ (n : ℕ). min most_size n) (sym (size_more s dump rest));
       first_is = c.first_of.ensures heap dump rest are at above.first_is;

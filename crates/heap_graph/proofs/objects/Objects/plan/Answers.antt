@@ -28,7 +28,7 @@ push-requires-clause-few g c =
     let it =
     stands_at o.view c.requires.fates.0 o.classes.table.entries c.loop-number.number c.class_place-place.result
     c.requires.fates.1.classes (omega (arith, c.loop-number-test.true, c.len-count.ensures)) c.class_place-place.ensures
-        in
+    in
     let few : length it.0.members < 256 ^ 2 = (bounds it.1.is.formed).member_count in
     omega (arith, few, ap length (c.members.ensures it.0 it.1))
 
