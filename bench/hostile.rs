@@ -155,8 +155,8 @@ fn hash(id: u64) -> u64 {
     folded ^ folded >> 32
 }
 
-/// `count` classes whose hashes all lead to the first thousandth of the groups of such a map. A look-up begins there and
-/// tries one group after another.
+/// `count` classes whose hashes all lead to the first thousandth of the groups of such a map. A look-up begins there
+/// and tries one group after another.
 fn colliding_classes(file: File, count: u64) -> File {
     let groups = count.div_ceil(9).next_power_of_two();
     let first = (groups / 1024).max(1);
