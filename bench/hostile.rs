@@ -289,7 +289,7 @@ fn below_32_bits(_: File, count: u64) -> File {
     arrays(falling(count.div_ceil(64), count).chain([on_page(1 << 26, 0) - 8]))
 }
 
-/// Like `below_32_bits`, but the last object's number is 2^32.
+/// Like `below_32_bits`, but its ID, so divided and counted, is 2^32.
 fn above_32_bits(_: File, count: u64) -> File {
     arrays(falling(count.div_ceil(64), count).chain([on_page(1 << 26, 0)]))
 }
