@@ -1,6 +1,6 @@
-//! Dumps that are made to be slow to read: `hostile KIND COUNT > FILE`. Built by `rustc -O`; `hostile` alone tells the
-//! kinds, and `hostile skip` the list of fields that `named_fields` is to be read with. The kind `random_ids`, which it
-//! does not tell, is a dump for `dumps.sh`.
+//! Dumps that are made to be slow to read: `hostile KIND COUNT > FILE`. Built by `rustc --edition 2024 -O`. `hostile`
+//! without words prints the kinds. `hostile skip` prints the list of fields to skip when `named_fields` is read. The
+//! kind `random_ids`, which is not printed, is for `dumps.sh`.
 
 #[path = "plain/rows/file.rs"]
 #[allow(dead_code)]
@@ -52,28 +52,28 @@ const KINDS: [(&str, Build); 30] = [
     ("roots", roots),
 ];
 
-/// For `dumps.sh`: what it takes rests on the caches, and twice the size may well take more than twice the time.
+/// For `dumps.sh`: its time depends on the caches, so twice the size may take more than twice the time.
 const RANDOM_IDS: (&str, Build) = ("random_ids", random_ids);
 
 fn classes_in_a_chain(heap: File, count: u64) -> File {
     (1..count).fold(heap.class(CLASS, 0, &[]), |heap, above| heap.class(CLASS + above, CLASS + above - 1, &[]))
 }
 
-/// So many classes, each below the one before, and as many instances of the lowest.
+/// `count` classes, each the superclass of the next, and `count` instances of the lowest.
 fn chain(file: File, count: u64) -> File {
     let lowest = CLASS + count - 1;
     let instances = |heap| (0..count).fold(heap, |heap: File, number| heap.instance(OBJECT + number, lowest, &[]));
     file.heap(|heap| instances(classes_in_a_chain(heap, count)).root(OBJECT))
 }
 
-/// The same, but each class stands before its superclass.
+/// Like `chain`, but each class comes before its superclass.
 fn chain_upwards(file: File, count: u64) -> File {
     let classes = |heap| (1..count).fold(heap, |heap: File, above| heap.class(CLASS + above - 1, CLASS + above, &[]));
     let instances = |heap| (0..count).fold(heap, |heap: File, number| heap.instance(OBJECT + number, CLASS, &[]));
     file.heap(|heap| instances(classes(heap).class(CLASS + count - 1, 0, &[])).root(OBJECT))
 }
 
-/// So many classes in a circle, and as many below one of them.
+/// `count` classes whose superclasses form a circle, and `count` subclasses of one of them.
 fn cycle(file: File, count: u64) -> File {
     let top = CLASS + count - 1;
     let below = |heap| (0..count).fold(heap, |heap: File, number| heap.class(CLASS + count + number, CLASS, &[]));
@@ -84,8 +84,8 @@ fn cycle(file: File, count: u64) -> File {
     })
 }
 
-/// So many classes, each below the one before, of which the highest alone has a field, and as many instances of the
-/// lowest, each with a reference to the next.
+/// `count` classes, each the superclass of the next, and `count` instances of the lowest, each with a reference to the
+/// next. Only the highest class declares a field.
 fn instances_below(file: File, count: u64) -> File {
     let lowest = CLASS + count - 1;
     let next = |number: u64| ((OBJECT + number + 1) as u32).to_be_bytes();
@@ -97,7 +97,7 @@ fn instances_below(file: File, count: u64) -> File {
     })
 }
 
-/// A class with the most fields that there can be, so many classes below it, and an instance of one of them.
+/// A class with as many fields as possible, `count` subclasses of it, and an instance of one of these.
 fn inherited_fields(file: File, count: u64) -> File {
     let fields = [2; 65_535];
     let values: Vec<u8> = (0..fields.len()).flat_map(|_| (OBJECT as u32).to_be_bytes()).collect();
@@ -108,19 +108,20 @@ fn inherited_fields(file: File, count: u64) -> File {
     })
 }
 
-/// The name of a field of `named_fields`. All are of one length and differ late.
+/// The name of the field `number` of `named_fields`. All have one length and differ only in the last digits.
 fn field_name(number: u64) -> String {
     format!("a_field_with_a_name_that_is_told_late_{number:08}")
 }
 
-/// 64 fields of the classes of `named_fields` that they do not have.
+/// For `named_fields`, a list of 64 fields of class `C` that it does not declare; they differ from its own only in the
+/// last digits.
 fn skip_list() -> String {
     let entries: Vec<_> = (0..64).map(|number| format!("C.{}", field_name(99_999_936 + number))).collect();
     entries.join(",")
 }
 
-/// So many fields in all, each with a name of its own within its class, in classes of one name with as many fields as
-/// there can be, and an instance of the first.
+/// `count` fields in classes that are all called `C`, each class with as many fields as possible and no name twice in a
+/// class; and an instance of the first.
 fn named_fields(file: File, count: u64) -> File {
     const MOST: u64 = 65_535;
     let fields: Vec<u64> = (0..count).step_by(MOST as usize).map(|before| MOST.min(count - before)).collect();
@@ -130,7 +131,7 @@ fn named_fields(file: File, count: u64) -> File {
     let loaded = classes.clone().fold(strings, |file, class| file.load(class, 1));
     loaded.heap(|heap| {
         let all = classes.zip(&fields).fold(heap, |heap, (class, fields)| {
-            // as `File::class` puts it, but each field has its name
+            // as in `File::class`, but each field has a name of its own
             let head = heap.raw(&[0x20]).ids(&[class]).number(4, 0).ids(&[0; 6]).number(4, 0).number(4, 0);
             (0..*fields).fold(head.number(2, *fields), |heap, field| heap.ids(&[2 + field]).raw(&[2]))
         });
@@ -138,7 +139,7 @@ fn named_fields(file: File, count: u64) -> File {
     })
 }
 
-/// Classes with these IDs, and an instance of each.
+/// A class for each of `ids`, and an instance of each class.
 fn classes_with_instances(file: File, ids: &[u64]) -> File {
     file.heap(|heap| {
         let classes = ids.iter().fold(heap, |heap, id| heap.class(*id, 0, &[]));
@@ -147,14 +148,15 @@ fn classes_with_instances(file: File, ids: &[u64]) -> File {
     })
 }
 
-/// The hash of an ID in a map of the toolchain's `indexmap`, by its `FoldHasher`, whose seed is fixed.
+/// The hash of `id` in a map of the toolchain's `indexmap`, by a `FoldHasher` with its fixed seed.
 fn hash(id: u64) -> u64 {
     let product = u128::from(id ^ 0x243f_6a88_85a3_08d3) * u128::from(ODD ^ 16);
     let folded = product as u64 ^ (product >> 64) as u64;
     folded ^ folded >> 32
 }
 
-/// So many classes whose hashes all begin in the first thousandth of such a map, which looks on from there one by one.
+/// `count` classes whose hashes all lead to the first thousandth of the groups of such a map. A look-up begins there
+/// and tries one group after another.
 fn colliding_classes(file: File, count: u64) -> File {
     let groups = count.div_ceil(9).next_power_of_two();
     let first = (groups / 1024).max(1);
@@ -162,19 +164,19 @@ fn colliding_classes(file: File, count: u64) -> File {
     classes_with_instances(file, &ids.take(count as usize).collect::<Vec<_>>())
 }
 
-/// So many classes whose IDs follow one another when they are multiplied by the odd number by which heapmark spreads
-/// them, and one that is far away.
+/// `count` classes. `count - 1` of their IDs follow one another once they are multiplied by `ODD`, as heapmark does to
+/// spread them; one is far away.
 fn crowded_classes(_: File, count: u64) -> File {
     let spread = (1..count).chain([u64::MAX]);
     classes_with_instances(File::header(8), &spread.map(|number| number.wrapping_mul(INVERSE)).collect::<Vec<_>>())
 }
 
-/// So many objects of one ID.
+/// `count` objects with one ID.
 fn one_id(file: File, count: u64) -> File {
     file.heap(|heap| (0..count).fold(heap, |heap, _| heap.primitives(OBJECT, 8, 0, &[])))
 }
 
-/// So many arrays whose IDs follow one another, each with a reference to the next, and one ID that is far away.
+/// `count` arrays whose IDs follow one another, each with a reference to the next, and an object whose ID is far away.
 fn crowded_ids(file: File, count: u64) -> File {
     file.heap(|heap| {
         let far = heap.class(CLASS, 0, &[]).primitives(u64::from(u32::MAX), 8, 0, &[]);
@@ -183,8 +185,8 @@ fn crowded_ids(file: File, count: u64) -> File {
     })
 }
 
-/// The same with wide IDs: all of them but one are in one bucket of an index by their leading bits, however small the
-/// buckets are.
+/// Like `crowded_ids`, with IDs of eight bytes. In an index by leading bits all of them but one are in one bucket,
+/// however small the buckets are.
 fn one_bucket(_: File, count: u64) -> File {
     File::header(8).heap(|heap| {
         let far = heap.class(CLASS, 0, &[]).primitives(u64::MAX, 8, 0, &[]);
@@ -193,7 +195,7 @@ fn one_bucket(_: File, count: u64) -> File {
     })
 }
 
-/// So many arrays whose IDs fall.
+/// `count` arrays, each with a lower ID than the one before.
 fn falling_ids(file: File, count: u64) -> File {
     file.heap(|heap| {
         let class = heap.class(CLASS, 0, &[]);
@@ -201,19 +203,20 @@ fn falling_ids(file: File, count: u64) -> File {
     })
 }
 
-/// An ID on this page of 64 places that eight divides.
+/// The ID, a multiple of eight, of the place `place` of the page `page`. A page has 64 places.
 fn on_page(page: u64, place: u64) -> u64 {
     OBJECT + 512 * page + 8 * place
 }
 
-/// So many objects on one page, from its last place down to its first and so on again: no two are neighbours that rise.
+/// `count` objects on one page, again and again from its last place down to its first: no object's place is one above
+/// that of the object before.
 fn one_page(file: File, count: u64) -> File {
     let id = |number| on_page(0, 63 - number % 64);
     file.heap(|heap| (0..count).fold(heap, |heap, number| heap.primitives(id(number), 8, 0, &[])))
 }
 
-/// So many arrays on two pages in turn, up to the last place but one of both, and so on: no two neighbours are of one
-/// page. Each names the next, and the last place of its page, where none is.
+/// `count` arrays, alternately on two pages until 63 places of each are taken, then on the next two: no two that follow
+/// one another are on one page. Each refers to the next, and to the last place of its page, which no object has.
 fn in_turn(heap: File, count: u64) -> File {
     let page = |number: u64| number / 126 * 2 + number % 2;
     let id = |number: u64| on_page(page(number), number % 126 / 2);
@@ -227,12 +230,14 @@ fn alternating_pages(file: File, count: u64) -> File {
     file.heap(|heap| in_turn(heap, count))
 }
 
-/// The same, all in one bucket of an index by their leading bits, since one ID is far away.
+/// Like `alternating_pages`, with IDs of eight bytes, and with one ID far away. So in an index by leading bits all
+/// others are in one bucket.
 fn crowded_pages(_: File, count: u64) -> File {
     File::header(8).heap(|heap| in_turn(heap.primitives(u64::MAX - 7, 8, 0, &[]), count))
 }
 
-/// A class and arrays with wide IDs, of which the class has the first. Each array names the next one.
+/// A class with the first of `ids`, and an array with each of the others, all of eight bytes. Each array refers to the
+/// next one, and the last to the class.
 fn arrays(mut ids: impl Iterator<Item = u64>) -> File {
     let class = ids.next().unwrap_or(CLASS);
     let mut ids = ids.peekable();
@@ -245,33 +250,33 @@ fn arrays(mut ids: impl Iterator<Item = u64>) -> File {
     })
 }
 
-/// `count` IDs on `pages` pages, each on the page below the one before, and after the lowest on the highest. They fill
-/// the places of each page from the first on.
+/// `count` IDs on `pages` pages. Each is on the page below that of the ID before it, or on the highest page if that was
+/// the lowest. The places of each page are taken from the first on.
 fn falling(pages: u64, count: u64) -> impl Iterator<Item = u64> {
     (0..count).map(move |number| on_page(pages - 1 - number % pages, number / pages))
 }
 
-/// `count` objects that fill all places of their pages, no two neighbours on one page.
+/// `count` objects on as few pages as possible; no two that follow one another are on one page.
 fn falling_pages(_: File, count: u64) -> File {
     arrays(falling(count.div_ceil(64), count))
 }
 
-/// The same, and of one more object an ID that another one has.
+/// Like `falling_pages`, and one more object, with an ID that another has.
 fn one_repeat(_: File, count: u64) -> File {
     arrays(falling(count.div_ceil(64), count).chain([on_page(0, 7)]))
 }
 
-/// `count` objects on the fewest pages that are too many for pairs, less one: two objects on each.
+/// `count` objects, two on each page, on as many pages as pairs may span.
 fn sparse_pages(_: File, count: u64) -> File {
     arrays(falling(count / 2, count))
 }
 
-/// `count` objects on more pages than pairs may have.
+/// `count` objects on more pages than pairs may span.
 fn too_sparse_pages(_: File, count: u64) -> File {
     arrays(falling(count / 2 + 2, count))
 }
 
-/// A page with all bits set, and above it as many as pairs may have, each with its first place and its last.
+/// A full page, and above it `count / 2 - 1` pages with two objects each, at the first and last place.
 fn full_page(_: File, count: u64) -> File {
     let pages = count / 2;
     let alone = (1..pages).rev().map(|page| on_page(page, 0));
@@ -279,18 +284,18 @@ fn full_page(_: File, count: u64) -> File {
     arrays(alone.chain(again).chain((0..64).rev().map(|place| on_page(0, place))))
 }
 
-/// `count` objects on full pages, and one so far above the lowest that its place is the last one of 32 bits.
+/// `falling_pages` and one more object: its ID, divided by eight and counted from the lowest, is 2^32 - 1.
 fn below_32_bits(_: File, count: u64) -> File {
     arrays(falling(count.div_ceil(64), count).chain([on_page(1 << 26, 0) - 8]))
 }
 
-/// The same, but its place is the first one of 33 bits.
+/// Like `below_32_bits`, but its ID, so divided and counted, is 2^32.
 fn above_32_bits(_: File, count: u64) -> File {
     arrays(falling(count.div_ceil(64), count).chain([on_page(1 << 26, 0)]))
 }
 
-/// So many arrays on places that eight divides, each with a reference to the next, and behind them one object on an odd
-/// place.
+/// `count` arrays with IDs that are multiples of eight, each with a reference to the next, and after them an object
+/// with an odd ID.
 fn unaligned_last(file: File, count: u64) -> File {
     let id = |number: u64| OBJECT + 8 * number;
     file.heap(|heap| {
@@ -300,7 +305,7 @@ fn unaligned_last(file: File, count: u64) -> File {
     })
 }
 
-/// So many classes with a name each, and an instance each.
+/// `count` classes, each with a name of its own and an instance.
 fn names(file: File, count: u64) -> File {
     let strings = (0..count).fold(file, |file, number| file.string(number + 1, format!("C{number}").as_bytes()));
     let loaded = (0..count).fold(strings, |file, number| file.load(CLASS + number, number + 1));
@@ -312,15 +317,15 @@ fn names(file: File, count: u64) -> File {
     })
 }
 
-/// So many strings and loaded classes, of one ID each.
+/// `count` strings, all with one ID, and `count` loaded classes, all with another.
 fn one_name(file: File, count: u64) -> File {
     let strings = (0..count).fold(file, |file, _| file.string(1, b"A"));
     let loaded = (0..count).fold(strings, |file, _| file.load(CLASS, 1));
     loaded.heap(|heap| heap.class(CLASS, 0, &[]).instance(OBJECT, CLASS, &[]).root(OBJECT))
 }
 
-/// So many strings and loaded classes with wide IDs that follow one another, and one of each that is far away: each
-/// class has a name, and an instance.
+/// `count` strings and `count` loaded classes with IDs of eight bytes that follow one another, and one of each that is
+/// far away. Each loaded class has a name; each but the far one has a class dump and an instance.
 fn crowded_names(_: File, count: u64) -> File {
     let far = File::header(8).string(u64::MAX, b"far").load(u64::MAX, u64::MAX);
     let strings = (0..count).fold(far, |file, number| file.string(number + 1, format!("C{number}").as_bytes()));
@@ -332,7 +337,7 @@ fn crowded_names(_: File, count: u64) -> File {
     })
 }
 
-/// A list of so many instances.
+/// A list of `count` instances, each with a reference to the next.
 fn list(file: File, count: u64) -> File {
     file.heap(|heap| {
         let class = heap.class(CLASS, 0, &[2]);
@@ -342,13 +347,13 @@ fn list(file: File, count: u64) -> File {
     })
 }
 
-/// An array with so many elements: itself, null and an object that is not there, in turn.
+/// An array with `count` elements: in turn itself, null, and an object that is missing.
 fn elements(file: File, count: u64) -> File {
     let elements: Vec<u64> = (0..count).map(|number| [OBJECT, 0, OBJECT + 1][(number % 3) as usize]).collect();
     file.heap(|heap| heap.class(CLASS, 0, &[]).objects(OBJECT, CLASS, &elements).root(OBJECT))
 }
 
-/// So many instances, and an array that has each of them as an element.
+/// `count` instances, and an array that has each of them as an element.
 fn array_of_all(file: File, count: u64) -> File {
     let elements: Vec<u64> = (1..=count).map(|number| OBJECT + number).collect();
     file.heap(|heap| {
@@ -357,7 +362,7 @@ fn array_of_all(file: File, count: u64) -> File {
     })
 }
 
-/// So many roots, of one object and of one that is not there.
+/// `count` roots, alternately of an object and of one that is missing.
 fn roots(file: File, count: u64) -> File {
     file.heap(|heap| {
         let object = heap.class(CLASS, 0, &[]).instance(OBJECT, CLASS, &[]);
@@ -365,7 +370,7 @@ fn roots(file: File, count: u64) -> File {
     })
 }
 
-/// Another number below this power of two for each below it: each step can be undone.
+/// Permutes the numbers below `size`, a power of two: each step can be undone.
 fn shuffled(number: u64, size: u64) -> u64 {
     let step = |number: u64, _| {
         let product = number.wrapping_mul(ODD) % size;
@@ -374,8 +379,8 @@ fn shuffled(number: u64, size: u64) -> u64 {
     (0..3).fold(number, step)
 }
 
-/// So many instances, which refer to one another, on places that eight divides, 32 to 64 bytes for each, in no order:
-/// each names two others, by which all are reached, and a third at random.
+/// `count` instances with IDs in no order, multiples of eight from a range of 32 to 64 bytes an instance. Each refers
+/// to two others, by which all are reached, and to a third at random.
 fn random_ids(_: File, count: u64) -> File {
     let places = (4 * count).next_power_of_two();
     let id = |number: u64| if number < count { OBJECT + 8 * shuffled(number, places) } else { 0 };

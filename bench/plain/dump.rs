@@ -15,7 +15,7 @@ pub const LIMIT: usize = 1 << 30;
 const HEADER: usize = 31;
 const TEXT: &[u8; 19] = b"JAVA PROFILE 1.0.2\0";
 
-/// The bytes of a dump whose identifiers have `ID` bytes. Its readers ask that what they read is there.
+/// The bytes of a dump whose identifiers have `ID` bytes. Its readers panic if what they read is missing.
 #[derive(Clone, Copy)]
 pub struct Text<'a, const ID: usize> {
     pub bytes: &'a [u8],
@@ -37,7 +37,7 @@ impl<const ID: usize> Text<'_, ID> {
         }
     }
 
-    /// The size of a value of this type, where it is one.
+    /// The size of a value of the type `code`, if that is a type.
     pub fn size_of_type(&self, code: u8) -> Option<usize> {
         match code {
             2 => Some(ID),
@@ -50,7 +50,7 @@ impl<const ID: usize> Text<'_, ID> {
     }
 }
 
-/// Where the records of strings and loaded classes and the sub-records of roots and objects begin, in the file's order.
+/// Where the records of strings and loaded classes, and the sub-records of roots and objects, begin, in file order.
 #[derive(Default)]
 pub struct Dump {
     pub strings: Vec<u32>,
@@ -59,7 +59,7 @@ pub struct Dump {
     pub objects: Vec<u32>,
 }
 
-/// The size of identifiers, where the header is good.
+/// The size of identifiers, if the header is good.
 pub fn identifier_size(bytes: &[u8]) -> Result<usize, Fault> {
     if bytes.len() > LIMIT {
         return fault(14, LIMIT);
@@ -77,7 +77,7 @@ pub fn identifier_size(bytes: &[u8]) -> Result<usize, Fault> {
     }
 }
 
-/// How far the one snapshot of the file has come.
+/// How much of the file's one snapshot has been read.
 #[derive(Clone, Copy, PartialEq)]
 enum Snapshot {
     Missing,

@@ -10,7 +10,7 @@ use crate::tally::{Rows, Visit};
 
 const OBJECTS: usize = 16_777_216;
 
-/// What stands above a class, or how its chain of superclasses ends.
+/// How a class's chain of superclasses ends, if that is known.
 #[derive(Clone, Copy, PartialEq)]
 enum Chain {
     Unknown,
@@ -26,7 +26,7 @@ pub struct Class {
     superclass: Option<u32>,
     superclass_missing: bool,
     chain: Chain,
-    /// The sizes of its own fields and of all those above, together.
+    /// The sum of the sizes of its own fields and of those of all classes above.
     size: u64,
     own_size: u64,
     /// Its own fields of type 2 that are followed: places in `Graph::fields`.
@@ -71,7 +71,7 @@ impl<'a, const ID: usize> Graph<'a, ID> {
         self.index.find(id)
     }
 
-    /// Takes the class of each of these class dumps, but of one with ID 0 or with that of an earlier object.
+    /// Takes the class of each of these class dumps, except those with ID 0 or with the ID of an earlier object.
     fn take_classes(&mut self, dumps: &[u32], skip: &Skip) {
         let names = if skip.is_empty() { Names::default() } else { Names::of(self.text, &self.dump) };
         for object in dumps.iter().copied() {
@@ -97,8 +97,8 @@ impl<'a, const ID: usize> Graph<'a, ID> {
         }
     }
 
-    /// Notes the fields of type 2 of the class there but those that are skipped, and answers the size of all of its own
-    /// fields.
+    /// Notes the fields of type 2 of the class at `at`, except those that are skipped, and returns the size of all
+    /// fields that it declares.
     fn take_fields(&mut self, at: usize, skips: impl Fn(u64) -> bool) -> u64 {
         let mut place = self.text.values_of(at, |_, _, _| {});
         let mut size = 0;
@@ -125,7 +125,7 @@ impl<'a, const ID: usize> Graph<'a, ID> {
         }
     }
 
-    /// Follows superclasses as far as they are not settled, and settles those met from the top down.
+    /// Follows superclasses as long as they are not settled, and then settles the classes met, from the top down.
     fn settle(&mut self, first: usize, path: &mut Vec<usize>) {
         let mut next = Some(first);
         let mut chain = Chain::Whole;
@@ -194,7 +194,7 @@ impl<'a, const ID: usize> Graph<'a, ID> {
         (self.text.bytes[at] == 0x21 && wrong).then_some(13)
     }
 
-    /// The number of the class of the instance or object array there.
+    /// The number of the class of the instance or object array at `at`.
     fn class_of(&self, at: usize) -> u32 {
         self.class_numbers[&self.text.class_id(at)]
     }
@@ -203,8 +203,8 @@ impl<'a, const ID: usize> Graph<'a, ID> {
         Rows { classes: self.classes.len() as u32 }
     }
 
-    /// Gives each object that this one refers to, and answers what else its bytes tell. They are read this once, and
-    /// each of its IDs is looked up once.
+    /// Passes to `take` each object that `object` refers to, and returns what else its bytes say. They are read once,
+    /// and each ID in them is looked up once.
     pub fn visit(&self, object: u32, mut take: impl FnMut(u32)) -> Visit {
         let at = self.at(object);
         let mut unresolved = 0;
@@ -241,7 +241,7 @@ impl<'a, const ID: usize> Graph<'a, ID> {
         Visit { row, bytes: bytes as u32, unresolved }
     }
 
-    /// Gives each ID of the class there, and answers the bytes of its static values.
+    /// Passes to `take` each ID in the class at `at`, and returns the number of bytes of its static values.
     fn visit_class(&self, at: usize, mut take: impl FnMut(u64)) -> usize {
         (0..4).for_each(|place| take(self.text.id(at + 5 + ID + place * ID)));
         let mut bytes = 0;
@@ -268,7 +268,7 @@ impl<'a, const ID: usize> Graph<'a, ID> {
         }
     }
 
-    /// The objects that root sub-records name, and how many of the IDs name none.
+    /// The objects that root sub-records name, and how many of their IDs name no object.
     pub fn roots(&self) -> (Vec<u32>, u64) {
         let ids = self.dump.roots.iter().map(|at| self.text.id(*at as usize + 1)).filter(|id| *id != 0);
         let found: Vec<_> = ids.map(|id| self.find(id)).collect();
@@ -277,7 +277,7 @@ impl<'a, const ID: usize> Graph<'a, ID> {
     }
 }
 
-/// Which of a class's values one is.
+/// The kinds of values in a class dump.
 #[derive(Clone, Copy, PartialEq)]
 enum Value {
     Constant,
@@ -285,7 +285,7 @@ enum Value {
 }
 
 impl<const ID: usize> Text<'_, ID> {
-    /// The class ID of the instance or object array there.
+    /// The class ID of the instance or object array at `at`.
     fn class_id(&self, at: usize) -> u64 {
         match self.bytes[at] {
             0x21 => self.id(at + 5 + ID),
@@ -293,7 +293,8 @@ impl<const ID: usize> Text<'_, ID> {
         }
     }
 
-    /// The place and type of each constant and each static value of the class there; answers where its fields begin.
+    /// Passes to `take` each constant and static value of the class at `at`, with place and type. Returns where its
+    /// fields begin.
     fn values_of(&self, at: usize, mut take: impl FnMut(Value, usize, u8)) -> usize {
         let mut place = at + 9 + 7 * ID;
         for (value, name) in [(Value::Constant, 2), (Value::Static, ID)] {

@@ -1,5 +1,5 @@
-//! Look-ups of objects by ID: runs of neighbours in order, and a table of where they begin; or, for objects in no order,
-//! pairs of ID and number.
+//! Look-ups of objects by ID. There are runs of neighbours in order, with a table of where they begin; or, for objects
+//! in no order, pairs of ID and number.
 
 mod beginnings;
 mod pairs;
@@ -11,7 +11,8 @@ use beginnings::Beginnings;
 use pairs::Pairs;
 use runs::{PLACES, Run, gather, settle, sort};
 
-/// The lowest bits that all IDs have in common, and how many those are: pages are told without them.
+/// The lowest bits, which are the same in all IDs, and how many they are. They are cut off before an ID is split into
+/// page and place.
 #[derive(Clone, Copy)]
 pub struct LowBits {
     count: u32,
@@ -19,20 +20,20 @@ pub struct LowBits {
 }
 
 impl LowBits {
-    /// What to try in turn, if this is the first ID: three bits, since objects stand on places that eight divides; and
-    /// none, which all have in common.
+    /// The low bits to try in turn, given the first ID: its lowest three, since objects mostly stand eight bytes or a
+    /// multiple of that apart; then no bits, which fits any IDs.
     pub fn to_try(first: u64) -> [LowBits; 2] {
         [LowBits { count: 3, bits: first % 8 }, LowBits { count: 0, bits: 0 }]
     }
 
-    /// The page and the place on it, if the ID has these lowest bits.
+    /// The page of `id` and its place on the page, if it has these lowest bits.
     fn page_and_place(self, id: u64) -> Option<(u64, u32)> {
         let cut = id >> self.count;
         (id % (1 << self.count) == self.bits).then_some((cut / PLACES, (cut % PLACES) as u32))
     }
 }
 
-/// Objects by their IDs. Where an ID comes again, the first object has it.
+/// Objects by their IDs. If several objects have one ID, it names the first.
 pub struct Index {
     low: LowBits,
     /// In place of the runs, for objects in no order.
@@ -44,8 +45,8 @@ pub struct Index {
 }
 
 impl Index {
-    /// The index of `count` objects, if all of their IDs have these lowest bits. `id` reads the ID of a number, as often
-    /// as wanted; `ids` reads all of them in order, once at most.
+    /// The index of `count` objects, if all of their IDs have these lowest bits. `id` reads the ID of the object with a
+    /// number, as often as wanted; `ids` yields the IDs of all objects in order, and is read at most once.
     pub fn new(
         count: usize,
         id: impl Fn(usize) -> u64,
@@ -73,7 +74,7 @@ impl Index {
         of_page.find(|run| run.has(place)).map(|run| run.number_at(place))
     }
 
-    /// The least number of an object whose ID an earlier one bears.
+    /// The least number of an object whose ID an earlier object has.
     pub fn first_repeat(&self) -> Option<u32> {
         self.repeat
     }

@@ -4,10 +4,10 @@
 //!
 //! Written to be measured beside `heapmark`, and to agree with it to the byte. Without `--threads` one thread marks and
 //! no step is atomic; with `--atomic` one thread claims and finishes each object by an atomic step. Each object is
-//! visited once, for its references and to be counted: with `--references bytes` in the dump's bytes; else in a table
-//! that is made of them beforehand, in the phase `references`. `--count all` reports each object of the dump as if it
-//! were reachable. `--skip Class.field,..` passes over these fields. How long each phase took, what was read and the
-//! peak of memory go to standard error.
+//! visited once, to follow its references and to count it: in the dump's bytes with `--references bytes`, otherwise in
+//! a table that is made from the bytes beforehand, in the phase `references`. `--count all` reports each object of the
+//! dump as if it were reachable. `--skip Class.field,..` does not follow these fields. The time of each phase, what was
+//! read, and the peak of memory go to standard error.
 
 mod by_id;
 mod dump;
@@ -57,7 +57,7 @@ struct Options {
     all: bool,
 }
 
-/// Tells how long it took from one end of a phase to the next.
+/// Prints the time from the end of one phase to the end of the next.
 struct Clock(Instant);
 
 impl Clock {
@@ -67,7 +67,7 @@ impl Clock {
     }
 }
 
-/// The file, the options and the text of the list, if there is one.
+/// The file, the options, and the text of the list of fields, if it is given.
 fn arguments() -> Option<(String, Options, Option<String>)> {
     let mut options = Options { threads: None, atomic: false, table: true, all: false };
     let mut skip = None;
@@ -120,7 +120,7 @@ fn run<const ID: usize>(bytes: &[u8], skip: &Skip, options: Options, clock: &mut
     Ok(histogram(&graph, &table, &roots, unresolved + missing, options, clock))
 }
 
-/// Marks the objects of the graph, and reports on them; some IDs are known to name none.
+/// Marks the objects of the graph and returns the report. `unresolved` IDs are already known to name no object.
 fn histogram<const ID: usize>(
     graph: &Graph<ID>,
     heap: &impl Heap,

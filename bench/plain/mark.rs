@@ -12,7 +12,7 @@ pub trait Heap: Sync {
 
     fn rows(&self) -> Rows;
 
-    /// Gives each object that this one refers to.
+    /// Passes to `take` each object that `object` refers to.
     fn visit(&self, object: u32, take: impl FnMut(u32)) -> Visit;
 }
 
@@ -31,7 +31,7 @@ impl<const ID: usize> Heap for Graph<'_, ID> {
     }
 }
 
-/// Visited beforehand: a part of one flat list for each object, up to that of the next, and what its bytes told.
+/// What visits yielded beforehand: one flat list of references, and for each object where its own begin, row and bytes.
 pub struct Table {
     rows: Rows,
     entries: Vec<Entry>,
@@ -101,11 +101,11 @@ pub fn mark(heap: &impl Heap, roots: &[u32]) -> (Vec<bool>, Tally) {
 /// As many objects as there are marks of two bits in a word.
 const A_WORD: u32 = 32;
 
-/// So many objects that were met lately are known without a look at their marks.
+/// The number of recently met objects that are known without a look at their marks.
 const SEEN: usize = 4096;
 
-/// As `mark`, with the atomic steps of a worker beside which others may stand: one claims an object, one finishes it.
-/// A claim is spared of an object that was met lately.
+/// Like `mark`, with the atomic steps of a worker that is not the only one: one step claims an object, one finishes it.
+/// An object that was met recently is not claimed again.
 pub fn mark_atomically(heap: &impl Heap, roots: &[u32]) -> (Vec<bool>, Tally) {
     let words: Vec<_> = (0..heap.objects().div_ceil(A_WORD as usize)).map(|_| AtomicU64::new(0)).collect();
     let word = |object: u32| &words[(object / A_WORD) as usize];
@@ -130,7 +130,7 @@ pub fn mark_atomically(heap: &impl Heap, roots: &[u32]) -> (Vec<bool>, Tally) {
     (marks.collect(), tally)
 }
 
-/// Each object as if it were reachable.
+/// Marks each object, as if all were reachable.
 pub fn mark_all(heap: &impl Heap) -> (Vec<bool>, Tally) {
     let mut tally = Tally::new(heap.rows());
     (0..heap.objects() as u32).for_each(|object| tally.add(heap.visit(object, |_| {})));
@@ -162,11 +162,11 @@ struct Workers<'a, H> {
     threads: usize,
     waiting: Mutex<Waiting>,
     came: Condvar,
-    /// As `Waiting::hungry`, to be looked at without the lock.
+    /// The same number as `Waiting::hungry`, to be read without the lock.
     hungry: AtomicUsize,
 }
 
-/// As `mark`, by so many workers. Each has a tally of its own, of what it visits.
+/// Like `mark`, with `threads` workers. Each has a tally of its own, of what it visits.
 pub fn mark_with(threads: usize, heap: &impl Heap, roots: &[u32]) -> (Vec<bool>, Tally) {
     let marks: Vec<_> = (0..heap.objects()).map(|_| AtomicU8::new(0)).collect();
     let waiting = Mutex::new(Waiting { chunks: vec![], hungry: 0 });
@@ -204,7 +204,7 @@ impl<H: Heap> Workers<'_, H> {
         tally
     }
 
-    /// Gives the oldest half of a stack away, in chunks.
+    /// Gives away the oldest half of `stack`, in chunks.
     fn share(&self, stack: &mut Vec<u32>) {
         let oldest: Vec<u32> = stack.drain(..stack.len() / 2).collect();
         let mut waiting = self.waiting.lock().unwrap();
@@ -212,7 +212,7 @@ impl<H: Heap> Workers<'_, H> {
         self.came.notify_all();
     }
 
-    /// A chunk, waited for while another worker may still share one; None where all work is done.
+    /// Waits for a chunk as long as another worker may still share one, and returns it; None if all work is done.
     fn next_chunk(&self) -> Option<Vec<u32>> {
         let mut waiting = self.waiting.lock().unwrap();
         waiting.hungry += 1;

@@ -16,7 +16,7 @@ impl Objects {
         objects.expect("the last way to try does for all")
     }
 
-    /// If all their IDs have these lowest bits.
+    /// The objects of `dump`, if all their IDs have the lowest bits `low`.
     fn with<const ID: usize>(text: Text<ID>, dump: &Dump, low: LowBits) -> Option<Objects> {
         let mut classes = vec![];
         let id = |number: usize| text.id(dump.objects[number] as usize + 1);

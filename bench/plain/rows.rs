@@ -1,4 +1,5 @@
-//! Small files with the report or the refusal that each has to give, with every way to mark.
+//! Small files with the report or the refusal that each has to give: by the table and by the bytes, without `--threads`
+//! and with 1, 2 and 64. No test marks with `--atomic`.
 
 mod file;
 
@@ -14,7 +15,7 @@ fn id(value: u32) -> [u8; 4] {
     value.to_be_bytes()
 }
 
-/// What a report or a refusal comes to in one line: `2 8 A, 1 0 <class>, R 3 8, U 0 0, X 0` or `8 at 31`.
+/// A report or a refusal in one line: `2 8 A, 1 0 <class>, R 3 8, U 0 0, X 0` or `8 at 31`.
 fn short(file: &File, skip: &Skip, options: Options) -> String {
     let text = match marked(&file.bytes, skip, options, &mut Clock(Instant::now())) {
         Ok(text) => text,

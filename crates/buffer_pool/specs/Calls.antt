@@ -1,4 +1,5 @@
--- The effect of each call of a pool on the book of the worker that makes it.
+-- What a pop, a push and a look at a head do to the book of the worker that makes the call, and what a load of the idle
+-- word shows. For the other calls see Book.antt.
 use Rattle.std.specs.Prelude.{◌≡◌, ◌↔◌, ℕ, ◌<◌, List, [], ◌∷◌, Option, Some, None, Result, Ok, Err, Contains, IsTrue}
 use Rattle.std.specs.Prelude.{Bool}
 use Rattle.atomic_table.specs.Seated.{TableId}
@@ -35,10 +36,14 @@ abbrev pub After : Book → List (Book → Book) → Book → Type 0
 After old [] new = new ≡ old
 After old (step ∷ steps) new = After (step old) steps new
 
--- one try of a pop. Its loads found some head and some link. Here these are any values, which the account keeps as its
--- look; the worker's story says that the stack had them then (LeadsToBook). Took: the head has the buffer, its link was
--- loaded, and the exchange succeeded; a buffer of the empty stack has no items. Empty: the head has no buffer. Lost:
--- the exchange failed. Spent: the head has a buffer and the last tag.
+-- one try of a pop. Its loads found some head and some link. This definition allows any values, and the account keeps
+-- them as its look. That the stack had them at the loads follows from the worker's story (`LeadsToBook` in
+-- WorkerLog.antt).
+-- - Took: the head names the buffer, whose link was loaded, and the exchange succeeded. A buffer of the empty stack has
+--   no items.
+-- - Empty: the head names no buffer.
+-- - Lost: the exchange failed.
+-- - Spent: the head names a buffer, and has the last tag.
 abbrev pub TriesPop : Which → Book → Book → TryPopped HeldBuffer → Type 0
 TriesPop q old new (try_pop.Took h) =
     (head : Head) × (link : Option ℕ) × (head.index ≡ Some h.index) × (head.tag < last_tag) × (h.size ≡ old.setup.size)
@@ -50,8 +55,8 @@ TriesPop q old new try_pop.Lost =
 TriesPop q old new try_pop.Spent =
     (head : Head) × (i : ℕ) × (head.index ≡ Some i) × (head.tag ≡ last_tag) × After old (loaded q head ∷ []) new
 
--- the worker holds the buffer, which is one of the pool's, and its items are part of the charge. For the empty stack it
--- has no items, and for the full one the worker is not idle
+-- the worker holds the buffer, which is of the pool's size, and the buffer's items are part of the worker's charge. A
+-- buffer for the empty stack has no items. For the full stack the worker is busy
 pub record MayPush (q : Which) (h : HeldBuffer) (b : Book) : Type 0 where
   pub held : Contains b.account.held h.index
   pub size : h.size ≡ b.setup.size
@@ -59,9 +64,9 @@ pub record MayPush (q : Which) (h : HeldBuffer) (b : Book) : Type 0 where
   pub bare : q ≡ Empty → h.items ≡ []
   pub busy : q ≡ Full → IsBusy b.account
 
--- one try of a push. Its load found some head, here too any value. The link that it stores at the buffer is in no book.
--- Done: the exchange succeeded. Lost: it failed. Spent: the head has the last tag. If it was not done the buffer is
--- returned.
+-- one try of a push. Its load found some head, which may be any, as in `TriesPop`. The link that the try stores at the
+-- buffer is in no book. Done: the exchange succeeded. Lost: the exchange failed. Spent: the head has the last tag. A
+-- buffer that was not pushed is returned.
 abbrev pub TriesPush : Which → HeldBuffer → Book → Book → TryPushed HeldBuffer → Type 0
 TriesPush q h old new try_push.Done =
     (head : Head) × (head.tag < last_tag) × After old (loaded q head ∷ pushed q h.index h.items ∷ []) new
@@ -81,7 +86,7 @@ last_try (pop.Took h) = try_pop.Took h
 last_try pop.Empty = try_pop.Empty
 last_try pop.Spent = try_pop.Spent
 
--- a pop: tries until one is not lost
+-- a pop: tries that were all lost, and one more, which ended as `result`
 abbrev pub Pops : Which → Book → Book → Popped HeldBuffer → Type 0
 Pops q old new result = (mid : Book) × LostPops q old mid × TriesPop q mid new (last_try result)
 
@@ -96,16 +101,17 @@ abbrev pub ended : {U : Type 0} → Result U HeldBuffer → TryPushed HeldBuffer
 ended (Ok done) = try_push.Done
 ended (Err back) = try_push.Spent back
 
--- a push: tries until one is not lost, and the end of that one
+-- a push: tries that were all lost, and one more, which ended as `last`
 abbrev pub Pushes : Which → HeldBuffer → Book → Book → TryPushed HeldBuffer → Type 0
 Pushes q h old new last = (mid : Book) × LostPushes q h old mid × TriesPush q h mid new last
 
--- one load of the head gave the answer
+-- one load of the head; `answer` is true exactly if it found no buffer
 pub record Sees (q : Which) (old new : Book) (answer : Bool) : Type 0 where
   pub head : Head
   pub book : new ≡ loaded q head old
   pub none : IsTrue answer ↔ (head.index ≡ None)
 
--- the events lead from the opening to a marking with the idle word n; if that marking is quiet, it is done
+-- the events lead from the opening to a marking with the idle word `word`. `QuietIsDone` says what follows if that
+-- marking is quiet
 abbrev pub Shows : Setup → List Event → ℕ → Type 0
 Shows e events word = (m : Marking) × (counts : List Counts) × LeadTo e events m counts × (m.idle ≡ word)

@@ -16,7 +16,7 @@
 //!     let worker = pool.join(worker, other);
 //!     let marks = pool.close(worker);
 //!
-//! The crate's README.md has a table of the calls. `docs/MARKING.md` says what the words mean.
+//! The crate's README.md has a list of the calls. `docs/MARKING.md` says what the words mean.
 #![tactic(auto)]
 
 mod answers;

@@ -24,7 +24,7 @@ use std::alloc::Allocator;
 use std::sync::Wait;
 use std::thread::Threads;
 
-/// Claims the roots, gives them to the workers and runs these. After all workers have ended it scans the remaining
+/// Claims the roots, gives them to the workers and runs the workers. After all of these have ended, scans the remaining
 /// objects, and then joins the workers.
 pub fn lead<T, A, V, G, S>(
     rt: &T,
@@ -56,9 +56,9 @@ where
 ///
 /// `Err(RunFault::OutOfMemory)` if an allocation fails: before any thread is started, or for the spill list of a worker
 /// or the leader. `Err(RunFault::TagSpent)` if a stack's last tag is loaded when an exchange is due. If several workers
-/// stop with one of these two, the fault of the one with the least number is returned; the leader's comes last.
-/// `Err(RunFault::WorkerRefused)` if a thread cannot be started. All threads that it started have ended when it
-/// returns.
+/// stop with one of these two, the fault of the one with the least number is returned; a fault of the leader's own
+/// drain is returned only if no worker stopped. `Err(RunFault::WorkerRefused)` if a thread cannot be started. When
+/// `mark` returns, all threads that it started have ended.
 pub fn mark<T, A, B, G>(
     rt: &T,
     alloc: A,

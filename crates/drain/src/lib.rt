@@ -12,7 +12,7 @@
 //!     let told = told(&marked);
 //!     Ok((left, told, heap.refusals()))
 //!
-//! README.md beside this folder has a table of the calls, and says where to read on; `docs/MARKING.md` defines the
+//! README.md beside this folder has a list of the calls, and says where to read on; `docs/MARKING.md` defines the
 //! words.
 
 #![tactic(auto)]

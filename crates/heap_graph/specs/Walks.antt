@@ -8,7 +8,7 @@ use Rattle.heap_graph.specs.declared.row.RowKey.{RowKey}
 abbrev pub target_in : List ℕ → ℕ → Option ℕ
 target_in all id = if id == 0 then None else position (λ x. x == id) all
 
--- an identifier other than 0 that names none of them
+-- an identifier other than 0 that is not in `all`
 abbrev pub is_unresolved_in : List ℕ → ℕ → Bool
 is_unresolved_in all id = if id == 0 then false else is_none (position (λ x. x == id) all)
 
@@ -21,7 +21,7 @@ pub record Step : Type 0 where
 abbrev pub step_in : List ℕ → ℕ → Step
 step_in all id = record { id = id; names = target_in all id }
 
--- the identifiers of the remaining steps, and the objects that they name
+-- the identifiers of some steps, and the objects that these name
 abbrev pub ids_in : List Step → List ℕ
 ids_in steps = map (λ s. s.id) steps
 
@@ -35,15 +35,15 @@ GoesPast old None new = (references_in old ≡ []) × (new ≡ [])
 GoesPast old (Some o) new = (passed : List Step) × (id : ℕ) × (references_in passed ≡ [])
     × (old ≡ passed ++ record { id = id; names = Some o } ∷ new)
 
--- the number of remaining steps that have an identifier other than 0 and name no object
+-- a step with an identifier other than 0 that names no object; and how many of the remaining steps are such
 abbrev pub is_unresolved_step : Step → Bool
 is_unresolved_step s = if s.id == 0 then false else is_none s.names
 
 abbrev pub unresolved_left : List Step → ℕ
 unresolved_left steps = count_by is_unresolved_step steps
 
--- A visit of an object: its row and its bytes, the remaining steps, and the number of those passed that have an
--- identifier other than 0 and name no object.
+-- A visit of an object: its row, its bytes, the steps that remain, and how many of the steps already passed have an
+-- identifier other than 0 that names no object.
 pub record Visited : Type 0 where
   pub row : RowKey
   pub bytes : ℕ

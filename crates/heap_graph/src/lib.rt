@@ -13,7 +13,7 @@
 //!     };
 //!     Graph::build(&team, alloc, bytes, dump, skip).ok()
 //!
-//! README.md beside this folder has a table of the calls. The definitions begin in `specs/ObjectGraph.antt`.
+//! README.md beside this folder has a list of the calls. The definitions begin in `specs/ObjectGraph.antt`.
 //! `docs/FORMAT.md` says what is accepted and what is refused.
 #![tactic(auto)]
 

@@ -30,7 +30,7 @@ pub data Kind : Type 0 where
   Pop : Which → Kind
   -- exchange the head of a stack for a buffer with items
   Push : Which → ℕ → List ℕ → Kind
-  -- fail to exchange the head of a stack, which is another one now
+  -- fail to exchange the head of a stack, which is no longer the one that was loaded
   Fail : Which → Kind
   -- go idle: add one to the idle word
   IdleUp : Kind
@@ -68,22 +68,22 @@ CanExchange now look = (look.head ≡ Some now) × (now.tag < last_tag)
 abbrev pub CanPop : Head → Look → Type 0
 CanPop now look = CanExchange now look × ((i : ℕ) × (now.index ≡ Some i)) × ((l : Option ℕ) × (look.link ≡ Some l))
 
--- an account may push a buffer that it holds with items of its charge, at most as many as a buffer takes, and none on
+-- an account may push a buffer that it holds, with items of its charge: at most as many as a buffer takes, and none on
 -- the empty stack
 abbrev pub CanGive : Setup → Which → ℕ → List ℕ → Account → Type 0
 CanGive e q i items a = Contains a.held i × IsPart items a.charge × (length items ≤ e.size) × (q ≡ Empty → items ≡ [])
 
--- an account of one unit that is not idle and has nothing in its charge may go idle once it found the full stack empty,
--- since it was split off and since its own last push there
+-- an account may go idle if it has one unit, idle number 0 and no object in its charge, and has found the full stack
+-- empty after it was split off and after its own last push there
 abbrev pub CanIdle : Account → Type 0
 CanIdle a = (a.share ≡ 1) × (a.idle ≡ 0) × (a.charge ≡ []) × (a.found ≡ true)
 
--- an idle account of one unit may come back
+-- an account may come back if it has one unit and idle number 1
 abbrev pub CanWake : Account → Type 0
 CanWake a = (a.share ≡ 1) × (a.idle ≡ 1)
 
--- the account w, which is a, may take this step. An idle account claims nothing, pops nothing, and pushes nothing on
--- full
+-- the account `a`, which has the number `w`, may take this step. An idle account claims nothing, pops nothing, and
+-- pushes nothing on the full stack
 abbrev pub Allows : Setup → Marking → ℕ → Account → Kind → Type 0
 Allows e m w a (Claim o) = CanClaim e o a × IsBusy a
 Allows e m w a (Finish o) = CanFinish e o a
@@ -100,14 +100,14 @@ Allows e m w a IdleUp = CanIdle a
 Allows e m w a IdleDown = CanWake a
 Allows e m w a LoadIdle = Unit {0}
 
--- a word plus one and minus one, which wrap
+-- a word plus one, and a word minus one: both wrap
 abbrev pub word_up : ℕ → ℕ
 word_up n = (n + 1) % 2 ^ 64
 
 abbrev pub word_down : ℕ → ℕ
 word_down n = (n + (2 ^ 64 - 1)) % 2 ^ 64
 
--- the link that a head leads to
+-- the link of the buffer with this index; none if there is no index
 abbrev pub link_from : (ℕ → Option ℕ) → Option ℕ → Option ℕ
 link_from link None = None
 link_from link (Some i) = link i
@@ -117,7 +117,7 @@ abbrev pub last_link : (ℕ → Option ℕ) → Option Head → Option ℕ
 last_link link None = None
 last_link link (Some h) = link_from link h.index
 
--- the first buffer i of a stack, whose link was loaded as l, goes to the account
+-- the account pops the buffer `i`, the first of a stack, whose link was loaded as `l`
 abbrev pub stack_popped : Marking → ℕ → Account → Which → Option ℕ → Option (Option ℕ) → Marking
 stack_popped m w a q (Some i) (Some l) =
     record m {
@@ -128,7 +128,7 @@ stack_popped m w a q (Some i) (Some l) =
 stack_popped m w a q None l = m
 stack_popped m w a q (Some i) None = m
 
--- the marking after a step of the account w, which is a
+-- the marking after a step of the account `a`, which has the number `w`
 abbrev pub effect : Marking → ℕ → Account → Kind → Marking
 effect m w a (Claim o) =
     record m { mark = put o (max (m.mark o) 1) m.mark; accounts = slice_set m.accounts w (after_claim o (m.mark o) a) }

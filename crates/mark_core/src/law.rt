@@ -12,7 +12,7 @@ ghost use Rattle.mark_core.specs.Quiet.{QuietIsDone};
 ///
 /// From every opening on, each buffer is on one of the two stacks or held by one account, the mark of each object says
 /// where the object is, and the shares add up to the whole (`law`). Each possible event keeps that (`events`). The
-/// other clauses are what follows from it: `docs/MARKING.md` has a row for each, under "The law".
+/// other clauses are what follows from it: `docs/MARKING.md` has a line for each, under "The law".
 pub fn all_runs_keep_law()
     ensures law { RunsKeepLaw }
     ensures events { EventsKeepLaw }

@@ -15,12 +15,12 @@ mod spill_list;
 use spill_list::SpillList;
 
 /// Two buffers of a worker. Objects are put into and got from the first, which exchanges places with the second if it
-/// cannot serve. Full buffers go to the pool's full stack and come from there, empty ones go to and come from the empty
-/// stack. An object for which there is no empty buffer goes to the pair's spill list, which takes 4 bytes an object and
-/// doubles when it is full.
+/// cannot serve. Buffers with items go to the pool's full stack and come from there; the others go to its empty stack
+/// and come from that. An object for which no empty buffer is found goes to the pair's spill list, which takes 4 bytes
+/// an object, and doubles when it has no room.
 ///
-/// A call that returns [`Stop::TagSpent`] stops the pair: it holds each buffer that it had or took and did not push,
-/// and can only be disposed of. After [`Stop::OutOfMemory`] the pair stays usable.
+/// A call that returns [`Stop::TagSpent`] stops the pair. Then the pair holds each buffer that it had or took and did
+/// not push, and can only be disposed of. After [`Stop::OutOfMemory`] the pair stays usable.
 #[derive(Drop)]
 pub struct Pair<A: Allocator> {
     buffers: Buffers<A>,
@@ -28,7 +28,7 @@ pub struct Pair<A: Allocator> {
     spill: SpillList<A>,
     /// A call returned `TagSpent`. Only contracts read it.
     stopped: bool,
-    /// A call returned `OutOfMemory`. Only contracts read it.
+    /// A call returned `OutOfMemory`. No branch depends on it: `dispose` copies it, and contracts read it.
     starved: bool,
 }
 
@@ -85,8 +85,8 @@ impl<A: Allocator> Pair<A> {
     }
 
     /// Opens a pair of two empty buffers, which are popped from the empty stack. Returns `None` if there are not two;
-    /// then the pair keeps none. If a last tag was loaded, the popped buffers stay with the worker. The spill list will
-    /// allocate from `alloc`, and has not yet.
+    /// one that was popped is then pushed back. If a last tag was loaded, the popped buffers stay among those that the
+    /// worker's account holds, and nobody can push them. The spill list will allocate from `alloc`, and has not yet.
     pub fn open<R: Wait>(
         rt: &R,
         alloc: A,
@@ -116,11 +116,11 @@ impl<A: Allocator> Pair<A> {
         Ok(None)
     }
 
-    /// Puts `object` into the pair: into one of its buffers if that has room, without a step on the stacks, or else
-    /// into an empty buffer, or else on the spill list. Returns the object if a last tag was loaded, or if the list
-    /// could not grow.
-    // For each white object, which nearly always goes into the first buffer. So that much is inlined, and is no call
-    // that may wait, after which a byte is tested.
+    /// Puts `object` into the pair: into one of its buffers if one has room, without a step on the stacks; or else into
+    /// an empty buffer that it pops; or else on the spill list. Returns the object if a last tag was loaded, or if the
+    /// list could not grow.
+    // Called for each white object, which nearly always goes into the first buffer. So the put into the first buffer is
+    // inlined: the toolchain tests a byte after each call that may wait, and this is no call.
     #[inline]
     pub fn put<R: Wait>(
         &mut self,
@@ -160,8 +160,9 @@ impl<A: Allocator> Pair<A> {
     }
 
     /// Gets the last object of the spill list, or else one from the buffers, or else one from a buffer of the full
-    /// stack. Returns `None` if the pair has none left and that stack was seen empty.
-    // For each object, which nearly always comes from the first buffer. So that much is inlined, as in `put`.
+    /// stack. Returns `None` if the pair has none left and the full stack was seen empty.
+    // Called for each object, which nearly always comes from the first buffer. So the get from the first buffer is
+    // inlined, for the same reason as in `put`.
     #[inline]
     pub fn get<R: Wait>(
         &mut self,
@@ -206,8 +207,9 @@ impl<A: Allocator> Pair<A> {
         }
     }
 
-    /// Gives work to others: pushes the second buffer on full if it has items, or else the lower part of the first if
-    /// it has more than four. Does nothing if neither is so, or if no empty buffer was found. The spill list stays.
+    /// Gives work to others: pushes on the full stack the second buffer if it has items, or else the lower part of the
+    /// first buffer if that has more than four. Does nothing if neither is so, or if no empty buffer was found. The
+    /// spill list stays.
     pub fn balance<R: Wait>(
         &mut self,
         rt: &R,
@@ -235,8 +237,8 @@ impl<A: Allocator> Pair<A> {
         }
     }
 
-    /// Gives the work of its buffers to others: pushes each that has items on full. A buffer stays if no empty one was
-    /// found for it. The spill list stays.
+    /// Gives the work of the pair's buffers to others: pushes on the full stack each that has items. A buffer stays if
+    /// no empty one was found to take its place. The spill list stays.
     pub fn publish<R: Wait>(
         &mut self,
         rt: &R,

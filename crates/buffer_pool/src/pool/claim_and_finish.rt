@@ -17,8 +17,8 @@ use crate::worker::Worker;
 use std::alloc::Allocator;
 
 /// Raises the mark of `object` to claimed if it is lower, and returns whether it was white.
-// It writes also if the object was marked: a load before the step has no operand, so its play could not know which of
-// the 32 objects is meant.
+// It writes even if the object is already marked. A load first would not do: a load has no operand, so its play could
+// not know which of the word's 32 objects is meant.
 fn raise_to_claimed<A: Allocator>(
     words: &Words<A>,
     seat: &mut Token<A>,
@@ -63,8 +63,8 @@ fn raise_to_finished<A: Allocator>(words: &Words<A>, seat: &mut Token<A>, buffer
 }
 
 impl<A: Allocator> Pool<A> {
-    /// Claims `object` and returns whether it was white. If it was, it joins the worker's charge. One atomic step that
-    /// waits for nobody.
+    /// Claims `object` and returns whether it was white. A white object joins the worker's charge. This is one atomic
+    /// step, which waits for nobody.
     pub fn claim(&self, worker: &mut Worker<A>, object: u32) -> bool
         requires pool { worker.old.pool ≡ self.now }
         requires can { CanClaim worker.old.book.setup object worker.old.book.account }
@@ -77,8 +77,8 @@ impl<A: Allocator> Pool<A> {
         raise_to_claimed(&self.table.shared, &mut worker.seat, self.buffers, object)
     }
 
-    /// Finishes `object`, which is in the worker's charge and each successor of which the worker has seen marked. One
-    /// atomic step that waits for nobody.
+    /// Finishes `object`. It has to be in the worker's charge, and the worker has to have seen each of its successors
+    /// marked. This is one atomic step, which waits for nobody.
     pub fn finish(&self, worker: &mut Worker<A>, object: u32)
         requires pool { worker.old.pool ≡ self.now }
         requires can { CanFinish worker.old.book.setup object worker.old.book.account }

@@ -1,4 +1,5 @@
--- The identifiers in the fields of an instance, by the numbers of the classes up its chain that declare fields.
+-- The identifiers in the fields of an instance, class by class from its own class up; classes that declare no field are
+-- left out. A class is given by its number.
 use Rattle.std.specs.Prelude.{List, None, Option, Some, [], drop, length, slice_get, slice_index_or, ℕ, ◌++◌, ◌+◌, ◌<◌}
 use Rattle.std.specs.Prelude.{◌∷◌, ◌≡◌, ◌≤◌}
 use Rattle.std.specs.Coded.{Coded-set, coded_option, coded_ℕ, ×_prop}
@@ -17,7 +18,7 @@ next_in (fates.Whole l) = l.next
 next_in fates.Broken = None
 next_in fates.Endless = None
 
--- the first class above class `k` that declares fields
+-- the first class above class `k` that declares fields; none if the chain of `k` does not end at 0 (`Whole`)
 abbrev pub next_above : List Fate → ℕ → Option ℕ
 next_above known k = next_in (slice_index_or known k fates.Unknown)
 
@@ -29,7 +30,6 @@ AreUp known first (k ∷ ks) = (first ≡ Some k) × AreUp known (next_above kno
 abbrev pub Up : List Fate → Option ℕ → Type 0
 Up known first = (classes : List ℕ) × AreUp known first classes
 
--- there is only one such list of classes
 option_set : (a b : Option ℕ) → IsProp (a ≡ b)
 option_set a b = Coded-set (coded_option coded_ℕ) a b
 
@@ -37,6 +37,7 @@ AreUp-prop : (known : List Fate) (first : Option ℕ) (classes : List ℕ) → I
 AreUp-prop known first [] = option_set first None
 AreUp-prop known first (k ∷ ks) = ×_prop (option_set first (Some k)) (AreUp-prop known (next_above known k) ks)
 
+-- there is only one such list of classes
 one_up : (known : List Fate) (first : Option ℕ) (ks ms : List ℕ) → AreUp known first ks → AreUp known first ms → ks ≡ ms
 one_up known first [] [] h e = refl
 one_up known first [] (m ∷ ms) h e = let wrong : None ≡ Some m = sym h ∙ e.0 in absurd cc
@@ -53,14 +54,15 @@ Up-prop known first = λ x y.
     let same : x.0 ≡ y.0 = one_up known first x.0 y.0 x.1 y.1 in
     Σ_path same (to_path_p (λ i. AreUp known first (same i)) (AreUp-prop known first y.0 _ y.1))
 
--- the identifiers in the fields that the classes declare, whose values follow each other class by class
+-- the identifiers in the fields that these classes declare. The values follow each other class by class
 abbrev pub ids_up : ℕ → List ClassPlan → List ℕ → List ℕ → List ℕ → List ℕ
 ids_up s plans places [] values = []
 ids_up s plans places (k ∷ ks) values =
     ids_at s (id_places_of plans places k) values
     ++ ids_up s plans places ks (drop (plan_at plans k).size values)
 
--- the identifiers at the places are within the first `size` bytes of the values, and there are at most `size` of them
+-- the identifier at each place ends within the first `size` bytes of the values, there are at most `size` places, and
+-- the values have at least `size` bytes
 pub record StandInside (s : ℕ) (places : List ℕ) (size : ℕ) (values : List ℕ) : Type 0 where
   pub inside : (k place : ℕ) → slice_get places k ≡ Some place → place + s ≤ size
   pub few : length places ≤ size
@@ -74,7 +76,7 @@ pub record HasFields (s : ℕ) (plans : List ClassPlan) (places : List ℕ) (kno
   pub has : HasIdPlaces plans places k
   pub stand : StandInside s (id_places_of plans places k) (plan_at plans k).size values
 
--- the same for each of the classes, whose values follow each other
+-- the same for each of these classes. The values follow each other class by class
 abbrev pub HaveFields : ℕ → List ClassPlan → List ℕ → List Fate → List ℕ → List ℕ → Type 0
 HaveFields s plans places known [] values = Unit {0}
 HaveFields s plans places known (k ∷ ks) values = HasFields s plans places known values k
