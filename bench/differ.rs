@@ -1,8 +1,8 @@
 //! Looks for a dump on which two markers differ: `differ ONE OTHER SEED COUNT`.
 //!
-//! Makes so many small dumps, at random from this seed, about half of them damaged, a quarter each with IDs that follow
-//! one another, that rise in steps of eight, that fall, and that come in no order; runs both programs on each, and
-//! compares status, report and refusal. The first dump on which they differ stays where it tells. Built by `rustc -O`.
+//! Makes `COUNT` small dumps at random from `SEED`, about half of them damaged. In a quarter each, IDs follow one
+//! another, rise in steps of eight, fall, or come in no order. Runs both programs on each, and compares status, report
+//! and refusal. Keeps the first dump on which they differ, and prints where. Build it by `rustc --edition 2024 -O`.
 
 #[path = "plain/rows/file.rs"]
 #[allow(dead_code)]
