@@ -3,10 +3,12 @@
 #
 # usage: bench/compare.sh DUMP HISTOGRAM REPORTER..
 #
-# REPORTER..: the command that prints the report of a dump named behind it, as crates/heapmark/out/heapmark. All objects
-# of the dump are counted by the plain marker. Prints for each class whose counts differ how many the machine has, how
-# many the dump, and how many the report. A class object is in a row `<class>` of the report, and an instance of
-# java.lang.Class in the histogram.
+# REPORTER..: a command that prints the report of the dump that is its last argument, such as
+# crates/heapmark/out/heapmark. The plain marker counts all objects of the dump.
+#
+# For each class whose counts differ, prints the number of its objects in the histogram, in the dump and in the report.
+# After these lines come the totals, the number of classes with equal counts, and the report's last line. A class object
+# is in the row `<class>` of the report, and an instance of java.lang.Class in the histogram.
 set -euo pipefail
 
 [ $# -ge 3 ] || { sed -n 's/^# usage: /usage: /p' "$0" >&2; exit 2; }
@@ -18,7 +20,8 @@ trap 'rm -rf "$room"' EXIT
 
 rustc --edition 2024 -O -o "$room/plain" "$top/bench/plain/main.rs"
 
-# of_histogram and of_report: lines "COUNT NAME", with the names that reports use.
+# of_histogram and of_report: print lines "COUNT NAME". Classes have the names of the report, with `/` for dots.
+# Primitive arrays and class objects have those of the histogram: `[B`, `java/lang/Class`.
 of_histogram() {
     awk '$1 ~ /^[0-9]+:$/ { name = $4; sub(/\/0x/, "+0x", name); gsub(/\./, "/", name); print $2, name }' "$1"
 }

@@ -1,5 +1,5 @@
 #!/usr/bin/env python3
-"""What the plain marker answers where one byte of a small dump is another: each place, each other value.
+"""Prints what the plain marker reports if one byte of a small dump is changed: at each offset, to each other value.
 
 usage: bench/every_byte.py [--jobs N] PLAIN [DUMP]
 

@@ -3,7 +3,7 @@
 
 usage: bench/rough.py [--count N] [--seed N] DUMP [GROUP..]
 
-The groups, all of them if none is given; N is 1000 if it is not told:
+The groups, all of them if none is given; N is 1000 if it is not given:
 
     cut       DUMP without its end, cut at N random places
     changed   DUMP with one byte changed, N times
@@ -12,13 +12,15 @@ The groups, all of them if none is given; N is 1000 if it is not told:
     threads   a limit on the number of threads that grows, with 64 workers
     streams   an output that is closed, or full, and an interrupt at N / 20 moments
 
-For `cut` and `changed` heapmark has to answer what the plain marker of bench/plain does, to the byte: the same report, or the
-same refusal at the same place. `many` has to give one report. In `memory` and `threads` each run ends with 15 or 18 and
-nothing written, or with the whole report. In `streams` a run ends with 20, or by the signal, and what it wrote is a
-beginning of the report.
+In `cut` and `changed` heapmark has to print what the plain marker of bench/plain prints, to the byte: the same report,
+or the same refusal at the same offset. In `many` every run has to give the same report as the first run of the dump,
+with default options. In `memory` and `threads` a run has to end with the whole report, or with refusal 15 or 18 and
+nothing written. At limits up to 3 it may also end with status 127 or by SIGSEGV, with nothing written: then it was not
+loaded. In `streams` a run has to end with status 0 and the whole report; or, after a beginning of the report, with
+refusal 20, by the interrupt or by SIGPIPE.
 
 Prints a line for each group with how its runs ended, and each run that was wrong; exit status 1 if any was. heapmark is the
-binary of crates/heapmark/out, or what the variable HEAPMARK names. `threads` wants root, and runs as nobody.
+binary of crates/heapmark/out, or what the variable HEAPMARK names. `threads` needs root, and runs as nobody.
 """
 
 import argparse
@@ -41,21 +43,22 @@ MEBIBYTE = 1 << 20
 NOBODY = 65534
 #: Seconds after which a run counts as one that hangs.
 PATIENCE = 120
-#: With so many megabytes the system cannot load the program and the C library.
+#: With this many megabytes or fewer, the system may fail to load the program and the C library.
 LOADER = 3
 
 Answer = collections.namedtuple("Answer", "status report refusal")
 
 
 def answer(program, words, **how):
-    """What a program answers: its status, its report, and its refusal without its name."""
+    """Runs a program, and returns its status, its report, and its refusal without the program's name."""
     ran = subprocess.run([program, *words], capture_output=True, timeout=PATIENCE, **how)
     refusal = re.search(r"^\w+: (refused .*)$", ran.stderr.decode(errors="replace"), re.M)
     return Answer(ran.returncode, ran.stdout, refusal[1] if refusal else "")
 
 
 def heed_interrupts():
-    """What a shell starts in the background ignores them, and so would what it starts."""
+    """A program that a shell starts in the background ignores interrupts, and so would heapmark, started by it. This
+    makes heapmark heed them."""
     signal.signal(signal.SIGINT, signal.SIG_DFL)
 
 
@@ -82,7 +85,7 @@ class Rough:
         print(f"{group}: " + ", ".join(f"{number} {end}" for end, number in sorted(ends.items())))
 
     def compare(self, path, what, ends):
-        """Runs both markers on this file: they have to answer alike."""
+        """Runs both markers on this file: status, report and refusal have to be equal."""
         ours, plains = answer(HEAPMARK, [path]), answer(self.plain, [path])
         if ours != plains:
             self.wrong(f"{what}: {ours.status} {ours.refusal!r}, plain {plains.status} {plains.refusal!r}")
@@ -126,7 +129,7 @@ class Rough:
         self.tell("many", ends)
 
     def starved(self, group, limits, words, limit):
-        """Runs under growing limits until one gives the report."""
+        """Runs heapmark under growing limits, up to the first one at which it gives the whole report."""
         path, ends = self.copied(), collections.Counter()
         for number in limits:
             ours = answer(HEAPMARK, [path, *words], preexec_fn=functools.partial(limit, number))
@@ -184,7 +187,7 @@ class Rough:
         self.tell("streams", ends)
 
     def judge(self, what, status, told, out, ends):
-        """A run whose output failed, or that was interrupted."""
+        """Notes how a run ended whose output failed, or that was interrupted, and whether this was right."""
         begins = self.whole.report.startswith(out)
         if status == 0 and out == self.whole.report:
             ends["reports"] += 1
