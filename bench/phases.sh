@@ -3,14 +3,19 @@
 #
 # usage: bench/phases.sh [RUNS [DUMP..]]
 #
-# RUNS: how often for each number of workers (3); the least of each phase counts. DUMP..: those of /tmp/heapmark-bench if
-# none is given. Prints a Markdown table in milliseconds: read, until the file's end was met; build, until the first
-# worker's thread starts (parse, index, links, references, pool); mark, until the last of them ends; report, until the
-# program ends (with what the leader drains after the workers). The workers are as many threads at once as there are
-# workers: where parsing, linking and reporting start threads these are fewer. A second table has the least, the middle and the largest
-# time of marking, what the middle of one worker is to it, and the processor time of the whole program, user and system,
-# the middle of as many runs by themselves. heapmark and the variable STARTER as in bench/run.sh; the words of the
-# variable OPTIONS go to heapmark, as in OPTIONS='--buffer 64'.
+# RUNS: how often for each number of workers (3); the least of each phase counts. DUMP..: those of /tmp/heapmark-bench
+# if none is given. Prints a Markdown table in milliseconds:
+#
+#   read     until the file's end was met
+#   build    until the first worker's thread starts: parse, index, links, pool
+#   mark     until the last worker's thread ends
+#   report   until the program ends, with what the leader drains after the workers
+#
+# Marking is known by its threads: it is the last time that exactly as many live at once as there are workers. Parsing,
+# linking and reporting start fewer. A second table has the least, middle and largest time of marking; the largest
+# divided by the least; one worker's middle time divided by this one's; and the processor time (user and system) of the
+# whole program, the middle of RUNS further runs without moments.c. heapmark and the variable STARTER are as in
+# bench/run.sh. The words of the variable OPTIONS go to heapmark, as in OPTIONS='--buffer 64'.
 runs=3
 # shellcheck source=bench/head.sh
 . "$(dirname "$0")/head.sh"

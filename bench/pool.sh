@@ -1,12 +1,12 @@
 #!/bin/sh
-# Times the pool alone beside std alone: claims, and pops and pushes, on one and on four threads.
+# Times the pool beside a stack of std: claims, and pops and pushes, on one and on four threads.
 #
 # usage: bench/pool.sh [RUNS [COMMAND WORD..]]
 #
-# Builds crates/pool_bench with rt and bench/std_baseline.rs with rustc, and runs the two in turn: RUNS times for claims (10
-# without a word), four times as often for pops and pushes, which are shorter. Prints the best of each, the ratio of the best
-# times and that of the middle ones: above 1 the pool takes longer. A pop with its push counts as one. The command, if any,
-# starts each run: on a busy machine 'nice -n -20' of root keeps other work off the processors.
+# Builds crates/pool_bench with rt and bench/std_baseline.rs with rustc, and runs the two in turn: RUNS times for claims
+# (10 by default), four times as often for pops and pushes, which are shorter. Prints the best of each, the ratio of the
+# best times and that of the middle ones: above 1 the pool takes longer. A pop with its push counts as one. The command,
+# if any, starts each run: on a busy machine 'nice -n -20' of root keeps other work off the processors.
 set -eu
 top=$(cd "$(dirname "$0")/.." && pwd)
 runs=${1:-10}

@@ -1,7 +1,9 @@
-//! The work of `pool_bench` with std alone: claims on bits of atomic words, and pops and pushes on a plain stack with a tagged head.
+//! The work of `pool_bench` with only std: claims on bits of atomic words, and pops and pushes on a plain stack with a
+//! tagged head.
 //!
-//! Its words are those of `pool_bench`, and so is what it writes to standard output. The times go to standard error. The
-//! last of them has no counterpart there: each pop takes a vector out of the number's slot, and each push puts it back.
+//! It takes the same arguments as `pool_bench`, and writes the same to standard output. The times go to standard error.
+//! The third, of pops and pushes that also take a vector out of the number's slot and put it back, has no line of its
+//! own in `pool_bench`: `pool.sh` compares both times of pops and pushes with those of the pool.
 
 use std::cell::UnsafeCell;
 use std::hint::black_box;
@@ -15,8 +17,8 @@ const BUFFERS: u64 = 64;
 const SIZE: usize = 256;
 const TAG: u64 = 65_536;
 
-/// A stack of numbers. The head is the tag times 65,536, plus 0 for no number or the number on top plus 1; a link is 0 or a
-/// number plus 1.
+/// A stack of numbers. The head is tag × 65,536 + link. A link is 0 for none, otherwise a number plus 1; the head's is
+/// that of the number on top.
 struct Stack {
     head: AtomicU64,
     links: Vec<AtomicU64>,
@@ -76,18 +78,19 @@ impl Slots {
 /// So many objects have their marks in one word, two bits each.
 const MARKS_OF_A_WORD: u64 = 32;
 
-/// Claims an object, and answers whether it was white.
+/// Claims `object`, and returns whether it was white.
 fn claim(marks: &[AtomicU64], object: u64) -> bool {
     let bit = 1 << (2 * (object % MARKS_OF_A_WORD));
     marks[(object / MARKS_OF_A_WORD) as usize].fetch_or(bit, SeqCst) & bit == 0
 }
 
-/// Claims these objects, and answers how many were white.
+/// Claims the objects of `part`, and returns how many were white.
 fn claim_part(marks: &[AtomicU64], part: Range<u64>) -> u64 {
     part.filter(|object| claim(marks, *object)).count() as u64
 }
 
-/// Claims each object of a thread's rows so many times, and answers how many were white.
+/// Claims `passes` times each object of the rows of thread `number`, and returns how many were white. A row is `row`
+/// neighbouring objects; the threads have the rows in turn.
 fn claim_passes(marks: &[AtomicU64], objects: u64, row: u64, threads: u64, number: u64, passes: u64) -> u64 {
     let rows_of_all = row * threads;
     let mut white = 0;
@@ -100,7 +103,7 @@ fn claim_passes(marks: &[AtomicU64], objects: u64, row: u64, threads: u64, numbe
     white
 }
 
-/// Pops a number and pushes it, and answers in how many turns there was one.
+/// Pops a number and pushes it, and returns in how many turns there was one.
 fn take_turns(stack: &Stack, turns: u64) -> u64 {
     let mut moved = 0;
     for _ in 0..turns {
@@ -127,8 +130,8 @@ fn take_turns_with(stack: &Stack, slots: &Slots, turns: u64) -> u64 {
     moved
 }
 
-/// Runs the work on so many threads, this one among them, tells how long they took together, and answers the sum of their
-/// answers.
+/// Runs `work` on `threads` threads, this one among them. Prints the time from the start until the last of them has
+/// ended, and returns the sum of their results.
 fn timed(name: &str, threads: u64, work: impl Fn(u64) -> u64 + Sync) -> u64 {
     let start = Instant::now();
     let sum = thread::scope(|scope| {
