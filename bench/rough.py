@@ -15,12 +15,12 @@ The groups, all of them if none is given; N is 1000 if it is not given:
 In `cut` and `changed` heapmark has to print what the plain marker of bench/plain prints, to the byte: the same report,
 or the same refusal at the same offset. In `many` every run has to give the same report as the first run of the dump,
 with default options. In `memory` and `threads` a run has to end with the whole report, or with refusal 15 or 18 and
-nothing written. At limits up to 3 it may also end with status 127 or by SIGSEGV, with nothing written: then it was not
-loaded. In `streams` a run has to end with status 0 and the whole report; or, after a beginning of the report, with
-refusal 20, by the interrupt or by SIGPIPE.
+nothing written. In `memory`, at limits up to 3, it may also end with status 127 or by SIGSEGV, with nothing written:
+then it was not loaded. In `streams` a run has to end with status 0 and the whole report; or, after a beginning of the
+report, with refusal 20, by the interrupt or by SIGPIPE.
 
-Prints a line for each group with how its runs ended, and each run that was wrong; exit status 1 if any was. heapmark is the
-binary of crates/heapmark/out, or what the variable HEAPMARK names. `threads` needs root, and runs as nobody.
+Prints a line for each group with how its runs ended, and each run that was wrong; exit status 1 if any was. heapmark is
+the binary of crates/heapmark/out, or what the variable HEAPMARK names. `threads` needs root, and runs as nobody.
 """
 
 import argparse
@@ -50,8 +50,12 @@ Answer = collections.namedtuple("Answer", "status report refusal")
 
 
 def answer(program, words, **how):
-    """Runs a program, and returns its status, its report, and its refusal without the program's name."""
-    ran = subprocess.run([program, *words], capture_output=True, timeout=PATIENCE, **how)
+    """Runs a program, and returns its status, its report, and its refusal without the program's name. Of a run that
+    hangs the status is None."""
+    try:
+        ran = subprocess.run([program, *words], capture_output=True, timeout=PATIENCE, **how)
+    except subprocess.TimeoutExpired:
+        return Answer(None, b"", f"no end within {PATIENCE} s")
     refusal = re.search(r"^\w+: (refused .*)$", ran.stderr.decode(errors="replace"), re.M)
     return Answer(ran.returncode, ran.stdout, refusal[1] if refusal else "")
 
@@ -87,7 +91,7 @@ class Rough:
     def compare(self, path, what, ends):
         """Runs both markers on this file: status, report and refusal have to be equal."""
         ours, plains = answer(HEAPMARK, [path]), answer(self.plain, [path])
-        if ours != plains:
+        if ours != plains or ours.status is None:
             self.wrong(f"{what}: {ours.status} {ours.refusal!r}, plain {plains.status} {plains.refusal!r}")
         ends["reports" if ours.status == 0 else " ".join(ours.refusal.split()[:3])] += 1
 
@@ -128,8 +132,9 @@ class Rough:
             ends["reports"] += ours == self.whole
         self.tell("many", ends)
 
-    def starved(self, group, limits, words, limit):
-        """Runs heapmark under growing limits, up to the first one at which it gives the whole report."""
+    def starved(self, group, limits, words, limit, loader=0):
+        """Runs heapmark under growing limits, up to the first one at which it writes the whole report. Up to the limit
+        `loader` the system may fail to load it."""
         path, ends = self.copied(), collections.Counter()
         for number in limits:
             ours = answer(HEAPMARK, [path, *words], preexec_fn=functools.partial(limit, number))
@@ -138,7 +143,7 @@ class Rough:
                 break
             if ours.status == 1 and not ours.report and re.match(r"refused 1[58] ", ours.refusal):
                 ends[ours.refusal] += 1
-            elif ours.status in (127, -signal.SIGSEGV) and not ours.report and number <= LOADER:
+            elif ours.status in (127, -signal.SIGSEGV) and not ours.report and number <= loader:
                 ends["not loaded"] += 1
             else:
                 self.wrong(f"{group} at {number}: {ours.status} {ours.refusal!r}, {len(ours.report)} bytes written")
@@ -150,7 +155,7 @@ class Rough:
         def limit(mebibytes):
             resource.setrlimit(resource.RLIMIT_AS, (mebibytes * MEBIBYTE,) * 2)
 
-        self.starved("memory", range(1, 64 + 40 * self.size // MEBIBYTE), ["--workers", "2"], limit)
+        self.starved("memory", range(1, 64 + 40 * self.size // MEBIBYTE), ["--workers", "2"], limit, LOADER)
 
     def threads(self):
         def limit(number):
