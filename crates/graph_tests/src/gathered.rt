@@ -1,6 +1,6 @@
 //! Dumps of few objects that are nevertheless gathered in parts, some of only one object. Identifiers ascend, descend
-//! or are in no order. In turn each one, or none, has other lowest bits than the others. Each third object is a class;
-//! each other object refers to all objects, so each identifier is looked up.
+//! or are in no order. One of them, at each place in turn, has other lowest bits than the rest. Each third object is a
+//! class; each other object refers to all objects, so each identifier is looked up.
 
 use crate::graphs::{build, gives};
 use heap_graph::{Graph, Skip};
@@ -238,8 +238,8 @@ fn requests_by_bits<T: Threads + Sync>(
     ])
 }
 
-/// Tests whether identifiers that agree take equally many allocations whatever their lowest bits are, and fewer than a
-/// list of which one identifier differs.
+/// Tests whether identifiers that agree take the same number of allocations whatever their lowest bits are, and fewer
+/// than a list of which one identifier differs.
 fn are_gathered_once<T: Threads + Sync>(
     rt: &T,
     alloc: Global,
@@ -310,8 +310,8 @@ fn requests_to_read<T: Threads + Sync>(
     Ok(u64::MAX - heap.requests_left())
 }
 
-/// Tests whether the graph is right if only the first allocation after the dump is read fails. Returns `None` if out of
-/// memory then.
+/// Lets only the first allocation after the reading of the dump fail, and tests whether the graph is right. Returns
+/// `None` if out of memory.
 fn is_right_without_the_first<T: Threads + Sync>(
     rt: &T,
     alloc: Global,

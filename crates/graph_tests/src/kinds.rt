@@ -29,7 +29,7 @@ enum Kind {
 /// identifiers.
 type Parts = (Kind, Option<u32>, &'static [u32], RowKey, u64, u64);
 
-/// The parts of each object's visit. Of a class only the kind is tested.
+/// The parts of each object's visit. For a class, only the kind is tested.
 const PARTS: [Parts; 4] = [
     (Kind::Any, None, &[], RowKey::ClassObject, 0, 0),
     (Kind::Fields, Some(0), &[2], RowKey::Class(0), 4, 0),

@@ -43,7 +43,7 @@ one_ids skips s heap (instance_dump i) ids others h k =
 one_ids skips s heap (object_array_dump a) ids others h k = h ∙ sym k
 one_ids skips s heap (primitive_array_dump a) ids others h k = h ∙ sym k
 
--- If `P` relates each element to at most one value, two lists are equal if `P` relates both to the same list, position
+-- `P` relates each element to at most one value. So two lists are equal if `P` relates the same list to both, position
 -- by position.
 module _ {O X : Type 0} (P : O → X → Type 0) (one : (o : O) (x y : X) → P o x → P o y → x ≡ y) where
   same_each :
