@@ -35,20 +35,18 @@ impl<A: Allocator> Model for IdPairsBuilder<A> {
     } };
 }
 
-impl<A: Allocator + Copy> IdPairsBuilder<A> {
-    /// Creates a builder for `count` objects whose identifiers have the lowest bits `bits` and the places `noted`,
+impl<A: Allocator> IdPairsBuilder<A> {
+    /// Creates a builder for the objects whose places `noted` has and whose identifiers have the lowest bits `bits`,
     /// without an object. `AllocError` if an allocation fails.
-    pub fn new(alloc: A, bits: LowBits, noted: IdPlaces<A>, count: u32) -> Result<Self, AllocError>
+    pub fn new(alloc: A, bits: LowBits, noted: IdPlaces<A>) -> Result<Self, AllocError>
         requires shifted { bits.shift < 64 }
         requires low { bits.low < 2 ^ bits.shift }
         ensures { IfOk result (λ b. (b.ids ≡ []) × (b.shift ≡ bits.shift) × (b.low ≡ bits.low)) }
     {
-        let pairs = PairIndexBuilder::new(alloc, noted, count)?;
+        let pairs = PairIndexBuilder::new(alloc, noted)?;
         Ok(IdPairsBuilder { pairs, bits })
     }
-}
 
-impl<A: Allocator> IdPairsBuilder<A> {
     /// Tests whether `id` has the lowest bits that all identifiers have.
     pub fn fits(&self, id: u64) -> bool
         ensures { IsTrue result ↔ (id % 2 ^ self.now.shift ≡ self.now.low) }
@@ -67,7 +65,7 @@ impl<A: Allocator> IdPairsBuilder<A> {
         self.pairs.push(id >> self.bits.shift)
     }
 
-    /// Returns the index of these objects, if there are `count`, as `new` was given, and each was noted.
+    /// Returns the index of these objects, if all that were noted have been added.
     pub fn finish(self) -> Option<IdIndex<A>>
         ensures { IfSome result (λ index. index ≡ self.ids) }
     {

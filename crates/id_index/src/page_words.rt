@@ -1,5 +1,6 @@
 //! The page words: a bit for each place that has an object, page by page. They guess where the pair of a place is.
 
+use crate::pairs::Pair;
 use crate::runs::{PLACES, rank_in};
 use std::alloc::{AllocError, Allocator};
 
@@ -30,19 +31,19 @@ pub(crate) struct PageWords<A: Allocator> {
 }
 
 impl<A: Allocator> PageWords<A> {
-    /// Creates the page words of `noted`, the places of each page that have an object. `AllocError` if the allocation
-    /// fails.
-    pub(crate) fn of(alloc: A, noted: &[u64]) -> Result<Self, AllocError> {
+    /// Creates the page words of `noted`, the bits of each page as [`IdPlaces`](crate::IdPlaces) has them. `AllocError`
+    /// if the allocation fails.
+    pub(crate) fn of(alloc: A, noted: &[Pair]) -> Result<Self, AllocError> {
         let empty = Page {
             places: [0, 0],
             begin: 0,
         };
         let mut pages = vec![in alloc; empty; noted.len()]?;
         let mut begin = 0u32;
-        for (page, places) in pages.iter_mut().zip(noted) {
-            page.places = [(*places % (1 << 32)) as u32, (*places >> 32) as u32];
+        for (page, taken) in pages.iter_mut().zip(noted) {
+            page.places = [taken.at, taken.number];
             page.begin = begin;
-            begin = begin.wrapping_add(places.count_ones());
+            begin = begin.wrapping_add(page.places().count_ones());
         }
         Ok(PageWords { pages })
     }

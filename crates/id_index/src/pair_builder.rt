@@ -33,21 +33,21 @@ impl<A: Allocator> Model for PairIndexBuilder<A> {
     ghost invariant = { λ b. ArePlaced b.pairs.items b.count };
 }
 
-impl<A: Allocator + Copy> PairIndexBuilder<A> {
-    /// Creates a builder for `count` objects whose identifiers have the places `noted`, without an object.
-    /// `AllocError` if an allocation fails.
-    pub(crate) fn new(alloc: A, noted: IdPlaces<A>, count: u32) -> Result<Self, AllocError>
+impl<A: Allocator> PairIndexBuilder<A> {
+    /// Creates a builder for the objects whose places `noted` has, without an object. `AllocError` if the allocation of
+    /// the page words fails.
+    pub(crate) fn new(alloc: A, mut noted: IdPlaces<A>) -> Result<Self, AllocError>
         ensures { IfOk result (λ b. b ≡ []) }
     {
-        let lowest = noted.lowest;
-        let words = PageWords::of(alloc, &noted.pages)?;
-        // The bits go before the pairs come, which take more.
-        drop(noted);
+        let (lowest, words) = noted.words(alloc)?;
+        let count = noted.count as usize;
+        let mut pairs = noted.pages;
+        pairs.clear();
         let unset = Pair {
             at: 0,
             number: UNSET,
         };
-        let pairs = vec![in alloc; unset; count as usize]?;
+        pairs.resize(count, unset)?;
         Ok(PairIndexBuilder {
             lowest,
             words,
@@ -55,9 +55,7 @@ impl<A: Allocator + Copy> PairIndexBuilder<A> {
             count: 0,
         })
     }
-}
 
-impl<A: Allocator> PairIndexBuilder<A> {
     /// Adds the next object. Returns `false` if it has no place of its own, since it was not noted or an earlier one
     /// bears `id`.
     pub(crate) fn push(&mut self, id: u64) -> bool

@@ -1,15 +1,15 @@
 //! The objects of a dump in no order, by their identifiers: pairs are placed straight from the bytes.
 //!
 //! ZGC and Shenandoah write objects in the order of a walk over references, in which nearly each would be a run of its
-//! own. Their identifiers are read three times instead: for their ends, for the places that they take, and for the
-//! pairs. So nothing is gathered beside the index.
+//! own. Their identifiers are read twice instead: for the places that they take, and for the pairs. So nothing is
+//! gathered beside the index.
 
 ghost use Rattle.hprof_grammar.specs.Standing.{StandInTurn, Stands};
 ghost use Rattle.hprof_grammar.specs.SubRecord.{SubRecord};
-ghost use Rattle.std.specs.Prelude.{IfOk, IfSome, List, ◌<◌};
+ghost use Rattle.std.specs.Prelude.{IfOk, IfSome, List, length, ◌<◌};
 ghost use Rattle.heap_graph.specs.Heap.{objects};
 ghost use Rattle.heap_graph.specs.working.ClassNumbers.{AreIndexed};
-ghost use Rattle.heap_graph.specs.working.GatheredParts.{MayGather};
+ghost use Rattle.heap_graph.specs.working.GatheredParts.{MayGather, MayIndex};
 
 use crate::objects::gathering::note_class;
 use crate::objects::indexing::Indexed;
@@ -27,39 +27,6 @@ const NEIGHBOURS: usize = 1024;
 /// The identifiers of a page: 64 places.
 const PLACES: u64 = 64;
 
-/// Counts among up to `NEIGHBOURS` objects from number `start` on those that begin a run. Returns how many these are,
-/// and how many objects were looked at.
-fn runs_from(view: &View<'_>, places: &[u32], start: usize, bits: LowBits) -> (usize, usize)
-    requires { MayGather view.now places.now bits 0 places.now }
-{
-    let end = places.len().min(start.saturating_add(NEIGHBOURS));
-    let (mut runs, mut seen) = (0usize, 0usize);
-    let mut last = u64::MAX;
-    for number in start..end {
-        let at = view.object_id(places[number]) >> bits.shift;
-        if at <= last || at / PLACES != last / PLACES {
-            runs = runs.saturating_add(1);
-        }
-        seen = seen.saturating_add(1);
-        last = at;
-    }
-    (runs, seen)
-}
-
-/// Tests whether objects are in no order: whether more than half of those that are sampled begin a run.
-fn are_scattered(view: &View<'_>, places: &[u32], bits: LowBits) -> bool
-    requires { MayGather view.now places.now bits 0 places.now }
-{
-    let step = (places.len() / STRETCHES).max(NEIGHBOURS);
-    let (mut runs, mut seen) = (0usize, 0usize);
-    for stretch in 0..STRETCHES {
-        let (more, of) = runs_from(view, places, stretch.saturating_mul(step), bits);
-        runs = runs.saturating_add(more);
-        seen = seen.saturating_add(of);
-    }
-    runs > seen / 2
-}
-
 /// The least and the greatest of some identifiers.
 #[derive(Clone, Copy)]
 struct Ends {
@@ -74,12 +41,12 @@ impl Ends {
         greatest: 0,
     };
 
-    /// Returns the number of pages from the least identifier to the greatest.
-    fn pages(self, bits: LowBits) -> usize
-        requires { bits.shift < 64 }
-    {
-        let places = self.greatest.saturating_sub(self.least) >> bits.shift;
-        (places / PLACES) as usize
+    /// Returns the ends of these identifiers and of `id`.
+    fn with(self, id: u64) -> Ends {
+        self.joined(Ends {
+            least: id,
+            greatest: id,
+        })
     }
 
     /// Returns the ends of these identifiers and of those of `other`.
@@ -88,6 +55,57 @@ impl Ends {
             least: self.least.min(other.least),
             greatest: self.greatest.max(other.greatest),
         }
+    }
+}
+
+/// What is known of the objects of a sample.
+#[derive(Clone, Copy)]
+struct Sample {
+    objects: usize,
+    /// The number of these objects that begin a run.
+    runs: usize,
+    /// The ends of their identifiers.
+    ends: Ends,
+}
+
+impl Sample {
+    /// Adds up to `NEIGHBOURS` objects, from number `start` on.
+    fn add(&mut self, view: &View<'_>, places: &[u32], start: usize, bits: LowBits)
+        requires { MayGather view.now places.now bits 0 places.now }
+    {
+        let end = places.len().min(start.saturating_add(NEIGHBOURS));
+        let mut last = u64::MAX;
+        for number in start..end {
+            let id = view.object_id(places[number]);
+            let at = id >> bits.shift;
+            if at <= last || at / PLACES != last / PLACES {
+                self.runs = self.runs.saturating_add(1);
+            }
+            self.objects = self.objects.saturating_add(1);
+            self.ends = self.ends.with(id);
+            last = at;
+        }
+    }
+
+    /// Returns a sample of the objects at `places`.
+    fn of(view: &View<'_>, places: &[u32], bits: LowBits) -> Sample
+        requires { MayGather view.now places.now bits 0 places.now }
+    {
+        let mut sample = Sample {
+            objects: 0,
+            runs: 0,
+            ends: Ends::NONE,
+        };
+        let step = (places.len() / STRETCHES).max(NEIGHBOURS);
+        for stretch in 0..STRETCHES {
+            sample.add(view, places, stretch.saturating_mul(step), bits);
+        }
+        sample
+    }
+
+    /// Tests whether the objects are in no order: whether more than half of them begin a run.
+    fn is_scattered(self) -> bool {
+        self.runs > self.objects / 2
     }
 }
 
@@ -108,10 +126,7 @@ fn ends_of_part(
         if id % (1 << bits.shift) != bits.low {
             return None;
         }
-        ends = ends.joined(Ends {
-            least: id,
-            greatest: id,
-        });
+        ends = ends.with(id);
     }
     Some(ends)
 }
@@ -159,75 +174,34 @@ fn ends_of<T: Threads + Sync, B: Allocator + Copy + Send + Sync>(
     ends_of_part(view, places, 0, places, bits)
 }
 
-/// Notes the places of the identifiers of a part, which begins with object number `start`. `AllocError` if the
-/// allocation fails.
-fn note_part<B: Allocator>(
+/// Returns the places of the identifiers of the objects at `places`, as far as they are between `ends` or not far
+/// outside. They are noted in parts if there are many. `AllocError` if the allocation fails.
+fn noted_places<T: Threads + Sync, B: Allocator>(
+    team: &Team<'_, T>,
     alloc: B,
     view: &View<'_>,
     places: &[u32],
-    start: usize,
-    part: &[u32],
     bits: LowBits,
     ends: Ends,
 ) -> Result<IdPlaces<B>, AllocError>
-    requires { MayGather view.now places.now bits start part.now }
+    requires { MayGather view.now places.now bits 0 places.now }
 {
-    let mut noted = IdPlaces::new(alloc, bits, ends.least, ends.greatest)?;
-    for number in start..start + part.len() {
-        noted.note(view.object_id(places[number]));
-    }
+    let count = places.len();
+    let parts = if team.splits(count) {
+        count.div_ceil(team.part_of(count))
+    } else {
+        1
+    };
+    let mut noted = IdPlaces::new(alloc, bits, ends.least, ends.greatest, count as u32, parts)?;
+    let id_of = |number: usize| -> u64
+        requires { (number < length places.now) × MayIndex view.now places.now }
+    { view.object_id(places[number]) };
+    noted.note_all(team, &id_of);
     Ok(noted)
 }
 
-/// Like [`noted_places`], in as many parts as the team has threads, but in none that has fewer objects than there are
-/// pages: so what is noted takes no more than the pairs will. Returns `None` if there is no part.
-fn note_in_parts<T: Threads + Sync, B: Allocator + Copy + Send + Sync>(
-    team: &Team<'_, T>,
-    alloc: B,
-    view: &View<'_>,
-    places: &[u32],
-    bits: LowBits,
-    ends: Ends,
-) -> Result<Option<IdPlaces<B>>, AllocError>
-    requires { MayGather view.now places.now bits 0 places.now }
-{
-    let size = team.part_of(places.len()).max(ends.pages(bits));
-    let note = |start: usize, part: &[u32]| -> Result<IdPlaces<B>, AllocError>
-        requires { MayGather view.now places.now bits start part.now }
-    { note_part(alloc, view, places, start, part, bits, ends) };
-    let mut all: Option<IdPlaces<B>> = None;
-    for noted in thread::map_chunks(team, alloc, places, size, &note)? {
-        let mut noted = noted?;
-        if let Some(before) = all {
-            noted.join(before);
-        }
-        all = Some(noted);
-    }
-    Ok(all)
-}
-
-/// Returns the places of the identifiers of the objects at `places`. They are noted in parts if there are many, and in
-/// one part also if an allocation for several fails.
-fn noted_places<T: Threads + Sync, B: Allocator + Copy + Send + Sync>(
-    team: &Team<'_, T>,
-    alloc: B,
-    view: &View<'_>,
-    places: &[u32],
-    bits: LowBits,
-    ends: Ends,
-) -> Result<IdPlaces<B>, AllocError>
-    requires { MayGather view.now places.now bits 0 places.now }
-{
-    if team.splits(places.len()) {
-        if let Ok(Some(noted)) = note_in_parts(team, alloc, view, places, bits, ends) {
-            return Ok(noted);
-        }
-    }
-    note_part(alloc, view, places, 0, places, bits, ends)
-}
-
-/// Returns the objects at `places` by pairs, whose places are `noted`. Returns `None` if two objects have one
-/// identifier. `AllocError` if an allocation fails.
+/// Returns the objects at `places` by pairs, whose places are `noted`. Returns `None` if a place was not noted, or two
+/// objects have one identifier. `AllocError` if an allocation fails.
 fn placed<B: Allocator + Copy>(
     alloc: B,
     view: &View<'_>,
@@ -239,7 +213,7 @@ fn placed<B: Allocator + Copy>(
     ensures { IfOk result (λ found. IfSome found (λ indexed. (heap : List SubRecord)
         → StandInTurn (Stands view.now) places.now (objects heap) → AreIndexed view.now places.now heap indexed)) }
 {
-    let mut ids = IdPairsBuilder::new(alloc, bits, noted, places.len() as u32)?;
+    let mut ids = IdPairsBuilder::new(alloc, bits, noted)?;
     let mut class_dumps = Vec::new(alloc);
     for number in 0..places.len() {
         let id = view.object_id(places[number]);
@@ -252,6 +226,27 @@ fn placed<B: Allocator + Copy>(
         Some(index) => return Ok(Some(Indexed { index, class_dumps })),
         None => return Ok(None),
     }
+}
+
+/// Returns the objects at `places` by pairs, if pairs serve and all identifiers are between `ends` or not far outside.
+/// `AllocError` if an allocation fails.
+fn paired_between<T: Threads + Sync, B: Allocator + Copy>(
+    team: &Team<'_, T>,
+    alloc: B,
+    view: &View<'_>,
+    places: &[u32],
+    bits: LowBits,
+    ends: Ends,
+) -> Result<Option<Indexed<B>>, AllocError>
+    requires { MayGather view.now places.now bits 0 places.now }
+    ensures { IfOk result (λ found. IfSome found (λ indexed. (heap : List SubRecord)
+        → StandInTurn (Stands view.now) places.now (objects heap) → AreIndexed view.now places.now heap indexed)) }
+{
+    if !are_close(bits, ends.least, ends.greatest, places.len() as u32) {
+        return Ok(None);
+    }
+    let noted = noted_places(team, alloc, view, places, bits, ends)?;
+    placed(alloc, view, places, bits, noted)
 }
 
 /// Returns the objects at `places` by pairs, if they are in no order and pairs serve. `AllocError` if an allocation for
@@ -267,15 +262,16 @@ pub(super) fn paired<T: Threads + Sync, B: Allocator + Copy + Send + Sync>(
     ensures { IfOk result (λ found. IfSome found (λ indexed. (heap : List SubRecord)
         → StandInTurn (Stands view.now) places.now (objects heap) → AreIndexed view.now places.now heap indexed)) }
 {
-    if !are_scattered(view, places, bits) {
+    let sample = Sample::of(view, places, bits);
+    if !sample.is_scattered() {
         return Ok(None);
+    }
+    // The ends of a sample nearly always serve. Then the identifiers are read once less.
+    if let Some(indexed) = paired_between(team, alloc, view, places, bits, sample.ends)? {
+        return Ok(Some(indexed));
     }
     let Some(ends) = ends_of(team, alloc, view, places, bits) else {
         return Ok(None);
     };
-    if !are_close(bits, ends.least, ends.greatest, places.len() as u32) {
-        return Ok(None);
-    }
-    let noted = noted_places(team, alloc, view, places, bits, ends)?;
-    placed(alloc, view, places, bits, noted)
+    paired_between(team, alloc, view, places, bits, ends)
 }
