@@ -5,6 +5,7 @@ use super::pairing::paired_index;
 use id_index::IdIndex;
 use std::alloc::{AllocError, Allocator, Global};
 use std::test::Fail;
+use std::thread::Threads;
 
 /// The number of identifiers of a list.
 const MANY: u64 = 1000;
@@ -34,11 +35,15 @@ fn guessed_by_runs(alloc: Global, ids: &[u64]) -> Result<usize, AllocError> {
 }
 
 /// Counts the identifiers of `ids` that an index by pairs finds without a search.
-fn guessed_by_pairs(alloc: Global, ids: &[u64]) -> Result<usize, AllocError> {
+fn guessed_by_pairs<T: Threads + Sync>(
+    rt: &T,
+    alloc: Global,
+    ids: &[u64],
+) -> Result<usize, AllocError> {
     if ids.len() > MANY as usize {
         return Ok(0);
     }
-    match paired_index(alloc, ids, 0)? {
+    match paired_index(rt, alloc, ids, 0, 2)? {
         Some(index) => Ok(count_guessed(&index, ids)),
         None => Ok(0),
     }
@@ -64,7 +69,7 @@ fn runs_are_guessed(rt: HostRuntime) -> Result<(), Fail> {
 fn pairs_are_guessed(rt: HostRuntime) -> Result<(), Fail> {
     for apart in [1, 3, 16, 31] {
         let ids = places(rt.alloc(), 500, apart)?;
-        let guessed = guessed_by_pairs(rt.alloc(), &ids)?;
+        let guessed = guessed_by_pairs(&rt, rt.alloc(), &ids)?;
         assert!(rt; guessed == ids.len(), "{guessed} at {apart} places apart");
     }
     Ok(())

@@ -6,6 +6,8 @@ use super::beside::answers_all;
 use id_index::{IdIndex, IdPairsBuilder, IdPlaces, LowBits, are_close};
 use limited_heap::{LimitedHeap, requests_of};
 use std::alloc::{AllocError, Allocator, Global};
+use std::test::Fail;
+use std::thread::Threads;
 
 /// Returns the least and the greatest of `ids`.
 fn ends_of(ids: &[u64]) -> (u64, u64) {
@@ -17,57 +19,53 @@ fn ends_of(ids: &[u64]) -> (u64, u64) {
     (least, greatest)
 }
 
-/// Notes all of `ids` in `places`.
-fn note_all<A: Allocator>(places: &mut IdPlaces<A>, ids: &[u64]) {
-    for id in ids {
-        places.note(*id);
-    }
-}
-
-/// Returns the places of `ids`, whose ends are `least` and `greatest`: noted in two halves and joined.
-fn noted_in_halves<A: Allocator + Copy>(
-    alloc: A,
-    bits: LowBits,
-    ids: &[u64],
-    least: u64,
-    greatest: u64,
-) -> Result<IdPlaces<A>, AllocError>
-    requires { bits.shift < 64 }
-{
-    let (front, back) = ids.split_at(ids.len() / 2);
-    let mut places = IdPlaces::new(alloc, bits, least, greatest)?;
-    note_all(&mut places, front);
-    let mut more = IdPlaces::new(alloc, bits, least, greatest)?;
-    note_all(&mut more, back);
-    places.join(more);
-    Ok(places)
-}
-
 /// Returns the index by pairs of objects with the identifiers `ids`, if their three lowest bits are `low` and pairs
-/// serve.
-pub fn paired_index<A: Allocator + Copy>(
+/// serve. Their places are noted in at most `parts` parts, between the identifiers `ends` or not far outside.
+fn paired_between<T: Threads + Sync, A: Allocator + Copy>(
+    rt: &T,
     alloc: A,
     ids: &[u64],
     low: u64,
+    ends: (u64, u64),
+    parts: usize,
 ) -> Result<Option<IdIndex<A>>, AllocError>
     requires low { low < 8 }
     requires few { length ids.now < 2 ^ 32 }
     ensures { IfOk result (λ found. IfSome found (λ index. index ≡ ids.now)) }
 {
     let bits = LowBits { shift: 3, low };
-    let (least, greatest) = ends_of(ids);
+    let (least, greatest) = ends;
     let count = ids.len() as u32;
     if !are_close(bits, least, greatest, count) {
         return Ok(None);
     }
-    let places = noted_in_halves(alloc, bits, ids, least, greatest)?;
-    let mut builder = IdPairsBuilder::new(alloc, bits, places, count)?;
+    let mut places = IdPlaces::new(alloc, bits, least, greatest, count, parts)?;
+    let id_of = |number: usize| -> u64
+        requires { number < length ids.now }
+    { ids[number] };
+    places.note_all(rt, &id_of);
+    let mut builder = IdPairsBuilder::new(alloc, bits, places)?;
     for id in ids {
         if !builder.fits(*id) || !builder.push(*id) {
             return Ok(None);
         }
     }
     Ok(builder.finish())
+}
+
+/// Like [`paired_between`], between the least and the greatest of `ids`.
+pub fn paired_index<T: Threads + Sync, A: Allocator + Copy>(
+    rt: &T,
+    alloc: A,
+    ids: &[u64],
+    low: u64,
+    parts: usize,
+) -> Result<Option<IdIndex<A>>, AllocError>
+    requires low { low < 8 }
+    requires few { length ids.now < 2 ^ 32 }
+    ensures { IfOk result (λ found. IfSome found (λ index. index ≡ ids.now)) }
+{
+    paired_between(rt, alloc, ids, low, ends_of(ids), parts)
 }
 
 /// Lists of identifiers, and whether pairs serve: the three lowest bits are 0, none is repeated, and there are two for
@@ -94,26 +92,76 @@ const PAIRED: [(&[u64], bool); 14] = [
     ),
 ];
 
-/// Tests whether the index by pairs of `ids` that is made on `heap` is as a search one by one if pairs serve, as
-/// `serves` says, and is none otherwise; or is out of memory after an allocation failed.
-fn is_right(heap: &LimitedHeap<Global>, ids: &[u64], serves: bool) -> bool {
+/// Tests whether the index by pairs of `ids` that is made on `heap` in at most `parts` parts is as a search one by one
+/// if pairs serve, as `serves` says, and is none otherwise; or is out of memory after an allocation failed.
+fn is_right<T: Threads + Sync>(
+    rt: &T,
+    heap: &LimitedHeap<Global>,
+    ids: &[u64],
+    serves: bool,
+    parts: usize,
+) -> bool {
     if ids.len() > 1000 {
         return false;
     }
-    match paired_index(heap, ids, 0) {
+    match paired_index(rt, heap, ids, 0, parts) {
         Ok(Some(index)) => serves && answers_all(&index, ids),
         Ok(None) => !serves,
         Err(AllocError) => heap.refusals() > 0,
     }
 }
 
+/// The greatest number of parts that are tried.
+const PARTS: usize = 5;
+
 /// Each allocation fails in turn, and then the index is as a search one by one, or there is none if pairs do not serve.
 #[test]
 fn paired_as_one_by_one_or_out_of_memory(rt: HostRuntime) {
     for (ids, serves) in PAIRED {
-        let requests = requests_of(rt.alloc(), |heap| is_right(heap, ids, serves));
-        assert!(rt; requests.is_some(), "{ids:?}");
+        for parts in 0..PARTS {
+            let requests = requests_of(rt.alloc(), |heap| is_right(&rt, heap, ids, serves, parts));
+            assert!(rt; requests.is_some(), "{ids:?} in {parts} parts");
+        }
     }
+}
+
+/// The number of pages of [`spread`].
+const PAGES: u64 = 72;
+
+/// Returns two identifiers on each of `PAGES` pages, in no order.
+fn spread(alloc: Global) -> Result<Vec<u64>, AllocError> {
+    let mut ids = Vec::new(alloc);
+    for number in 0..2 * PAGES {
+        // 55 and 144 have no common divisor.
+        let half = number * 55 % (2 * PAGES);
+        ids.push(half * 256)?;
+    }
+    Ok(ids)
+}
+
+/// The first and the last page of a sample of [`spread`], and whether its ends serve for all: a sixteenth of the pages
+/// is added on either side.
+const SAMPLES: [(u64, u64, bool); 6] = [
+    (0, 71, true),
+    (4, 71, true),
+    (4, 67, true),
+    (5, 67, false),
+    (4, 66, false),
+    (40, 40, false),
+];
+
+#[test]
+fn ends_of_a_sample_serve(rt: HostRuntime) -> Result<(), Fail> {
+    let ids = spread(rt.alloc())?;
+    for (first, last, serves) in SAMPLES {
+        for parts in [1, 2, 64] {
+            let ends = (first * 512, last * 512 + 256);
+            let index = paired_between(&rt, rt.alloc(), &ids, 0, ends, parts)?;
+            let right = index.is_some_and(|index| answers_all(&index, &ids));
+            assert_eq!(rt; right, serves, "pages {first} to {last} in {parts} parts");
+        }
+    }
+    Ok(())
 }
 
 /// Ends of identifiers at multiples of eight, and whether the pages between have at most 2^32 places.

@@ -7,6 +7,7 @@ use super::making::index_of;
 use super::pairing::paired_index;
 use std::alloc::{AllocError, Global};
 use std::test::Fail;
+use std::thread::Threads;
 
 /// The number of lists that are tried.
 const LISTS: usize = 100_000;
@@ -106,11 +107,19 @@ impl Numbers {
 }
 
 /// Tests whether an index of `ids` by pairs is made exactly if `repeats` is false, and agrees with a search one by one.
-fn is_paired(alloc: Global, ids: &[u64], repeats: bool) -> Result<bool, AllocError> {
+/// Places are noted in at most `parts` parts.
+fn is_paired<T: Threads + Sync>(
+    rt: &T,
+    alloc: Global,
+    ids: &[u64],
+    repeats: bool,
+    parts: usize,
+) -> Result<bool, AllocError> {
     if ids.len() > 1000 {
         return Ok(false);
     }
-    match paired_index(alloc, ids, ids.first().copied().unwrap_or(0) % 8)? {
+    let low = ids.first().copied().unwrap_or(0) % 8;
+    match paired_index(rt, alloc, ids, low, parts)? {
         Some(index) => Ok(!repeats && answers_all(&index, ids)),
         None => Ok(repeats),
     }
@@ -123,7 +132,7 @@ fn scattered_lists(rt: HostRuntime) -> Result<(), Fail> {
     for list in 0..SCATTERED {
         let mut ids = numbers.scattered(rt.alloc())?;
         let repeats = list % 2 == 1 && numbers.repeat_one(&mut ids);
-        let right = is_paired(rt.alloc(), &ids, repeats);
+        let right = is_paired(&rt, rt.alloc(), &ids, repeats, list % 7);
         assert_eq!(rt; right, Ok(true), "list {list}");
     }
     Ok(())
