@@ -75,8 +75,8 @@ module _ {B : Type 0} (r : Reading B) where
       → IsBetweenSteps r e slots id word me s → HasFirstTag e (words_after s word f) Full
       → Allows (Rule r e) slots id me word f (λ n after. after.0.book.account.open_push ≡ true) → ⊥
 
-  -- no step can exchange a head for the link of its buffer under the same tag, or under one that is two more, whatever
-  -- it reports
+  -- no step can exchange a head for the link of its buffer if the tag stays the same or grows by an even number,
+  -- whatever the step reports
   abbrev pub NoEvenPop : Type 0
   NoEvenPop =
       (e : Setup) (slots id : ℕ) (q : Which) (me : Me (Option B) SeatView) (f : ℕ → ℕ) (s : State (Option B) SeatView)

@@ -20,7 +20,7 @@ use std::test::Fail;
 ///   stack, or one with a buffer on full. So `sees_empty` cannot invent its result.
 /// - `push`: while the full head has not changed, no step reports a push on full. So a push that exchanges the other
 ///   stack's head has nothing to report there.
-/// - `pop`: no step exchanges a head for the link of its buffer under the same tag, or under one that is two more.
+/// - `pop`: no step exchanges a head for the link of its buffer if the tag stays the same or grows by an even number.
 fn no_telling_is_forged<A: Allocator>()
     ensures loss { NoForgedLoss (buffer_reading {A = A}) }
     ensures head { NoForgedHead (buffer_reading {A = A}) }
