@@ -166,7 +166,7 @@ fn first_fault<T: Threads + Sync>(
     Ok(fault_in(rt, alloc, &file.bytes))
 }
 
-/// Returns the name of the first dump of `table` with another fault than it says.
+/// Returns the name of the first dump of `table` whose fault is not the one in the table.
 fn first_other<T: Threads + Sync>(
     rt: &T,
     alloc: Global,

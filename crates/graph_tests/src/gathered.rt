@@ -1,6 +1,6 @@
-//! Dumps of few objects, of which also a part of one object is gathered by a thread of its own: their identifiers
-//! ascend, descend or stand in no order, in each place one has other lowest bits than the others, and classes stand in
-//! each part. Each object that is no class refers to all objects, so each identifier is looked up.
+//! Dumps of few objects that are nevertheless gathered in parts, some of only one object. Identifiers ascend, descend
+//! or are in no order. One of them, at each place in turn, has other lowest bits than the rest. Each third object is a
+//! class; each other object refers to all objects, so each identifier is looked up.
 
 use crate::graphs::{build, gives};
 use heap_graph::{Graph, Skip};
@@ -12,20 +12,22 @@ use std::thread::Threads;
 use test_dumps::Bytes;
 use test_dumps::Sub::Class;
 
-/// How many objects there are at most.
+/// The largest number of objects.
 const MOST: u32 = 9;
 
-/// Each third object is a class, the first one among them. The others are arrays.
+/// Each third object is a class, from the first on. The others are arrays.
 const CLASSES_EACH: u32 = 3;
 
-/// The order of identifiers: the first of sixteen, and how far each is from the one before it, round and round.
+/// An order of identifiers at sixteen places: the place of the first, and the distance of each from the one before it,
+/// modulo 16.
 type Order = (u32, u32);
 
-/// They ascend, descend, and do neither. Each object of those that descend would be a run, so that these are indexed by
+/// Ascending, descending, and neither. In descending order each object would be a run, so these objects are indexed by
 /// pairs.
 const ORDERS: [Order; 3] = [(0, 1), (15, 15), (3, 5)];
 
-/// The identifiers of so many objects. The one of that number has other lowest bits than the others.
+/// Returns the identifiers of `count` objects in `order`. The identifier of object `odd`, if that exists, has other
+/// lowest bits than the others.
 fn ids_of(alloc: Global, order: Order, count: u32, odd: u32) -> Result<Vec<u32>, AllocError> {
     let mut ids = Vec::new(alloc);
     for number in 0..count {
@@ -35,12 +37,12 @@ fn ids_of(alloc: Global, order: Order, count: u32, odd: u32) -> Result<Vec<u32>,
     Ok(ids)
 }
 
-/// How many there are.
+/// Returns the number of `ids`.
 fn count_of(ids: &[u32]) -> u32 {
     u32::try_from(ids.len()).unwrap_or(u32::MAX)
 }
 
-/// An array of that class with elements that name all objects.
+/// Writes the array `id` of the class `class`. Its elements are `ids`, those of all objects.
 fn put_array(heap: &mut Bytes, id: u32, class: u32, ids: &[u32]) -> Result<(), AllocError> {
     heap.bytes.push(0x22)?;
     for field in [id, 0, count_of(ids), class] {
@@ -52,7 +54,7 @@ fn put_array(heap: &mut Bytes, id: u32, class: u32, ids: &[u32]) -> Result<(), A
     Ok(())
 }
 
-/// A dump of objects with these identifiers.
+/// Returns a dump of objects with the identifiers `ids`.
 fn dump(alloc: Global, ids: &[u32]) -> Result<Bytes, AllocError> {
     let class = ids.first().copied().unwrap_or(0);
     let mut heap = Bytes::new(alloc, 4);
@@ -68,7 +70,7 @@ fn dump(alloc: Global, ids: &[u32]) -> Result<Bytes, AllocError> {
     Ok(file)
 }
 
-/// What each array refers to: its class, and all objects in order.
+/// Returns what each array refers to in a dump of `count` objects: its class, and all objects in order.
 fn references_of(alloc: Global, count: u32) -> Result<Vec<u32>, AllocError> {
     let mut references = Vec::new(alloc);
     references.push(0)?;
@@ -78,7 +80,7 @@ fn references_of(alloc: Global, count: u32) -> Result<Vec<u32>, AllocError> {
     Ok(references)
 }
 
-/// Whether it has these objects, and each array refers to all.
+/// Tests whether `graph` has as many objects as `ids`, and each array refers to `references`.
 fn tells_objects<A: Allocator>(graph: &Graph<'_, A>, ids: &[u32], references: &[u32]) -> bool {
     for object in 0..graph.len() {
         let wanted = match object % CLASSES_EACH {
@@ -92,7 +94,7 @@ fn tells_objects<A: Allocator>(graph: &Graph<'_, A>, ids: &[u32], references: &[
     graph.len() as usize == ids.len()
 }
 
-/// Whether it has the classes among these.
+/// Tests whether the classes of `graph` are the objects of `ids` that are classes.
 fn tells_classes<A: Allocator>(graph: &Graph<'_, A>, ids: &[u32]) -> bool {
     for class in 0..graph.classes() {
         let id = ids.get(class as usize * CLASSES_EACH as usize);
@@ -103,12 +105,13 @@ fn tells_classes<A: Allocator>(graph: &Graph<'_, A>, ids: &[u32]) -> bool {
     graph.classes() as usize == ids.len().div_ceil(CLASSES_EACH as usize)
 }
 
-/// Tests whether `graph` has the objects and classes of `ids`, and each array refers to all `references`.
+/// Tests whether `graph` has the objects and classes of `ids`, and each array refers to `references`.
 fn tells_all<A: Allocator>(graph: &Graph<'_, A>, ids: &[u32], references: &[u32]) -> bool {
     tells_objects(graph, ids, references) && tells_classes(graph, ids)
 }
 
-/// Whether the graph that a team of so many threads makes of the dump is right. None where memory is missing.
+/// Tests whether a team of `threads` threads makes the right graph of objects with the identifiers `ids` on `heap`.
+/// Returns `None` if out of memory.
 fn is_right<T: Threads + Sync, A: Allocator + Copy + Send + Sync>(
     rt: &T,
     alloc: Global,
@@ -129,7 +132,8 @@ fn is_right<T: Threads + Sync, A: Allocator + Copy + Send + Sync>(
     )
 }
 
-/// Whether the graph that such a team makes of these bytes has these objects and classes.
+/// Tests whether the graph that a team of `threads` threads makes of `bytes` on `heap` has the objects and classes of
+/// `ids`. Returns `None` if no graph is made.
 fn tells<T: Threads + Sync, A: Allocator + Copy + Send + Sync>(
     rt: &T,
     alloc: Global,
@@ -147,7 +151,7 @@ fn tells<T: Threads + Sync, A: Allocator + Copy + Send + Sync>(
     }
 }
 
-/// Whether teams of one thread, two and four make the right graph.
+/// Tests whether teams of one, two and four threads make the right graph.
 fn all_are_right<T: Threads + Sync>(rt: &T, alloc: Global, ids: &[u32]) -> bool {
     for threads in [1, 2, 4] {
         if is_right(rt, alloc, alloc, ids, threads) != Some(true) {
@@ -205,7 +209,7 @@ fn parts_or_want_of_memory(rt: HostRuntime) -> Result<(), Fail> {
 }
 
 /// Returns the number of allocations that one thread makes to read the objects `ids` and to make their graph, or `None`
-/// if that is wrong.
+/// if the graph is wrong.
 fn requests_by_one<T: Threads + Sync>(rt: &T, alloc: Global, ids: &[u32]) -> Option<u64> {
     let heap = LimitedHeap::new(alloc, u64::MAX);
     match is_right(rt, alloc, &heap, ids, 1) {
@@ -214,8 +218,8 @@ fn requests_by_one<T: Threads + Sync>(rt: &T, alloc: Global, ids: &[u32]) -> Opt
     }
 }
 
-/// What it takes for identifiers that agree in their lowest three bits, for others that do, and for those of which the
-/// last one does not.
+/// Returns the numbers of allocations for three lists: one whose identifiers agree in their lowest three bits, another
+/// such list with other lowest bits, and one whose last identifier has other lowest bits than the rest.
 fn requests_by_bits<T: Threads + Sync>(
     rt: &T,
     alloc: Global,
@@ -234,8 +238,8 @@ fn requests_by_bits<T: Threads + Sync>(
     ])
 }
 
-/// Tests whether identifiers that agree take as much memory whichever their lowest bits are, and less than those of
-/// which one differs.
+/// Tests whether identifiers that agree take the same number of allocations whatever their lowest bits are, and fewer
+/// than a list of which one identifier differs.
 fn are_gathered_once<T: Threads + Sync>(
     rt: &T,
     alloc: Global,
@@ -267,8 +271,8 @@ fn requests_in_order<T: Threads + Sync>(
     Ok(requests_by_one(rt, alloc, &ids))
 }
 
-/// Objects in no order take no more requests than objects in order: their places and their pairs are asked for at once.
-/// A list of their runs would grow step by step.
+/// Objects in descending order take no more allocations than objects in ascending order: all their places are allocated
+/// at once, and so are all their pairs. A list of their runs would grow step by step.
 #[test]
 fn pairs_are_asked_for_at_once(rt: HostRuntime) -> Result<(), Fail> {
     let ascending = requests_in_order(&rt, rt.alloc(), (0, 1))?;
@@ -280,7 +284,7 @@ fn pairs_are_asked_for_at_once(rt: HostRuntime) -> Result<(), Fail> {
     Ok(())
 }
 
-/// Whether the dump is read over this heap.
+/// Tests whether `team` reads the dump `bytes` on `heap`.
 fn is_read<T: Threads + Sync>(
     team: &Team<'_, T>,
     heap: &LimitedHeap<Global>,
@@ -289,7 +293,7 @@ fn is_read<T: Threads + Sync>(
     read(team, heap, bytes).is_ok()
 }
 
-/// How many requests for memory a team of so many threads makes to read the dump of these objects.
+/// Returns the number of allocations that a team of `threads` threads makes to read the dump of `ids`.
 fn requests_to_read<T: Threads + Sync>(
     rt: &T,
     alloc: Global,
@@ -306,8 +310,8 @@ fn requests_to_read<T: Threads + Sync>(
     Ok(u64::MAX - heap.requests_left())
 }
 
-/// Whether the graph is right where the first request behind the reading is refused alone. None where memory is missing
-/// then.
+/// Lets only the first allocation after the reading of the dump fail, and tests whether the graph is right. Returns
+/// `None` if out of memory.
 fn is_right_without_the_first<T: Threads + Sync>(
     rt: &T,
     alloc: Global,
@@ -324,7 +328,8 @@ fn is_right_without_the_first<T: Threads + Sync>(
     ))
 }
 
-/// Want of memory for the parts is no refusal: the calling thread gathers all then, and so it can be told who gathered.
+/// If an allocation for the parts fails, the calling thread gathers all objects, and the graph is right. A team of one
+/// thread uses no parts: it is out of memory.
 #[test]
 fn parts_are_used(rt: HostRuntime) -> Result<(), Fail> {
     let ids = ids_of(rt.alloc(), (3, 5), MOST, MOST)?;

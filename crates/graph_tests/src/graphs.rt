@@ -36,8 +36,8 @@ pub fn graph_of<'a, T: Threads + Sync>(
     Graph::build(&team, alloc, bytes, dump, skip).ok()
 }
 
-/// Tests whether `walk` yields exactly `objects`. With each object fewer identifiers remain, and after the last call
-/// none.
+/// Tests whether `walk` yields exactly `objects`, and whether fewer identifiers remain after each object, and none at
+/// the end.
 pub fn gives<A: Allocator>(walk: Successors<'_, A>, objects: &[u32]) -> bool {
     let mut walk = walk;
     for object in objects {

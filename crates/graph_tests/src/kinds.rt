@@ -1,4 +1,4 @@
-//! Visits by the kind of the object: where its identifiers stand, and that its class is known without a look-up.
+//! Visits by the kind of the object: where its identifiers are, and that its class is known without a look-up.
 
 use crate::graphs::graph_of;
 use heap_graph::{ByKind, Graph, IdSource, RowKey, Skip, Targets, Visit};
@@ -16,7 +16,7 @@ const EACH_KIND: &[Record] = &[Record::Heap(&[
     Values(0x203, 8, 2, &[1, 2]),
 ])];
 
-/// Where the identifiers of an object stand.
+/// Where the identifiers of an object are.
 #[derive(Clone, Copy, PartialEq, Eq)]
 enum Kind {
     Nothing,
@@ -25,10 +25,11 @@ enum Kind {
     Any,
 }
 
-/// The kind, the class that is known, the objects behind it, the row, the bytes, and how many identifiers name none.
+/// The kind, the class if it is known, the objects after it, the row, the bytes, and the number of unresolved
+/// identifiers.
 type Parts = (Kind, Option<u32>, &'static [u32], RowKey, u64, u64);
 
-/// What comes of each object. Of a class nothing is told.
+/// The parts of each object's visit. For a class, only the kind is tested.
 const PARTS: [Parts; 4] = [
     (Kind::Any, None, &[], RowKey::ClassObject, 0, 0),
     (Kind::Fields, Some(0), &[2], RowKey::Class(0), 4, 0),
@@ -36,8 +37,8 @@ const PARTS: [Parts; 4] = [
     (Kind::Nothing, None, &[], RowKey::Primitive(8), 2, 0),
 ];
 
-/// Tests whether the walk `rest` has the row and the bytes of `wanted`, yields its objects and then none, and counts
-/// its number of identifiers that name none.
+/// Tests whether the walk `rest` has the row and the bytes of `wanted`, yields exactly the objects of `wanted`, and
+/// counts the unresolved identifiers of `wanted`.
 fn walks<A: Allocator, I: IdSource>(rest: Targets<'_, A, I>, wanted: &Parts) -> bool {
     let (_, _, objects, row, bytes, unresolved) = *wanted;
     let mut rest = rest;
@@ -72,7 +73,7 @@ fn visits<A: Allocator>(graph: &Graph<'_, A>, object: u32, wanted: &Parts) -> bo
     object < graph.len() && are_parts(graph.visit(object), wanted)
 }
 
-/// Tests whether this holds for the graph of the dump.
+/// Like [`visits`], for the graph of `EACH_KIND`.
 fn has_parts<T: Threads + Sync>(
     rt: &T,
     alloc: Global,
@@ -87,7 +88,7 @@ fn has_parts<T: Threads + Sync>(
     }
 }
 
-/// How many classes there are, each with an array.
+/// The number of classes, each of which has an array.
 const CLASSES: u32 = 32;
 
 /// Returns a dump of classes and of an array of each.
@@ -127,7 +128,7 @@ fn count_guessed<A: Allocator>(graph: &Graph<'_, A>) -> usize {
     (0..CLASSES).filter(guessed).count()
 }
 
-/// Returns what both say of the graph of the dump.
+/// Returns the results of [`knows_classes`] and [`count_guessed`] for the graph of the dump [`arrays`].
 fn known_and_guessed<T: Threads + Sync>(
     rt: &T,
     alloc: Global,
@@ -140,7 +141,7 @@ fn known_and_guessed<T: Threads + Sync>(
     }
 }
 
-/// Classes are guessed at different places: at least three of four are alone at theirs or were noted last there.
+/// Classes are guessed at different places: at least three of four classes were noted last at their place.
 #[test]
 fn classes_are_guessed(rt: HostRuntime) -> Result<(), Fail> {
     let told = known_and_guessed(&rt, rt.alloc())?;

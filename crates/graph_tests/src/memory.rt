@@ -102,7 +102,7 @@ fn is_right_in_turn<T: Threads + Sync>(
     requests > 0 && requests_until(rt, alloc, bytes, skip, &wanted) == Some(requests)
 }
 
-/// Tests whether this holds for the dump of `worked`.
+/// Like [`is_right_in_turn`], for the dump of `worked`.
 fn is_right_of<T: Threads + Sync>(
     rt: &T,
     alloc: Global,
@@ -113,7 +113,7 @@ fn is_right_of<T: Threads + Sync>(
     Ok(is_right_in_turn(rt, alloc, &file.bytes, worked, skip))
 }
 
-/// Tests whether this holds for the dump of `worked` if all fields are followed.
+/// Like [`is_right_of`], if all fields are followed.
 fn is_right_whole<T: Threads + Sync>(
     rt: &T,
     alloc: Global,
@@ -122,7 +122,7 @@ fn is_right_whole<T: Threads + Sync>(
     is_right_of(rt, alloc, worked, &Skip::none(alloc))
 }
 
-/// Tests whether this holds for the dump of `worked` if the fields of `list` are not followed.
+/// Like [`is_right_of`], if the fields of `list` are not followed.
 fn is_right_without<T: Threads + Sync>(
     rt: &T,
     alloc: Global,

@@ -174,7 +174,7 @@ fn has_left<A: Allocator>(graph: &Graph<'_, A>, left: u64, unresolved: u64) -> b
     graph.len() == 5 && graph.successors(2).left() == left && graph.unresolved_of(4) == unresolved
 }
 
-/// Tests whether this holds if the fields of `list` are not followed.
+/// Like [`has_left`], for the graph of `REFERENCES` if the fields of `list` are not followed.
 fn leaves_without<T: Threads + Sync>(
     rt: &T,
     alloc: Global,

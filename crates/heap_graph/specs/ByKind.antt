@@ -4,7 +4,8 @@ use Rattle.heap_graph.specs.declared.visit.ByKind.{ByKind}
 use Rattle.heap_graph.specs.declared.visit.ByKind.TheVariants as kinds
 use Rattle.heap_graph.specs.Walks.{Visited, references_left, unresolved_left}
 
--- the class of an object, if it is known, and a visit of the identifiers after it
+-- the visit `whole` is split into `class`, the object's class if it is known, and `rest`, a visit of the identifiers
+-- after the class
 pub record IsBehind (whole : Visited) (class : Option ℕ) (rest : Visited) : Type 0 where
   pub row_is : rest.row ≡ whole.row
   pub bytes_is : rest.bytes ≡ whole.bytes

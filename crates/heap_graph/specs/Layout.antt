@@ -4,17 +4,17 @@ use Rattle.heap_graph.specs.Heap.{class_named}
 use Rattle.hprof_grammar.specs.TagsAndTypes.{size_of}
 use Rattle.hprof_grammar.specs.SubRecord.{Class, Member, SubRecord}
 
--- the classes are the one that `id` names, its superclass, and so on up
+-- the list has the class that `id` names, then its superclass, and so on up; it may stop anywhere
 abbrev pub IsLine : List SubRecord → ℕ → List Class → Type 0
 IsLine heap id [] = Unit {0}
 IsLine heap id (c ∷ cs) = (class_named heap id ≡ Some c) × IsLine heap c.super cs
 
--- the same, and the last of them has no superclass
+-- like `IsLine`, and the list stops only after a class without a superclass; it is empty if `id` is 0
 abbrev pub IsChain : List SubRecord → ℕ → List Class → Type 0
 IsChain heap id [] = id ≡ 0
 IsChain heap id (c ∷ cs) = (class_named heap id ≡ Some c) × IsChain heap c.super cs
 
--- following superclasses never ends
+-- following superclasses from `id` on never ends
 abbrev pub NeverEnds : List SubRecord → ℕ → Type 0
 NeverEnds heap id = (n : ℕ) → (classes : List Class) × (length classes ≡ n) × IsLine heap id classes
 

@@ -24,7 +24,7 @@ pub record IsLeastFault (s : ℕ) (heap : List SubRecord) (n : ℕ) (rule : Link
   pub fails : Fails s heap n rule
   pub least : (other : LinkRule) → Fails s heap n other → code_of rule ≤ code_of other
 
--- the same, and no object before it breaks a rule
+-- like `IsLeastFault`, and no object before `n` breaks a rule
 pub record IsFirstFault (s : ℕ) (heap : List SubRecord) (n : ℕ) (rule : LinkRule) : Type 0 where
   pub here : IsLeastFault s heap n rule
   pub first : (before : ℕ) (other : LinkRule) → before < n → Fails s heap before other → ⊥

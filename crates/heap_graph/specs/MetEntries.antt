@@ -11,8 +11,8 @@ use Rattle.hprof_grammar.specs.SubRecord.{Class, Member}
 abbrev pub is_called : List Record → List ℕ → Member → Bool
 is_called records name m = is_text (string_named records m.name) name
 
--- The class of the entry is the text that names the class, and its field is the string that names a field which the
--- class declares, of whatever type.
+-- The class `c` declares the field of the entry: the entry has the name of `c`, and the name of a field that `c`
+-- declares, of whatever type.
 abbrev pub declares : List Record → SkipEntry → Class → Bool
 declares records e c = is_text (class_text records c.object) e.class && list_any (is_called records e.field) c.members
 

@@ -62,7 +62,7 @@ named_in records c = record { id = c.object; text = class_text records c.object 
 abbrev pub named_classes : List Record → List NamedClass
 named_classes records = map (named_in records) (class_dumps (heap_of records))
 
--- each occurrence counts, in objects that are reachable or not, and in roots
+-- the number of unresolved identifiers in `lists` and in roots. Each occurrence counts, in unreachable objects too
 abbrev pub unresolved_in : List SubRecord → List (List ℕ) → ℕ
 unresolved_in heap lists = count_by (is_unresolved heap) (concat lists ++ root_ids heap)
 

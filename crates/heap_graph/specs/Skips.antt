@@ -20,7 +20,6 @@ abbrev pub is_entry_of : List Record → Class → Member → SkipEntry → Bool
 is_entry_of records c m e =
     is_text (class_text records c.object) e.class && is_text (string_named records m.name) e.field
 
--- The text that names the class which declares the field, and the string of the field's name, are an entry of the list,
--- byte for byte.
+-- The field `m`, which the class `c` declares, is skipped if an entry of the list has the names of both, byte for byte.
 abbrev pub is_skipped : List Record → List SkipEntry → Class → Member → Bool
 is_skipped records skip c m = list_any (is_entry_of records c m) skip

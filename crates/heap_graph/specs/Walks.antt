@@ -35,7 +35,7 @@ GoesPast old None new = (references_in old ≡ []) × (new ≡ [])
 GoesPast old (Some o) new = (passed : List Step) × (id : ℕ) × (references_in passed ≡ [])
     × (old ≡ passed ++ record { id = id; names = Some o } ∷ new)
 
--- a step with an identifier other than 0 that names no object; and how many of the remaining steps are such
+-- a step with an identifier other than 0 that names no object; and the number of such steps among `steps`
 abbrev pub is_unresolved_step : Step → Bool
 is_unresolved_step s = if s.id == 0 then false else is_none s.names
 

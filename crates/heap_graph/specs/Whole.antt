@@ -12,14 +12,14 @@ use Rattle.heap_graph.specs.declared.row.RowKey.TheVariants as keys
 abbrev pub held_by : ObjectGraph → ℕ → List ℕ
 held_by g o = slice_index_or g.held o []
 
--- the number of identifiers held by an object that are not 0 and name no object, and that of the roots
+-- the number of unresolved identifiers that an object holds, and of those of the roots
 abbrev pub unresolved_at : ObjectGraph → ℕ → ℕ
 unresolved_at g o = count_by (is_unresolved_in g.ids) (held_by g o)
 
 abbrev pub unresolved_roots : ObjectGraph → ℕ
 unresolved_roots g = count_by (is_unresolved_in g.ids) g.root_names
 
--- the number of identifiers held by the objects together that are not 0 and name no object
+-- the number of unresolved identifiers that the objects with these numbers hold together
 abbrev pub unresolved_among : ObjectGraph → List ℕ → ℕ
 unresolved_among g numbers = sum_by (unresolved_at g) numbers
 
@@ -29,7 +29,8 @@ IsRowIn g (keys.Class n) = n < class_count g
 IsRowIn g (keys.Primitive t) = (4 ≤ t) × (t ≤ 11)
 IsRowIn g keys.ClassObject = Unit {0}
 
--- An object has one row and one number of bytes, and what is named exists.
+-- Each object has one list of identifiers, one row and one number of bytes. Roots, references and rows name only
+-- objects and classes of the graph. All numbers have bounds.
 pub record IsWhole (g : ObjectGraph) : Type 0 where
   pub held_each : length g.held ≡ object_count g
   pub row_each : length g.rows ≡ object_count g
@@ -42,5 +43,5 @@ pub record IsWhole (g : ObjectGraph) : Type 0 where
   pub few_bytes : (o : ℕ) → bytes_at g o ≤ limit
   pub few_unresolved : (o : ℕ) → unresolved_at g o ≤ 2 ^ 33
   pub few_unresolved_roots : unresolved_roots g ≤ limit
-  -- those of all objects and of the roots together are the number that a histogram reports
+  -- the unresolved identifiers of all objects and of the roots are together those that a histogram reports
   pub both_parts : g.unresolved ≡ unresolved_among g (range_with_len 0 (object_count g)) + unresolved_roots g

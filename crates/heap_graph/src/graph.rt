@@ -22,8 +22,8 @@ use std::alloc::Allocator;
 use std::marker::Model;
 use std::snapshot::Snapshot;
 
-/// The objects of a linked dump, numbered from 0 in the order of their sub-records. It keeps the place of each object
-/// in the bytes, and its number by its identifier.
+/// The objects of a linked dump, numbered from 0 in the order of their sub-records. A graph keeps the place of each
+/// object in the bytes, and finds its number by its identifier.
 #[derive(Drop)]
 pub struct Graph<'a, A: Allocator> {
     objects: Objects<'a, A>,
@@ -162,8 +162,8 @@ impl<'a, A: Allocator> Graph<'a, A> {
         self.classes[class as usize].id
     }
 
-    /// Tests whether the class of number `class` is found by a guess from its identifier, without a look into the map
-    /// of classes. For tests: only time rests on guesses.
+    /// Tests whether class `class` is found by a guess from its identifier, without a search of the map of classes. For
+    /// tests: only time rests on guesses.
     pub fn is_class_guessed(&self, class: u32) -> bool
         requires { class < class_count self.now }
     {

@@ -10,8 +10,8 @@ use std::alloc::Allocator;
 use std::marker::Model;
 use std::mem;
 
-/// The source of the remaining identifiers, by the kind of the object. The class that an instance or an array begins
-/// with has variants of its own and is no field beside the others, so that a walk fits into 128 bytes.
+/// The source of the remaining identifiers, by the kind of the object. The class at the beginning of an instance or an
+/// array is in variants of its own, and not in a further field, so that a walk fits into 128 bytes.
 #[derive(Drop)]
 pub(crate) enum Rest<'g, A: Allocator> {
     /// No identifiers: the object is a primitive array.
@@ -90,7 +90,7 @@ impl<'g, A: Allocator> HeldIds<'g, A> {
     ghost use Rattle.std.specs.Iterator.{YieldsFirst};
 
     /// Returns the next identifier, whatever the kind of the object.
-    // A call, so that the worker's loop has no code for the few objects that need it.
+    // Not inlined, so that the worker's loop has no code for the few objects that need this function.
     #[inline(never)]
     fn next_of_any(&mut self) -> Option<u64>
         ensures { YieldsFirst (λ h. h) self.old result self.new }

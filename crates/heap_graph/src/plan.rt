@@ -12,8 +12,8 @@ use std::alloc::{AllocError, Allocator};
 
 /// The plan of a class. `start` and `end` bound the places of its followed fields among those of all classes, `size` is
 /// the size in bytes of the values of all fields that it declares, and `object` is the object that its identifier
-/// names: the class itself. `ClassPlace` has the size too, for the tests of layouts; here a step up a chain has it
-/// beside the places.
+/// names: the class itself. `ClassPlace` has the size too, for the tests of layouts. The plan has it for a step up a
+/// chain, which then finds it beside the places.
 #[derive(Clone, Copy)]
 pub(crate) struct ClassPlan {
     pub(crate) start: usize,
@@ -23,8 +23,8 @@ pub(crate) struct ClassPlan {
 }
 
 /// The plans of the classes, by class number: where the followed fields that a class declares are among the values of
-/// its fields, the size of these values in bytes, and the object that is the class. A step up a chain reads this and a
-/// fate.
+/// its fields, the size of these values in bytes, and the object that is the class. A step up a chain reads a plan and
+/// a fate.
 #[derive(Drop)]
 pub(crate) struct Plan<A: Allocator> {
     pub(crate) classes: Vec<ClassPlan, A>,

@@ -6,9 +6,8 @@ use crate::visit::Visit;
 use std::alloc::Allocator;
 use std::marker::Model;
 
-/// An iterator over the numbers of the objects that an object refers to: a visit of it without its row and its bytes.
-/// It reads the identifiers that the object holds from the bytes and looks up each of them, except that of a class that
-/// is already known.
+/// An iterator over the numbers of the objects that an object refers to: a visit without the row and the bytes. Reads
+/// the identifiers that the object holds and looks up each one, except the identifier of a class that is already known.
 #[derive(Drop)]
 pub struct Successors<'g, A: Allocator> {
     visit: Visit<'g, A>,

@@ -98,8 +98,8 @@ impl<'g, A: Allocator> Visit<'g, A> {
         self.rest.bytes()
     }
 
-    /// Returns the number of identifiers passed so far that are not 0 and name no object. After the last object, this
-    /// counts all identifiers that the object holds.
+    /// Returns the number of identifiers passed so far that are not 0 and name no object. After `next` has returned
+    /// `None`, these are all such identifiers that the object holds.
     pub fn unresolved(&self) -> u64
         ensures { result ≡ self.now.unresolved }
     {

@@ -15,14 +15,13 @@ pub(crate) struct Beginnings<A: Allocator> {
     /// The distance of the greatest page from the least one.
     pub(crate) span: u64,
     pub(crate) shift: u32,
-    /// The lowest `shift` bits, set: a guess keeps these of a distance.
+    /// A word whose lowest `shift` bits are set: a guess takes these bits of a distance.
     pub(crate) mask: u64,
     /// The index of the first run of each bucket, and after the last one the number of runs.
     pub(crate) starts: Vec<u32, A>,
 }
 
-/// Returns how many of their lowest bits numbers up to `span` have to lose for fewer than `buckets` to be left: no more
-/// than needed.
+/// Returns the least number of lowest bits without which the numbers up to `span` are below `buckets`.
 fn shift_for(span: u64, buckets: u64) -> u32
     requires { 2 ≤ buckets }
     ensures within { result < 64 }
@@ -94,14 +93,14 @@ impl<A: Allocator> Beginnings<A> {
     }
 
     /// Returns where the runs of the bucket of `page` begin and end. Returns `None` if no run is of that page.
-    // Inlined, as `guess` is: two numbers that a call returns go through memory, and each look-up takes them.
+    // Inlined, as `guess` is: each look-up takes the two numbers, which a call would return through memory.
     #[inline(always)]
     pub(crate) fn around(&self, runs: &[Run], page: u64) -> Option<(usize, usize)>
         requires rise { DoPagesRise runs.now }
         requires begun { AreBeginnings runs.now self.now }
         ensures { MatchOption result (IsNoPage runs.now page) (λ range. IsAround runs.now page range.0 range.1) }
     {
-        // A page below the least one is further from it than any, since the distance wraps.
+        // The distance of a page below the least one is greater than that of any run's page, since it wraps.
         let distance = page.wrapping_sub(self.least);
         if distance > self.span {
             return None;
@@ -114,7 +113,7 @@ impl<A: Allocator> Beginnings<A> {
     }
 
     /// Guesses the index of the first run of `page` among those of its bucket, from `begin` up to `end`, as if their
-    /// pages were evenly spread over the bucket. It may be any index if the product wraps: nothing but time rests on
+    /// pages were evenly spread over the bucket. The guess may be any index if the product wraps: only time rests on
     /// it.
     // Inlined, as `around` is.
     #[inline(always)]

@@ -107,7 +107,7 @@ impl<A: Allocator> RunIndexBuilder<A> {
         Ok(())
     }
 
-    /// Adds the objects of `other` after these. A run that the border of the two lists cuts is left as two.
+    /// Adds the objects of `other` after those of `self`. Does not join the last run of `self` to the first of `other`.
     /// `AllocError` if an allocation fails.
     pub(crate) fn append(&mut self, other: Self) -> Result<(), AllocError>
         requires { length self.old + length other < 2 ^ 32 }
@@ -122,7 +122,7 @@ impl<A: Allocator> RunIndexBuilder<A> {
         Ok(())
     }
 
-    /// Returns the index of these objects. `AllocError` if an allocation fails.
+    /// Returns the index of the added objects. `AllocError` if an allocation fails.
     pub(crate) fn finish(self, alloc: A) -> Result<RunIndex<A>, AllocError>
         ensures { IfOk result (λ index. index ≡ self) }
     {

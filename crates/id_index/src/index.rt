@@ -125,7 +125,7 @@ impl<A: Allocator> IdIndex<A> {
     }
 }
 
-/// The identifiers of objects in the order of the file, which agree in their lowest bits: an index is made of them.
+/// The identifiers of objects, which agree in their lowest bits, in the order of the file. An index is made of them.
 /// There are at most 2^32 - 1 objects.
 #[derive(Drop)]
 pub struct IdIndexBuilder<A: Allocator> {
@@ -173,8 +173,8 @@ impl<A: Allocator> IdIndexBuilder<A> {
         id % (1 << self.bits.shift) == self.bits.low
     }
 
-    /// Adds the next object. `AllocError` if an allocation fails, which only an object that begins a run makes; what
-    /// the builder has then is not said.
+    /// Adds the next object. Allocates only if the object begins a run. `AllocError` if an allocation fails; no clause
+    /// says what the builder has then.
     pub fn push(&mut self, id: u64) -> Result<(), AllocError>
         requires fits { id % 2 ^ self.old.shift ≡ self.old.low }
         requires few { length self.old.ids + 1 < 2 ^ 32 }
@@ -185,8 +185,8 @@ impl<A: Allocator> IdIndexBuilder<A> {
         self.runs.push(id >> self.bits.shift)
     }
 
-    /// Adds the objects of `other`, which has the same lowest bits, after these. `AllocError` if an allocation fails;
-    /// what the builder has then is not said.
+    /// Adds the objects of `other`, which has the same lowest bits, after those of `self`. `AllocError` if an
+    /// allocation fails; no clause says what the builder has then.
     pub fn append(&mut self, other: Self) -> Result<(), AllocError>
         requires shift { other.shift ≡ self.old.shift }
         requires low { other.low ≡ self.old.low }
@@ -198,8 +198,8 @@ impl<A: Allocator> IdIndexBuilder<A> {
         self.runs.append(other.runs)
     }
 
-    /// Returns the index of these objects. `AllocError` if an allocation fails: for the last run, for sorting the runs,
-    /// or for the table of where pages begin, which is taken from `alloc`.
+    /// Returns the index of the added objects. `AllocError` if an allocation fails: for the last run, for sorting the
+    /// runs, or for the table of where pages begin, which is taken from `alloc`.
     pub fn finish(self, alloc: A) -> Result<IdIndex<A>, AllocError>
         ensures { IfOk result (λ index. index ≡ self.ids) }
     {

@@ -22,7 +22,8 @@ fn number_at_place(run: Run, place: u32) -> Option<u32>
     requires few { end_of run < 2 ^ 32 }
     ensures { MatchOption result (bit_at run.places place ≢ 1) (λ number. IsNumberAt run place number) }
 {
-    // The bits up to the place, with its own as the highest: if that is set, they are one more than those below it.
+    // The bits of the places up to `place`, with its own bit as the highest. If this bit is set, the set bits are one
+    // more than those below it.
     let up_to = run.places << (63 - place);
     if up_to < 1 << 63 {
         return None;
@@ -70,8 +71,8 @@ fn number_from(runs: &[Run], from: usize, id: u64) -> Option<u32>
     None
 }
 
-/// Like [`first_bearer`], if the run at the guess `near` is not the one. The first run of its page is between `begin`
-/// and `end`.
+/// Like [`first_bearer`], for an `id` that was not found at the guess `near`. The first run of the identifier's page is
+/// between `begin` and `end`.
 // Not inlined, so that nearly all look-ups are one straight line.
 #[inline(never)]
 fn search_runs(runs: &[Run], begin: usize, end: usize, near: usize, id: u64) -> Option<u32>
@@ -85,7 +86,7 @@ fn search_runs(runs: &[Run], begin: usize, end: usize, near: usize, id: u64) -> 
 }
 
 /// Returns the number of the object that bears `id` in the first run that has it.
-// Inlined, as the `find` of an index is, which forwards it.
+// Inlined, as the `find` of an index is, which only forwards to this.
 #[inline(always)]
 pub(crate) fn first_bearer<A: Allocator>(
     runs: &[Run],

@@ -1,12 +1,12 @@
-//! Looks at runs, which a search counts. It begins with a number of them, and is not proved if it could take one more.
-//! No contract of a search has that number: a search that reads a run otherwise is not refused.
+//! Looks at runs, which a search counts. A search begins with a number of looks, and its proof fails if it could take
+//! more. No contract has this number, so no clause refuses a search that reads runs without a look.
 
 ghost use Rattle.std.specs.Prelude.{length, ◌+◌, ◌<◌, ◌≡◌};
 ghost use Rattle.id_index.specs.working.Runs.{page_in};
 
 use crate::runs::Run;
 
-/// The number of looks at runs that are left. It is for clauses: no code reads it, so that a build leaves it out.
+/// The remaining looks at runs. Their number is for clauses: no code reads it, so a build omits it.
 #[derive(Drop)]
 pub(crate) struct Looks {
     left: usize,
@@ -14,7 +14,7 @@ pub(crate) struct Looks {
 
 impl Looks {
     /// Creates `left` looks.
-    // Inlined, as `page` is: a number that stays in a function is left out.
+    // Inlined, as `page` is: a build omits the number only if it stays within one function.
     #[inline(always)]
     pub(crate) fn at_most(left: usize) -> Self
         ensures { result.left ≡ left }
@@ -22,7 +22,7 @@ impl Looks {
         Looks { left }
     }
 
-    /// Returns the page of the run at index `at`, which takes a look.
+    /// Takes a look: returns the page of the run at index `at`.
     #[inline(always)]
     pub(crate) fn page(&mut self, runs: &[Run], at: usize) -> u64
         requires left { 0 < self.old.left }

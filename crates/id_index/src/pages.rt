@@ -7,20 +7,20 @@ ghost use Rattle.id_index.specs.working.Runs.{DoPagesRise, IsFirstFrom};
 use crate::looks::Looks;
 use crate::runs::Run;
 
-/// The most runs that are gone through from the guess on, one after the other.
+/// The most runs that a search goes through from the guess on, one after the other.
 const MANY_RUNS: usize = 64;
 
-/// The distance from the guess at which a run on either side is looked at, if there are more.
+/// How far from the guess a run on either side is looked at, if there are more than `MANY_RUNS` runs.
 const REACH: usize = 32;
 
-/// The looks that leave at most `MANY_RUNS` runs of up to 2^64: two around a guess, and 58 that halve.
+/// The looks that narrow up to 2^64 runs to at most `MANY_RUNS`: two around a guess, and 58 that halve.
 const NARROWING: usize = 60;
 
 /// The looks that go through `MANY_RUNS` runs, down and up.
 const WALKING: usize = 2 * MANY_RUNS;
 
-/// Looks at the run at index `at`, if it is between `low` and `high`, and returns the narrower ends of where the first
-/// run whose page is not below `page` is.
+/// Narrows `low` and `high`, the ends between which the first run whose page is not below `page` is found. Looks at the
+/// run at index `at`, if that is between the ends, and returns the new ends.
 fn after_look(
     looks: &mut Looks,
     runs: &[Run],
@@ -47,9 +47,9 @@ fn after_look(
     }
 }
 
-/// Returns ends with at most `MANY_RUNS` runs between them, of the many between `begin` and `end`: those around the
-/// guess `near` if it is a good one, else what is left after halving. It takes at most `NARROWING` looks.
-// A call, so that what searches a few runs has no locals for halving many.
+/// Narrows the runs between `begin` and `end` to at most `MANY_RUNS`, and returns the ends of those: around the guess
+/// `near` if it is good, and otherwise by halving. Takes at most `NARROWING` looks.
+// Not inlined, so that a search of few runs has no locals for halving many.
 #[inline(never)]
 fn narrow(runs: &[Run], begin: usize, end: usize, near: usize, page: u64) -> (usize, usize)
     requires rise { DoPagesRise runs.now }
@@ -69,9 +69,9 @@ fn narrow(runs: &[Run], begin: usize, end: usize, near: usize, page: u64) -> (us
     (low, high)
 }
 
-/// Returns the index of the first of ascending runs whose page is not below `page`. It is between `begin` and `end`, or
-/// `end`. Any guess `near` gives the same run, a good one gives it sooner: it takes at most `WALKING` looks among few
-/// runs, and `NARROWING` more among many.
+/// Returns the index of the first of ascending runs whose page is not below `page`. The index is between `begin` and
+/// `end`, or `end`, and is the same for any guess `near`; a good guess takes fewer looks. There are at most `WALKING`
+/// looks among few runs, and `NARROWING` more among many.
 pub(crate) fn first_from(runs: &[Run], begin: usize, end: usize, near: usize, page: u64) -> usize
     requires rise { DoPagesRise runs.now }
     requires around { IsAround runs.now page begin end }
@@ -82,7 +82,7 @@ pub(crate) fn first_from(runs: &[Run], begin: usize, end: usize, near: usize, pa
         (low, high) = narrow(runs, begin, end, near, page);
     }
     let mut looks = Looks::at_most(WALKING);
-    // The guess may lie below both: from there it would be more looks.
+    // The guess may be outside the ends: from there the search would take more looks.
     let mut at = near.max(low).min(high);
     while at > low && looks.page(runs, at - 1) >= page {
         at -= 1;

@@ -46,7 +46,7 @@ impl<A: Allocator> Model for RunIndex<A> {
 
 impl<A: Allocator> RunIndex<A> {
     /// Returns the number of the object that `id` names, if an object bears it.
-    // Inlined, as the `find` of an index is, which forwards it.
+    // Inlined, as the `find` of an index is, which only forwards to this.
     #[inline(always)]
     pub(crate) fn find(&self, id: u64) -> Option<u32>
         ensures { result ≡ position (λ x. x == id) self.now }

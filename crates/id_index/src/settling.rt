@@ -7,7 +7,7 @@ ghost use Rattle.id_index.specs.working.Settling.{AreSettledBefore, AreSorted, I
 use crate::runs::Run;
 use std::alloc::Allocator;
 
-/// Returns `seen`, the places that were seen of page `page`, if that is the page `own`, and else no place.
+/// Returns `seen`, the places seen of page `page`, if `own` is the same page, and no place otherwise.
 pub(crate) fn seen_of(own: u64, page: u64, seen: u64) -> u64
     ensures same { own ≡ page → result ≡ seen }
     ensures other { (own ≡ page → ⊥) → result ≡ 0 }

@@ -44,8 +44,8 @@ fn answers<A: Allocator>(index: &IdIndex<A>, ids: &[u64], id: u64) -> bool {
     index.is_repeated(id, usize::MAX) == first.is_some() && finds(index, id, first)
 }
 
-/// Tests the same for `id` and for others beside it: of its page and of the next ones, with other lowest bits, and far
-/// away.
+/// Like [`answers`], for `id` and for identifiers around it: of its page and of the next ones, with other lowest bits,
+/// and far away.
 fn answers_around<A: Allocator>(index: &IdIndex<A>, ids: &[u64], id: u64) -> bool {
     answers(index, ids, id)
         && answers(index, ids, id.wrapping_add(1))
@@ -56,7 +56,7 @@ fn answers_around<A: Allocator>(index: &IdIndex<A>, ids: &[u64], id: u64) -> boo
         && answers(index, ids, id ^ 0x8000_0000_0000_0000)
 }
 
-/// Tests the same for each of `ids` and those around it, and whether the index has their first repeat.
+/// Like [`answers_around`], for each of `ids`; also tests whether the index has the first repeat of `ids`.
 pub fn answers_all<A: Allocator>(index: &IdIndex<A>, ids: &[u64]) -> bool {
     for id in ids {
         if !answers_around(index, ids, *id) {

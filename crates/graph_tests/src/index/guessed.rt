@@ -14,8 +14,8 @@ fn count_guessed<A: Allocator>(index: &IdIndex<A>, ids: &[u64]) -> usize {
     ids.iter().filter(|id| index.is_guessed(**id)).count()
 }
 
-/// Returns `MANY` identifiers at multiples of eight: object `number` is at place `number * step`, modulo the prime
-/// 1009, of those that are `apart` places from one another.
+/// Returns `MANY` identifiers at places that are `apart` multiples of eight from one another. Object `number` is at
+/// place `number * step`, modulo the prime 1009.
 fn places(alloc: Global, step: u64, apart: u64) -> Result<Vec<u64>, AllocError> {
     let mut ids = Vec::new(alloc);
     for number in 0..MANY {

@@ -94,8 +94,8 @@ impl Joining<'_> {
             .any(|id| *id % (1 << bits.shift) != bits.low)
     }
 
-    /// Tests whether the joined index that is made on `heap` is as a search one by one, or is none if an identifier
-    /// differs, or is out of memory after an allocation failed.
+    /// Tests whether joining the lists on `heap` has a right result: an index that agrees with a search one by one, no
+    /// index if an identifier differs, or out of memory after an allocation failed.
     fn is_right(&self, heap: &LimitedHeap<Global>) -> bool {
         if self.ids.len() > 1000 || self.at > self.ids.len() {
             return false;
@@ -108,7 +108,7 @@ impl Joining<'_> {
     }
 }
 
-/// Lists are cut at each place. Each allocation fails in turn, and then the joined index is as a search one by one.
+/// Lists are cut at each place. Each joined index agrees with a search one by one, while each allocation fails in turn.
 #[test]
 fn joined_as_one_by_one_or_want_of_memory(rt: HostRuntime) {
     for ids in LISTS {

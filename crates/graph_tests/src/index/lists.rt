@@ -104,8 +104,8 @@ const NEIGHBOURS: [(u64, u64, usize); 16] = [
     (0x7f00_0000, u64::MAX - 511, 70),
 ];
 
-/// Tests whether the index of `ids` that is made on `heap` is as a search one by one, or is out of memory after an
-/// allocation failed.
+/// Tests whether the index of `ids` that is made on `heap` agrees with a search one by one, or is out of memory after
+/// an allocation failed.
 fn is_right(heap: &LimitedHeap<Global>, ids: &[u64]) -> bool {
     if ids.len() > 1000 {
         return false;
@@ -116,7 +116,7 @@ fn is_right(heap: &LimitedHeap<Global>, ids: &[u64]) -> bool {
     }
 }
 
-/// Each allocation fails in turn, and then the index is as a search one by one.
+/// Each index agrees with a search one by one, while each allocation fails in turn.
 #[test]
 fn as_one_by_one_or_want_of_memory(rt: HostRuntime) {
     for ids in LISTS {
@@ -169,7 +169,7 @@ fn thousand(alloc: Global) -> Result<Vec<u64>, AllocError> {
     Ok(ids)
 }
 
-/// Tests whether an index of `ids` finds each identifier below `most` so.
+/// Like [`finds_all`], for an index that is made of `ids`.
 fn is_found(alloc: Global, ids: &[u64], most: u64) -> Result<bool, AllocError> {
     if ids.len() > 1000 {
         return Ok(false);

@@ -58,7 +58,7 @@ impl Numbers {
     }
 }
 
-/// Tests whether an index of `ids` is as a search one by one.
+/// Tests whether an index of `ids` agrees with a search one by one.
 fn is_right(alloc: Global, ids: &[u64]) -> Result<bool, AllocError> {
     if ids.len() > 1000 {
         return Ok(false);
@@ -94,7 +94,7 @@ impl Numbers {
         Ok(ids)
     }
 
-    /// Replaces one of `ids`, if there is one, by any of them. Returns whether it is another now.
+    /// Replaces one of `ids`, chosen at random, by another or by itself. Returns whether it was replaced by another.
     fn repeat_one(&mut self, ids: &mut [u64]) -> bool {
         if ids.is_empty() || ids.len() > 1000 {
             return false;
@@ -105,7 +105,7 @@ impl Numbers {
     }
 }
 
-/// Tests whether there is an index of `ids` by pairs exactly if none is repeated, and it is as a search one by one.
+/// Tests whether an index of `ids` by pairs is made exactly if `repeats` is false, and agrees with a search one by one.
 fn is_paired(alloc: Global, ids: &[u64], repeats: bool) -> Result<bool, AllocError> {
     if ids.len() > 1000 {
         return Ok(false);

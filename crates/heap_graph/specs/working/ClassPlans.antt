@@ -22,7 +22,7 @@ plan_at plans k = slice_index_or plans k (record { start = 0; end = 0; size = 0;
 abbrev pub id_places_of : List ClassPlan → List ℕ → ℕ → List ℕ
 id_places_of plans places k = slice_range places (plan_at plans k).start (plan_at plans k).end
 
--- the object that is the class of the objects in a row, and that this class has a plan
+-- the object that is the class of the objects in a row; and for the row of a class, that this class has a plan
 abbrev pub object_of_row : List ClassPlan → RowKey → Option ℕ
 object_of_row plans (keys.Class k) = (plan_at plans k).object
 object_of_row plans (keys.Primitive t) = None

@@ -11,7 +11,7 @@ use Rattle.heap_graph.specs.declared.classes.ClassPlace.{ClassPlace}
 pub use Rattle.heap_graph.specs.working.ClassList.{TableEntry, ids_of}
 use Rattle.heap_graph.specs.declared.classes.Classes.{Classes}
 
--- the class that the identifier names is at that place, and its size is that of the values of its fields
+-- the entry has the identifier and the place of a class, and the size of the values of the class's fields
 pub record IsTableEntry (v : Sight) (heap : List SubRecord) (e : TableEntry) : Type 0 where
   pub class : Class
   pub named : class_named heap e.0 ≡ Some class

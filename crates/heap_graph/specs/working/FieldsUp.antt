@@ -1,5 +1,5 @@
--- The identifiers in the fields of an instance, class by class from its own class up; classes that declare no field are
--- left out. A class is given by its number.
+-- The identifiers in the fields of an instance, class by class from its own class up. Classes that declare no field are
+-- skipped. A class is given by its number.
 use Rattle.std.specs.Prelude.{List, None, Option, Some, [], drop, length, slice_get, slice_index_or, ℕ, ◌++◌, ◌+◌, ◌<◌}
 use Rattle.std.specs.Prelude.{◌∷◌, ◌≡◌, ◌≤◌}
 use Rattle.std.specs.Coded.{Coded-set, coded_option, coded_ℕ, ×_prop}
@@ -76,7 +76,7 @@ pub record HasFields (s : ℕ) (plans : List ClassPlan) (places : List ℕ) (kno
   pub has : HasIdPlaces plans places k
   pub stand : StandInside s (id_places_of plans places k) (plan_at plans k).size values
 
--- the same for each of these classes. The values follow each other class by class
+-- `HasFields` for each class of the list. The values follow each other class by class
 abbrev pub HaveFields : ℕ → List ClassPlan → List ℕ → List Fate → List ℕ → List ℕ → Type 0
 HaveFields s plans places known [] values = Unit {0}
 HaveFields s plans places known (k ∷ ks) values = HasFields s plans places known values k

@@ -15,7 +15,7 @@ pub record MayIndex (v : Sight) (places : List ℕ) : Type 0 where
   pub few : length places < 2 ^ 32
   pub stand : (heap : List SubRecord) × StandInTurn (Stands v) places (objects heap)
 
--- the same, and `part` has no more places than there are objects from number `start` on
+-- like `MayIndex`, and `part` has no more places than there are objects from number `start` on
 pub record MayGather (v : Sight) (places : List ℕ) (bits : LowBits) (start : ℕ) (part : List ℕ) : Type 0 where
   pub may : MayIndex v places
   pub within : start + length part ≤ length places
@@ -27,8 +27,8 @@ pub record AreOfFirst (os : List SubRecord) (n : ℕ) (ids numbers : List ℕ) :
   pub ids_are : ids ≡ map id_of (take n os)
   pub class_dumps : AreClassNumbers os n numbers
 
--- What was gathered from the objects from number `start` up to `end`: appended to what the objects before `start`
--- yield, it is what all objects before `end` yield.
+-- `g` was gathered from the objects from number `start` up to `end`. Appended to the identifiers and class dumps of the
+-- objects before `start`, `g` yields those of the objects before `end`.
 pub record HasGathered {A : Type 0} (v : Sight) (places : List ℕ) (bits : LowBits) (start end : ℕ)
     (g : Gathered A) : Type 0 where
   pub many : start + length g.ids.ids ≡ end

@@ -36,7 +36,7 @@ pub record AreIdsOf (skips : Class → Member → Bool) (s : ℕ) (heap : List S
   pub are : AreIdsIn skips s heap o ids
   pub few : length ids ≤ 2 ^ 33
 
--- the identifiers with that of the class before them, if `behind` says that they begin after it
+-- all identifiers of an object: `class` and then `ids`, if `behind` says that `ids` begin after the class, else `ids`
 abbrev pub with_class : Bool → ℕ → List ℕ → List ℕ
 with_class behind class ids = if behind then class ∷ ids else ids
 
@@ -48,7 +48,7 @@ pub record IsFirstOfInstance (s : ℕ) (heap : List SubRecord) (ids : List ℕ) 
   pub begins : IsFirst heap ids (declared_fields chain) first
   pub size_is : length i.values ≡ layout_size s chain
 
--- the layout of the fields begins at class `first`, and the values have at least as many bytes
+-- the layout of the fields begins at class `first`, and the values have at least as many bytes as the fields
 pub record IsLayoutFrom {A : Type 0} (o : Objects A) (heap : List SubRecord) (fields : List (Class × Member))
     (first : Option ℕ) (values : List ℕ) : Type 0 where
   pub begins : IsFirst heap (ids_of o.classes.table.entries) fields first

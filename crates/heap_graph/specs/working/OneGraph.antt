@@ -1,5 +1,5 @@
--- A text has at most one graph: its records are determined, and so are the chain of a class and the identifiers that an
--- object holds. A field of a graph that has no bytes rests on this, so it is here and not among the proofs.
+-- A text has at most one graph: the text determines its records, the chain of each class, and the identifiers that each
+-- object holds. The ghost field of `Graph` rests on this law, so the law is here and not among the proofs.
 use Rattle.std.proofs.Common.{Bool, ◌≡◌, ℕ, suc, List, [], ◌∷◌, length, map, Some, None, slice_get, refl, sym, ap}
 use Rattle.std.proofs.Common.{subst, ◌∙◌, arith}
 use Rattle.hprof_grammar.specs.Record.{Record}
@@ -43,8 +43,8 @@ one_ids skips s heap (instance_dump i) ids others h k =
 one_ids skips s heap (object_array_dump a) ids others h k = h ∙ sym k
 one_ids skips s heap (primitive_array_dump a) ids others h k = h ∙ sym k
 
--- `P` relates each element to at most one other: two lists that it relates to the same list, position by position, are
--- equal
+-- `P` relates each element to at most one value. So two lists are equal if `P` relates the same list to both, position
+-- by position.
 module _ {O X : Type 0} (P : O → X → Type 0) (one : (o : O) (x y : X) → P o x → P o y → x ≡ y) where
   same_each :
       (os : List O) (xs ys : List X) → length xs ≡ length os → length ys ≡ length os

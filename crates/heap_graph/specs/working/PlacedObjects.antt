@@ -22,7 +22,7 @@ pub record IsReadFrom {A : Type 0} (o : Objects A) (bytes : List ℕ) (dump : Pl
   pub places_are : o.places.items ≡ dump.objects
   pub are : (is : IsDumpOf bytes dump) → AreOf o (heap_of is.records)
 
--- the places are those of the objects of the dump that `bytes` spell, and the size is that of its identifiers
+-- `places` are those of the objects of the dump that `bytes` spell, and `id_size` is the size of its identifiers
 pub record ArePlacesOf (bytes : List ℕ) (id_size : ℕ) (places : List ℕ) (dump : Places) : Type 0 where
   pub is : IsDumpOf bytes dump
   pub size_is : id_size ≡ dump.id_size

@@ -15,8 +15,8 @@ use Rattle.heap_graph.specs.declared.plan.Plan.{Plan}
 abbrev pub named_class : ClassEntry → NamedClass
 named_class c = record { id = c.id; text = option_copied c.text }
 
--- the objects of a linked dump, the plans of their classes, the roots, the names of the classes, the number of root
--- identifiers other than 0 that name no object, and the fields that are not followed stand for the graph `g`
+-- `g` is the graph that these parts of a linked dump stand for: its objects, the plans of their classes, the roots, the
+-- classes with their names, the number of unresolved root identifiers, and the fields that are not followed
 pub record StandFor {A : Type 0} (objects : Objects A) (plan : Plan A) (roots : List ℕ) (classes : List ClassEntry)
     (unresolved : ℕ) (skip : List SkipEntry) (g : ObjectGraph) : Type 0 where
   pub records : List Record

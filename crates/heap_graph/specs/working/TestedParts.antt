@@ -14,9 +14,9 @@ pub record MayTest {A : Type 0} (o : Objects A) (repeat start : ℕ) (part : Lis
   pub repeat_is : IsFirstRepeat o.index repeat
   pub heap : (heap : List SubRecord) × AreOf o heap × HaveFatesOf o heap
 
--- What the test of a part says, if no object before the part breaks a rule: without a fault, no object of the part
--- breaks one and the first repeat is not in the part, unless that repeat is before the part; a fault is the first of
--- all.
+-- What the result of a part means, if no object before the part breaks a rule. `Ok`: no object of the part breaks a
+-- rule, and number `repeat` is after the part; nothing is said if `repeat` is before the part. `Err`: the fault is the
+-- first of all.
 pub record HasTested {A : Type 0} (o : Objects A) (repeat start : ℕ) (part : List ℕ)
     (result : Result (Unit {0}) LinkFault) : Type 0 where
   pub first : OnOk result (start ≤ repeat → start + length part ≤ repeat)

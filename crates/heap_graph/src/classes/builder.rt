@@ -27,7 +27,7 @@ fn bytes_of_fields(view: &View<'_>, members: Members<'_>) -> u64
 }
 
 impl<'d, A: Allocator + Copy> Classes<'d, A> {
-    /// Creates an empty table with room for `classes` classes.
+    /// Creates an empty table. Only its guesses have room for `classes` classes yet.
     pub(crate) fn new(
         alloc: A,
         view: View<'d>,

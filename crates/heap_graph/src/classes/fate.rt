@@ -8,7 +8,7 @@ pub(crate) struct Layout {
     /// The first class that declares fields, from the class up. A walk over an instance's fields begins there, so that
     /// a long chain of classes without fields costs it nothing.
     pub(crate) first: Option<u32>,
-    /// The first class above it that declares fields.
+    /// The first class above the class itself that declares fields.
     pub(crate) next: Option<u32>,
 }
 

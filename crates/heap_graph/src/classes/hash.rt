@@ -1,9 +1,12 @@
 //! The hash of the identifiers of classes.
 //!
-//! If the hash were known beforehand, a file could be made against it: its classes would have identifiers that all
-//! begin at one place of the table, so that each look-up passes half of them. So the hash of a dump's classes is seeded
-//! with all their identifiers: a change of one identifier changes the hashes of all. The hash is the same in each run.
-//! No contract mentions the hash: only time depends on it.
+//! If the seed were fixed, a file could have class identifiers that all lead to one place of the table: each look-up
+//! would pass half of the classes. So the seed is computed from all class identifiers of the dump: a change of one
+//! identifier changes the hashes of all. The hash is the same in each run.
+//!
+//! The hash function is known, so a file could still be made against it, with identifiers that collide under the seed
+//! that they themselves yield. That costs only time, since no contract mentions the hash: a look-up passes at most all
+//! classes, and a file has at most 1 GiB.
 
 use std::hash::{BuildHasher, DefaultHasher, FoldHasher, Hasher};
 

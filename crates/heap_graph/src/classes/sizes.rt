@@ -14,7 +14,8 @@ impl<'d, A: Allocator> Classes<'d, A> {
     ghost use Rattle.heap_graph.specs.working.Chains.{IsChainAtOf, IsFateOf, IsFirstOf, IsLayoutAtOf, IsSettled};
     ghost use Rattle.heap_graph.specs.working.Chains.{IsUnderOf};
 
-    /// Returns the first class that declares fields, from class `number` up. `above` is the first one above it.
+    /// Returns the first class that declares fields, from class `number` up. `above` is the first of those above class
+    /// `number`.
     fn first_of(&self, number: u32, above: Option<u32>) -> Option<u32>
         requires below { number < length self.now.table.entries }
         requires heap { (heap : List SubRecord) × AreClassesOf self.now heap }

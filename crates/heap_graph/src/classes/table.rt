@@ -32,7 +32,7 @@ impl<A: Allocator> Model for ClassTable<A> {
 }
 
 impl<A: Allocator + Copy> ClassTable<A> {
-    /// Creates an empty table with room for `classes` classes.
+    /// Creates an empty table. Only its guesses have room for `classes` classes yet.
     pub(crate) fn new(alloc: A, hash: ClassHash, classes: usize) -> Result<Self, AllocError>
         ensures { IfOk result (λ t. t.entries ≡ []) }
     {
@@ -78,7 +78,7 @@ impl<A: Allocator> ClassTable<A> {
     }
 
     /// Finds the number of the class `id` in the map.
-    // A call, so that a look-up whose guess is right needs no locals for it.
+    // Not inlined, so that a look-up whose guess is right needs no locals for the search.
     #[inline(never)]
     fn find_in_map(&self, id: u64) -> Option<u32>
         requires { length self.now.entries < 2 ^ 32 }
@@ -104,7 +104,7 @@ impl<A: Allocator> ClassTable<A> {
         self.find_in_map(id)
     }
 
-    /// Tests whether `find` looks into no map for `id`, since the guessed class bears it.
+    /// Tests whether `find` needs no search of the map for `id`, because the guessed class bears it.
     fn is_guessed(&self, id: u64) -> bool {
         self.bears(self.guesses.guess(id), id)
     }

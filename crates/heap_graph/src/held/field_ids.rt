@@ -10,9 +10,9 @@ use std::marker::Model;
 
 /// The remaining identifiers in the fields of an instance: those in the fields of one class, and then those of the
 /// classes above it that declare fields.
-// The order of the fields is for the compiler. Other variants of the walk that this is part of have fields of one byte
-// and of four bytes at the offsets of `next` and `own`, so the compiler keeps what is there in pieces of these sizes.
-// If the length of `places` were there, it would put the pieces together again for each identifier.
+// The order of the fields is for the compiler. Other variants of the walk that contains this type have fields of one
+// byte and of four bytes at the offsets of `next` and `own`, so the compiler keeps `next` and `own` in pieces of these
+// sizes. With `places` at these offsets, the compiler would join the pieces of its length for each identifier.
 #[derive(Drop)]
 pub struct FieldIds<'g, A: Allocator> {
     objects: &'g Objects<'g, A>,

@@ -11,7 +11,7 @@ use crate::types::OBJECT_TYPE;
 use hprof_grammar::{Values, View};
 
 /// Returns the size in bytes of `values` together.
-// A call, so that a visit does not contain the walk over a class's statics.
+// Not inlined, so that a visit does not contain the walk over a class's statics.
 #[inline(never)]
 fn bytes_together(view: &View<'_>, values: Values<'_>) -> u64
     requires { length values < 2 ^ 16 }

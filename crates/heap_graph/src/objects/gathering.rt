@@ -1,4 +1,4 @@
-//! The identifiers of objects and the numbers of their class dumps are gathered from their places, part by part.
+//! Gathers the identifiers of objects and the numbers of the class dumps among them, part by part.
 
 ghost use Rattle.hprof_grammar.specs.Standing.{Sight, StandInTurn, Stands};
 ghost use Rattle.hprof_grammar.specs.SubRecord.{SubRecord};
@@ -13,7 +13,7 @@ use std::alloc::{AllocError, Allocator};
 use std::thread;
 use std::thread::Threads;
 
-/// The identifiers of objects, and which of these are class dumps.
+/// The identifiers of objects, and which of the objects are class dumps.
 #[derive(Drop)]
 pub(crate) struct Gathered<A: Allocator> {
     pub(crate) ids: IdIndexBuilder<A>,
@@ -22,7 +22,7 @@ pub(crate) struct Gathered<A: Allocator> {
 }
 
 impl<A: Allocator + Copy> Gathered<A> {
-    /// No object, for identifiers with those lowest bits.
+    /// Creates a value without an object, for identifiers with the lowest bits `bits`.
     fn new(alloc: A, bits: LowBits) -> Self
         requires shifted { bits.shift < 64 }
         requires low { bits.low < 2 ^ bits.shift }
@@ -37,7 +37,7 @@ impl<A: Allocator + Copy> Gathered<A> {
         }
     }
 
-    /// Adds what was gathered from the next part.
+    /// Appends `next`, which was gathered from the next part. `AllocError` if an allocation fails.
     fn append(&mut self, next: Self) -> Result<(), AllocError>
         requires shift { next.ids.shift ≡ self.old.ids.shift }
         requires low { next.ids.low ≡ self.old.ids.low }
@@ -50,7 +50,7 @@ impl<A: Allocator + Copy> Gathered<A> {
     }
 }
 
-/// Notes the number of an object if that is a class dump.
+/// Appends `number` to `class_dumps` if object `number` is a class dump. `AllocError` if the allocation fails.
 pub(super) fn note_class<B: Allocator>(
     class_dumps: &mut Vec<u32, B>,
     view: &View<'_>,
@@ -74,8 +74,8 @@ pub(super) fn note_class<B: Allocator>(
     }
 }
 
-/// What the objects of a part of the places give, those from the number `start` on, if all their identifiers have those
-/// lowest bits.
+/// Gathers the objects of `part`, of which the first has the number `start`. Returns `None` if an identifier has other
+/// lowest bits than `bits`.
 fn gather_part<B: Allocator + Copy>(
     alloc: B,
     view: &View<'_>,
@@ -141,8 +141,8 @@ fn gather_in_parts<T: Threads + Sync, B: Allocator + Copy + Send + Sync>(
     join_parts(alloc, bits, parts)
 }
 
-/// What the objects at these places give, if all their identifiers have those lowest bits: where there are many they
-/// are gathered in parts, and in one part also where there is no memory for several.
+/// Gathers the objects at `places`: in parts if there are many objects, but in one part if there is no memory for
+/// several. Returns `None` if an identifier has other lowest bits than `bits`.
 pub(crate) fn gather<T: Threads + Sync, B: Allocator + Copy + Send + Sync>(
     team: &Team<'_, T>,
     alloc: B,

@@ -1,8 +1,9 @@
-//! The objects by their identifiers, gathered from their places.
+//! Indexes objects by their identifiers, which are read at the places of the objects.
 //!
-//! Most dumps give as identifiers the addresses of objects, which agree in their lowest three bits: the index leaves
-//! these out, so that neighbours share a run. At the first identifier that does not agree all are gathered again, each
-//! as it is. Both times the class dumps are noted on the way, so that only these are looked at for the class table.
+//! In most dumps the identifiers are the addresses of objects, and all have the same lowest three bits. The index omits
+//! these bits, so that neighbours share a run. If an identifier has other lowest bits, all identifiers are gathered
+//! again and indexed with all their bits. Both times the numbers of the class dumps are noted on the way, so that only
+//! class dumps are read for the class table.
 
 ghost use Rattle.hprof_grammar.specs.Standing.{StandInTurn, Stands};
 ghost use Rattle.hprof_grammar.specs.SubRecord.{SubRecord};
@@ -26,7 +27,7 @@ pub(crate) struct Indexed<A: Allocator> {
     pub(crate) class_dumps: Vec<u32, A>,
 }
 
-/// The lowest three bits of the first object's identifier.
+/// Returns the lowest three bits of the first object's identifier, or 0 if there is no object.
 fn first_bits(view: &View<'_>, places: &[u32]) -> LowBits
     requires { (heap : List SubRecord) × StandInTurn (Stands view.now) places.now (objects heap) }
     ensures shift { result.shift ≡ 3 }
@@ -41,11 +42,11 @@ fn first_bits(view: &View<'_>, places: &[u32]) -> LowBits
     }
 }
 
-/// All bits of identifiers.
+/// Identifiers are indexed with all their bits.
 const ALL_BITS: LowBits = LowBits { shift: 0, low: 0 };
 
 impl<A: Allocator> Indexed<A> {
-    /// The objects that were gathered.
+    /// Indexes the objects of `gathered`. `AllocError` if an allocation fails.
     fn of(alloc: A, gathered: Gathered<A>) -> Result<Self, AllocError>
         ensures { IfOk result (λ indexed. (indexed.index ≡ gathered.ids.ids)
             × (indexed.class_dumps.items ≡ gathered.class_dumps.items)) }
@@ -57,7 +58,7 @@ impl<A: Allocator> Indexed<A> {
     }
 }
 
-/// The objects at these places, by their identifiers.
+/// Indexes the objects at `places` by their identifiers. `AllocError` if an allocation fails.
 pub(crate) fn index_of<T: Threads + Sync, B: Allocator + Copy + Send + Sync>(
     team: &Team<'_, T>,
     alloc: B,

@@ -166,8 +166,8 @@ fn met_among<B: Allocator + Copy>(
 
 impl<'t, A: Allocator> Skip<'t, A> {
     /// Returns for each entry, in the order of the list, whether it names a field of `dump`, which was read from
-    /// `bytes`: a class that a class dump describes is named by the entry and declares a field of the entry's name, of
-    /// whatever type. Static fields do not count.
+    /// `bytes`. An entry names a field if a class of `dump` has the entry's class name and declares a field with the
+    /// entry's field name, of whatever type. The class needs a class dump. Static fields do not count.
     pub fn met<B: Allocator + Copy, C: Allocator>(
         &self,
         alloc: B,

@@ -4,17 +4,18 @@ use Rattle.id_index.specs.declared.beginnings.Beginnings.{Beginnings}
 use Rattle.id_index.specs.declared.runs.Run.{Run}
 use Rattle.id_index.specs.working.Runs.{page_in}
 
--- the distance of a page from the least, without its lowest bits
+-- the bucket of `page`: its distance from the page `least`, without the lowest `shift` bits
 abbrev pub bucket_of : ℕ → ℕ → ℕ → ℕ
 bucket_of least shift page = (page - least) / 2 ^ shift
 
--- the runs before that index are in buckets before this one, and no others
+-- the runs before index `at` are exactly those in buckets before `bucket`
 pub record IsBeginning (runs : List Run) (least shift bucket at : ℕ) : Type 0 where
   pub within : at ≤ length runs
   pub before : (k : ℕ) → k < at → bucket_of least shift (page_in runs k) < bucket
   pub behind : (k : ℕ) → at ≤ k → k < length runs → bucket ≤ bucket_of least shift (page_in runs k)
 
--- for each bucket where its runs begin, and one more beginning; about one for each two runs
+-- `b.starts` has the index at which the runs of each bucket begin, and one more index; in all at most half as many
+-- indexes as runs, and three more
 pub record AreBeginnings {A : Type 0} (runs : List Run) (b : Beginnings A) : Type 0 where
   pub shifted : b.shift < 64
   pub low : (k : ℕ) → k < length runs → b.least ≤ page_in runs k
@@ -25,7 +26,7 @@ pub record AreBeginnings {A : Type 0} (runs : List Run) (b : Beginnings A) : Typ
   pub each : (bucket : ℕ) → bucket < length b.starts.items →
       IsBeginning runs b.least b.shift bucket (slice_index b.starts.items bucket)
 
--- before the first of these indexes pages are smaller, and from the second on they are not
+-- the runs before index `begin` have smaller pages than `page`, and the runs from index `end` on do not
 pub record IsAround (runs : List Run) (page begin end : ℕ) : Type 0 where
   pub order : begin ≤ end
   pub within : end ≤ length runs

@@ -22,7 +22,7 @@ pub record AreBuilt (runs : List Run) (ids : List ℕ) : Type 0 where
   pub turn : AreInTurn runs
   pub before : (i : ℕ) → i < length runs → end_of (run_in runs i) ≤ length ids
 
--- the same of `runs` and a last run, which the next object may join
+-- like `AreBuilt`, for `runs` and then `last`, a run that the next object may join
 pub record AreOpen (runs : List Run) (last : Run) (ids : List ℕ) : Type 0 where
   pub sound : AreSound (runs ++ last ∷ []) ids
   pub complete : AreComplete (runs ++ last ∷ []) ids

@@ -1,4 +1,5 @@
--- Pairs of an object's identifier, less the lowest one, and its number.
+-- Pairs of an object's identifier, less `lowest`, and the object's number. `lowest` is the identifier of the first
+-- place of the least page.
 use Rattle.std.specs.Prelude.{Bool, List, Some, length, map, slice_get, slice_index_or, ◌+◌, ◌-◌, ◌<◌, ◌==◌, ◌^◌}
 use Rattle.std.specs.Prelude.{◌≡◌, ◌≢◌, ◌≤◌, ℕ}
 use Rattle.std.specs.List.{position_or_len, range_with_len}
@@ -10,21 +11,21 @@ pair_of at number = record { at = at; number = number }
 abbrev pub pair_in : List Pair → ℕ → Pair
 pair_in pairs k = slice_index_or pairs k (pair_of 0 0)
 
--- the pairs before that index ascend strictly
+-- the pairs before index `end` ascend strictly
 abbrev pub DoAscend : List Pair → ℕ → Type 0
 DoAscend pairs end = (i j : ℕ) → i < j → j < end → (pair_in pairs i).at < (pair_in pairs j).at
 
--- the pairs before that index are set
+-- the pairs before index `end` are set
 abbrev pub AreSet : List Pair → ℕ → Type 0
 AreSet pairs end = (k : ℕ) → k < end → (pair_in pairs k).number ≢ 2 ^ 32 - 1
 
--- the pair at that index has that identifier and number
+-- the pair at index `k` has the identifier `id` and the number `number`
 pub record IsPairAt (pairs : List Pair) (lowest id number k : ℕ) : Type 0 where
   pub within : k < length pairs
   pub id_is : lowest + (pair_in pairs k).at ≡ id
   pub number_is : (pair_in pairs k).number ≡ number
 
--- a pair has that identifier and number
+-- a pair has the identifier `id` and the number `number`
 abbrev pub Names : List Pair → ℕ → ℕ → ℕ → Type 0
 Names pairs lowest id number = (k : ℕ) × IsPairAt pairs lowest id number k
 
@@ -33,7 +34,7 @@ Names pairs lowest id number = (k : ℕ) × IsPairAt pairs lowest id number k
 abbrev pub is_numbered : ℕ → Pair → Bool
 is_numbered number pair = pair.number == number
 
--- the identifier of the object of that number
+-- the identifier of object `number`
 abbrev pub id_paired : List Pair → ℕ → ℕ → ℕ
 id_paired pairs lowest number = lowest + (pair_in pairs (position_or_len (is_numbered number) pairs)).at
 

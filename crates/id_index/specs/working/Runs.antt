@@ -1,5 +1,5 @@
 -- Runs: objects of one page of 64 places whose numbers follow one another. A run is its page, the number of its first
--- object, and a word that has the bit of each place where it has an object.
+-- object, and a word with a bit set for each place where the run has an object.
 use Rattle.std.specs.Prelude.{Bool, Contains, List, None, Option, Some, count_ones, length, map, slice_get}
 use Rattle.std.specs.Prelude.{slice_index_or, ◌&&◌, ◌+◌, ◌*◌, ◌/◌, ◌%◌, ◌^◌, ◌<◌, ◌==◌, ◌≡◌, ◌≢◌, ◌≤◌, nat_lt, ℕ}
 use Rattle.std.specs.Int.{bit_at}
@@ -100,8 +100,8 @@ pub record AreAscending (runs : List Run) : Type 0 where
 abbrev pub AreFewAPage : List Run → Type 0
 AreFewAPage runs = (k : ℕ) → k + 64 < length runs → page_in runs k ≡ page_in runs (k + 64) → ⊥
 
--- what the runs say of the objects with these identifiers is true, and for each object they have one with its
--- identifier and a number that is no greater
+-- what the runs say of the objects with the identifiers `ids` is true, and for each object a run has its identifier,
+-- with its number or a lower one
 pub record Tell (runs : List Run) (ids : List ℕ) : Type 0 where
   pub sound : (k id : ℕ) → k < length runs → HasBearer (run_in runs k) id
       → slice_get ids (number_in (run_in runs k) (id % 64)) ≡ Some id
@@ -115,7 +115,7 @@ pub record IsBearerAt (runs : List Run) (id number at : ℕ) : Type 0 where
   pub number_is : number ≡ number_in (run_in runs at) (id % 64)
   pub first : (k : ℕ) → k < at → HasBearer (run_in runs k) id → ⊥
 
--- the number that the first run with the identifier has for it
+-- the number that the first run with identifier `id` has for it; `None` if no run has `id`
 abbrev pub IsFirstBearer : List Run → ℕ → Option ℕ → Type 0
 IsFirstBearer runs id None = (k : ℕ) → k < length runs → HasBearer (run_in runs k) id → ⊥
 IsFirstBearer runs id (Some number) = (at : ℕ) × IsBearerAt runs id number at

@@ -1,4 +1,4 @@
--- Runs that are settled: first the kept ones, in ascending order, and after them those that add nothing to these.
+-- Settled runs: first the kept runs, in ascending order, then the runs that add nothing to the kept ones.
 use Rattle.std.specs.Prelude.{IsPermutation, IsSorted, List, bit_and, count_ones, length, take, ◌+◌, ◌-◌, ◌<◌, ◌^◌}
 use Rattle.std.specs.Prelude.{◌%◌, ◌≡◌, ◌≤◌, ◌⊎◌, ℕ}
 use Rattle.std.specs.List.{swap}
@@ -34,8 +34,8 @@ pub record AreSettledBefore (runs now : List Run) (at kept : ℕ) : Type 0 where
   pub order : kept ≤ at
   pub settled : AreKept runs at (take kept now)
 
--- of `page`, the page of the last run before `at`, at most as many runs are kept as places were seen, and at most 64 of
--- each page
+-- `page` is that of the last run before index `at`. From a kept run of `page` on, at most as many runs are kept as
+-- `seen` has places. Of each page at most 64 runs are kept.
 pub record AreFewSeen (runs : List Run) (at page seen : ℕ) (kept : List Run) : Type 0 where
   pub last : 0 < at → page ≡ page_in runs (at - 1)
   pub held : (k : ℕ) → k < length kept → page_in kept k ≡ page → length kept ≤ k + count_ones seen
