@@ -15,8 +15,7 @@ pub record IsStatusOf {W : Type 0} (words : List (List ℕ)) (status : ℕ) (byt
   pub usage : status ≡ 2 → IsWrong words
   pub wrong : (IsTaken words → ⊥) → (AsksAboutProgram words → ⊥) → status ≢ 0
   pub untouched : status ≡ 2 → Keeps (bytes_of (inner_of old)) (bytes_of (inner_of new))
-  -- At 0, if neither help nor version was asked for, a report was written and flushed. It is without the fields of
-  -- `--skip`.
+  -- At 0, if neither help nor version was asked for, a report was written and flushed, without the fields of `--skip`.
   pub reported : status ≡ 0 → (AsksAboutProgram words → ⊥)
       → WritesReportFor (text_given (codes "skip") words) (bytes_of (inner_of old)) (bytes_of (inner_of new))
   pub flushed : status ≡ 0 → (AsksAboutProgram words → ⊥) → is_flushed new ≡ true
