@@ -31,8 +31,8 @@ impl Chance {
     }
 }
 
-/// The ID of each number below 0x1000: the number itself, or a place that eight divides, where objects rise, fall, or
-/// come in no order. That of 0 is 0.
+/// Four ways to give each number below 0x1000 an ID: the number itself, or a multiple of eight, in rising, falling or
+/// no order. The ID of 0 is 0.
 const ORDERS: [fn(u64) -> u64; 4] = [
     |number| number,
     |number| 8 * number,
@@ -40,13 +40,13 @@ const ORDERS: [fn(u64) -> u64; 4] = [
     |number| 8 * (number * 0x9E5 % 0x1000),
 ];
 
-/// A dump that grows. Classes and other objects have IDs of ranges of their own, most of the time.
+/// A dump that grows. Classes usually have IDs of another range than other objects.
 struct Maker {
     chance: Chance,
     id: usize,
     /// The ID of each number.
     order: fn(u64) -> u64,
-    /// Of each class so far its fields' types and its superclass.
+    /// For each class so far, the types of its fields, and its superclass.
     classes: Vec<(Vec<u8>, u64)>,
     objects: u64,
 }

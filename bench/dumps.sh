@@ -16,9 +16,9 @@
 #   list       one list of 1,000,000 nodes, which ends in a tree of as many, and one of 4,000,000 that ends in one node
 #   map        one map of 4,000,000 entries
 #   ids        6,000,000 instances with IDs at random, made by hostile.rs: 290 MB, without a histogram
-#   odd        no compressed references, no class archive, a dump written at the end of memory
+#   odd        no compressed references, no class archive, a dump written at an OutOfMemoryError
 #   refused    a dump compressed by the virtual machine, which heapmark refuses
-# Java is the one of JAVA_HOME, else that of PATH. Files that are there already are made again.
+# Java is that of JAVA_HOME, else that of PATH. Files that exist are made again.
 set -euo pipefail
 
 top=$(cd "$(dirname "$0")/.." && pwd)
@@ -27,9 +27,9 @@ room=${1:-/tmp/heapmark-bench}
 # shellcheck source=bench/machine.sh
 . "$top/bench/machine.sh"
 
-# moment PID NAME [-all]: histogram and dump, by one request to the machine, so that little happens between the two.
-# Before those of live objects the garbage goes twice, since what waits to be finalized or cleaned outlives the first
-# time.
+# moment PID NAME [-all]: makes a histogram and a dump by one request to the virtual machine, so that little happens
+# between the two. Without -all, garbage is collected twice before, since objects that wait to be finalized or cleaned
+# outlive the first collection.
 moment() {
     if [ $# -eq 2 ]; then
         "${java}jcmd" "$1" GC.run > "$room/$2.histogram"
@@ -41,7 +41,8 @@ moment() {
     ls -l "$room/$2.hprof"
 }
 
-# filler MEGABYTES NAME OPTION..: the dump of all objects first, since that of the live ones collects the garbage.
+# filler MEGABYTES NAME OPTION..: dumps Filler. The dump of all objects comes first, since that of the live objects
+# collects the garbage.
 filler() {
     local megabytes=$1 name=$2
     shift 2
@@ -90,8 +91,8 @@ shaped() {
     ended
 }
 
-# scattered_nodes NAME NODES: the young generation has room for all entries of the map, since a collection amid them
-# would put them in the order of the map's table.
+# scattered_nodes NAME NODES: dumps Scattered. The young generation has room for all entries of the map, since a
+# collection while they are made would put them in the order of the map's table.
 scattered_nodes() {
     shaped "$1" -Xms2g -Xmn1g Scattered "$2"
 }
@@ -151,9 +152,8 @@ spent() {
     awk -v ticks="$(getconf CLK_TCK)" '{ print int(($14 + $15) / ticks) }' "/proc/$1/stat"
 }
 
-# Copies of Filler, each in a package of its own, and javac in the midst of compiling them: it does not stand still
-# between its histogram and its dump. It is asked after so much work, and not after so much time, since the machine may
-# be busy.
+# Makes copies of Filler, each in its own package, and dumps javac while it compiles them: javac works on between
+# histogram and dump. It is dumped after 20 s of processor time, not of wall time, since the machine may be busy.
 javac_at_work() {
     local number compiler
     for number in $(seq 1500); do

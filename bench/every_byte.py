@@ -37,7 +37,7 @@ def mixed(mix, report):
 
 
 def answer(plain, path):
-    """What the plain marker answers for this file."""
+    """Returns the result of the plain marker for the file at `path`."""
     ran = subprocess.run([plain, path], capture_output=True, timeout=60)
     if ran.returncode == 0:
         return Answer(0, len(ran.stdout), ran.stdout)
@@ -48,7 +48,7 @@ def answer(plain, path):
 
 
 def answers_at(task):
-    """The answers for each value at this place, with none for the value that stands there."""
+    """Returns the result for each value at the place of `task`, and `None` for the value that the dump has there."""
     plain, dump, place = task
     answers = []
     with tempfile.NamedTemporaryFile(dir="/dev/shm" if os.path.isdir("/dev/shm") else None) as file:
@@ -64,7 +64,7 @@ def answers_at(task):
 
 
 def ranges(answers):
-    """Ranges of values with the same code and place, and their reports mixed."""
+    """Returns the ranges of values with the same code and place, each with the mix of its reports."""
     rows = []
     for value, told in enumerate(answers):
         if told is None:

@@ -1,9 +1,9 @@
 # The head of run.sh, phases.sh and visualvm.sh, which are called with the same words: [RUNS [DUMP..]]. To be sourced.
 #
-# Sets `runs`, or leaves it as it is if it is not told; `dumps`, those of /tmp/heapmark-bench if none is given; `top`, the
-# repository; `heapmark`, the binary that `rt run` in crates/heapmark made, or what the variable HEAPMARK names; and
-# `room`, a folder that goes away at the end. The words of the variable STARTER start each run: on a busy machine
-# 'chrt -f 10' of root keeps other work off the processors.
+# Sets `runs` if RUNS is given; `dumps`, those of /tmp/heapmark-bench if none is given; `top`, the repository;
+# `heapmark`, the binary that `rt run` in crates/heapmark made, or what the variable HEAPMARK names; and `room`, a
+# folder that is removed at the end. The words of the variable STARTER start each run: on a busy machine
+# STARTER='chrt -f 10', as root, keeps other work off the processors.
 # shellcheck shell=bash disable=SC2034 # what is set here is used there
 set -euo pipefail
 

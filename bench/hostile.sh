@@ -7,7 +7,7 @@
 # the size of the larger file, both programs' seconds on the smaller and the larger, and whether they wrote the same. A
 # run is given up after a minute. heapmark is the binary of crates/heapmark/out, or what the variable HEAPMARK names;
 # the words of the variable OPTIONS go to it, as in OPTIONS='--workers 1'. Both programs read the kind `named_fields`
-# with a list of 64 fields that are not followed, where heapmark has that option.
+# with a list of 64 fields that are not followed, if heapmark has the option --skip.
 set -euo pipefail
 
 top=$(cd "$(dirname "$0")/.." && pwd)
@@ -22,7 +22,8 @@ rustc --edition 2024 -O -o "$room/hostile" "$top/bench/hostile.rs"
 # shellcheck disable=SC2046 # a kind is one word
 [ $# -gt 0 ] || set -- $("$room/hostile" || true)
 
-# seconds PROGRAM [OPTION..]: on the file that was made last; what it wrote is kept, without the program's name.
+# seconds PROGRAM [OPTION..]: prints the seconds that PROGRAM takes on the dump that was made last. Keeps its report or
+# its refusal, without the program's name.
 seconds() {
     local start end program=$1
     shift

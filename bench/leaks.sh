@@ -1,16 +1,19 @@
 #!/usr/bin/env bash
-# Tries on programs that leak what the README tells to look for a leak: takes two dumps of each, and sees that the
-# class that leaks is among the lines of the recipe, whose text is taken as it is in docs/RECIPES.md, or of the tools,
-# and that the first line of tools/holders is what holds it.
+# Tries the README's advice about leaks on programs that leak. Takes two dumps of each program, and tests whether the
+# recipe of docs/RECIPES.md and tools/grown print the class that leaks, and whether the first line of tools/holders is
+# what holds it.
 #
 # usage: bench/leaks.sh
 #
-# The programs are those of bench/java whose names end in Leak. The recipe and tools/grown find the class that leaks,
-# and tools/holders finds what holds it, with that class and without. Of ThreadLocalLeak no class of the program
-# grows, and tools/held finds what the values of thread locals keep. What ClassValueLeak keeps is in no row, and
-# tools/grown says that more is unreachable. Between two runs of one program nothing of its own grew, though its
-# lambdas have other names. A recipe for a dump that is cut has to end with a status other than 0 and to print
-# nothing. heapmark is the binary of crates/heapmark/out, or what the variable HEAPMARK names.
+# The programs are those of bench/java whose names end in Leak. tools/holders is tried with the class that leaks and
+# without a class. Some cases differ:
+#
+# - No class of ThreadLocalLeak grows: tools/held has to find what the values of thread locals keep.
+# - What ClassValueLeak keeps is in no row: tools/grown has to say that more is unreachable.
+# - Between two runs of one program no class of it grows, though its lambdas have other names.
+# - If a dump is cut, the recipe has to end with a status other than 0 and to print nothing.
+#
+# heapmark is the binary of crates/heapmark/out, or what the variable HEAPMARK names.
 set -euo pipefail
 
 top=$(cd "$(dirname "$0")/.." && pwd)
@@ -21,25 +24,25 @@ room=$(mktemp -d)
 trap 'rm -rf "$room"' EXIT
 failed=0
 
-# recipe: the first indented lines of the section "Which classes grew".
+# recipe: prints the first indented lines of the section "Which classes grew".
 recipe() {
     awk '/^## Which classes grew/ { found = 1 }
         found && /^    / { begun = 1; print substr($0, 5); next }
         begun { exit }' "$top/docs/RECIPES.md"
 }
 
-# pasted: runs the recipe where the dumps are, as a shell does that knows the program by its name.
+# pasted: runs the recipe in the folder of the dumps, in a shell that finds heapmark by PATH.
 pasted() {
     (cd "$room" && PATH=$room/bin:$PATH bash recipe)
 }
 
-# dumped NAME: the live objects of the program that was started.
+# dumped NAME: dumps the live objects of the program that was started.
 dumped() {
     rm -f "$room/$1"
     "${java}jcmd" "$PROGRAM_PID" GC.heap_dump "$room/$1" > "$room/told"
 }
 
-# dumped_twice PROGRAM: two dumps of it, between which it leaked.
+# dumped_twice PROGRAM: takes two dumps of PROGRAM, between which it leaks.
 dumped_twice() {
     started "${java}java" -cp "$room/classes" -Xmx60m "$1"
     dumped monday.hprof
@@ -48,7 +51,7 @@ dumped_twice() {
     ended
 }
 
-# judge NAME STATUS: prints whether it was right, and if not, the lines.
+# judge NAME STATUS: prints whether STATUS is 0, and the lines if it is not.
 judge() {
     if [ "$2" = 0 ]; then
         echo "ok: $1"
@@ -59,20 +62,20 @@ judge() {
     fi
 }
 
-# among NAME CLASS: the class is among the lines.
+# among NAME CLASS: tests whether CLASS is among the lines.
 among() {
     local place
     place=$(awk -v class="$2" '$3 == class { print NR }' "$room/lines")
     judge "$1: line ${place:-none} of $(wc -l < "$room/lines") is $2" "$([ -n "$place" ]; echo $?)"
 }
 
-# hanging PROGRAM FIELD CLASS: among what hangs by this field, in the second dump, is the class.
+# hanging PROGRAM FIELD CLASS: tests whether CLASS is among what FIELD holds in the second dump.
 hanging() {
     HEAPMARK=$heapmark "$top/tools/held" "$room/friday.hprof" "$2" > "$room/lines" || true
     among "$1, by $2" "$3"
 }
 
-# holding PROGRAM HOLDER [CLASS]: the first line on the second dump is this holder.
+# holding PROGRAM HOLDER [CLASS]: tests whether the first line of tools/holders on the second dump names HOLDER.
 holding() {
     local program=$1 holder=$2 first
     shift 2
@@ -82,7 +85,7 @@ holding() {
     judge "$program${1:+, $1}: the first holder is $holder" "$([ "$first" = "$holder" ]; echo $?)"
 }
 
-# leaking PROGRAM CLASS HOLDER: this program leaks this class, which this field holds.
+# leaking PROGRAM CLASS HOLDER: tests whether PROGRAM is seen to leak CLASS, which the field HOLDER holds.
 leaking() {
     dumped_twice "$1"
     pasted > "$room/lines" || true
@@ -93,7 +96,7 @@ leaking() {
     holding "$1" "$3"
 }
 
-# leaking_by_thread PROGRAM CLASS: of this program no class grows, and its thread locals keep this one.
+# leaking_by_thread PROGRAM CLASS: tests whether no class of PROGRAM grows, and whether its thread locals keep CLASS.
 leaking_by_thread() {
     dumped_twice "$1"
     pasted > "$room/lines"
@@ -102,7 +105,7 @@ leaking_by_thread() {
     hanging "$1" 'java/lang/ThreadLocal$ThreadLocalMap$Entry.value' "$2"
 }
 
-# leaking_by_class PROGRAM COUNT: of what this program keeps, at least COUNT objects are unreachable in its dumps.
+# leaking_by_class PROGRAM COUNT: tests whether at least COUNT objects more are unreachable in the second dump.
 leaking_by_class() {
     local objects
     dumped_twice "$1"
@@ -113,7 +116,7 @@ leaking_by_class() {
     judge "$1: no class of its own grew" "$(! grep -q "  $1" "$room/lines"; echo $?)"
 }
 
-# run_twice PROGRAM: two runs that do the same, whose lambdas have other names.
+# run_twice PROGRAM: tests whether no class of PROGRAM grows between two runs that differ only in the names of lambdas.
 run_twice() {
     local dump
     for dump in monday friday; do
@@ -127,7 +130,7 @@ run_twice() {
     judge "$1, two runs: so says tools/grown" "$(! grep -q "  $1" "$room/lines"; echo $?)"
 }
 
-# cut_short NAME: the recipe on the two dumps, with the end of dump NAME cut off.
+# cut_short NAME: cuts off the end of dump NAME, and tests whether the recipe then fails and prints nothing.
 cut_short() {
     truncate -s -1000 "$room/$1"
     if pasted > "$room/lines" 2> "$room/told" || [ -s "$room/lines" ]; then

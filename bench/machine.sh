@@ -1,7 +1,7 @@
 # Starts programs on a Java virtual machine and ends them. To be sourced by dumps.sh and leaks.sh.
 #
-# Sets `java`, what stands before `java`, `javac`, `jcmd` and `jshell`: the folder of JAVA_HOME if that is set, else
-# nothing, so that those of PATH are taken.
+# Sets `java`, the prefix of the commands `java`, `javac`, `jcmd` and `jshell`: the folder of programs in JAVA_HOME, or
+# nothing if JAVA_HOME is not set, so that the commands of PATH are taken.
 # shellcheck shell=bash disable=SC2034 # what is set here is used there
 
 java=${JAVA_HOME:+$JAVA_HOME/bin/}
@@ -23,7 +23,7 @@ started() {
     until_ready
 }
 
-# told LINE: gives the program this line, after which it prints "ready" again.
+# told LINE: sends LINE to the program, and waits until the program prints "ready" again.
 told() {
     echo "$1" >&"${PROGRAM[1]}"
     until_ready

@@ -12,9 +12,9 @@
 #   report   until the program ends, with what the leader drains after the workers
 #
 # Marking is known by its threads: it is the last time that exactly as many live at once as there are workers. Parsing,
-# linking and reporting start fewer. A second table has the least, middle and largest time of marking; the largest
-# divided by the least; one worker's middle time divided by this one's; and the processor time (user and system) of the
-# whole program, the middle of RUNS further runs without moments.c. heapmark and the variable STARTER are as in
+# linking and reporting start fewer. A second table has the least, median and largest time of marking; the largest
+# divided by the least; the median time with one worker divided by the row's median; and the processor time (user and
+# system) of the whole program, the median of RUNS further runs without moments.c. heapmark and STARTER are as in
 # bench/run.sh. The words of the variable OPTIONS go to heapmark, as in OPTIONS='--buffer 64'.
 runs=3
 # shellcheck source=bench/head.sh
@@ -36,12 +36,12 @@ used() {
     awk '{ print $1 + $2 }' "$room/clock" >> "$room/used"
 }
 
-# middle COLUMN FILE: the middle one of the numbers in this column.
+# middle COLUMN FILE: prints the median of the numbers in COLUMN.
 middle() {
     awk -v column="$1" '{ print $column }' "$2" | sort -g | awk '{ at[NR] = $1 } END { print at[int((NR + 1) / 2)] }'
 }
 
-# spread NAME WORKERS: how the times of marking lie.
+# spread NAME WORKERS: adds a row to the second table.
 spread() {
     [ "$2" -gt 1 ] || alone=$(middle 3 "$room/times")
     awk -v name="$1" -v workers="$2" -v middle="$(middle 3 "$room/times")" -v alone="$alone" \

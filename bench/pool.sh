@@ -4,9 +4,9 @@
 # usage: bench/pool.sh [RUNS [COMMAND WORD..]]
 #
 # Builds crates/pool_bench with rt and bench/std_baseline.rs with rustc, and runs the two in turn: RUNS times for claims
-# (10 by default), four times as often for pops and pushes, which are shorter. Prints the best of each, the ratio of the
-# best times and that of the middle ones: above 1 the pool takes longer. A pop with its push counts as one. The command,
-# if any, starts each run: on a busy machine 'nice -n -20' of root keeps other work off the processors.
+# (10 by default), four times as often for pops and pushes, which are shorter. Prints the best times of both, their
+# ratio, and the ratio of the median times: above 1 the pool takes longer. A pop with its push counts as one. The
+# command, if any, starts each run: on a busy machine 'nice -n -20', as root, keeps other work off the processors.
 set -eu
 top=$(cd "$(dirname "$0")/.." && pwd)
 runs=${1:-10}
@@ -22,7 +22,7 @@ trap 'rm -rf "$room"' EXIT
 rustc -O -o "$room/std" "$top/bench/std_baseline.rs"
 pool=$top/crates/pool_bench/out/pool_bench
 
-# both COUNT WORD..: runs the two in turn so often, and sees that both did the same work. Keeps the times that they told.
+# both COUNT WORD..: runs both programs in turn, COUNT times. Tests that they did the same work, and keeps their times.
 both() {
     count=$1
     shift
@@ -35,12 +35,12 @@ both() {
     done
 }
 
-# nth PROGRAM NAME K: of the times that the runs told under this name the Kth, the least first.
+# nth PROGRAM NAME K: prints the Kth least of the times that the runs of PROGRAM printed for NAME.
 nth() {
     sed -n "s/^$2 took \([0-9]*\) ns\$/\1/p" "$room/$1.times" | sort -n | sed -n "$3p"
 }
 
-# row NAME THREADS COUNT POOL STD POOL STD: from the best times and the middle ones, for so many.
+# row NAME THREADS COUNT POOL STD POOL STD: prints a row for COUNT steps from the best times, then the median times.
 row() {
     awk -v name="$1" -v threads="$2" -v count="$3" -v pool="$4" -v std="$5" -v pool2="$6" -v std2="$7" 'BEGIN {
         printf "| %s | %d | %.1f | %.1f | %.1f | %.1f | ", name, threads, pool / count, std / count, 1000 * count / pool, 1000 * count / std
@@ -48,7 +48,8 @@ row() {
     }'
 }
 
-# claims NAME THREADS ROW: white objects, and marked ones, which are claimed from the second pass on.
+# claims NAME THREADS ROW: times claims of white objects, in one pass, and of marked objects, in the passes after the
+# first.
 claims() {
     both "$runs" "$2" "$objects" "$3" 1 0
     pool1=$(nth pool claims 1) std1=$(nth std claims 1) pool2=$(nth pool claims $middle) std2=$(nth std claims $middle)

@@ -50,8 +50,8 @@ Answer = collections.namedtuple("Answer", "status report refusal")
 
 
 def answer(program, words, **how):
-    """Runs a program, and returns its status, its report, and its refusal without the program's name. Of a run that
-    hangs the status is None."""
+    """Runs a program, and returns its status, its report, and its refusal without the program's name. The status is
+    None if the run hangs."""
     try:
         ran = subprocess.run([program, *words], capture_output=True, timeout=PATIENCE, **how)
     except subprocess.TimeoutExpired:
@@ -192,7 +192,7 @@ class Rough:
         self.tell("streams", ends)
 
     def judge(self, what, status, told, out, ends):
-        """Notes how a run ended whose output failed, or that was interrupted, and whether this was right."""
+        """Counts in `ends` how a run of `streams` ended, or notes that its end was wrong."""
         begins = self.whole.report.startswith(out)
         if status == 0 and out == self.whole.report:
             ends["reports"] += 1

@@ -1,5 +1,5 @@
 #!/usr/bin/env bash
-# Measures heapmark beside the plain marker on the same dumps, in turn, and sees that both write the same bytes.
+# Measures heapmark beside the plain marker on the same dumps, in turn, and tests whether both write the same bytes.
 #
 # usage: bench/run.sh [RUNS [DUMP..]]
 #
@@ -7,8 +7,8 @@
 # memory. DUMP..: those of /tmp/heapmark-bench if none is given (bench/dumps.sh makes them). Prints Markdown tables:
 # whole programs first, then the dumps, then the phases of the plain marker. heapmark is the binary that `rt run` in
 # crates/heapmark made, or what the variable HEAPMARK names. The words of the variable STARTER start each run: on a busy
-# machine 'chrt -f 10' of root keeps other work off the processors. The words of the variable OPTIONS go to heapmark, as
-# in OPTIONS='--buffer 4096'.
+# machine STARTER='chrt -f 10', as root, keeps other work off the processors. The words of the variable OPTIONS go to
+# heapmark, as in OPTIONS='--buffer 4096'.
 runs=5
 # shellcheck source=bench/head.sh
 . "$(dirname "$0")/head.sh"
@@ -36,7 +36,8 @@ command_of() {
     esac
 }
 
-# timed WAY DUMP: one run; adds "MICROSECONDS KILOBYTES" and what the program told to what is kept of that way.
+# timed WAY DUMP: runs once. Adds "MICROSECONDS KILOBYTES" to the times of WAY, and what the program wrote on standard
+# error to the messages of WAY.
 timed() {
     local start end
     command_of "$1" "$2"
@@ -56,12 +57,13 @@ measure() {
     done
 }
 
-# told WAY NAME: the least number that the runs told under this name.
+# told WAY NAME: prints the least number that the runs of WAY reported for NAME.
 told() {
     sed -n "s/^$2 \([0-9][0-9]*\).*/\1/p" "$room/$1.told" | sort -n | head -n 1
 }
 
-# row DUMP WAY: times of the whole program, and what they are to those of the plain marker with one thread.
+# row DUMP WAY: prints time and memory of the whole program, and their ratios to those of the plain marker with one
+# thread.
 row() {
     local same=same
     cmp -s "$room/plain.report" "$room/$2.report" || same=DIFFERENT
@@ -74,7 +76,7 @@ row() {
         }' "$room/plain.times" "$room/$2.times"
 }
 
-# phases DUMP: of each way of the plain marker, each phase by the run in which it took least.
+# phases DUMP: prints for each way of the plain marker the least time of each phase among its runs.
 phases() {
     local way phase
     for way in plain plain-2 plain-4 plain-bytes plain-bytes-atomic plain-bytes-2 plain-bytes-4; do
@@ -86,7 +88,7 @@ phases() {
     done
 }
 
-# sizes DUMP BYTES OBJECTS REFERENCES: with the most memory that heapmark is to take for them.
+# sizes DUMP BYTES OBJECTS REFERENCES: prints the sizes of DUMP, and the most memory that heapmark should take for them.
 sizes() {
     echo "| $1 | $2 | $3 | $4 | $((($2 + 44 * $3 + 4 * $4) >> 20)) |"
 }

@@ -2,8 +2,8 @@
 //! tagged head.
 //!
 //! It takes the same arguments as `pool_bench`, and writes the same to standard output. The times go to standard error.
-//! The third, of pops and pushes that also take a vector out of the number's slot and put it back, has no line of its
-//! own in `pool_bench`: `pool.sh` compares both times of pops and pushes with those of the pool.
+//! The third time is for pops and pushes that also take a vector out of the number's slot and put it back. `pool_bench`
+//! has no such time: `pool.sh` compares both times of pops and pushes here with the one of the pool.
 
 use std::cell::UnsafeCell;
 use std::hint::black_box;
@@ -57,7 +57,7 @@ impl Stack {
     }
 }
 
-/// A vector for each number, which is there while the number is on the stack.
+/// A slot for each number, which has a vector while the number is on the stack.
 struct Slots(Vec<UnsafeCell<Option<Vec<u32>>>>);
 
 // SAFETY: a thread touches a slot only between its pop of that number and its push.
@@ -69,13 +69,13 @@ impl Slots {
         Slots(vectors.map(UnsafeCell::new).collect())
     }
 
-    /// The number has to be popped, and not pushed since.
+    /// Requires that the caller has popped `number`, and not pushed it since.
     unsafe fn replace(&self, number: u64, vector: Option<Vec<u32>>) -> Option<Vec<u32>> {
         unsafe { std::mem::replace(&mut *self.0[number as usize].get(), vector) }
     }
 }
 
-/// So many objects have their marks in one word, two bits each.
+/// The number of objects whose marks, two bits each, are in one word.
 const MARKS_OF_A_WORD: u64 = 32;
 
 /// Claims `object`, and returns whether it was white.
@@ -103,7 +103,7 @@ fn claim_passes(marks: &[AtomicU64], objects: u64, row: u64, threads: u64, numbe
     white
 }
 
-/// Pops a number and pushes it, and returns in how many turns there was one.
+/// Pops a number and pushes it again, `turns` times. Returns the number of turns that popped one.
 fn take_turns(stack: &Stack, turns: u64) -> u64 {
     let mut moved = 0;
     for _ in 0..turns {
@@ -115,7 +115,7 @@ fn take_turns(stack: &Stack, turns: u64) -> u64 {
     moved
 }
 
-/// The same, with the vector of the number.
+/// Like `take_turns`, but also takes the vector out of the number's slot and puts it back.
 fn take_turns_with(stack: &Stack, slots: &Slots, turns: u64) -> u64 {
     let mut moved = 0;
     for _ in 0..turns {

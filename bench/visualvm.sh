@@ -5,15 +5,15 @@
 #
 # RUNS: how often each dump is opened (3); the best wall time counts, and the largest peak of memory. DUMP..: those of
 # /tmp/heapmark-bench if none is given. Prints a Markdown table with a row for each dump and each word of the variable
-# COUNTED: `all` counts all objects of the dump, which is less work than heapmark's, and `reachable` those that heapmark
-# counts with `--skip java/lang/ref/Reference.referent`, both without the objects of classes; both are measured if it is
-# not set. bench/java/visualvm/VisualVmHistogram.java says more. A run is given up after ten minutes.
+# COUNTED, `all` and `reachable` if it is not set. `all` counts all objects of the dump, which is less work than
+# heapmark's. `reachable` counts those that heapmark counts with `--skip java/lang/ref/Reference.referent`. Neither
+# counts class objects. bench/java/visualvm/VisualVmHistogram.java says more. A run is stopped after ten minutes.
 #
-# The time has the start of the virtual machine in it. The peak has the pages of the dump and of the library's own
-# files, which are mapped, and the machine's garbage: with another limit of its heap, the variable HEAP (3g), it is
-# another. STARTER as in bench/run.sh; Java is the one of JAVA_HOME, else that of PATH.
+# The time includes the start of the virtual machine. The peak includes the mapped pages of the dump and of the
+# library's own files, and the machine's garbage. So it depends on the limit of the heap, the variable HEAP (3g).
+# STARTER is as in bench/run.sh; Java is that of JAVA_HOME, else that of PATH.
 #
-# The variable JFLUID names the library's jar, which is in the Debian package `visualvm` and needs nothing else of it:
+# The variable JFLUID names the library's jar, which is in the Debian package `visualvm` and needs no other file of it:
 #
 #     apt-get download visualvm && dpkg-deb -x visualvm_*.deb visualvm
 #     JFLUID=visualvm/usr/share/visualvm/visualvm/modules/org-graalvm-visualvm-lib-jfluid-heap.jar bench/visualvm.sh
@@ -26,7 +26,7 @@ java=${JAVA_HOME:+$JAVA_HOME/bin/}
 heap=${HEAP:-3g}
 read -r -a counted <<< "${COUNTED:-all reachable}"
 
-# unpacked: sets `jar` and `version` to those of the package, which is fetched if it was not kept.
+# unpacked: sets `jar` and `version` to those of the package, and downloads the package if it was not kept.
 unpacked() {
     local kept=${XDG_CACHE_HOME:-$HOME/.cache}/heapmark-bench packages
     packages=("$kept"/visualvm_*.deb)
@@ -40,9 +40,9 @@ unpacked() {
     version=$(dpkg-deb -f "${packages[0]}" Version)
 }
 
-# timed WAY DUMP: one run; adds "SECONDS KILOBYTES" to what is kept of that way. What the library found it keeps in a
-# folder beside the dump, NAME.hwcache, and reads it from there the next time; where it cannot make one its files go to
-# java.io.tmpdir. No property moves the folder, so each run has a new folder and a link to the dump in it.
+# timed WAY DUMP: runs once. Adds "SECONDS KILOBYTES" to the times of WAY. The library keeps its results in a folder
+# beside the dump, NAME.hwcache, and reads them the next time; if it cannot make the folder, its files go to
+# java.io.tmpdir. No property moves that folder, so each run gets a new folder with a link to the dump.
 timed() {
     rm -rf "$room/beside"
     mkdir "$room/beside"

@@ -16,7 +16,7 @@ HELD_BACK = 0.2
 class WatchedPipe:
     """A named pipe at `path` with one writer, which gives a process `content`.
 
-    Raises `OSError` where the system cannot watch it.
+    Raises `OSError` if the system cannot watch the pipe.
     """
 
     def __init__(self, path, content):
@@ -34,8 +34,8 @@ class WatchedPipe:
     def feed(self, process, limit):
         """Gives the process the content, in a thread, once the process has opened the pipe.
 
-        Returns whether it opened it once in the time without a byte: it must neither close it and open it again, nor
-        hold it twice. Returns `False`, too, if the pipe is not opened in `limit` seconds.
+        Returns whether the process opened the pipe once while there was no byte in it: it must neither open the pipe
+        again nor hold it twice. Returns `False`, too, if the pipe is not opened in `limit` seconds.
         """
         opened = self.open_to_write(process, limit)
         if opened is None:

@@ -27,7 +27,7 @@ public final class Filler {
         String name();
     }
 
-    /** Nothing makes one, so the class is loaded for its array and never linked. */
+    /** A class without instances: it is loaded for its array and never linked. */
     static final class NeverMade { }
 
     /** A static field and an instance field of each type. */
@@ -113,7 +113,7 @@ public final class Filler {
     static final ThreadLocal<byte[]> LOCAL = ThreadLocal.withInitial(() -> new byte[100]);
     static Object chain;
 
-    /** A list so long that a marker by recursion would not bear it. */
+    /** A list so long that a recursive marker would overflow its stack. */
     static Object chainOf(int length) {
         Object[] last = null;
         for (int step = 0; step < length; step++) {

@@ -1,10 +1,10 @@
 import java.io.IOException;
 
 /**
- * Has one long list in its heap, which ends in a tree: nothing of it is for a second worker until the list is done.
+ * Has one long list in its heap, which ends in a tree: a second worker finds no work before the list is done.
  * Prints "ready" and waits until its standard input ends.
  *
- * <p>Usage: {@code java LongList LINKS NODES}: how many the list has, and the tree.
+ * <p>Usage: {@code java LongList LINKS NODES}: the list has LINKS objects, the tree NODES.
  */
 public final class LongList {
     static final class Link {
@@ -27,7 +27,7 @@ public final class LongList {
 
     static Object first;
 
-    /** A tree of so many nodes, as flat as can be. */
+    /** A tree of {@code nodes} nodes with as few levels as possible. */
     static Tree treeOf(int nodes) {
         return nodes == 0 ? null : new Tree(treeOf((nodes - 1) / 2), treeOf(nodes / 2));
     }

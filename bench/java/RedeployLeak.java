@@ -4,9 +4,9 @@ import java.io.InputStream;
 import java.io.InputStreamReader;
 
 /**
- * Deploys its application anew at each change, each time by another class loader. The application asks for a thread at
- * the end of the virtual machine, which nobody takes back: so no loader is ever let go. It works for a day, and a day
- * more for each line of its input, and prints "ready" after each.
+ * Deploys its application anew at each change, each time by another class loader. The application adds a shutdown hook,
+ * which nobody removes: so no loader is ever let go. It works for a day, and a day more for each line of its input, and
+ * prints "ready" after each.
  */
 public final class RedeployLeak {
     static final int CHANGES_A_DAY = 50;

@@ -7,10 +7,10 @@ import java.util.Random;
  * Fills its heap with objects that refer to one another at random, so that each reference leads to another place of the
  * heap and of its dump. Prints "ready" and waits until its standard input ends.
  *
- * <p>Usage: {@code java Scattered NODES}: so many nodes in one list, as many values, and a map of half as many entries.
+ * <p>Usage: {@code java Scattered NODES}: one list of NODES nodes, as many values, and a map of half as many entries.
  */
 public final class Scattered {
-    /** One of a long list, which has another list beside it. */
+    /** A node of the list, with a reference to a node at random. */
     static final class Node {
         Node next;
         Node any;
@@ -38,9 +38,9 @@ public final class Scattered {
     }
 
     /**
-     * Makes all in one order and joins them in another. The collector puts young objects one behind another as it finds
-     * them; so all are old before they are joined. Of the map's entries, which come last, this holds only where the
-     * young generation has room for all of them.
+     * Makes all objects in one order and joins them in another. The collector moves young objects into the order in
+     * which it finds them, so all nodes and values are old before they are joined. The map's entries come last: they
+     * stay in their order only if the young generation has room for all of them.
      */
     static void fill(int count) {
         Node[] nodes = new Node[count];

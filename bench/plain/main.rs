@@ -1,4 +1,4 @@
-//! A plain marker of heap dumps: the same method and the same report as `heapmark`, with Rust's std alone and no proof.
+//! A plain marker of heap dumps: the same method and the same report as `heapmark`, with only Rust's std and no proof.
 //!
 //! usage: `plain FILE [--threads N] [--atomic] [--references table|bytes] [--count reachable|all] [--skip LIST]`
 //!

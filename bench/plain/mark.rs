@@ -98,7 +98,7 @@ pub fn mark(heap: &impl Heap, roots: &[u32]) -> (Vec<bool>, Tally) {
     (marks, tally)
 }
 
-/// As many objects as there are marks of two bits in a word.
+/// The number of objects whose marks, two bits each, are in one word.
 const A_WORD: u32 = 32;
 
 /// The number of recently met objects that are known without a look at their marks.

@@ -20,9 +20,9 @@ import org.graalvm.visualvm.lib.jfluid.heap.JavaClass;
  * <ul>
  *   <li>{@code all} counts all instances and arrays of the dump. The library does it in one pass of the file and marks
  *       nothing, which is less work than heapmark's; VisualVM's own list of classes is made so.
- *   <li>{@code reachable} counts those to which the library knows a path from a GC root. It has no cheap way to tell:
- *       it looks up who refers to each object, walks from the roots, and then wants to be asked for one object after
- *       the other, which it makes anew each time. It follows no {@code Reference.referent} of soft, weak, final and
+ *   <li>{@code reachable} counts those to which the library knows a path from a GC root. The library has no cheap way
+ *       to find out: it looks up who refers to each object, and walks from the roots. Then each object has to be asked
+ *       for by itself, and is made anew. The library follows no {@code Reference.referent} of soft, weak, final and
  *       phantom references: heapmark counts the same with {@code --skip java/lang/ref/Reference.referent}.
  * </ul>
  *
@@ -60,7 +60,7 @@ public final class VisualVmHistogram {
         return rows;
     }
 
-    /** What is a root itself has itself for its pointer, and what is not reachable has none. */
+    /** Counts the objects with a pointer: a root has itself as its pointer, an unreachable object has none. */
     static List<Row> reachable(Heap heap) {
         Map<JavaClass, Row> rows = new HashMap<>();
         for (Iterator<Instance> instances = heap.getAllInstancesIterator(); instances.hasNext(); ) {

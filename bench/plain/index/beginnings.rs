@@ -3,13 +3,13 @@
 use super::runs::Run;
 use std::ops::Range;
 
-/// Of so many runs at most a look-up passes one after the other.
+/// The most runs that a look-up passes one after the other.
 const MANY: usize = 64;
 
-/// So far on either side of a guess it looks where there are more.
+/// How far before and after a guess a look-up first tests a run, if there are more than `MANY` runs.
 const REACH: usize = 32;
 
-/// A table of where the runs begin whose pages have these leading bits, less the least page.
+/// A table: for each value of the leading bits of a page less the least page, the place of the first run.
 pub struct Beginnings {
     least: u64,
     shift: u32,
@@ -17,7 +17,7 @@ pub struct Beginnings {
 }
 
 impl Beginnings {
-    /// Of runs in order.
+    /// Makes the table of `runs`, which are in order.
     pub fn of(runs: &[Run]) -> Beginnings {
         let least = runs.first().map_or(0, |run| run.page);
         let span = runs.last().map_or(0, |run| run.page - least);
@@ -35,7 +35,7 @@ impl Beginnings {
         Beginnings { least, shift, starts }
     }
 
-    /// The place of the first of these runs that is of this page or of one above; None where there can be none of it.
+    /// The place of the first of `runs` whose page is `page` or above; None if no run of `page` is possible.
     pub fn first_from(&self, runs: &[Run], page: u64) -> Option<usize> {
         let within = page.checked_sub(self.least)?;
         let slot = (within >> self.shift) as usize;
@@ -55,16 +55,16 @@ impl Beginnings {
         Some(at)
     }
 
-    /// About where the page would stand among so many runs of one slot if they were as far from one another as they can
-    /// be. Nothing rests on it but time.
+    /// About where the page would be among the `count` runs of its slot if these were evenly spread. Only the time of a
+    /// look-up depends on it.
     fn guess(&self, within: u64, count: usize) -> usize {
         let low = within & !(u64::MAX << self.shift);
         (low.wrapping_mul(count as u64) >> self.shift) as usize
     }
 }
 
-/// At most `MANY` places where there are more, with the first run from this page on among them or behind them: those
-/// around a guess if it is a good one, else what is left after halving.
+/// Narrows `range` to at most `MANY` places. The first run of `page` or above is among them or just after them. They
+/// are around the guess `near` if the guess is good, and otherwise what is left after halving.
 fn narrowed(runs: &[Run], mut range: Range<usize>, near: usize, page: u64) -> Range<usize> {
     let look = |range: Range<usize>, at: usize| match range.contains(&at) {
         false => range,

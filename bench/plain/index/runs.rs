@@ -3,7 +3,7 @@
 /// How many places a page has.
 pub const PLACES: u64 = 64;
 
-/// The page of its objects, the number of the first of them, and on which places they stand, in order, a bit for each.
+/// The page of its objects; a bit for each place of the page, set if it has an object; the number of the first object.
 #[derive(Clone, Copy, Default)]
 pub struct Run {
     pub page: u64,
@@ -22,8 +22,8 @@ impl Run {
     }
 }
 
-/// The runs of objects on these pages and places, in their order, if all are told: a run ends where the page changes,
-/// and where the next place is not above its own. The first of them may be empty.
+/// The runs of `objects`, each a page and a place, in file order; None if an object is None. A run ends if the page
+/// changes, or if the next place is not above the last one. The first run may be empty.
 pub fn gather(objects: impl Iterator<Item = Option<(u64, u32)>>) -> Option<Vec<Run>> {
     let mut runs = vec![];
     let mut run = Run::default();
@@ -41,10 +41,11 @@ pub fn gather(objects: impl Iterator<Item = Option<(u64, u32)>>) -> Option<Vec<R
     Some(runs)
 }
 
-/// Where more than one neighbour in so many descends, no long stretches are in order, as the stable sort wants them.
+/// If more than one run in `FEW_DESCENTS` has a lower page than the run before, no long stretches are in order, as the
+/// stable sort needs them.
 const FEW_DESCENTS: usize = 16;
 
-/// Whether the pages of many neighbouring runs descend. The numbers of gathered runs never do.
+/// Whether many runs have a lower page than the run before. The numbers of gathered runs never descend.
 pub fn descend_often(runs: &[Run]) -> bool {
     let descents = runs.windows(2).filter(|pair| pair[1].page < pair[0].page).count();
     descents > runs.len() / FEW_DESCENTS
@@ -59,8 +60,8 @@ pub fn sort(runs: &mut [Run]) {
     }
 }
 
-/// Drops each run all of whose places earlier runs of its page have, as an empty one, so that a page keeps at most 64 of
-/// them. The least number of an object that bears the ID of an earlier one.
+/// Drops each run that is empty, or whose places earlier runs of its page all have: so a page keeps at most 64 runs.
+/// Returns the least number of an object with the ID of an earlier object.
 pub fn settle(runs: &mut Vec<Run>) -> Option<u32> {
     let (mut page, mut seen) = (0, 0);
     let mut repeat: Option<u32> = None;

@@ -10,8 +10,8 @@ fn index_of(ids: &[u64]) -> Index {
     LowBits::to_try(first).into_iter().find_map(index).unwrap()
 }
 
-/// Sees that the index answers as a search does, for each of these IDs and its neighbours, for both ends and for some
-/// others.
+/// Checks that the index finds what a search finds: for each of `ids` and its neighbours, for both ends, and for
+/// `others`. Returns the index.
 fn sees(ids: &[u64], others: &[u64]) -> Index {
     let index = index_of(ids);
     let repeat = (0..ids.len()).find(|number| ids[..*number].contains(&ids[*number]));
@@ -25,7 +25,7 @@ fn sees(ids: &[u64], others: &[u64]) -> Index {
     index
 }
 
-/// IDs of so many neighbours from one on.
+/// `count` neighbouring IDs, from `first` on.
 fn neighbours(first: u64, count: u64) -> Vec<u64> {
     (0..count).map(|number| first + 8 * number).collect()
 }
@@ -39,7 +39,7 @@ fn in_falling_pages(pages: u64, count: u64) -> Vec<u64> {
     (0..count).map(|number| 0x1000 + (pages - 1 - number % pages) * 512 + number / pages * 8).collect()
 }
 
-/// For each list the number of runs, the number of pairs in their place, and the number of low bits that are left out.
+/// For each list the number of runs, or else the number of pairs, and the number of low bits that are omitted.
 #[test]
 fn lists() {
     let rows: [(&str, Vec<u64>, usize, usize, u32); 28] = [
@@ -79,7 +79,7 @@ fn lists() {
     }
 }
 
-/// All but one are in one slot of the table, more than are passed one after the other.
+/// All runs but one are in one slot of the table: more than a look-up passes one after the other.
 #[test]
 fn crowded_into_one_slot() {
     let even = neighbours(0, 500).into_iter().map(|id| 64 * id);
@@ -135,7 +135,7 @@ fn lists_at_random() {
     assert!((30_000..70_000).contains(&repeats), "{repeats}");
 }
 
-/// Runs on as many pages, so many of which are below the one before.
+/// `count` runs, `descents` of which have a lower page than the run before.
 fn zigzag(descents: usize, count: usize) -> Vec<Run> {
     let page = |place: usize| if place % 2 == 1 && place < 2 * descents { 0 } else { place as u64 + 1 };
     (0..count).map(|place| Run { page: page(place), places: 1, first: place as u32 }).collect()

@@ -17,7 +17,7 @@ impl File {
         File { id, bytes }
     }
 
-    /// No sub-records yet, for `heap`.
+    /// Empty contents of a record, with identifiers of the same size.
     pub fn subs(&self) -> File {
         File { id: self.id, bytes: vec![] }
     }

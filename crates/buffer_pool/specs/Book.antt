@@ -82,7 +82,7 @@ popped i items b = record b { account = after_pop i items b.account }
 abbrev pub pushed : Which → ℕ → List ℕ → Book → Book
 pushed q i items b = record b { account = after_push q i items b.account }
 
--- the object o, whose mark was found, was claimed
+-- the object o, whose mark was `found`, was claimed
 abbrev pub claimed : ℕ → ℕ → Book → Book
 claimed o found b = record b { account = after_claim o found b.account }
 

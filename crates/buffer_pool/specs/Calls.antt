@@ -105,7 +105,7 @@ ended (Err back) = try_push.Spent back
 abbrev pub Pushes : Which → HeldBuffer → Book → Book → TryPushed HeldBuffer → Type 0
 Pushes q h old new last = (mid : Book) × LostPushes q h old mid × TriesPush q h mid new last
 
--- one load of the head; `answer` is true exactly if it found no buffer
+-- one load of the head; `answer` is true exactly if the head has no buffer
 pub record Sees (q : Which) (old new : Book) (answer : Bool) : Type 0 where
   pub head : Head
   pub book : new ≡ loaded q head old

@@ -16,8 +16,9 @@ use Rattle.buffer_pool.specs.WorkerLog.{Log, EndsStory}
 abbrev pub IsEmptied : ℕ → List Bool → Type 0
 IsEmptied count filled = (k : ℕ) → k < count → slice_index_or filled k false ≡ false
 
--- a list of events that begins with the worker's story led from the opening to the marking and counts after the last
--- step. The worker's number has its book there, and the marks are the marking's
+-- `events` begin with the worker's story, and lead from the opening to the marking `last` and to `counts`, those after
+-- the last step. There, the account and counts of the worker's number are those of its book. `marks` are the marks in
+-- `last`
 pub record IsAtTheEnd (log : Log) (b : Book) (marks : List ℕ) : Type 0 where
   pub events : List Event
   pub last : Marking
@@ -36,7 +37,7 @@ pub record MarksTell (b : Book) (last : Marking) (marks : List ℕ) : Type 0 whe
   -- the finished objects are those of the finished list, each once
   pub finished : (o : ℕ) → (slice_index marks o ≡ 2) ↔ Contains b.account.finished o
   pub once : (o : ℕ) → times o b.account.finished ≤ 1
-  -- the other marked ones are the items on the full stack
+  -- the other marked objects are the items on the full stack
   pub claimed : (full : List ℕ) → IsListOf last Full full → (o : ℕ) → (slice_index marks o ≡ 1) ↔ LiesIn last full o
   -- every marked object is finished if no push on full is open
   pub emptied : b.account.open_push ≡ false → (o : ℕ) → 1 ≤ slice_index marks o → slice_index marks o ≡ 2

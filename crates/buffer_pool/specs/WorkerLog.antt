@@ -12,12 +12,12 @@ pub record Log : Type 0 where
   -- all that the workers of its pool did, from the opening to this worker's last step
   pub story : List Event
 
--- the steps of worker n, in order
+-- the steps of worker w, in order
 abbrev pub deeds : ℕ → List Event → List Kind
 deeds w [] = []
 deeds w (event ∷ events) = if event.worker == w then event.kind ∷ deeds w events else deeds w events
 
--- the story was continued, and of the new events exactly the given ones are the worker's own
+-- the story was continued, and the worker's own steps among the new events are exactly `kinds`
 abbrev pub Did : Log → List Kind → Log → Type 0
 Did old kinds new =
     (since : List Event) × (new ≡ record old { story = old.story ++ since }) × (deeds old.number since ≡ kinds)
@@ -34,7 +34,8 @@ IsNewcomer from new = ((more : List Event) × (new.story ≡ from.story ++ more)
 abbrev pub EndsStory : Log → List Event → Type 0
 EndsStory log events = (since : List Event) × (events ≡ log.story ++ since) × (deeds log.number since ≡ [])
 
--- the story leads from the opening to a marking and counts in which the worker's number has the book
+-- the story leads from the opening to a marking and counts, in which the account and counts of the worker's number are
+-- those of the book
 abbrev pub LeadsToBook : Log → Book → Type 0
 LeadsToBook log b =
     (m : Marking) × (counts : List Counts) × LeadTo b.setup log.story m counts

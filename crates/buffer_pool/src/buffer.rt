@@ -1,4 +1,4 @@
-//! A buffer of object numbers, allocated for as many as it takes.
+//! A buffer of object numbers, allocated at its full size.
 ghost use Rattle.std.specs.Prelude.{◌≡◌, ◌↔◌, ◌+◌, ◌-◌, ◌/◌, ◌<◌, ◌≤◌, [], ◌∷◌, ◌++◌, vec_len, vec_capacity, take};
 ghost use Rattle.std.specs.Prelude.{drop, IsTrue, IfOk, MatchOption};
 
@@ -27,7 +27,7 @@ impl<A: Allocator> Buffer<A> {
     pub(crate) fn len(&self) -> u32
         ensures { result ≡ vec_len self.now.items }
     {
-        // Read for its range only: there are at most `size` items, so their number fits.
+        // Read only so that its range is known: there are at most `size` items, so their number fits.
         let _most = self.size;
         self.items.len() as u32
     }

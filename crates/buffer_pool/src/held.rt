@@ -22,7 +22,8 @@ impl<A: Allocator> Model for Held<A> {
 }
 
 impl<A: Allocator> Held<A> {
-    /// Returns the buffer's number in its pool, below the number of buffers. Only it distinguishes two empty buffers.
+    /// Returns the buffer's number in its pool, below the number of buffers. Only this number distinguishes two empty
+    /// buffers.
     pub fn index(&self) -> u32
         ensures { result ≡ self.now.index }
     {
@@ -36,8 +37,8 @@ impl<A: Allocator> Held<A> {
         self.buffer.len()
     }
 
-    /// Puts `object` into the buffer. Returns `Err(object)` if it is full. A full buffer has objects (`some`), so an
-    /// empty one refuses none.
+    /// Puts `object` into the buffer. Returns `Err(object)` if the buffer is full. A full buffer has objects (`some`),
+    /// so an empty buffer refuses none.
     pub fn put(&mut self, object: u32) -> Result<(), u32>
         ensures ok { OnOk result ((length self.old.items < self.old.size)
             × (self.new ≡ record self.old { items = self.old.items ++ object ∷ [] })) }

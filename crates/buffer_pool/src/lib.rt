@@ -1,10 +1,10 @@
 //! A pool of buffers on two lock-free stacks, and the marks of objects, for workers that mark a heap together.
 //!
 //! A worker pops a buffer of objects from the stack of full ones, claims what they refer to, pushes what it claimed,
-//! and finishes each object that it scanned. A claim and a finish are one atomic step each. A pop and a push are a few,
-//! and are tried again until no other worker came first. Each call's contract says which events of `mark_core` it made,
-//! so the law of the marking holds of the pool's words between any two steps. `close` says what follows from it once
-//! all workers are joined.
+//! and finishes each object that it scanned. A claim and a finish are one atomic step each. A pop or a push takes a few
+//! steps, and is tried again until no other worker came first. Each call's contract says which events of `mark_core` it
+//! made, so the law of the marking holds of the pool's words between any two steps. `close` says what follows from the
+//! law once all workers are joined.
 //!
 //! From `crates/pool_tests/src/worked.rt`, which is proved and run with the tests:
 //!

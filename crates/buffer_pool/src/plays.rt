@@ -101,7 +101,7 @@ impl<A: Allocator> Play<Option<Buffer<A>>, SeatView> for SetAside {
     ghost then = { set_aside };
 }
 
-/// A load that only brings a slot home.
+/// A load that brings home the slot that is out, and brings the log up to date.
 pub struct Settle;
 
 impl<A: Allocator> Play<Option<Buffer<A>>, SeatView> for Settle {

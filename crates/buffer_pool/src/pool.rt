@@ -1,5 +1,5 @@
-//! A pool of buffers and marks that many workers share. Each step of a call is one step on a word of its table, and
-//! sequentially consistent: `atomic_table` promises that of all its steps (its README, "Limits").
+//! A pool of buffers and marks that many workers share. Each step of a call is one sequentially consistent step on a
+//! word of the pool's table: `atomic_table` promises that of all steps on a table (its README, "Limits").
 ghost use Rattle.std.specs.Prelude.{◌≡◌, MatchResult};
 ghost use Rattle.mark_core.specs.Shares.{whole};
 ghost use Rattle.mark_core.specs.World.{Setup};
@@ -36,8 +36,8 @@ use slots::first_slots;
 use std::alloc::Allocator;
 use std::marker::Model;
 
-/// The marks of the objects, and the buffers on two stacks. Workers share it by reference, and each call takes the
-/// worker that makes it.
+/// The marks of the objects, and the buffers on two stacks. Workers share the pool by reference. A call by a worker
+/// takes that worker as an argument.
 #[derive(Drop)]
 pub struct Pool<A: Allocator> {
     pub(crate) table: Table<Option<Buffer<A>>, SeatView, Key, MarkingRule, A>,
@@ -62,8 +62,8 @@ impl<A: Allocator> Model for Pool<A> {
 impl<A: Allocator + Copy> Pool<A> {
     /// Creates a pool for the objects of `edges`, at most 16,777,216, with `buffers` buffers, 4 to 65,534, each for
     /// `size` objects, 2 to 4,096. The heads of both stacks begin with `first_tag`, at most 281,474,976,710,655. No
-    /// object is marked, all buffers are on the empty stack, and the worker has the whole share. Allocates all memory
-    /// of the pool. Returns `Err(PoolFault::BadOptions)` if a number is out of its range.
+    /// object is marked, all buffers are on the empty stack, and the returned worker has the whole share. Allocates all
+    /// memory of the pool. Returns `Err(PoolFault::BadOptions)` if a number is out of its range.
     pub fn new<E: Edges>(
         alloc: A,
         edges: &E,

@@ -22,11 +22,11 @@ pub struct SeatView {
     pub ghost taken: { List Event } by { coded_list event_code },
     /// The number of that worker.
     pub ghost from: { Option ℕ } by { coded_option coded_ℕ },
-    /// Whether the log has its number, as it does from its first step on.
+    /// Whether the log has the worker's number. The log has it from the worker's first step on.
     pub ghost named: { Bool } by { coded_bool },
     /// The units that it is about to give away.
     pub ghost aside: { ℕ } by { coded_ℕ },
-    /// One more than the number of the held buffer whose slot is out with the seat, and 0 if none is.
+    /// One more than the number of the held buffer whose slot is out with the seat, or 0 if no slot is out.
     pub ghost out: { ℕ } by { coded_ℕ },
     /// The link word of that buffer.
     pub ghost out_link: { ℕ } by { coded_ℕ },

@@ -5,7 +5,7 @@ use std::alloc::Allocator;
 use std::marker::Model;
 
 /// A worker of one pool: a share of it, the buffers that it holds, the objects in its charge, and those that it
-/// finished. Its only bytes are the count of the last.
+/// finished. Its only bytes are the number of finished objects.
 #[derive(Drop)]
 pub struct Worker<A: Allocator> {
     pub(crate) seat: Token<A>,
@@ -33,7 +33,7 @@ impl<A: Allocator> Worker<A> {
     ghost use Rattle.buffer_pool.specs.WorkerLog.{LeadsToBook};
 
     /// Does nothing. Its contract recalls an invariant of each worker: the buffers that it holds are the pool's, and
-    /// its charge has objects only. So what is popped from full may be scanned.
+    /// its charge has only objects. So a worker may scan what it pops from the full stack.
     pub fn recall_within(&self)
         ensures { IsWithin self.now.book.setup self.now.book.account }
     {
@@ -41,8 +41,8 @@ impl<A: Allocator> Worker<A> {
         let _seat = &self.seat;
     }
 
-    /// Does nothing. Its contract recalls an invariant of each worker: it finished no object twice, so no more objects
-    /// than there are.
+    /// Does nothing. Its contract recalls an invariant of each worker: it finished no object twice, so it finished at
+    /// most as many objects as there are.
     pub fn recall_few_finished(&self)
         ensures once { (o : ℕ) → times o self.now.book.account.finished ≤ 1 }
         ensures few { length self.now.book.account.finished ≤ self.now.book.setup.objects }
@@ -52,9 +52,9 @@ impl<A: Allocator> Worker<A> {
     }
 
     /// Does nothing. Its contract recalls an invariant of each worker: its story is a run from the opening of the pool,
-    /// and at its end the worker has its book. So what its calls returned did happen: for a `Lost` the story has a
-    /// failed exchange that was possible there, and another worker exchanged that head since its load
-    /// (`mark_core::all_runs_keep_law`, clause `losses`).
+    /// and at the end of the run the worker has its book. So what its calls returned did happen. For a `Lost`, the
+    /// story has a failed exchange that was possible there. Between the load of the head and that exchange, another
+    /// worker exchanged the head (`mark_core::all_runs_keep_law`, clause `losses`).
     pub fn recall_story(&self)
         ensures { LeadsToBook self.now.log self.now.book }
     {

@@ -82,14 +82,14 @@ abbrev pub IsWrong : List Text → Type 0
 IsWrong words = (kind : ErrorKind) × IsAmong kind (faults_of words)
     × (kind ≢ variant.DisplayHelp) × (kind ≢ variant.DisplayVersion)
 
--- the words give an option this number: its text is a decimal numeral that spells it
+-- the words give `number` for the option `name`: the option's text is a decimal numeral that spells `number`
 pub record GivesNumber (name : Text) (words : List Text) (number : ℕ) : Type 0 where
   pub text : Text
   pub given : text_given name words ≡ Some text
   pub numeral : IsNumeral 10 (without_leading_plus text)
   pub spelled : number ≡ digits_value 10 (without_leading_plus text)
 
--- these are what the words give
+-- `a` is what the words give
 pub record AreGiven (words : List Text) (a : Arguments) : Type 0 where
   pub file : text_given (codes "file") words ≡ Some a.file.now
   pub workers : GivesNumber (codes "workers") words a.workers

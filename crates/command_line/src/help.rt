@@ -1,9 +1,9 @@
-//! The texts of `--help` and `--version` beside those that clap makes of the options. Their lines are broken by hand,
-//! for 80 columns: the ported clap breaks no line.
+//! Our texts in `--help` and `--version`; clap makes the rest from the options. Their lines are broken by hand, for 80
+//! columns: the ported clap breaks no line.
 
-/// The version, and the logic that it is proved with, in the words at the end of what `rt --version` prints:
-/// `tools/statuses` compares them. The kit, which `rt --version` prints first, is left out, since machines differ in
-/// their kits and not in the logic.
+/// The version, and the logic with which it is proved. The second line is worded like the end of the line that
+/// `rt --version` prints: `tools/statuses` compares the two. The kit, which `rt --version` prints first, is omitted,
+/// since machines may have different kits with the same logic.
 pub(crate) const VERSION: &str = "\
 0.1.0
 rattle logic dac8208d650f15bf";

@@ -1,8 +1,7 @@
 //! The command line of `heapmark`: its definition, its help, and what its words give.
 //!
 //! `arguments` passes the words to clap. It returns the file and the options, each in its range, with defaults for
-//! those that are not given; or clap's error, whose text is for the user. What the list of `--skip` means is not known
-//! here.
+//! those that are not given; or clap's error, whose text is for the user. The list of `--skip` is not read.
 //!
 //! From `crates/command_line_tests/src/words.rt`, which is proved and run:
 //!

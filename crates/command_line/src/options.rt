@@ -86,8 +86,8 @@ fn skip<'a>(alloc: Global) -> Arg<'a>
         .help(help::SKIP)
 }
 
-/// Builds the option `name` with the values `values` and a `default`. The values are of type `u64`, which clap reads as
-/// they are written: so the text of an option spells its number.
+/// Builds the option `name` with the values `values` and a `default`. The values are of type `u64`: clap reads them as
+/// decimal numerals, so the text of an option spells its number.
 fn option<'a>(alloc: Global, name: &'a str, values: ValueParser<'a>, default: &'a str) -> Arg<'a>
     ensures rule { rule_of result ≡ option_rule name.entry.now values.entry default.entry.now }
     ensures local { result.global ≡ false }

@@ -10,7 +10,7 @@ use clap::error::ErrorKind;
 use clap::{ArgMatches, Error};
 use std::alloc::Global;
 
-/// Returns the arguments that `words` give, the program's own name first.
+/// Returns the arguments that `words` give. The first word is the program's own name.
 ///
 /// The error is a fault of the words, a request for the help or the version, or out of memory, as its kind says. Its
 /// text is for the user.
@@ -20,7 +20,8 @@ pub fn arguments<'a>(alloc: Global, words: &'a [&'a str]) -> Result<Arguments<'a
     ensures taken { IfErr result (λ e.
         takes heapmark_line (texts_of words.entry.now) ≡ true → kind_of e ≡ ErrorKind.OutOfMemory) }
 
-    // Words are taken only if nothing is wrong with them, and else the error has one of the kinds of what is wrong.
+    // The result is `Ok` only if nothing is wrong with the words. The kind of an error is out of memory, or one of
+    // `faults_of`.
     ensures faults { FailsBy (faults_of (texts_of words.entry.now)) result }
 {
     let command = match command(alloc) {

@@ -13,6 +13,6 @@ pub struct Arguments<'a> {
     pub buffers: u32,
     /// The first tag of the two stacks of buffers: 0 to 281474976710655.
     pub first_tag: u64,
-    /// The text that lists the fields that are not followed, whatever it is, if the words have one.
+    /// The text of the option for fields that are not followed, if the words have it. The text may be no valid list.
     pub skip: Option<&'a str>,
 }

@@ -50,7 +50,7 @@ fn is_told(alloc: Global, words: &[&str], kind: ErrorKind, text: &str) -> bool {
 
 #[test]
 fn takes_one_list_of_fields(rt: HostRuntime) {
-    // An empty text is a text: what it lists is not known here.
+    // An empty text is taken too: `arguments` does not read it.
     let lists: [(&[&str], &str); 3] = [
         (&["heapmark", "--skip", "a.b,c.d", "app.hprof"], "a.b,c.d"),
         (&["heapmark", "app.hprof", "--skip="], ""),

@@ -1,5 +1,5 @@
-//! Tests of `tagged_index` and of `mark_core`. They stand in a crate of their own, so that each of the two is proved
-//! once, not twice, and use public calls only.
+//! Tests of `tagged_index` and of `mark_core`. They are in a crate of their own, so that the two crates are proved
+//! once, and not again with their tests. They use public calls only.
 //!
 //! `head_word` tests the words of heads. `world` has lists of events, with what is possible after them and how they
 //! end. `head_example` and `world_example` have the examples that the two crates quote.

@@ -1,4 +1,4 @@
--- The objects that marks say are marked, and what is reported of these.
+-- The marked objects of a graph, and what is reported of them.
 use Rattle.std.specs.Prelude.{Bool, List, length, nat_le, slice_index, ℕ, ◌≡◌, ◌≤◌}
 use Rattle.heap_graph.specs.ObjectGraph.{ObjectGraph, object_count}
 use Rattle.heap_graph.specs.Whole.{unresolved_among}

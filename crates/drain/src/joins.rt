@@ -1,4 +1,4 @@
-//! The joins: what the leader takes in after it has drained.
+//! The joins: after the leader has drained, it takes in its workers and their tallies.
 
 ghost use Rattle.std.specs.Prelude.{◌≡◌, ◌+◌, [], ℕ, Contains, IfOk, vec_len};
 ghost use Rattle.drain.specs.working.AtWork.{IsFree, Leads};

@@ -24,7 +24,7 @@ use std::alloc::Allocator;
 use std::sync::Wait;
 use std::thread::Threads;
 
-/// Claims the roots, gives them to the workers and runs the workers. After all of these have ended, scans the remaining
+/// Claims the roots, gives them to the workers and runs the workers. After all workers have ended, scans the remaining
 /// objects, and then joins the workers.
 pub fn lead<T, A, V, G, S>(
     rt: &T,

@@ -4,8 +4,8 @@ use buffer_pool::Edges;
 
 /// A graph each of whose objects has a row and a size in bytes.
 ///
-/// This is a trait of its own beside [`Walk`](crate::walk::Walk): the duty of a thread is stated with it, and may name
-/// no type that a graph picks.
+/// The duty of a thread is stated with this trait, and may name no type that a graph picks. In
+/// [`Walk`](crate::walk::Walk) a graph picks the type `Alloc`, so the two traits are separate.
 pub trait Measured: Edges {
     ghost use Rattle.std.specs.Prelude.{◌≡◌};
     ghost use Rattle.drain.specs.working.Tallies.{IsMeasureOf, Measure};

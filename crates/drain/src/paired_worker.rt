@@ -1,5 +1,5 @@
 //! A worker at its pair: it claims objects, puts those that were white into its pair, gives some of these to others,
-//! and gets the next of its own or of what others gave to the full stack.
+//! and gets its next object from its pair or from the full stack.
 
 use crate::recently_seen::RecentlySeen;
 use buffer_pool::{Pool, Which, Worker};
@@ -112,7 +112,8 @@ impl<A: Allocator> PairedWorker<A> {
 
     /// Claims `object` unless the worker recently saw it marked: then a claim would change nothing. Returns whether it
     /// was white: then the worker has it at hand.
-    // Inlined, as `claim` is. It does not wait, so that no byte is tested after it: most claims are of marked objects.
+    // Inlined, as `claim` is. It does not wait, so the toolchain tests no byte after it: most claims are of marked
+    // objects.
     #[inline(always)]
     fn claim_unless_seen(&mut self, pool: &Pool<A>, seen: &mut RecentlySeen, object: u32) -> bool
         requires pool { self.old.worker.pool ≡ pool.now }
@@ -149,7 +150,7 @@ impl<A: Allocator> PairedWorker<A> {
 
     /// Claims each object of `objects` unless the worker recently saw it marked, and puts those that were white into
     /// the pair.
-    // Inlined, so that there is a loop of its own for references of each kind.
+    // Inlined, so that references of each kind have a loop of their own.
     #[inline(always)]
     fn claim_all<R: Wait, I: Iterator<Item = u32> + Drop>(
         &mut self,
@@ -229,7 +230,7 @@ impl<A: Allocator> PairedWorker<A> {
     }
 
     /// Gives some of what is in the pair to others, the spilled objects first.
-    // A call, so that the many turns in which nothing is given neither save registers for it nor clear its locals.
+    // Not inlined, so that the many turns in which nothing is given neither save registers for it nor clear its locals.
     #[inline(never)]
     fn give<R: Wait>(&mut self, rt: &R, pool: &Pool<A>) -> Result<(), Stop>
         requires pool { self.old.worker.pool ≡ pool.now }
@@ -243,8 +244,8 @@ impl<A: Allocator> PairedWorker<A> {
     }
 
     /// Tests whether others may have nothing to scan: the full stack is seen empty.
-    // Inlined: only this look is made in each turn of the worker's loop. It does not wait, so that no byte is tested
-    // after it.
+    // Inlined: only this look is made in each turn of the worker's loop. It does not wait, so the toolchain tests no
+    // byte after it.
     #[inline(always)]
     fn others_want(&mut self, pool: &Pool<A>) -> bool
         requires { self.old.worker.pool ≡ pool.now }

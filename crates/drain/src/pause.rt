@@ -10,12 +10,13 @@ use std::time::Duration;
 const FIRST_NAP: u64 = 50;
 
 /// The number of turns before the naps get twice as long, which happens three times: the longer nobody had work, the
-/// longer it may take.
+/// longer the wait may last.
 const TURNS_OF_A_LENGTH: u32 = 128;
 
 /// Spins at first and then lets other threads run, so that work that comes at once is seen at once. After that
 /// (`Backoff` says when) it naps: 50 microseconds in the first turns, and 400 in the last ones. A worker that waits in
-/// vain thus stays for about 0.4 seconds. With naps of 50 only it stayed for 0.13, less than some lists of nodes take.
+/// vain thus stays for about 0.4 seconds. If all naps took 50, it would stay for 0.13, and some linked lists take
+/// longer to mark.
 pub(crate) fn pause<R: Wait>(rt: &R, backoff: &Backoff, turn: u32) {
     if backoff.is_completed() {
         let doublings = (turn / TURNS_OF_A_LENGTH).min(3);

@@ -24,8 +24,8 @@ pub(crate) struct PreparedLeader<A: Allocator, V: Measured> {
     pub(crate) supplies: Supplies<A, V>,
 }
 
-/// Allocates the memory for the workers of `job`; then `leader` claims the roots and gives them to others. It has
-/// tallied nothing.
+/// Allocates the memory for the workers of `job`; then `leader` claims the roots and gives them to others. The leader's
+/// tally is of no object.
 pub(crate) fn prepare_leader<T: Wait, A: Allocator + Copy, V: Walk, G, S>(
     rt: &T,
     job: &Job<'_, A, V, G, S>,

@@ -10,15 +10,15 @@ ghost use Rattle.drain.specs.working.RecentlySeen.{IsNoted};
 /// first cache.
 const ENTRIES: usize = 4096;
 
-/// A table of objects that the worker saw marked. Each is at its number modulo [`ENTRIES`]; of several at one place the
-/// table has the last noted one.
+/// A table of objects that the worker saw marked. The place of an object is its number modulo [`ENTRIES`]. If several
+/// objects have one place, the table has the one that was noted last.
 #[derive(Drop)]
 pub(crate) struct RecentlySeen {
     objects: [u32; ENTRIES],
 }
 
 impl RecentlySeen {
-    /// Creates an empty table: none of its entries is at its place.
+    /// Creates an empty table: each entry is an object that belongs at another place.
     pub(crate) fn new() -> RecentlySeen
         ensures none { (o : ℕ) → IsNoted result o → ⊥ }
     {

@@ -48,7 +48,7 @@ impl<'a, 'b, A: Allocator> Measured for WalkedGraph<'a, 'b, A> {
 }
 
 /// Returns what a tally counts of an object: its row, its size, and how many of its identifiers name no object.
-// Inlined, like all that a visit reports: otherwise a call would write its three words and its caller read them again.
+// Inlined, like all that a visit reports: a call would write its three words, and its caller would read them again.
 #[inline(always)]
 fn scanned(row: RowKey, bytes: u64, unresolved: u64) -> ScannedObject
     ensures { result ≡ record { row = numbers.row_number row; bytes = bytes; unresolved = unresolved } }

@@ -216,8 +216,8 @@ pub fn join_all<T: Threads, A: Allocator, V: Measured>(
     Ok(back)
 }
 
-/// Starts the thread of each worker and waits for all of them. Returns the leader and, in the place of `back`, the
-/// workers that are through.
+/// Starts the thread of each worker and waits for all of them. Returns the leader, and `back` with the workers that are
+/// through.
 fn run_in_scope<T, A, V, G, S>(
     rt: &T,
     job: &Job<'_, A, V, G, S>,

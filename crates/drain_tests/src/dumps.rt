@@ -57,7 +57,7 @@ pub(crate) fn wide_array(alloc: Global) -> Result<Vec<u8>, AllocError> {
     dump_of(alloc, heap.as_slice())
 }
 
-/// Returns the graph of `dump`, which has to be whole.
+/// Returns the graph of `dump`, which has to be accepted.
 pub(crate) fn graph_of<'a, T: Threads + Sync>(
     rt: &T,
     alloc: Global,

@@ -178,7 +178,7 @@ fn come_to<T: Clock + Copy + Threads + Wait + Sync>(
     rt: T,
     alloc: Global,
 ) -> Result<(u64, u64), Fail> {
-    // The first buffer of the worker that scans the array has room for all it refers to, so no put gives any away.
+    // The first buffer of the worker that scans the array has room for all elements, so no put gives any away.
     let options = Options::new(2, 256, 1024, 0)?;
     let gate = Meeting::new(rt, 2, 1);
     let dump = wide_array(alloc)?;

@@ -1,4 +1,5 @@
-//! What no clause of a marking says: when the gate is called for an object; and a leader that finds no buffers.
+//! What no clause of a marking says: when the gate is called for an object, that a leader without buffers drains, and
+//! how long a worker waits.
 
 ghost use Rattle.std.specs.Prelude.{◌≡◌, ◌<◌, ◌≤◌, ◌+◌};
 ghost use Rattle.mark_core.specs.Events.{IsBusy};
@@ -17,7 +18,7 @@ use std::thread::Threads;
 use std::time::{Duration, Instant};
 use work_pair::Pair;
 
-/// The graph of a dump with at most 64 objects that notes for which of them the gate was called.
+/// The graph of a dump with at most 64 objects. It counts the visits of objects for which the gate was not called yet.
 #[derive(Drop)]
 struct Watched<'a, 'b> {
     walked: WalkedGraph<'a, 'b, Global>,

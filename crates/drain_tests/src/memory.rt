@@ -1,4 +1,4 @@
-//! Out of memory: if an allocation fails no thread is started; and the calls of a marking allocate nothing.
+//! Out of memory: if an allocation fails, no thread is started; and the calls of a `Marked` allocate nothing.
 
 use crate::dumps::{graph_of, wide_array};
 use drain::inside::{StartHook, mark_where};
@@ -11,8 +11,8 @@ use std::sync::atomic::{AtomicU64, Ordering};
 use std::test::Fail;
 use std::thread::Threads;
 
-/// Returns the options for two workers, with room in the buffers for all that one of them finds: no worker's list has
-/// to grow.
+/// Returns the options for two workers, with room in the buffers for all that one of them finds: no spill list has to
+/// grow.
 fn with_room() -> Result<Options, Fail> {
     Ok(Options::new(2, 64, 6, 0)?)
 }
@@ -116,8 +116,8 @@ fn told<A: Allocator>(marked: &Marked<A>) -> Told {
     )
 }
 
-/// Marks `graph` on a heap that grants `requests` allocations. Returns the number of allocations that remain then, what
-/// the marking says, and the number of allocations that failed by the end.
+/// Marks `graph` on a heap that grants `requests` allocations. Returns the number of allocations that remain after the
+/// marking, what the marking says, and the number of allocations that failed by the end.
 fn told_with<T: Threads + Wait + Sync>(
     rt: &T,
     alloc: Global,
@@ -132,7 +132,7 @@ fn told_with<T: Threads + Wait + Sync>(
     Ok((left, told, heap.refusals()))
 }
 
-/// Marks the wide array on a heap that grants just the allocations that it takes. Returns what [`told_with`] does.
+/// Marks the wide array on a heap that grants just as many allocations as that takes. Returns what [`told_with`] does.
 fn array_told<T: Threads + Wait + Sync>(
     rt: &T,
     alloc: Global,

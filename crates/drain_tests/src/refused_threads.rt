@@ -25,7 +25,7 @@ impl StartHook for AllBut {
 }
 
 /// Marks the wide array with the options `workers`, `buffer`, `buffers` and `first_tag`. Returns the number of marked
-/// objects, or why none is.
+/// objects, or the fault.
 fn marked_where<T: Threads + Wait + Sync, G: Gate, S: StartHook>(
     rt: &T,
     alloc: Global,
@@ -118,7 +118,7 @@ impl<C: Clock> RefusesOne<C> {
     }
 }
 
-/// Returns the result if the thread of worker 1 is refused, the notes at that time, and the notes somewhat later.
+/// Marks, with the thread of worker 1 refused. Returns the result, the notes at the end, and the notes somewhat later.
 fn noted_twice<T: Clock + Copy + Threads + Wait + Sync>(
     rt: T,
     alloc: Global,

@@ -28,17 +28,17 @@ fn of_largest(alloc: Global, objects: u64) -> Result<Tally<Global>, AllocError>
     })
 }
 
-/// The sum of the first row, that at the place after it, and the number of identifiers that name no object.
+/// The sum of the first row, the sum at the place after it, and the number of identifiers that name no object.
 type Told = ((u64, u64), (u64, u64), u64);
 
-/// The tally of all largest objects.
+/// The tally of [`OBJECTS`] objects of the largest size.
 const BOUNDS: Told = ((OBJECTS, OBJECTS * BYTES), (0, 0), OBJECTS * UNRESOLVED);
 
 fn told(tally: &Tally<Global>) -> Told {
     (tally.told_at(0), tally.told_at(1), tally.unresolved)
 }
 
-/// Returns the tally of all largest objects but one, with that one added.
+/// Returns the same tally, where the last object is added to a tally of the others.
 fn told_of_one_more(alloc: Global) -> Result<Told, AllocError> {
     let mut tally = of_largest(alloc, OBJECTS - 1)?;
     tally.add(ScannedObject {
@@ -49,7 +49,7 @@ fn told_of_one_more(alloc: Global) -> Result<Told, AllocError> {
     Ok(told(&tally))
 }
 
-/// Returns the tally of all largest objects, joined from two halves.
+/// Returns the same tally, joined from two halves.
 fn told_of_halves(alloc: Global) -> Result<Told, AllocError> {
     let mut halves = of_largest(alloc, OBJECTS / 2)?;
     let other = of_largest(alloc, OBJECTS / 2)?;

@@ -13,7 +13,7 @@ use std::process::Abort;
 use std::test::Fail;
 use std::thread::Threads;
 
-/// The numbers of a header, of a string record and of a loaded class, in the order of the manual.
+/// Returns the numbers of a header, of a string record and of a loaded class, in the order of the manual.
 fn record_numbers(view: &View<'_>, string: u32, loaded: u32) -> [u64; 8]
     requires header { (time : ℕ) × HeaderStands view.now time }
     requires string { (time id : ℕ) × (text : List ℕ) × StringStands view.now string time id text }
@@ -49,7 +49,7 @@ fn class_numbers(view: &View<'_>, at: u32) -> [u64; 9]
     ]
 }
 
-/// The label, the type code and the last byte of a value.
+/// Returns the label, the type code and the last byte of `value`, or `None` if `value` has no byte.
 fn labelled(value: TypedValue<'_>) -> Option<(u64, u8, u8)> {
     let last = value.value.last()?;
     Some((value.label, value.type_code, *last))

@@ -3,7 +3,7 @@
 //!
 //! `worked_file` has the worked dump of 174 bytes with its places and faults, `tags_and_types` each tag and type code
 //! and each order of records, `fields` each field of a dump with one part of every kind (`dumps`), `parts` a dump that
-//! threads read in parts, `requests` the requests for memory by which they do, and `refusals` the text of a refusal.
+//! threads read in parts, `requests` the allocations of such reads, and `refusals` the text of a refusal.
 //! `proofs/WorkedFile.antt` computes that the worked dump is a dump by the definitions.
 
 #![tactic(auto)]

@@ -1,11 +1,13 @@
-//! A dump that threads read in parts has the places and the first fault that it has if one thread reads it.
+//! Tests that a dump has the same places or the same first fault, whether threads read it in parts or one thread reads
+//! it whole.
 
 use hprof_grammar::{Dump, FormatFault, ReadRefusal, Team, read};
 use std::alloc::{Allocator, Global};
 use std::test::Fail;
 use std::thread::Threads;
 
-/// Strings and loaded classes between three segments, the end of these, and one more string: 215 bytes.
+/// Three segments, with strings, loaded classes and a skipped record before and between them, a HEAP DUMP END, and one
+/// more string: 215 bytes.
 #[rattlefmt::skip]
 pub const FILE: [u8; 215] = [
     0x4a, 0x41, 0x56, 0x41, 0x20, 0x50, 0x52, 0x4f, 0x46, 0x49, 0x4c, 0x45, 0x20, 0x31, 0x2e, 0x30, 0x2e, 0x32, 0,
@@ -29,7 +31,7 @@ pub const FILE: [u8; 215] = [
 /// The offsets of the file's records.
 const RECORDS: [usize; 10] = [31, 45, 76, 90, 115, 146, 158, 183, 192, 201];
 
-/// Two bytes to be changed in the file, and the fault then: offsets, bytes, the fault's code, its offset.
+/// Two changed bytes of the file, each with its offset, and the code and the offset of the first fault.
 const CHANGES: [([(usize, u8); 2], u8, u64); 6] = [
     ([(54, 0x7e), (124, 0x7e)], 5, 54),
     ([(71, 0x7e), (192, 0x0c)], 5, 71),
@@ -64,7 +66,7 @@ fn are_same(one: &Dump<Global>, other: &Dump<Global>) -> bool {
         && one.roots() == other.roots()
 }
 
-/// Returns the refusal of `bytes` by one thread, and whether four threads return the same.
+/// Returns the refusal if one thread reads `bytes`, and whether four threads have the same result.
 fn told_by_four<T: Threads + Sync>(
     rt: &T,
     alloc: Global,

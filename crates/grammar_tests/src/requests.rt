@@ -1,4 +1,4 @@
-//! The requests for memory show how a dump was read: in parts, in how many, and not again by one thread.
+//! Tests by the number of allocations how a dump is read: in parts, in how many, and not a second time by one thread.
 
 use crate::parts::{FILE, is_of_the_file};
 use hprof_grammar::{Team, read};
@@ -28,7 +28,8 @@ fn requests_of<T: Threads + Sync>(team: &Team<'_, T>, alloc: Global) -> u64 {
     u64::MAX.saturating_sub(heap.requests_left())
 }
 
-/// Refuses each request of `team` in turn, and tests whether it reads the file then: always if `wanted`, else never.
+/// Refuses each request of `team` in turn. Tests whether `team` then always reads the file if `wanted`, and otherwise
+/// never.
 fn reads_without_one<T: Threads + Sync>(team: &Team<'_, T>, alloc: Global, wanted: bool) -> bool {
     for request in 0..requests_of(team, alloc) {
         if reads(team, &LimitedHeap::refusing(alloc, request)) != wanted {
@@ -38,8 +39,8 @@ fn reads_without_one<T: Threads + Sync>(team: &Team<'_, T>, alloc: Global, wante
     true
 }
 
-/// If a request for the parts is refused, the calling thread reads the file. So each request, the last one too, is for
-/// the parts: nothing is read again.
+/// The calling thread reads the file if a request of the parts is refused. So every request here is one of the parts,
+/// and nothing is read twice: a refused request of the calling thread would be a refusal.
 #[test]
 fn read_in_parts_alone(rt: HostRuntime) {
     for (threads, fewest) in IN_PARTS {
@@ -66,7 +67,7 @@ fn requests_by<T: Threads + Sync>(rt: &T, alloc: Global, threads: u32) -> u64 {
     requests_of(&Team::sharing_from(rt, threads, 0), alloc)
 }
 
-/// Each part allocates, so more threads make more requests: there is not a part for each record.
+/// Each part allocates, so more threads make more requests. They would not if each record were a part.
 #[test]
 fn parts_by_threads(rt: HostRuntime) {
     let [two, four, many] = [2, 4, 64].map(|threads| requests_by(&rt, rt.alloc(), threads));

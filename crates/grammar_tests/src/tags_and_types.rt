@@ -194,8 +194,8 @@ fn tags_of_sub_records(rt: HostRuntime) -> Result<(), Fail> {
     Ok(())
 }
 
-/// A sub-record with one type code: the place of the code, the tag, the number of zeros and the bytes before the code,
-/// whether a value follows it, and the number of zeros after that.
+/// A sub-record with one type code: the part that has the code, the tag, the number of zeros after the tag, the bytes
+/// between these zeros and the code, whether a value follows the code, and the number of zeros at the end.
 type CodePlace = (&'static str, u8, usize, &'static [u8], bool, usize);
 
 const CODE_PLACES: [CodePlace; 4] = [
@@ -205,8 +205,8 @@ const CODE_PLACES: [CodePlace; 4] = [
     ("array", 0x23, 8, &[0, 0, 0, 1], true, 0),
 ];
 
-/// Returns the fault of a file with one sub-record that has `code` at `place`, and a value of `size` bytes if one
-/// follows.
+/// Returns the fault of a file with one sub-record that has `code` at `place`, and a value of `size` bytes if `place`
+/// has a value.
 fn code_fault<T: Threads + Sync>(
     rt: &T,
     alloc: Global,

@@ -1,4 +1,4 @@
-//! The worked dump: its places, and the faults of its beginnings and of changed bytes.
+//! The worked dump: its places, and the faults of its prefixes and of changed bytes.
 
 use hprof_grammar::{Dump, FormatFault, ReadRefusal, Team, read};
 use limited_heap::{LimitedHeap, requests_of};
@@ -25,7 +25,7 @@ const FILE: [u8; 174] = [
     0xff, 0, 0, 0x02, 0x01,
 ];
 
-/// The faults of the file's beginnings by their length: the least length, the greatest, the fault's code, its offset.
+/// The faults of the file's prefixes: the least length, the greatest length, the fault's code, the fault's offset.
 const CUTS: [(usize, usize, u8, u64); 8] = [
     (0, 18, 1, 0),
     (19, 30, 3, 0),
@@ -37,7 +37,7 @@ const CUTS: [(usize, usize, u8, u64); 8] = [
     (71, 173, 3, 70),
 ];
 
-/// The faults of the file with one byte changed: offset of the byte, byte, the fault's code, its offset.
+/// The faults of the file with one byte changed: the byte's offset, the new byte, the fault's code, the fault's offset.
 const CHANGES: [(usize, u8, u8, u64); 8] = [
     (0, 0, 1, 0),
     (22, 2, 2, 19),
@@ -123,13 +123,13 @@ fn is_right_or_told<T: Threads + Sync>(team: &Team<'_, T>, heap: &LimitedHeap<Gl
     }
 }
 
-/// Returns the number of requests that `team` makes to read the file if none is refused, and 0 if a result is wrong
-/// while they are refused in turn.
+/// Refuses in turn each request that `team` makes to read the file. Returns the number of requests, or 0 if a result is
+/// wrong.
 fn requests_of_the_file<T: Threads + Sync>(team: &Team<'_, T>, alloc: Global) -> u64 {
     requests_of(alloc, |heap| is_right_or_told(team, heap)).unwrap_or(0)
 }
 
-/// A team that shares the file reads it in parts.
+/// The first team reads the file with one thread, the second in parts.
 #[test]
 fn memory_refused_in_turn(rt: HostRuntime) {
     for fewest in [u32::MAX, 0] {
@@ -141,8 +141,9 @@ fn memory_refused_in_turn(rt: HostRuntime) {
     }
 }
 
-/// Reads the file on a heap that grants as many requests as that takes. Returns the number of requests left, whether
-/// the dump is right, whether its objects can be taken and it has none then, and the number of refused requests.
+/// Reads the file on a heap that grants exactly the requests for that, and then takes the dump's objects. Returns the
+/// number of requests left after the read, whether the dump is right, whether the right objects were taken and none
+/// remains, and the number of refused requests.
 fn looked_at<T: Threads + Sync>(
     rt: &T,
     alloc: Global,

@@ -20,8 +20,8 @@ fn is_granted(heap: &LimitedHeap<Global>) -> bool {
     Box::new(heap, 7u8).is_ok()
 }
 
-/// Makes `requests` requests on `heap`, and one more after the first that is refused. Returns `false` if that is
-/// `wrong`.
+/// Makes `requests` requests on `heap`. If one is refused, makes one more and stops. Returns `false` in the case that
+/// `wrong` names.
 fn is_right(heap: &LimitedHeap<Global>, requests: u32, wrong: Wrong) -> bool {
     for _ in 0..requests {
         if !is_granted(heap) {

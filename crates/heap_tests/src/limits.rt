@@ -22,7 +22,8 @@ fn granted_and_refused<A: Allocator + Copy>(heap: A, size: usize, tries: u64) ->
     (granted, refused)
 }
 
-/// Tests whether heaps with this limit grant `limit` blocks of `size` bytes and then refuse all, or only the next.
+/// Tests two heaps with blocks of `size` bytes. Both must grant `limit` blocks. Then one must refuse all blocks, the
+/// other only the next block.
 fn limits_blocks<A: Allocator + Copy>(alloc: A, limit: u64, size: usize) -> bool {
     let tries = limit.saturating_add(3);
     let all_later = LimitedHeap::new(alloc, limit);
@@ -60,7 +61,7 @@ fn grows_and_shrinks<A: Allocator>(heap: A, size: usize) -> Result<(bool, bool),
     Ok((grows, list.capacity() < room))
 }
 
-/// Tests whether a block that grows by `size` bytes asks for a second request, and one that shrinks for a third.
+/// Tests whether the growth of a block by `size` bytes is a second request, and its shrinking a third.
 fn limits_growths<A: Allocator + Copy>(alloc: A, size: usize) -> Result<bool, AllocError> {
     let block_only = grows_and_shrinks(&LimitedHeap::new(alloc, 1), size)?;
     let growth_too = grows_and_shrinks(&LimitedHeap::new(alloc, 2), size)?;

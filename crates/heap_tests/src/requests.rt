@@ -1,4 +1,4 @@
-//! Tests what no clause says: which requests are granted.
+//! Tests which requests are granted. No clause of `LimitedHeap` says that.
 
 use limited_heap::LimitedHeap;
 use std::alloc::{AllocError, Allocator};

@@ -11,11 +11,11 @@ use Rattle.histogram.specs.Counting.{AppendsBeginning}
 use Rattle.hprof_grammar.specs.Fault.{FirstFault}
 use Rattle.hprof_grammar.specs.Record.{Record}
 
--- The bytes of a run: all that its reader gives, but no more than one byte above the largest dump.
+-- The bytes of a run: all that its reader gives, but at most one byte more than the largest dump has.
 abbrev pub bytes_read : List ℕ → List ℕ
 bytes_read given = take 1073741825 given
 
--- They were taken from what the reader gives, and no other bytes were.
+-- The bytes of a run were taken from what the reader gives, and no others.
 abbrev pub ConsumesBytesRead : Option (List ℕ) → Option (List ℕ) → Type 0
 ConsumesBytesRead old new = IfSome old (λ given. Consumes old new (bytes_read given))
 
@@ -27,25 +27,25 @@ IsAcceptedText text = (id_size : ℕ) × (records : List Record) × IsAccepted t
 abbrev pub FirstFaultOf : List ℕ → ℕ → ℕ → Type 0
 FirstFaultOf text code place = FirstFault text code place ⊎ HasLinkFault text code place
 
--- The refusal is this first fault.
+-- The refusal is the first fault of the text.
 pub record RefusesFirstFault (text : List ℕ) (refusal : Refusal) : Type 0 where
   pub place : ℕ
   pub is : refusal ≡ fault_refusal refusal.code place
   pub fault : FirstFaultOf text refusal.code place
 
--- The codes are 1 to 20, since the options of a run are in their ranges, but not 17, which is withdrawn. Those up to
--- 14, and no others, have a place.
+-- The code is 1 to 20, but not 17, which is withdrawn; 21 is impossible, since the options of a run are in their
+-- ranges. The refusal has a place just if the code is at most 14.
 pub record IsRunRefusal (refusal : Refusal) : Type 0 where
   pub least : 1 ≤ refusal.code
   pub most : refusal.code ≤ 20
   pub in_use : refusal.code ≢ 17
   pub placed : (refusal.code ≤ 14) ↔ IsSome refusal.offset
 
--- The refusal of a text that is not accepted: its first fault, or that memory or the reader failed before it was found.
+-- The refusal of a text that is not accepted: its first fault, or else a failure of an allocation or of the reader.
 abbrev pub IsRefusalOf : List ℕ → Refusal → Type 0
 IsRefusalOf text refusal = RefusesFirstFault text refusal ⊎ (refusal ≡ out_of_memory) ⊎ (refusal ≡ read_fault)
 
--- the report of the text without those fields was written, and nothing else
+-- the report of the text without the fields of `skip` was written, and nothing else
 pub record WritesReport (text : List ℕ) (skip : List SkipEntry) (old new : Option (List ℕ)) : Type 0 where
   pub report : List ℕ
   pub is : IsReport text skip report
@@ -57,7 +57,7 @@ pub record WritesBeginning (text : List ℕ) (skip : List SkipEntry) (old new : 
   pub is : IsReport text skip report
   pub written : AppendsBeginning old new report
 
--- the report of some text without those fields was written, and nothing else
+-- the report of some text without the fields of `skip` was written, and nothing else
 abbrev pub WritesSomeReport : List SkipEntry → Option (List ℕ) → Option (List ℕ) → Type 0
 WritesSomeReport skip old new = (text : List ℕ) × WritesReport text skip old new
 

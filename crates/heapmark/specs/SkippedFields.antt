@@ -4,7 +4,7 @@ use Rattle.heap_graph.specs.SkipText.{SpellsSkips}
 use Rattle.heap_graph.specs.Skips.{SkipEntry}
 use Rattle.heapmark.specs.Answer.{WritesSomeBeginning, WritesSomeReport}
 
--- The list that the words give: the empty one without a text, and else the one that the text spells.
+-- The list that the words give: the one that the text spells, or the empty list if there is no text.
 abbrev pub IsSkipListOf : Option (List ℕ) → List SkipEntry → Type 0
 IsSkipListOf None skip = skip ≡ []
 IsSkipListOf (Some text) skip = SpellsSkips text skip

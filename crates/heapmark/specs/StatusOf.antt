@@ -6,8 +6,8 @@ use Rattle.heapmark.specs.SkippedFields.{HasBadList, WritesBeginningFor, WritesR
 use Rattle.histogram.specs.Counting.{failures_of, inner_of, is_flushed}
 use Rattle.histogram.specs.declared.counted.Counted.{Counted}
 
--- The status of the program for these words. `old` and `new` are its output before and after, and `bytes_of` what an
--- output has, if a contract can name it.
+-- The status of the program for these words. `old` and `new` are the program's output before and after. `bytes_of`
+-- yields the bytes of an output, if a contract can name them.
 pub record IsStatusOf {W : Type 0} (words : List (List ℕ)) (status : ℕ) (bytes_of : W → Option (List ℕ))
     (old new : Counted W) : Type 0 where
   pub most : status ≤ 2
@@ -15,12 +15,11 @@ pub record IsStatusOf {W : Type 0} (words : List (List ℕ)) (status : ℕ) (byt
   pub usage : status ≡ 2 → IsWrong words
   pub wrong : (IsTaken words → ⊥) → (AsksAboutProgram words → ⊥) → status ≢ 0
   pub untouched : status ≡ 2 → Keeps (bytes_of (inner_of old)) (bytes_of (inner_of new))
-  -- At 0, if neither help nor version was asked for, a report without the fields that the words list was written and
-  -- flushed.
+  -- At 0, if neither help nor version was asked for, a report was written and flushed, without the fields of `--skip`.
   pub reported : status ≡ 0 → (AsksAboutProgram words → ⊥)
       → WritesReportFor (text_given (codes "skip") words) (bytes_of (inner_of old)) (bytes_of (inner_of new))
   pub flushed : status ≡ 0 → (AsksAboutProgram words → ⊥) → is_flushed new ≡ true
-  -- Too few buffers for the workers are refused, and a text that lists no fields, with nothing written.
+  -- Too few buffers for the workers are refused, and so is a text that lists no fields. Nothing is written then.
   pub too_few : (workers buffers : ℕ) → GivesNumber (codes "workers") words workers
       → GivesNumber (codes "buffers") words buffers → buffers < 2 * workers + 2 → (AsksAboutProgram words → ⊥)
       → (status ≢ 0) × Keeps (bytes_of (inner_of old)) (bytes_of (inner_of new))

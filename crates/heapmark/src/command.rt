@@ -38,10 +38,10 @@ error: a word of the command line is not UTF-8 text
 For more information, try '--help'.
 ";
 
-/// Does all that the program does for `words`, its own name first, and returns its exit status: 0 if the report of the
-/// file is on `out`, or if the help or the version was asked for; 1 after a refusal; 2 if the words are wrong. Prints a
-/// refusal, in one line, or the faults of the words on `err`. A fault of `err`, or of `out` during the help or the
-/// version, changes nothing.
+/// Does all that the program does for `words`, the first of which is its own name. Returns the exit status: 0 if the
+/// report of the file is on `out`, or if the help or the version was asked for; 1 after a refusal; 2 if the words are
+/// wrong. Prints a refusal, in one line, or the faults of the words on `err`. A failure of `err` does not change the
+/// status, nor does a failure of `out` while the help or the version is printed.
 pub fn program<T: Files + AllocGlobal + Threads + Wait + Sync, W: Write, E: Write>(
     rt: &T,
     words: &[&str],
@@ -56,8 +56,8 @@ pub fn program<T: Files + AllocGlobal + Threads + Wait + Sync, W: Write, E: Writ
     ensures wrong { (IsTaken (texts_of words.now) → ⊥) → (AsksAboutProgram (texts_of words.now) → ⊥) → result ≢ 0 }
     ensures untouched { result ≡ 2 → Keeps (W.contents (inner_of out.old)) (W.contents (inner_of out.new)) }
 
-    // At 0 no refusal was printed. If neither help nor version was asked for, a report without the fields that the
-    // words list was written and flushed. No contract can say that it is the report of the file.
+    // At 0 no refusal was printed. If neither help nor version was asked for, a report was written and flushed, without
+    // the fields of `--skip`. No contract can say that it is the report of the file.
     ensures reported { result ≡ 0 → (AsksAboutProgram (texts_of words.now) → ⊥)
         → WritesReportFor (text_given (codes "skip") (texts_of words.now))
         (W.contents (inner_of out.old)) (W.contents (inner_of out.new)) }
@@ -70,7 +70,7 @@ pub fn program<T: Files + AllocGlobal + Threads + Wait + Sync, W: Write, E: Writ
         → (AsksAboutProgram (texts_of words.now) → ⊥)
         → (result ≢ 0) × Keeps (W.contents (inner_of out.old)) (W.contents (inner_of out.new)) }
 
-    // So is a text that lists no fields.
+    // A text that lists no fields is refused, too, with nothing written.
     ensures bad_list { HasBadList (text_given (codes "skip") (texts_of words.now))
         → (AsksAboutProgram (texts_of words.now) → ⊥)
         → (result ≢ 0) × Keeps (W.contents (inner_of out.old)) (W.contents (inner_of out.new)) }
@@ -90,7 +90,7 @@ pub fn program<T: Files + AllocGlobal + Threads + Wait + Sync, W: Write, E: Writ
 }
 
 /// Like [`program`], if `err` is a terminal: after a refusal it prints a second line, which says why the file could not
-/// be opened, or what can be done. The status means what that of `program` means.
+/// be opened, or what can be done. The status has the same meaning.
 pub fn program_at_terminal<T: Files + AllocGlobal + Threads + Wait + Sync, W: Write, E: Write>(
     rt: &T,
     words: &[&str],
@@ -109,7 +109,7 @@ pub fn program_at_terminal<T: Files + AllocGlobal + Threads + Wait + Sync, W: Wr
 }
 
 /// Does what `words` ask for, and prints a refusal in one line, or what is wrong with the words. Returns the exit
-/// status, and why there is no report of the file, if one was asked for and refused.
+/// status. If a file was refused, also returns why there is no report of it.
 fn answer_line<'a, T: Files + AllocGlobal + Threads + Wait + Sync, W: Write, E: Write>(
     rt: &T,
     words: &'a [&'a str],
@@ -169,7 +169,7 @@ fn answer_words<W: Write, E: Write>(
     }
 }
 
-/// Prints that a word of the command line is not text, so that no word of it can be shown. Returns the exit status.
+/// Prints that a word of the command line is not text. Does not show the word, and returns the exit status.
 pub fn refuse_bytes<E: Write>(err: &mut E) -> u8
     ensures { result ≡ 2 }
 {
@@ -177,7 +177,7 @@ pub fn refuse_bytes<E: Write>(err: &mut E) -> u8
     status::WRONG_WORDS
 }
 
-/// Prints in one line the refusal for which there is no report of a file, and returns the exit status.
+/// Prints the refusal of `reason` in one line, and returns the exit status.
 fn tell<E: Write>(err: &mut E, reason: &NoReport) -> u8
     ensures { result ≡ 1 }
 {
@@ -280,7 +280,7 @@ fn report_file<T: Files + AllocGlobal + Threads + Wait + Sync, W: Write>(
     }
 }
 
-/// Opens the file `name` to read all of it. The system opens a directory too, but reads none: so it is refused here.
+/// Opens the file `name` to read all of it. Refuses a directory, which the system would open, but not read.
 pub(crate) fn open<T: Files>(rt: &T, name: &str) -> io::Result<Counted<T::File>>
     ensures { IfOk result (λ reader. failures_of reader ≡ 0) }
 {
@@ -295,7 +295,7 @@ pub(crate) fn open<T: Files>(rt: &T, name: &str) -> io::Result<Counted<T::File>>
 }
 
 /// Returns the number of bytes to reserve for a file of `size` bytes: one more, so that the last read finds the end.
-/// The file may change.
+/// This is only a hint, since the file may change.
 pub(crate) fn expected_size(size: u64) -> usize
     ensures most { result ≤ size + 1 }
     ensures whole { size < 2 ^ 64 - 1 → result ≡ size + 1 }

@@ -113,7 +113,7 @@ fn beginning_of<T: Files>(rt: &T, name: &str) -> io::Result<Beginning> {
 
 /// Returns what can be done about a file that is too large, refused at the offset `place`.
 fn hint_of_excess(place: Option<u64>) -> FileHint {
-    // The place at which a file is refused that has more bytes than a dump may have.
+    // A file with more bytes than a dump may have is refused at this place.
     if place == Some(u64::from(LIMIT)) {
         FileHint::TooManyBytes
     } else {
@@ -121,7 +121,7 @@ fn hint_of_excess(place: Option<u64>) -> FileHint {
     }
 }
 
-/// Returns what can be done about a file for which memory was refused, to a run with this number of `workers`.
+/// Returns what can be done if a run on the file `name` with this number of `workers` was out of memory.
 fn hint_of_memory<T: Files>(rt: &T, name: &str, workers: u32) -> FileHint {
     if is_too_long(rt, name) {
         FileHint::TooManyBytes
@@ -132,7 +132,7 @@ fn hint_of_memory<T: Files>(rt: &T, name: &str, workers: u32) -> FileHint {
     }
 }
 
-/// Tests whether the file `name` is known to have more bytes than a dump may have: no memory serves it then.
+/// Tests whether the file `name` is known to have more bytes than a dump may have: then no memory is enough.
 fn is_too_long<T: Files>(rt: &T, name: &str) -> bool {
     match fs::metadata(rt, name) {
         Ok(metadata) => metadata.len() > u64::from(LIMIT),

@@ -1,4 +1,4 @@
-//! What the faults of a text exclude, as laws: functions whose bodies call the laws from which they follow.
+//! Laws about the first fault of a text. Each is a function whose body calls the laws from which it follows.
 
 ghost use Rattle.std.specs.Prelude.{◌≡◌, ◌⊎◌, List, ℕ};
 ghost use Rattle.hprof_grammar.specs.Laws.{AreBytes};

@@ -2,8 +2,8 @@
 //!
 //! `run`, in `pipeline.rt`, is all that is promised: it reads the bytes, builds the graph, marks it and writes the
 //! report, or returns why it does not. `program`, in `command.rt`, opens the file, passes it to `run` with the options
-//! of the command line, and turns the result into the exit status. `main` is one line over `process`, below: `process`
-//! is `start` and, after a report at a terminal, a second look at the fields to be skipped.
+//! of the command line, and turns the result into the exit status. `main` only calls `process`, below. `process` calls
+//! `start`; after a report at a terminal, it also prints which entries of `--skip` name no field of the dump.
 //!
 //! The headline is defined in `specs/Headline.antt`, the refusals in `specs/RunRefusals.antt`; README.md at the top
 //! says both in words, and `docs/ARCHITECTURE.md` says where everything else is.
@@ -53,8 +53,8 @@ fn main(rt: HostRuntime) -> ExitCode {
     ExitCode::from(process(&rt, &rt, &mut out, &mut err, is_terminal))
 }
 
-/// Does all that the process does, and returns its exit status, that of `start`. After a report it prints the fields to
-/// be skipped that the dump does not have, only if standard error `is_terminal`.
+/// Does all that the process does, and returns the exit status of `start`. After a report, if standard error
+/// `is_terminal`, prints which entries of `--skip` name no field of the dump.
 fn process<T, V, W, E>(rt: &T, line: &V, out: &mut Counted<W>, err: &mut E, is_terminal: bool) -> u8
 where
     T: Files + AllocGlobal + Threads + Wait + Sync,

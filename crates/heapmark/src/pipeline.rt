@@ -31,13 +31,14 @@ const READ_LIMIT: usize = LIMIT as usize + 1;
 /// Reads a heap dump, marks its reachable objects with a thread for each worker, and writes the histogram of them. The
 /// fields of `skip` are not followed, and what they name does not count as unresolved.
 ///
-/// Reads until a read returns 0, or until it has one byte more than a dump may have. Tries no failed read or write
-/// again, and writes nothing but the report.
+/// Reads until a read returns 0, or until it has one byte more than a dump may have. Does not retry a failed read or
+/// write, and writes nothing but the report.
 ///
 /// At `Ok` the clause `headline` holds for a reader whose bytes a contract can name, such as a slice. For any other,
-/// such as a file, the clauses only say that the report of some text was written and flushed. At an error of 1 to 14
-/// the bytes have that first fault. Bytes that are no accepted dump are refused so, or by 15 or 19 if an allocation or
-/// the reader failed first; 15 to 20 may also refuse an accepted dump. A run has no exit status: that is the program's.
+/// such as a file, the clauses only say that the report of some text was written and flushed. An error with a code of 1
+/// to 14 is the first fault of the bytes. Bytes that are no accepted dump are refused with their first fault, or with
+/// 15 or 19 if an allocation or the reader failed first. An accepted dump may be refused with 15 to 20. A run has no
+/// exit status: only the program has.
 pub fn run<T, A, R, W, B, G>(
     rt: &T,
     alloc: A,
@@ -67,8 +68,8 @@ where
 
     ensures flushed { OnOk result (is_flushed writer.new ≡ true) }
 
-    // The converse: a fault is reported only if it is the first one, and bytes with a fault are refused by nothing else
-    // but a failure of an allocation or of the reader.
+    // The converse: a reported fault is the first one of the bytes. Bytes with a fault are refused with the first one,
+    // unless an allocation or the reader fails.
     ensures first_fault { IfErr result (λ refusal. refusal.code ≤ 14
         → IfSome (R.remaining (inner_of reader.old)) (λ given. RefusesFirstFault (bytes_read given) refusal)) }
     ensures not_accepted { IfSome (R.remaining (inner_of reader.old)) (λ given.
@@ -104,7 +105,7 @@ where
     report_bytes(rt, &alloc, bytes.as_slice(), writer, options, skip, gate)
 }
 
-/// Reads the bytes of a run: all that `reader` gives, but no more than one byte above the largest dump.
+/// Reads the bytes of a run: all that `reader` gives, but at most one byte more than the largest dump has.
 pub(crate) fn read_bytes<A: Allocator, R: Read>(
     alloc: A,
     reader: &mut Counted<R>,
@@ -125,7 +126,7 @@ pub(crate) fn read_bytes<A: Allocator, R: Read>(
     Ok(reader.read_to_limit(alloc, READ_LIMIT)?)
 }
 
-/// Writes the report of a dump, its `bytes`. Knows nothing of readers.
+/// Writes the report of the dump in `bytes`. Knows nothing of readers.
 fn report_bytes<T, A, W, B, G>(
     rt: &T,
     alloc: A,
@@ -162,7 +163,7 @@ where
     }
 }
 
-/// Returns the report of a dump, its `bytes`. Knows nothing of readers and writers.
+/// Returns the report of the dump in `bytes`. Knows nothing of readers and writers.
 fn answer<T, A, B, G>(
     rt: &T,
     alloc: A,
@@ -214,7 +215,7 @@ where
     Ok(rows(team, alloc, graph, &marked)?)
 }
 
-/// Returns the graph of a dump, its `bytes`.
+/// Returns the graph of the dump in `bytes`.
 fn graph_of<'a, T, A, B>(
     team: &Team<'_, T>,
     alloc: A,

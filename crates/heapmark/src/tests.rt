@@ -1,8 +1,8 @@
 //! What no contract says: the worked rows, damaged dumps, streams and allocations that fail, and what the program
 //! prints.
 //!
-//! A damaged dump is a row of `rows/refused.rt`, with its code and place. Only the cuts at each length, in `cuts.rt`,
-//! and each byte changed to each other value, in `damage.rt`, are not.
+//! Damaged dumps are rows of `rows/refused.rt`, with code and place. Two kinds are elsewhere: dumps cut at each length
+//! in `cuts.rt`, and dumps with one byte changed, to each other value, in `damage.rt`.
 
 mod command_lines;
 mod cuts;

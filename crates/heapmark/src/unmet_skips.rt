@@ -1,8 +1,8 @@
 //! The lines about entries of `--skip` that name no field of the dump.
 //!
 //! Such an entry changes neither the report nor the status, so a line about it is printed after the report, only if
-//! standard error is a terminal. The file is read a second time for it. No clause speaks of these lines: those of
-//! `start` end with the report.
+//! standard error is a terminal. The file is read a second time for it. No clause is about these lines: the clauses of
+//! `start` cover only what is printed before.
 
 use crate::command::expected_size;
 use crate::pipeline::read_bytes;
@@ -56,7 +56,7 @@ fn bytes_again<T: Files + AllocGlobal>(rt: &T, file: &str) -> Option<Vec<u8>> {
     read_bytes(rt.alloc(), &mut reader).ok()
 }
 
-/// Prints a line for each entry of `list` that is not `met`. Commas separate the entries, and none has one within.
+/// Prints a line for each entry of `list` that is not `met`. Commas separate the entries, and no entry contains one.
 fn tell_unmet<E: Write>(err: &mut E, list: &str, met: &[bool]) {
     for (entry, is_met) in list.split(',').zip(met) {
         if !*is_met {

@@ -15,10 +15,10 @@ inner_of c = c.inner
 abbrev pub is_flushed : {T : Type 0} → Counted T → Bool
 is_flushed c = c.is_flushed
 
--- known bytes grow by a beginning of these bytes
+-- a beginning of `bytes` was appended to the known bytes
 abbrev pub AppendsBeginning : Option (List ℕ) → Option (List ℕ) → List ℕ → Type 0
 AppendsBeginning old new bytes = (n : ℕ) × (n ≤ length bytes) × Appends old new (take n bytes)
 
--- known bytes lose some at their front, fewer than the limit
+-- fewer than `limit` bytes were removed from the front of the known bytes
 abbrev pub ConsumesFewer : ℕ → Option (List ℕ) → Option (List ℕ) → Type 0
 ConsumesFewer limit old new = (bytes : List ℕ) × (length bytes < limit) × Consumes old new bytes

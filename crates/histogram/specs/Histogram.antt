@@ -32,7 +32,7 @@ entry g numbers row = record {
   bytes = sum_by (bytes_at g) (of_row g row numbers);
 }
 
--- each row that has one of these objects
+-- an entry for each row that has one of the objects `numbers`
 unfoldable pub entries : ObjectGraph → List ℕ → List Entry
 entries g numbers = filter (λ e. nat_lt 0 e.count) (map (entry g numbers) (all_rows g))
 
@@ -44,14 +44,15 @@ compare a b =
     ordering_then (slice_cmp nat_cmp a.name b.name) (
     nat_cmp a.class b.class)))
 
--- the rows in order, and the pairs of count and bytes over all marked and all other objects
+-- the rows in order; the number and the bytes of all marked objects, and of all others; and the number of identifiers
+-- that name no object
 pub record Histogram : Type 0 where
   pub rows : List Entry
   pub reachable : ℕ × ℕ
   pub unreachable : ℕ × ℕ
   pub unresolved : ℕ
 
--- This is the histogram of the graph with these marks: it has each row with a marked object once, in order.
+-- `h` is the histogram of the graph `g` with `marks`: it has each row with a marked object once, in order.
 pub record IsHistogram (g : ObjectGraph) (marks : List Bool) (h : Histogram) : Type 0 where
   pub each_once : IsPermutation (entries g (marked_objects g marks)) h.rows
   pub in_order : IsSorted compare h.rows

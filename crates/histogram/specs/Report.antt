@@ -25,8 +25,8 @@ report_of h =
     ++ (line h.reachable.0 h.reachable.1 (codes "(reachable)")
     ++ (line h.unreachable.0 h.unreachable.1 (codes "(unreachable)") ++ line h.unresolved 0 (codes "(unresolved)")))
 
--- The report of a text and a list of fields that are not followed: the text is accepted, and this is the text of the
--- histogram of its graph without those fields, with exactly the reachable objects marked.
+-- `report` is the report of `text` and `skip`, a list of fields that are not followed: `text` is accepted, and `report`
+-- is the text of the histogram of the graph of `text` without those fields, with exactly the reachable objects marked.
 pub record IsReport (text : List ℕ) (skip : List SkipEntry) (report : List ℕ) : Type 0 where
   pub graph : ObjectGraph
   pub graph_is : IsGraphOfText text skip graph

@@ -14,7 +14,7 @@ hex_digit n = if nat_lt n 10 then 48 + n else 87 + n
 abbrev pub is_plain : ℕ → Bool
 is_plain b = nat_le 0x21 b && nat_le b 0x7E && not (b == 0x5C)
 
--- such a byte is shown as it is, any other as a backslash, an x and two hex digits
+-- a plain byte is shown as it is, any other as a backslash, an x and two hex digits
 abbrev pub shown_byte : ℕ → List ℕ
 shown_byte b = if is_plain b then b ∷ [] else 0x5C ∷ 0x78 ∷ hex_digit (b / 16) ∷ hex_digit (b % 16) ∷ []
 

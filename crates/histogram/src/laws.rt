@@ -1,4 +1,4 @@
-//! That a text has one report, as laws: functions that do nothing.
+//! The laws that a text has at most one report: functions that do nothing.
 
 ghost use Rattle.std.specs.Prelude.{◌≡◌, Bool, List, ℕ};
 ghost use Rattle.histogram.specs.Histogram.{Histogram, IsHistogram};

@@ -22,12 +22,12 @@ pub enum ReaderRefusal {
     OutOfMemory,
 }
 
-/// The number of bytes that one read asks for at most, and by which the room grows if none is left.
+/// The most bytes that one read asks for, and the most that are reserved when the vector is full.
 const CHUNK: usize = 262_144;
 
 /// The number of bytes that are zeroed at a time.
-// The C library zeroes 2 KiB and more by one instruction that goes on over many pages, and that is slow where pages are
-// touched for the first time: 587 MB took 440 ms so, and 405 in these steps.
+// The C library zeroes 2 KiB and more with one instruction that runs over many pages. This is slow if the pages are
+// touched for the first time: 587 MB took 440 ms with it, and 405 in steps of this size.
 const ZEROED_AT_ONCE: usize = 2_047;
 
 impl<R: Read> Counted<R> {
@@ -35,7 +35,7 @@ impl<R: Read> Counted<R> {
     /// that a test can give a small one.
     ///
     /// `Err(ReadFault)` if a read fails; it is not tried again. `Err(OutOfMemory)` if an allocation for the bytes
-    /// fails. The clauses say of the bytes read before a refusal only how many there are at most.
+    /// fails. After a refusal, the clauses bound the number of bytes that were read, and say nothing else about them.
     pub fn read_to_limit<A: Allocator>(
         &mut self,
         alloc: A,
@@ -51,7 +51,7 @@ impl<R: Read> Counted<R> {
         ensures fault { IsErrOf result ReaderRefusal.ReadFault ↔ (failures_of self.new ≡ failures_of self.old + 1) }
         ensures no_fault { result ≢ Err ReaderRefusal.ReadFault → failures_of self.new ≡ failures_of self.old }
 
-        // No read is made after the limit is reached: fewer bytes had come before the one that failed.
+        // No read is made after the limit is reached: fewer bytes were read before the read that failed.
         ensures below { result ≡ Err ReaderRefusal.ReadFault
             → ConsumesFewer limit (R.remaining (inner_of self.old)) (R.remaining (inner_of self.new)) }
         ensures within { result ≡ Err ReaderRefusal.OutOfMemory
@@ -93,7 +93,7 @@ impl<R: Read> Counted<R> {
     }
 }
 
-/// Makes room in `bytes` after the first `filled` of them. A part of it is zeroed, and the length stays within `limit`.
+/// Makes room in `bytes` after the first `filled` of them, by appending zeros. The length stays within `limit`.
 fn make_room<A: Allocator>(
     bytes: &mut Vec<u8, A>,
     filled: usize,

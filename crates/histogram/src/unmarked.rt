@@ -61,9 +61,9 @@ impl Unmarked {
     }
 }
 
-/// Counts the objects that are not marked, and walks over each of them once. If there are many, it takes them in
-/// batches and splits each into a part for each thread of `team`. If there are few, or if the allocation of a batch
-/// fails, it takes one object after the other.
+/// Counts the objects that are not marked, by a walk over each. If there are many, it takes them in batches and splits
+/// each batch into a part for each thread of `team`. If there are few, or if the allocation of a batch fails, it takes
+/// one object after the other, from the first on.
 pub(crate) fn count_unmarked<
     T: Threads + Sync,
     A: Allocator + Copy,
@@ -83,7 +83,8 @@ pub(crate) fn count_unmarked<
     count_in_turn(graph, marks)
 }
 
-/// Counts the objects that are not marked, one batch after the other. `Err(AllocError)` if there is no memory for one.
+/// Counts the objects that are not marked, one batch after the other. `Err(AllocError)` if the allocation of a batch
+/// fails.
 fn count_in_batches<T: Threads + Sync, A: Allocator + Copy, B: Allocator + Sync, C: Allocator>(
     team: &Team<'_, T>,
     alloc: A,
@@ -120,7 +121,7 @@ fn count_in_turn<A: Allocator, B: Allocator>(graph: &Graph<'_, A>, marks: &Marke
 }
 
 /// Counts the objects `numbers` in parts of `size` objects: the first in a thread of its own, while this thread counts
-/// the others. It calls itself once for each part, so there are no more parts than the team has threads.
+/// the others. It calls itself once for each part, and requires no more parts than the team has threads.
 fn count_in_parts<T: Threads + Sync, A: Allocator + Sync>(
     team: &Team<'_, T>,
     graph: &Graph<'_, A>,

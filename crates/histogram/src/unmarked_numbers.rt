@@ -31,7 +31,7 @@ impl<'m, A: Allocator> Model for UnmarkedNumbers<'m, A> {
 impl<'m, A: Allocator> UnmarkedNumbers<'m, A> {
     ghost use Rattle.histogram.specs.working.Unmarked.{unmarked_from};
 
-    /// Creates an iterator over all of them.
+    /// Creates an iterator over all objects that are not marked in `marks`.
     pub(crate) fn of(marks: &'m Marked<A>) -> Self
         requires { length marks.now.marks < 2 ^ 32 }
         ensures { result ≡ unmarked_from marks.now.marks 0 }

@@ -1,5 +1,5 @@
-//! Tests of `histogram`, in a crate of their own: so that crate is proved once, and not a second time with its tests.
-//! They use its public functions only. This crate exports nothing.
+//! Tests of `histogram`, in a crate of their own, so that `histogram` is proved once and not again with its tests. They
+//! use only its public functions. This crate exports nothing.
 //!
 //! `reading` has readers that end, fail or never end, `writing` the worked reports (`reports`) and writers that fail,
 //! `names` the names in a report, `error_texts` the texts of the errors, `memory` each allocation that fails, and

@@ -1,6 +1,6 @@
-//! Allocations that fail: each allocation of a call fails in turn, together with all later ones and alone. Then the
-//! call either returns its whole result all the same, as if a list asks again for less, or it reports that memory was
-//! refused and has written nothing.
+//! Allocations that fail: each allocation of a call fails in turn, first together with all later ones, then only that
+//! one. The call then still returns its whole result, as when a list asks again for less memory; or it reports that
+//! memory was refused, and has written nothing.
 
 ghost use Rattle.drain.specs.Marks.{IsMarkingOf};
 
@@ -139,7 +139,7 @@ type Case = (usize, usize, u64);
 /// Readings of four bytes.
 const FEW: [Case; 3] = [
     (0, 9, 1),
-    // No room to find the end.
+    // The four bytes fill the room, and the read that finds the end needs more.
     (4, 9, 2),
     (5, 9, 1),
 ];

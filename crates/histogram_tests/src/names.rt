@@ -45,7 +45,7 @@ fn is_shown_in_rows<T: Threads + Wait + Sync>(
     }
 }
 
-/// Tests whether the row of the class of a dump, its `bytes`, shows the name `want`.
+/// Tests whether the row of the class in the dump `bytes` shows the name `want`.
 fn is_shown_of<T: Threads + Wait + Sync>(rt: &T, alloc: Global, bytes: &[u8], want: &str) -> bool {
     let skip = Skip::none(alloc);
     let team = Team::new(rt, 4);

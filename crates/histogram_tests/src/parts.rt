@@ -1,5 +1,5 @@
 //! Objects that are not marked, counted by the threads of a team: the report is the same with any number of threads,
-//! and if there is no memory for the numbers of the objects.
+//! even if there is no memory for the numbers of the objects.
 
 ghost use Rattle.drain.specs.Marks.{IsMarkingOf};
 
@@ -40,7 +40,7 @@ const REPORT: &str = "        64             256  A
         50               0  (unresolved)
 ";
 
-/// Tests whether `instance` is a root: with the class these are all objects of two words of marks, and one more.
+/// Tests whether `instance` is a root. The class and the roots are all objects of two words of marks, and one more.
 fn is_root(instance: u64) -> bool {
     instance < 64 || instance == 70
 }
@@ -88,7 +88,8 @@ fn rows_of_team<T: Threads + Sync, A: Allocator + Copy>(
     }
 }
 
-/// Returns how many allocations of `team` fail, beside those of the lines and their names, if the rows are right.
+/// Returns how many allocations of `team` fail if only those of the lines and their names are granted. Returns `None`
+/// if the rows are wrong.
 fn refused_to_team<T: Threads + Sync>(
     team: &Team<'_, T>,
     alloc: Global,

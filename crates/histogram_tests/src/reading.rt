@@ -31,7 +31,7 @@ impl Read for Drip<'_> {
     }
 }
 
-/// A reader that never ends: each read fills the whole buffer, and leaves its bytes as they are.
+/// A reader that never ends: each read returns the length of the buffer, and writes nothing into the buffer.
 #[derive(Drop)]
 struct Endless {
     given: usize,
@@ -44,7 +44,7 @@ impl Read for Endless {
     }
 }
 
-/// Returns how many bytes are read up to `limit`, and how many were given.
+/// Returns how many bytes are read up to `limit`, and how many the reader gave.
 fn read_endless(alloc: Global, limit: usize) -> Result<(usize, usize), ReaderRefusal> {
     let mut reader = Counted::new(Endless { given: 0 });
     let bytes = reader.read_to_limit(alloc, limit)?;
@@ -79,7 +79,7 @@ fn reads(alloc: Global, limit: usize, want: &str) -> bool {
     }
 }
 
-/// A reader of this number of bytes that fills the whole buffer, and counts its calls.
+/// A reader of `left` bytes that counts its calls. Each read takes as many bytes as the buffer has room for.
 #[derive(Drop)]
 struct Block {
     left: usize,

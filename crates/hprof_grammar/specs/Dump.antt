@@ -17,8 +17,7 @@ limit = 1073741824
 abbrev pub magic : List ℕ
 magic = codes "JAVA PROFILE 1.0.2" ++ 0 ∷ []
 
--- the header: that text and its zero, u4 size of identifiers, and milliseconds since 1970 in two words, u4 the high
--- one and u4 the low one
+-- the header: `magic`, u4 size of identifiers, and the milliseconds since 1970 in two words, u4 high word, u4 low word
 abbrev pub header : ℕ → ℕ → List ℕ
 header s time = magic ++ (big_bytes 4 s ++ big_bytes 8 time)
 
@@ -34,7 +33,7 @@ pub record Spells (text : List ℕ) (s : ℕ) (records : List Record) : Type 0 w
   pub whole : text ≡ header s time ++ spellings s records
   pub each : AllByRecursion (IsRecord s) records
 
--- each record with its place, if the first stands at `at`
+-- each record with its place, if the first is at `at`
 abbrev pub placed : ℕ → ℕ → List Record → List (ℕ × Record)
 placed s at [] = []
 placed s at (r ∷ rs) = (at, r) ∷ placed s (at + length (record_spelling s r)) rs

@@ -10,9 +10,9 @@ use Rattle.hprof_grammar.specs.SubRecord.{IsFormed, IsSubRecord, SubRecord, fiel
 use Rattle.hprof_grammar.specs.SubRecord as sub
 use Rattle.hprof_grammar.specs.Spelling.{EndsShort, HasWrongType}
 
--- The code of the fault at a place without a whole sub-record: 5 if its tag is in no table; 6 at the first field that
--- does not fit; 7 at a type code that is not allowed, as soon as it is read. What would follow 6 and 7 may be anything
--- of the right size.
+-- The code of the fault if no whole sub-record is at a place: 5 if its tag is in no table; 6 at the field in which the
+-- bytes end; 7 at a type code that is not allowed. The first of these in the bytes counts. `x` is a formed sub-record
+-- that begins with the same fields; its later fields are arbitrary.
 pub data SubFault (s : ℕ) : List ℕ → ℕ → Type 0 where
   unknown_tag : (tag : ℕ) (rest : List ℕ) → is_sub_tag tag ≡ false → SubFault s (tag ∷ rest) 5
   short : (x : SubRecord) (rest : List ℕ) → IsFormed s x
@@ -28,7 +28,8 @@ pub record LongestSubs (s : ℕ) (body : List ℕ) (subs : List SubRecord) (rest
       → body ≡ flat_map (spelling_of s) others ++ left → AllByRecursion (IsSubRecord s) others
       → length others ≤ length subs
 
--- The longest list of whole records that spells a beginning and can go on to an orderly list, and the rest.
+-- The longest list of whole records that spells a beginning of `body` and can be continued to an orderly list, and the
+-- rest of `body`.
 pub record LongestRecords (s : ℕ) (body : List ℕ) (records : List Record) (rest : List ℕ) : Type 0 where
   pub parts : body ≡ spellings s records ++ rest
   pub each : AllByRecursion (IsRecord s) records
@@ -47,9 +48,9 @@ pub record RunsPastEnd (rest : List ℕ) : Type 0 where
   pub begins : framed tag time body ≡ rest ++ missing
   pub not_whole : 0 < length missing
 
--- The fault of the rest after the records, which end at place `at`: its code and its place. 8 at the end of the text if
--- the snapshot is missing or has no end; else 3, 4 and 8 in this order, at the record; else the fault of its
--- sub-records.
+-- The code and the place of the fault after `records`, which end at the place `at`. 8 at the end of the text if the
+-- snapshot is missing or has no end. Otherwise the first fault of the next record: 3 if it runs past the end, 4 for its
+-- length, 8 for its order, or else the fault of its sub-records.
 pub data RecordFault (s : ℕ) (records : List Record) (at : ℕ) : List ℕ → ℕ → ℕ → Type 0 where
   no_snapshot : (IsOrderly (map tag_of records) → ⊥) → RecordFault s records at [] 8 at
   truncated : (rest : List ℕ) → 0 < length rest → RunsPastEnd rest → RecordFault s records at rest 3 at

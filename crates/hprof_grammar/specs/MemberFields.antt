@@ -1,4 +1,4 @@
--- The fields of a class in the code's types and in the definitions' types.
+-- Maps the code's types for the fields of a class to the types of the definitions.
 use Rattle.hprof_grammar.specs.Series.{LabelledValue}
 use Rattle.hprof_grammar.specs.SubRecord.{Member}
 use Rattle.hprof_grammar.specs.declared.view.members.MemberField.{MemberField}

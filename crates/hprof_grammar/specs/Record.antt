@@ -59,7 +59,7 @@ is_heap_tag tag = (tag == 0x0C) || (tag == 0x1C)
 abbrev pub record_spelling : ℕ → Record → List ℕ
 record_spelling s r = framed (tag_of r) (time_of r) (body_of s r)
 
--- a tag that is none of the four above
+-- a tag other than 0x01, 0x02, 0x0C and 0x1C
 abbrev pub IsOther : ℕ → Type 0
 IsOther tag = (tag ≡ 0x01 → ⊥) × (tag ≡ 0x02 → ⊥) × (is_heap_tag tag ≡ false)
 

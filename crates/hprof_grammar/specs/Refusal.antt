@@ -4,7 +4,7 @@ use Rattle.hprof_grammar.specs.declared.flaw.FormatFault.{FormatFault}
 use Rattle.hprof_grammar.specs.declared.flaw.ReadRefusal.{ReadRefusal}
 use Rattle.hprof_grammar.specs.declared.flaw.ReadRefusal.TheVariants.{Fault, OutOfMemory}
 
--- if the result is a fault of the bytes, the fact holds of it; out of memory says nothing of the bytes
+-- `P` holds of the fault if the result is a fault of the bytes; out of memory says nothing of the bytes
 abbrev pub IfFault : {X : Type 0} → Result X ReadRefusal → (FormatFault → Type 0) → Type 0
 IfFault (Ok x) P = Unit {0}
 IfFault (Err (Fault f)) P = P f

@@ -31,7 +31,7 @@ abbrev pub trace_of : RootOrigin → Option ℕ
 trace_of (thread_object thread stack) = Some stack
 trace_of origin = None
 
--- a root is at the place, and that field of it is the number
+-- a root is at the place `at`, and its field `field` is `n`
 pub record RootSays (v : Sight) (at : ℕ) (field : RootOrigin → Option ℕ) (n : ℕ) : Type 0 where
   pub root_is : Root
   pub stands : Stands v at (root root_is)

@@ -1,4 +1,4 @@
--- Parts of one kind that are next to one another in the bytes: the ones that an iterator has left.
+-- Parts of one kind that are next to one another in the bytes: those that an iterator has still to return.
 use Rattle.std.specs.Prelude.{List, [], drop, length, slice_index, suc, take, zero, ℕ, ◌*◌, ◌+◌, ◌∷◌, ◌≤◌}
 use Rattle.byteorder.specs.Endian.{big_number}
 use Rattle.hprof_grammar.specs.SubRecord.{Constant, Member, Static}
@@ -27,11 +27,11 @@ pub record HasMembers (s n : ℕ) (bytes : List ℕ) : Type 0 where
   pub high : s ≤ 8
   pub room : n * (s + 1) ≤ length bytes
 
--- the length of `front` bytes, a type code after them, and a value of that type
+-- the length of a labelled value: a label of `front` bytes, a type code, and a value of that type
 abbrev pub value_end : ℕ → ℕ → List ℕ → ℕ
 value_end s front bytes = front + 1 + size_of s (slice_index bytes front)
 
--- a value, its type code, and the number before them: a constant's index, or the ID of a static field's name
+-- a value, its type code, and its label: a constant's index, or the ID of a static field's name
 pub record LabelledValue : Type 0 where
   pub label : ℕ
   pub type : ℕ
@@ -72,7 +72,7 @@ pub record HasLabelledValues (s front n : ℕ) (bytes : List ℕ) : Type 0 where
   pub high : front ≤ 8
   pub room : HasValues s front n bytes
 
--- a count of 2 bytes; the values after it; the bytes after these
+-- a count of 2 bytes, then that many values: the count, the values, and the bytes after the values
 abbrev pub count_in : List ℕ → ℕ
 count_in bytes = big_number 2 bytes
 

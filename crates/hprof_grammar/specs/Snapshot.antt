@@ -9,7 +9,7 @@ is_snapshot_tag tag = (tag == 0x0C) || (tag == 0x1C) || (tag == 0x2C)
 abbrev pub IsSnapshot : List ℕ → Type 0
 IsSnapshot tags = (tags ≡ 0x0C ∷ []) ⊎ ((n : ℕ) × (tags ≡ replicate (suc n) 0x1C ++ 0x2C ∷ []))
 
--- The tags that make the snapshot, in their order; the rule is only about these.
+-- The tags that make the snapshot, in their order. The snapshot rule does not limit other tags.
 abbrev pub snapshot_tags : List ℕ → List ℕ
 snapshot_tags tags = filter is_snapshot_tag tags
 
@@ -17,6 +17,6 @@ snapshot_tags tags = filter is_snapshot_tag tags
 abbrev pub IsOrderly : List ℕ → Type 0
 IsOrderly tags = IsSnapshot (snapshot_tags tags)
 
--- more records can make the list keep it
+-- the list keeps the snapshot rule if the right records are appended
 abbrev pub CanGoOn : List ℕ → Type 0
 CanGoOn tags = (more : List ℕ) × IsOrderly (tags ++ more)

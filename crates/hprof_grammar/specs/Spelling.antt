@@ -35,7 +35,7 @@ IsAllowed field = Unit {0}
 abbrev pub AreAllowed : List Field → Type 0
 AreAllowed fields = AllByRecursion IsAllowed fields
 
--- the bytes are the first fields, all allowed, and less than the whole of the next one
+-- the bytes are the first fields, which are all allowed, and only a part of the next field
 pub record EndsShort (fields : List Field) (bytes : List ℕ) : Type 0 where
   pub front : List Field
   pub cut : Field
@@ -48,7 +48,7 @@ pub record EndsShort (fields : List Field) (bytes : List ℕ) : Type 0 where
   pub cut_is : field_spelling cut ≡ part ++ missing
   pub not_whole : 0 < length missing
 
--- the bytes begin with the first fields, all allowed, and a type code that is not
+-- the bytes begin with the first fields, which are all allowed, and a type code that is not allowed
 pub record HasWrongType (fields : List Field) (bytes : List ℕ) : Type 0 where
   pub front : List Field
   pub place : TypePlace

@@ -1,4 +1,4 @@
--- The part at a place of the bytes, and that the right part is at each place of a dump.
+-- What it means that a part is at a place of the bytes, and that each place of a dump has the right part.
 use Rattle.std.specs.Prelude.{List, None, Option, Some, drop, filter, length, slice_get, ℕ, ◌++◌, ◌<◌, ◌^◌, ◌≡◌}
 use Rattle.hprof_grammar.specs.Record.{IsRecord, Record, record_spelling}
 use Rattle.hprof_grammar.specs.SubRecord.{IsSubRecord, SubRecord, spelling_of}

@@ -1,4 +1,4 @@
--- The sub-records of a heap record, and their fields in the order that the manual gives them.
+-- The sub-records of a heap record, and their fields in the manual's order.
 use Rattle.std.specs.Prelude.{List, [], flat_map, length, map, true, ℕ, ◌*◌, ◌++◌, ◌∷◌, ◌≡◌}
 use Rattle.std.specs.List.{AllByRecursion}
 use Rattle.hprof_grammar.specs.TagsAndTypes.{is_sub_tag, size_of}
@@ -96,7 +96,7 @@ static_fields s f = number s f.name ∷ type_code InStatic f.type ∷ raw f.valu
 abbrev pub member_fields : ℕ → Member → List Field
 member_fields s m = number s m.name ∷ type_code InMember m.type ∷ []
 
--- the fields of a root after its tag
+-- the fields of each kind of sub-record after the tag
 abbrev pub class_fields : ℕ → Class → List Field
 class_fields s c =
     number s c.object ∷ number 4 c.stack ∷ number s c.super ∷ number s c.loader ∷ number s c.signers
@@ -177,7 +177,7 @@ pub record IsFormed (s : ℕ) (sub : SubRecord) : Type 0 where
   pub numbers : AllByRecursion Fits (fields_of s sub)
   pub sizes : HasSizes s sub
 
--- A sub-record: each type code is allowed at its place.
+-- A formed sub-record, of which each type code is allowed at its place.
 pub record IsSubRecord (s : ℕ) (sub : SubRecord) : Type 0 where
   pub formed : IsFormed s sub
   pub allowed : AreAllowed (fields_of s sub)

@@ -1,10 +1,10 @@
--- The format's tables: the numbers that are allowed at each place, and the sizes that they mean. Only a few lemmas of
--- two lines unfold these words, so the accepted part of the format is settled in this file.
+-- The format's tables: the allowed sizes of identifiers, the allowed type codes and tags, and the sizes of values. Few
+-- lemmas unfold these definitions, so few proofs depend on what the tables allow.
 use Rattle.std.specs.Prelude.{Bool, if◌then◌else◌, nat_le, ℕ, ◌&&◌, ◌==◌, ◌||◌}
 use Rattle.hprof_grammar.specs.declared.kinds.TypePlace.{TypePlace}
 use Rattle.hprof_grammar.specs.declared.kinds.TypePlace.TheVariants.{InArray}
 
--- the sizes of identifiers that are allowed ("size of identifiers" in the manual's header, which leaves it open)
+-- the allowed sizes of identifiers; the manual leaves the size open
 unfoldable pub is_id_size : ℕ → Bool
 is_id_size s = (s == 4) || (s == 8)
 
@@ -12,7 +12,7 @@ is_id_size s = (s == 4) || (s == 8)
 abbrev pub is_primitive : ℕ → Bool
 is_primitive t = nat_le 4 t && nat_le t 11
 
--- the type codes that are allowed in each place
+-- the type codes that are allowed in each part of a sub-record
 unfoldable pub is_type_at : TypePlace → ℕ → Bool
 is_type_at InArray t = is_primitive t
 is_type_at place t = (t == 2) || is_primitive t

@@ -8,10 +8,10 @@ pub record TeamLimits : Type 0 where
   -- the fewest objects that are shared
   pub fewest : ℕ
 
--- The work has no more parts of this length than there are threads; with no thread it has one.
+-- Work of `length` items has at most `threads` parts of `part` items each; 0 threads count as one.
 abbrev pub HasFewParts : ℕ → ℕ → ℕ → Type 0
 HasFewParts threads length part = length ≤ max threads 1 * part
 
--- It has more than half as many parts as there are threads, if it has an item for each thread.
+-- Work of `length` items has more parts than half of `threads`, if it has an item for each thread.
 abbrev pub HasManyParts : ℕ → ℕ → ℕ → Type 0
 HasManyParts threads length part = max threads 1 ≤ length → max threads 1 * part < 2 * length

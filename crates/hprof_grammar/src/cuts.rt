@@ -24,12 +24,12 @@ pub const FIRST_SEAM: Seam = Seam {
     order: SnapshotState::Before,
 };
 
-/// Records that one part has.
+/// The records of one part.
 #[derive(Clone, Copy)]
 pub struct Cut {
-    /// The seam before the first of them.
+    /// The seam before the first record.
     pub from: Seam,
-    /// The offset of the byte after the last of them.
+    /// The offset of the byte after the last record.
     pub to: u32,
 }
 

@@ -136,8 +136,8 @@ impl<A: Allocator + Copy> Dump<A> {
         }
     }
 
-    /// Removes and returns the places of the class, instance and array dumps. `alloc` is the allocator of the empty
-    /// list that stays in the dump; it allocates nothing.
+    /// Removes and returns the places of the class, instance and array dumps. Leaves an empty list with the allocator
+    /// `alloc` in the dump, and allocates nothing.
     pub fn take_objects(&mut self, alloc: A) -> Vec<u32, A>
         ensures places { result.items ≡ self.old.objects }
         ensures rest { self.new ≡ record self.old { objects = [] } }

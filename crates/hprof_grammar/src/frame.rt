@@ -13,7 +13,7 @@ pub struct Frame<'a> {
     pub tag: u8,
     /// The time, in microseconds since the time of the header.
     pub time: u32,
-    /// The bytes after the length field, as many as that says.
+    /// The bytes after the length field. That field has their number.
     pub body: &'a [u8],
 }
 

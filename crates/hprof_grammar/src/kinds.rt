@@ -1,4 +1,4 @@
-//! The meaning of the tags and the type codes of sub-records.
+//! The kinds of roots, objects and sub-records, and the places of type codes.
 
 /// The reason why an object is a root.
 #[derive(Clone, Copy, Debug, PartialEq, Eq)]
@@ -15,7 +15,7 @@ pub enum RootKind {
     NativeStack,
     /// The object is a system class.
     StickyClass,
-    /// A blocked thread refers to the object.
+    /// A thread block refers to the object.
     ThreadBlock,
     /// The object is a monitor in use.
     MonitorUsed,
@@ -45,7 +45,7 @@ pub enum Kind {
     Object(ObjectKind),
 }
 
-/// The place of a type code.
+/// Where a type code is: in which part of a sub-record.
 #[derive(Clone, Copy, Debug, PartialEq, Eq)]
 pub enum TypePlace {
     /// In an entry of a constant pool.

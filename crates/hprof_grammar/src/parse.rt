@@ -26,7 +26,7 @@ const MAGIC: &[u8] = b"JAVA PROFILE 1.0.2\0";
 /// The offset of the size of identifiers.
 const ID_SIZE_AT: u32 = 19;
 
-/// Returns the size of identifiers that the header gives. `Err` has the first fault if the bytes are too many or the
+/// Returns the size of identifiers, as the header says. `Err` has the first fault if the bytes are too many or the
 /// header is wrong.
 fn header_id_size(bytes: &[u8]) -> Result<u8, ReadRefusal>
     ensures ok { IfOk result (λ id_size. HasHeader id_size bytes.now) }

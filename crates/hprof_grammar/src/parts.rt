@@ -13,7 +13,7 @@ use std::alloc::Allocator;
 use std::thread;
 use std::thread::Threads;
 
-/// The bytes for which a team counts one object: somewhat more than most objects of a dump have.
+/// The number of bytes that a team counts as one object. Most objects of a dump have somewhat fewer.
 const BYTES_OF_AN_OBJECT: usize = 64;
 
 /// The places that the records from one seam to another add to a dump.
@@ -44,8 +44,9 @@ fn read_part<A: Allocator + Copy>(alloc: A, bytes: &[u8], id_size: u8, cut: Cut)
     })
 }
 
-/// Joins `parts` to a dump. Returns `None` if a part is missing, does not begin at the seam where the one before it
-/// ends, or the last one does not end with `bytes` and the snapshot; and if an allocation fails.
+/// Joins `parts` into a dump. Returns `None` if a part is missing or does not begin at the seam where the previous part
+/// ends. Returns `None` too if the last part does not end where `bytes` end, with a complete snapshot, or if an
+/// allocation fails.
 fn join_parts<A: Allocator + Copy>(
     alloc: A,
     bytes: &[u8],
@@ -74,8 +75,9 @@ fn join_parts<A: Allocator + Copy>(
     Some(dump)
 }
 
-/// Reads a dump whose header is right in at most as many parts as `team` has threads. Returns `None` if the dump is too
-/// small for `team` to share, if it makes fewer than two parts, if the bytes have a fault, or if an allocation fails.
+/// Reads a dump in parts, at most as many as `team` has threads. The header must be right. Returns `None` if the dump
+/// is too small for `team` to share, if it makes fewer than two parts, if the bytes have a fault, or if an allocation
+/// fails.
 pub fn read_in_parts<T: Threads + Sync, A: Allocator + Copy + Send + Sync>(
     team: &Team<'_, T>,
     alloc: A,

@@ -51,7 +51,7 @@ fn note_record<A: Allocator>(
 }
 
 /// Notes the records in `bytes`. `at` is the offset of the first, `order` the snapshot state before it. Returns the
-/// state after the last. A fault is the first of the dump if `bytes` are all its bytes after the header.
+/// state after the last. A returned fault is the dump's first one if `bytes` are all bytes after the header.
 pub fn note_records<A: Allocator>(
     dump: &mut Dump<A>,
     order: SnapshotState,

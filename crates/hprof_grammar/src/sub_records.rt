@@ -1,5 +1,5 @@
-//! Reads the sub-records of a heap record, field by field. Skips the values of fields, except of those that say how
-//! much follows.
+//! Reads the sub-records of a heap record, field by field. Reads the values of counts, sizes and type codes, which say
+//! how much follows, and skips all other values.
 
 ghost use Rattle.std.specs.Prelude.{◌≡◌, ◌≤◌, IfOk, Some, slice_get, ℕ};
 ghost use Rattle.std.specs.Option.{option_and_then};
@@ -187,7 +187,7 @@ fn root(reader: &mut Reader<'_>, id_size: u8, kind: RootKind) -> Result<(), Flaw
 }
 
 /// Reads a whole sub-record and returns its kind.
-// Inlined into the loops over all of them: as a call it took a third of the parse again.
+// Inlined into the loop of `note_subs`: as a call it made the parse take a third longer.
 #[inline(always)]
 #[tactic(auto, unfolding(crate::specs::working::Reading::sub_record_at))]
 pub fn sub_record(reader: &mut Reader<'_>, id_size: u8) -> Result<Kind, Flaw>

@@ -29,7 +29,8 @@ pub fn is_type_at(place: TypePlace, code: u8) -> bool
     }
 }
 
-/// Returns the size in bytes of a value with the type code `code`, 0 if that is no type.
+/// Returns the size in bytes of a value with the type code `code`, or 0 if `code` is no type. An identifier has
+/// `id_size` bytes.
 #[tactic(auto, unfolding(crate::specs::TagsAndTypes::size_of))]
 pub fn size_of(id_size: u8, code: u8) -> u8
     ensures { result ≡ tables.size_of id_size code }

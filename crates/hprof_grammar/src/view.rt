@@ -1,8 +1,8 @@
 //! Reads the fields of a dump's parts, each at the place of its part.
 //!
-//! Each reader takes a place of a `Dump` and requires that a part of its kind is there, as `dump_is_placed` says of all
-//! places of a dump. Only `View::identifier_at` and `number_at` read from bytes that the caller passes, and require
-//! room. No reader allocates.
+//! Each reader takes a place of a `Dump` and requires that a part of the right kind is at that place. `dump_is_placed`
+//! says this of all places of a dump. Only `View::identifier_at` and `number_at` read from bytes that the caller
+//! passes, and require that the identifier ends within the bytes. No reader allocates.
 
 mod arrays;
 mod classes;
@@ -26,7 +26,8 @@ use crate::tags_and_types;
 use byteorder::{BigEndian, ByteOrder};
 use std::marker::Model;
 
-/// The offsets of a sub-record's fields from its tag, each without the identifiers before it.
+/// The offset of the first identifier of a sub-record. This and the offsets below are numbers of bytes from the tag,
+/// without the identifiers before the field.
 const OBJECT: usize = 1;
 
 /// The offset of the serial number of the stack trace in the dump of an object.
@@ -74,7 +75,7 @@ impl<'a> View<'a> {
         self.id_size
     }
 
-    /// Returns the size in bytes of a value with `type_code`, 0 if that is no type.
+    /// Returns the size in bytes of a value with `type_code`, or 0 if `type_code` is no type.
     pub fn size_of(&self, type_code: u8) -> u8
         ensures { result ≡ tables.size_of self.now.id_size type_code }
     {

@@ -7,7 +7,7 @@ use crate::quota::Quota;
 use std::alloc::{AllocError, Allocator, Global};
 
 /// A heap that passes requests for memory to an inner allocator, and refuses only one of them, or that one and all
-/// later ones. A collection takes a `&` to it.
+/// later ones. A collection takes a `&` to the heap as its allocator.
 #[derive(Drop)]
 pub struct LimitedHeap<A: Allocator = Global> {
     inner: A,

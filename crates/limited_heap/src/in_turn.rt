@@ -9,7 +9,7 @@ use std::alloc::Global;
 const MANY: u64 = 4_096;
 
 /// Refuses each request of a call in turn: only that one if `alone`, otherwise that one and all later ones. Returns the
-/// number of its requests if each result is right, or else `None`.
+/// number of the call's requests if each result is right, or else `None`.
 fn requests_with<F: Fn(&LimitedHeap<Global>) -> bool>(
     alloc: Global,
     is_right: &F,
@@ -33,10 +33,10 @@ fn requests_with<F: Fn(&LimitedHeap<Global>) -> bool>(
     None
 }
 
-/// Makes a call on a heap that grants all requests, and on heaps that refuse each of them in turn: with all later ones,
-/// and only that one. `is_right` makes the call on a heap, and tests whether its result is right: the whole result, or
-/// out of memory if the heap refused a request. Returns the number of requests if each result is right and the number
-/// is the same both ways. Returns `None` otherwise, and if the call makes 4,096 requests or more.
+/// Makes a call on heaps that refuse each of its requests in turn, once with all later ones and once alone, and on a
+/// heap that grants all. `is_right` makes the call on a heap and tests its result. A result is right if it is the whole
+/// result, or out of memory after a refused request. Returns the number of requests if each result is right and the
+/// number is the same both ways. Returns `None` otherwise, and if the call makes 4,096 requests or more.
 pub fn requests_of<F: Fn(&LimitedHeap<Global>) -> bool>(alloc: Global, is_right: F) -> Option<u64>
     requires { F.IsAlwaysCallable is_right }
     ensures few { IfSome result (λ n. n < 4096) }

@@ -4,8 +4,8 @@ ghost use Rattle.std.specs.Prelude.{◌≡◌, ◌+◌, ◌<◌, ◌≤◌, ◌^
 
 use std::sync::atomic::{AtomicU64, Ordering};
 
-/// A count of the requests made, and the number of those granted before one is refused. That one is refused `alone`, or
-/// with all later ones.
+/// A count of the requests made, and the number of requests granted before the first refusal. All later requests are
+/// refused too, unless `alone`.
 #[derive(Drop)]
 pub(crate) struct Quota {
     granted: u64,

@@ -28,7 +28,7 @@ pub record Account : Type 0 where
   pub empty : Look
   -- it pushed on full, and has not loaded a full head without a buffer since
   pub open_push : Bool
-  -- its idle number: 1 while it is idle and 0 while it is not; after a join, the sum of both
+  -- its idle number: 1 while it is idle and 0 while it is not; after a join, the sum of the two accounts' numbers
   pub idle : ℕ
   -- the idle word that it last loaded
   pub last_idle : Option ℕ
@@ -73,7 +73,7 @@ part units =
 abbrev pub no_share : Account
 no_share = record (part 0) { joined = true }
 
--- a claim of the object o whose mark was found: o is seen, and if it was not marked it joins the charge
+-- a claim of the object o, whose mark was `found`: o is seen, and joins the charge if it was white
 abbrev pub after_claim : ℕ → ℕ → Account → Account
 after_claim o found a =
     record a { charge = if found == 0 then a.charge ++ o ∷ [] else a.charge; seen = a.seen ++ o ∷ [] }
@@ -86,8 +86,8 @@ after_finish o a = record a { charge = remove_one o a.charge; finished = a.finis
 abbrev pub after_split : ℕ → Account → Account
 after_split units a = record a { share = a.share - units; parted = true }
 
--- two accounts joined: lists, shares and idle numbers are added. What the first one loaded and its notes stay, and an
--- open push of either stays open
+-- two accounts joined: lists, shares and idle numbers are added. The first account keeps what it loaded and its notes.
+-- An open push of either stays open
 abbrev pub after_join : Account → Account → Account
 after_join a b =
     record {
@@ -127,13 +127,13 @@ after_load_link Empty l a = record a { empty = record { head = a.empty.head; lin
 abbrev pub after_pop : ℕ → List ℕ → Account → Account
 after_pop i items a = record a { held = a.held ++ i ∷ []; charge = a.charge ++ items }
 
--- a note after a push on a stack: a push on full sets it, and one on empty leaves it as it was
+-- a note after a push on a stack: `set` if that is the full stack, and `was`, as before, if it is the empty one
 abbrev pub on_full : Which → Bool → Bool → Bool
 on_full Full set was = set
 on_full Empty set was = was
 
--- the buffer i was pushed with items: it is no longer held, and they leave the charge. A push on full is open, an empty
--- stack found before no longer counts, and the push is noted if units were given away before
+-- the buffer i was pushed with items: it is no longer held, and the items leave the charge. After a push on full the
+-- push is open, `found` is false, and `pushed` is true if units were given away before
 abbrev pub after_push : Which → ℕ → List ℕ → Account → Account
 after_push q i items a =
     record a {

@@ -16,7 +16,7 @@ abbrev pub finished_times : ℕ → List Account → ℕ
 finished_times o accounts = sum_of (λ a. times o a.finished) accounts
 
 -- a path leads to the object: it begins at a root, and each later object is a successor of the one before it. The list
--- has the objects before the last, the nearest first
+-- has the objects before the last, in reverse order: the root is at its end
 abbrev pub IsPathTo : Setup → List ℕ → ℕ → Type 0
 IsPathTo e [] o = Contains e.roots o
 IsPathTo e (p ∷ back) o = Contains e.pairs (p, o) × IsPathTo e back p
@@ -36,7 +36,7 @@ IsClaimed mark working done = (mark ≡ 1) × (working ≡ 1) × (done ≡ 0)
 abbrev pub IsFinished : ℕ → ℕ → ℕ → Type 0
 IsFinished mark working done = (mark ≡ 2) × (working ≡ 0) × (done ≡ 1)
 
--- the mark of an object, how often it is in stacked buffers and charges, and how often in finished lists
+-- the mark of an object agrees with how often the object is in stacked buffers and charges, and in finished lists
 abbrev pub HasColour : ℕ → ℕ → ℕ → Type 0
 HasColour mark working done = IsWhite mark working done ⊎ (IsClaimed mark working done ⊎ IsFinished mark working done)
 

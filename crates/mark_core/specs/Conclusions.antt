@@ -1,5 +1,4 @@
--- What follows from a run: of heads that were loaded, of first tags, of tags and lengths, of exchanges that failed, and
--- of open pushes.
+-- What follows from a run, for loaded heads, first tags, tags and lengths, failed exchanges, and open pushes.
 use Rattle.std.specs.Prelude.{◌≡◌, ◌≢◌, ◌⊎◌, ℕ, ◌+◌, ◌*◌, ◌<◌, true, List, [], ◌∷◌, ◌++◌, length, Some}
 use Rattle.tagged_index.specs.Head.{Head}
 use Rattle.mark_core.specs.declared.which.Which.{Which}
@@ -18,7 +17,7 @@ ListsKeepLaw =
     (e : Setup) (events : List Event) (m : Marking) (counts : List Counts)
     → 0 < e.buffers → LeadTo e events m counts → Law e m
 
--- the stack had the head h while events happened, the first of them to the marking m
+-- the stack had the head h at the marking m or after one of the events, the first of which happens to m
 abbrev pub HadHead : Marking → List Event → Which → Head → Type 0
 HadHead m [] q h = m.head q ≡ h
 HadHead m (event ∷ events) q h = (m.head q ≡ h) ⊎ HadHead (happens m event) events q h
@@ -70,8 +69,8 @@ Exchanges q (Pop p) = p ≡ q
 Exchanges q (Push p i items) = p ≡ q
 Exchanges q kind = ⊥
 
--- another worker exchanged the head between its load by a worker and that worker's failed exchange, if that worker
--- neither loads nor exchanges it in between
+-- the worker w loads a head and later fails to exchange it. If w neither loads nor exchanges that head in between,
+-- another worker exchanged it in between
 abbrev pub LossesAreContested : Type 0
 LossesAreContested =
     (e : Setup) (first last : Marking) (w : ℕ) (q : Which) (between : List Event)

@@ -18,7 +18,7 @@ pub data Kind : Type 0 where
   Finish : ℕ → Kind
   -- give some units to a new account
   Split : ℕ → Kind
-  -- join the account of this number to its own
+  -- join the account of this number to the worker's account
   Join : ℕ → Kind
   -- load the head of a stack
   Load : Which → Kind

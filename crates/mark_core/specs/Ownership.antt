@@ -33,7 +33,7 @@ pub record IsOwned
     (buffers : ℕ) (head : Which → Head) (link : ℕ → Option ℕ) (accounts : List Account) (stack : Which → List ℕ)
     : Type 0 where
   pub chain : (q : Which) → Chain link (head q).index (stack q)
-  -- each buffer is once in both stacks and all held lists together, and nothing else is
+  -- each buffer is exactly once in both stacks and all held lists together, and no other number is in them
   pub once :
       (b : ℕ) → times b (stack Full) + times b (stack Empty) + held_times b accounts ≡ one_where (nat_lt b buffers)
   pub recent : (q : Which) (w : ℕ) (a : Account) → StandsAt accounts w a → IsRecent link (head q) (look_of a q)

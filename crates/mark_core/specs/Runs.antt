@@ -58,8 +58,8 @@ EventsKeepLaw = (e : Setup) (m : Marking) (event : Event) → Law e m → IsPoss
 abbrev pub IsListOf : Marking → Which → List ℕ → Type 0
 IsListOf m q list = Chain m.link (m.head q).index list
 
--- the list of a stack before and after an event: a pop from it removes the first buffer, a push adds one before it, and
--- nothing else changes it
+-- the list of a stack before and after an event: a pop from the stack removes the first buffer, a push on it adds a new
+-- first one, and nothing else changes the list
 abbrev pub Changes : Which → Kind → List ℕ → List ℕ → Type 0
 Changes q (Pop p) old new = (p ≡ q → (i : ℕ) × (old ≡ i ∷ new)) × (p ≢ q → new ≡ old)
 Changes q (Push p i items) old new = (p ≡ q → new ≡ i ∷ old) × (p ≢ q → new ≡ old)
@@ -106,7 +106,7 @@ pub record AreApart (a b : Account) : Type 0 where
   pub held : (i : ℕ) → times i a.held + times i b.held ≤ 1
   pub objects : (o : ℕ) → (times o a.charge + times o a.finished) + (times o b.charge + times o b.finished) ≤ 1
 
--- two accounts, as those that meet in a join, have nothing in common
+-- two different accounts, such as those that meet in a join, have nothing in common
 abbrev pub AccountsAreApart : Type 0
 AccountsAreApart =
     (e : Setup) (m : Marking) → Law e m

@@ -68,8 +68,8 @@ with_head l Empty h = record l { empty = h }
 abbrev pub exchanged : Listing → Which → Option ℕ → Listing
 exchanged l q index = with_head l q (after (heads_of l q) index)
 
--- the weight of an account among those that were made: one while it exists, and no less than its idle number. Each
--- event keeps the sum of the weights within the number of accounts, so an idle number never outgrows its type
+-- the weight of an account: its idle number, but at least 1 while the account exists. The sum of all weights is always
+-- at most the number of accounts that were made, so an idle number never outgrows its type
 abbrev pub weight : Account → ℕ
 weight a = max a.idle (min a.share 1)
 
@@ -79,7 +79,7 @@ pub record IsLawful (l : Listing) : Type 0 where
   pub links : length l.links ≡ l.setup.buffers
   pub slots : length l.slots ≡ l.setup.buffers
   pub marks : length l.marks ≡ l.setup.objects
-  -- each account has a number, and the idle numbers together are no more than the accounts
+  -- each account has a number, and the sum of the weights is at most the number of accounts
   pub numbered : length l.accounts ≤ 4294967295
   pub weights : sum_of weight l.accounts ≤ length l.accounts
   -- each buffer is an index that a head can hold
@@ -118,7 +118,7 @@ pub record IsReadyToPush (l : Listing) (w : ℕ) (q : Which) (i : ℕ) (items : 
   pub link : slice_index_or l.links i None ≡ (heads_of l q).index
   pub busy : q ≡ Full → IsBusy (account_at l.accounts w)
 
--- a split needs a number for the new account, and 4,294,967,295 accounts have one
+-- a split needs a number for the new account, and there are 4,294,967,295 numbers
 abbrev pub HasNumber : Kind → List Account → Type 0
 HasNumber (Split units) accounts = length accounts < 4294967295
 HasNumber kind accounts = Unit {0}

@@ -20,9 +20,8 @@ use std::alloc::Allocator;
 use std::marker::Model;
 use tagged_index::HeadWord;
 
-/// The account of a worker: its units, its buffers, the objects in its charge, those it saw marked and those it
-/// finished, what it last loaded of each stack and of the idle word, its idle number, and the notes that allow it to go
-/// idle.
+/// The account of a worker: its units and its buffers, the objects in its charge, those it saw marked and those it
+/// finished, what it last loaded, its idle number, and notes of what it did. `specs/Account.antt` explains each field.
 #[derive(Drop)]
 pub struct Account<A: Allocator> {
     share: u32,
@@ -167,7 +166,7 @@ impl<A: Allocator> Account<A> {
         self.reaches(setup, object) && self.is_busy()
     }
 
-    /// Tests whether the account may finish `object`: it has it in its charge, and saw each successor marked.
+    /// Tests whether the account may finish `object`: the object is in its charge, and it saw each successor marked.
     pub fn may_finish(&self, setup: &Setup<A>, object: u32) -> bool
         ensures { IsTrue result ↔ CanFinish setup.now object self.now }
     {
@@ -256,7 +255,7 @@ impl<A: Allocator> Account<A> {
         }
     }
 
-    /// Notes that `link` was loaded, the link of the buffer that the last loaded head of the stack `which` names.
+    /// Notes that `link` was loaded: the link of the buffer that the last loaded head of the stack `which` names.
     pub fn load_link(&mut self, which: Which, link: Option<u32>)
         ensures { self.new ≡ after_load_link which link self.old }
     {
@@ -277,8 +276,8 @@ impl<A: Allocator> Account<A> {
         Ok(())
     }
 
-    /// Gives up `buffer` with `items`, and returns whether they are part of the charge. If they are not, the account
-    /// that is left is not specified.
+    /// Gives up `buffer` with `items`, and returns whether the items are part of the charge. If they are not, the
+    /// account afterwards is not specified.
     pub fn push(&mut self, which: Which, buffer: u32, items: &[u32]) -> bool
         ensures part { IsTrue result ↔ IsPart items.now self.old.charge }
         ensures pushed { OnTrue result (self.new ≡ after_push which buffer items.now self.old) }

@@ -12,7 +12,7 @@ pub enum Kind<A: Allocator = Global> {
     Finish(u32),
     /// Gives a number of units, at least one and not all, to a new account.
     Split(u32),
-    /// Joins the account of this number to its own.
+    /// Joins the account of this number to the worker's account.
     Join(u32),
     /// Loads the head of a stack.
     Load(Which),
@@ -20,7 +20,7 @@ pub enum Kind<A: Allocator = Global> {
     LoadLink(Which),
     /// Stores the link of a buffer that the account holds: the number of the next buffer, if any.
     StoreLink(u32, Option<u32>),
-    /// Exchanges the head of a stack for the link of its first buffer, which goes to the account with its items.
+    /// Exchanges the head of a stack for the link of its first buffer. The buffer goes to the account, with its items.
     Pop(Which),
     /// Exchanges the head of a stack for a buffer that the account holds, with items of its charge.
     Push(Which, u32, Vec<u32, A>),

@@ -2,9 +2,9 @@
 //!
 //! Everything here is pure: no thread, no atomic word. A `World` is what all workers share (two stacks of buffers, the
 //! marks) and the account of each worker, with the objects in its charge. An `Event` is one atomic step of one worker.
-//! `step` makes it if it is possible. `all_runs_keep_law` is the theorem that the rest of the program stands on: after
-//! every list of possible events, in whatever order threads made them, each claimed object is in exactly one place and
-//! each finished object has its successors marked.
+//! `step` makes an event if it is possible. `all_runs_keep_law` is the theorem on which the rest of the program rests:
+//! after every list of possible events, in whatever order threads made them, each claimed object is in exactly one
+//! place and each finished object has its successors marked.
 //!
 //! From `crates/core_tests/src/world_example.rt`, which is proved and run as a test:
 //!

@@ -7,7 +7,7 @@ ghost use Rattle.tagged_index.specs.Head.{Head};
 use std::marker::Model;
 use tagged_index::HeadWord;
 
-/// The head of a stack that was loaded last, and the link of its buffer if that was loaded after it.
+/// The last loaded head of a stack, and the link of its first buffer, if the link was loaded after the head.
 #[derive(Clone, Copy)]
 pub struct Look {
     head: Option<HeadWord>,
@@ -62,7 +62,7 @@ impl Look {
         self.link
     }
 
-    /// Returns the buffer that the head names, or `None` if no head was loaded or it names none.
+    /// Returns the buffer that the head names, or `None` if no head was loaded or the head names no buffer.
     pub fn buffer(self) -> Option<u32>
         ensures { MatchOption result
             (¬ ((h : Head) × (i : ℕ) × (self.head ≡ Some h) × (h.index ≡ Some i)))

@@ -106,8 +106,8 @@ impl<A: Allocator> Numbers<A> {
         }
     }
 
-    /// Removes each of `numbers`, and returns whether the list had each as often as `numbers` has. If it had not, the
-    /// list that is left is not specified.
+    /// Removes each of `numbers`, and returns whether the list had each number at least as often as `numbers` has it.
+    /// If it had not, the list afterwards is not specified.
     pub fn take_all(&mut self, numbers: &[u32]) -> bool
         ensures part { IsTrue result ↔ IsPart numbers.now self.old }
         ensures left { OnTrue result (self.new ≡ without numbers.now self.old) }

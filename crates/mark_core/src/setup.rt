@@ -78,8 +78,8 @@ impl<A: Allocator> Setup<A> {
         true
     }
 
-    /// Tests whether a buffer with `items` may go on the stack `which`: at most as many as it takes, and none on the
-    /// empty stack.
+    /// Tests whether a buffer with `items` may go on the stack `which`: there are at most `size` items, and none for
+    /// the empty stack.
     pub fn takes(&self, which: Which, items: &Numbers<A>) -> bool
         ensures { IsTrue result
             ↔ ((length items.now ≤ self.now.size) × (which ≡ Which.Empty → items.now ≡ [])) }

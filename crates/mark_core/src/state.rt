@@ -72,7 +72,7 @@ impl<A: Allocator> State<A> {
         }
     }
 
-    /// Returns the link of `buffer`: the next one, if any. Returns `None` also if there is no such buffer.
+    /// Returns the link of `buffer`: the next buffer, if any. Returns `None` also if there is no such buffer.
     pub fn link(&self, buffer: u32) -> Option<u32>
         ensures { result ≡ slice_index_or self.now.links buffer None }
     {

@@ -111,7 +111,7 @@ impl<A: Allocator> World<A> {
         self.state.head(which)
     }
 
-    /// Returns the link of buffer `i`: the next one, if any. Returns `None` also if there is no such buffer.
+    /// Returns the link of buffer `i`: the next buffer, if any. Returns `None` also if there is no such buffer.
     pub fn link(&self, i: u32) -> Option<u32>
         ensures { result ≡ (marking_of self.now).link i }
     {
@@ -119,7 +119,7 @@ impl<A: Allocator> World<A> {
     }
 }
 
-/// Returns the world after `event`. Returns `None` exactly if the event is not possible, or is a split and
+/// Returns the world after `event`. Returns `None` exactly if the event is not possible, or is a split after
 /// 4,294,967,295 accounts were made. Allocates only if the event is possible. At `None`, and if an allocation fails,
 /// the world is dropped.
 pub fn step<A: Allocator + Copy>(

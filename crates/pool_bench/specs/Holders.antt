@@ -15,7 +15,7 @@ numbers n = range_with_len 0 n
 abbrev pub AreRoots : ℕ → Holder → Type 0
 AreRoots n w = (o : ℕ) → o < n → Contains w.book.setup.roots o
 
--- each number from one up to another was claimed, by this worker or by another before it
+-- the worker saw each object from `from` to `to` - 1 marked
 abbrev pub HasSeen : ℕ → ℕ → Holder → Type 0
 HasSeen from to w = (o : ℕ) → from ≤ o → o < to → Contains w.book.account.seen o
 
@@ -25,7 +25,8 @@ pub record SamePool (one other : Holder) : Type 0 where
   pub setup : other.book.setup ≡ one.book.setup
   pub idle : other.book.account.idle ≡ one.book.account.idle
 
--- a buffer was popped from the empty stack and pushed there
+-- for true, a buffer was popped from the empty stack and pushed there; for false, there was none, or the last tag was
+-- loaded
 abbrev pub PopsAndPushes : Book → Book → Bool → Type 0
 PopsAndPushes old new true =
     (mid : Book) × (h : HeldBuffer) × Pops Empty old mid (pop.Took h) × Pushes Empty h mid new try_push.Done

@@ -1,4 +1,5 @@
-//! Claims of objects: each thread claims those of its own rows.
+//! Claims of objects. A row is a number of neighbouring objects. The threads have the rows in turn, and each thread
+//! claims the objects of its own rows.
 
 ghost use Rattle.std.specs.Prelude.{◌≡◌, All};
 ghost use Rattle.pool_bench.specs.Holders.{AreRoots, HasSeen, SamePool};

@@ -1,7 +1,7 @@
 //! Measures the pool on its own: claims of objects, and pops and pushes of buffers, on a number of threads.
 //!
-//! `bench/pool.sh` runs it next to the same work with std only (`bench/std_baseline.rs`). `docs/PERFORMANCE.md` has the
-//! results. Its arguments are numbers: see `src/sizes.rt`.
+//! `bench/pool.sh` runs this program and the same work with std only (`bench/std_baseline.rs`). `docs/PERFORMANCE.md`
+//! has the results. The program's arguments are numbers: see `src/sizes.rt`.
 
 #![tactic(auto)]
 

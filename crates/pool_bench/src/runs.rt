@@ -29,8 +29,8 @@ pub(crate) fn run_claims<R: Threads + Clock + Print + Eprint + Sync>(
     Ok(())
 }
 
-/// Takes the given number of turns on each thread, each a pop from the empty stack of a pool and a push on it. Prints
-/// how many popped and pushed a buffer.
+/// Takes `sizes.turns` turns on each thread. Each turn pops from the empty stack of a pool and pushes there. Prints how
+/// many turns popped and pushed a buffer.
 pub(crate) fn run_turns<R: Threads + Wait + Clock + Print + Eprint + Sync>(
     rt: &R,
     alloc: Global,

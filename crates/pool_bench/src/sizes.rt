@@ -1,4 +1,4 @@
-//! The sizes of a run: the arguments of the command line, and what is the same in each run.
+//! The sizes of a run: the arguments of the command line, and the constants.
 
 ghost use Rattle.std.specs.Prelude.{◌<◌, ◌≤◌};
 
@@ -18,9 +18,9 @@ const MOST_THREADS: u32 = 64;
 pub(crate) struct Sizes {
     /// The number of threads, 1 to 64.
     pub(crate) threads: u32,
-    /// The number of objects of the pool. The threads claim them by rows, in turn.
+    /// The number of objects of the pool. They are divided into rows, which the threads have in turn.
     pub(crate) objects: u32,
-    /// The number of neighbouring objects that one thread claims before those of the next begin, at least 1.
+    /// The number of neighbouring objects in a row, at least 1. One thread claims all objects of a row.
     pub(crate) row: u32,
     /// The number of times that each object is claimed.
     pub(crate) passes: u32,

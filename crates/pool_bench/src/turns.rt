@@ -42,7 +42,7 @@ fn take_turns<R: Wait>(rt: &R, pool: &Pool<Global>, numbered: NumberedWorker, tu
     moved
 }
 
-/// Takes the given number of turns on each thread, and returns the number of those that popped and pushed a buffer.
+/// Takes `turns` turns on each thread, and returns the number of those that popped and pushed a buffer.
 pub(crate) fn turn_all<R: Threads + Wait + Sync>(
     rt: &R,
     pool: &Pool<Global>,

@@ -1,5 +1,4 @@
--- What no step of a pool can report, whatever its author notes and proves of it, because the rule of the table excludes
--- it.
+-- What no step of a pool can report: the rule of the table excludes it, whatever a pool's author notes and proves.
 use Rattle.std.specs.Prelude.{◌≡◌, ◌≢◌, ℕ, ◌+◌, ◌*◌, ◌<◌, true, List, length, Option, Some, slice_index, slice_set}
 use mathlib.Core.Option.{some}
 use lib.ListN.{get_elem?}
@@ -25,7 +24,7 @@ WasNotLost try_push.Done = Unit {0}
 WasNotLost (try_push.Lost back) = ⊥
 WasNotLost (try_push.Spent back) = Unit {0}
 
--- a table between two steps that has the seat and the word of the given numbers
+-- a table between two steps, which has a seat with the number `id` and a word with the number `word`
 pub record IsBetweenSteps {B : Type 0} (r : Reading B) (e : Setup) (slots id word : ℕ) (me : Me (Option B) SeatView)
     (s : State (Option B) SeatView) : Type 0 where
   pub rule : Rule r e s
@@ -47,8 +46,8 @@ NeverWas e q h =
     (events : List Event) (m : Marking) → Run e (opening e e.first_tag) events m
     → HadHead (opening e e.first_tag) events q h → ⊥
 
--- a head with the first tag that is not the first head never was, as (none, first tag) on empty and (0, first tag) on
--- full
+-- a head with the first tag that is not the first head never was: for example (none, first tag) on empty, or (0, first
+-- tag) on full
 abbrev pub OtherFirstHeadsWereNot : Type 0
 OtherFirstHeadsWereNot =
     (e : Setup) (q : Which) (h : Head) → h.tag ≡ e.first_tag → h ≢ first_heads e.first_tag q → NeverWas e q h
@@ -75,8 +74,8 @@ module _ {B : Type 0} (r : Reading B) where
       → IsBetweenSteps r e slots id word me s → HasFirstTag e (words_after s word f) Full
       → Allows (Rule r e) slots id me word f (λ n after. after.0.book.account.open_push ≡ true) → ⊥
 
-  -- no step can exchange a head for the link of its buffer under the same tag, or under one that is two more, whatever
-  -- it reports
+  -- no step can exchange a head for the link of its buffer under the same tag, or under a tag that is an even number
+  -- more, whatever the step reports
   abbrev pub NoEvenPop : Type 0
   NoEvenPop =
       (e : Setup) (slots id : ℕ) (q : Which) (me : Me (Option B) SeatView) (f : ℕ → ℕ) (s : State (Option B) SeatView)

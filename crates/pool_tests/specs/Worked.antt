@@ -22,7 +22,7 @@ pub record IsOfOneUnit (w : Holder) : Type 0 where
 abbrev pub bare : ℕ → ℕ → HeldBuffer
 bare room i = record { index = i; items = []; size = room }
 
--- the references of two objects and their class, each an object and one that it refers to
+-- the references of two objects and their class: each pair is an object and one that it refers to
 abbrev pub references : List (ℕ × ℕ)
 references = (1, 0) ∷ (1, 2) ∷ (2, 0) ∷ (2, 1) ∷ []
 
@@ -35,7 +35,7 @@ abbrev pub claimed_again : ℕ → Book → Book
 claimed_again o b = record b { account = record b.account { seen = b.account.seen ++ o ∷ [] } }
 
 -- the worker's book before the first claim; after the root and what it refers to were claimed; after the root was
--- finished too; and after all were
+-- finished; after the class was finished and the successors of object 2 were seen; after all were finished
 abbrev pub begun : Book
 begun = new_book three_objects whole
 

@@ -1,4 +1,4 @@
-//! What no step of a pool can report, whatever its author notes and proves of it.
+//! What no step of a pool can report, whatever a pool's author notes and proves.
 ghost use Rattle.pool_tests.specs.Forged.{NoEvenPop, NoForgedHead, NoForgedLoss, NoForgedPush};
 ghost use Rattle.pool_tests.specs.Forged.{OtherFirstHeadsWereNot, WasNotLost};
 ghost use Rattle.buffer_pool.specs.Calls.{MayPush};
@@ -13,14 +13,15 @@ use std::test::Fail;
 
 /// Does nothing. Its contract says what the rule of a pool's table excludes.
 ///
-/// - `loss`: while no head has changed, no step reports that an exchange has failed. So a try of a pop that loads the
-///   head and returns `Lost`, or that finds a lock taken, has nothing to report there.
+/// - `loss`: while no head has changed, no step reports that an exchange has failed. So a wrong try of a pop cannot
+///   return `Lost` there, neither after a load of the head only, nor because it finds a lock taken.
 /// - `head`: no step reports as the last loaded head one that the stack never had.
-/// - `first`: each head with the first tag that is not the first head is such a head: one without a buffer on the empty
-///   stack, or one with a buffer on full. So `sees_empty` cannot invent its result.
-/// - `push`: while the full head has not changed, no step reports a push on full. So a push that exchanges the other
-///   stack's head has nothing to report there.
-/// - `pop`: no step exchanges a head for the link of its buffer under the same tag, or under one that is two more.
+/// - `first`: a stack never had a head with the first tag other than its first head. So at the first tag `sees_empty`
+///   cannot invent a head without a buffer on the empty stack, or one with a buffer on full.
+/// - `push`: while the full head has not changed, no step reports a push on full. So a wrong push on full that
+///   exchanges the empty stack's head cannot return `Done` there.
+/// - `pop`: no step exchanges a head for the link of its buffer under the same tag, or under a tag that is an even
+///   number more.
 fn no_telling_is_forged<A: Allocator>()
     ensures loss { NoForgedLoss (buffer_reading {A = A}) }
     ensures head { NoForgedHead (buffer_reading {A = A}) }
@@ -54,8 +55,8 @@ fn push_alone<A: Allocator>(
     tried
 }
 
-/// Lets the only worker of a pool pop a buffer and push it. Returns whether it was pushed, or `None` if none was
-/// popped.
+/// Lets the only worker of a pool pop a buffer and push it. Returns whether the buffer was pushed, or `None` if no
+/// buffer was popped.
 fn is_pushed_alone(alloc: Global) -> Result<Option<bool>, PoolFault> {
     let (pool, mut worker) = bare_pool(alloc, 0)?;
     let TryPopped::Took(held) = pool.try_pop(&mut worker, Which::Empty) else {

@@ -8,9 +8,9 @@ use buffer_pool::{Pool, PoolFault, Which, Worker};
 use std::alloc::Allocator;
 use std::test::Fail;
 
-/// Lets both workers go idle, and the first one come back. Returns whether two are seen idle after the first went idle,
-/// whether two and whether one are seen idle after both did, and whether two still are after the first came back.
-/// Returns `None` if the full stack was not seen empty.
+/// Lets both workers go idle, and the first one come back. Returns the results of four tests: whether two are idle
+/// after the first went idle, whether two are and whether one is after both did, and whether two are after the first
+/// came back. Returns `None` if the full stack was not seen empty.
 fn idle_in_turn<A: Allocator>(
     pool: &Pool<A>,
     one: &mut Worker<A>,

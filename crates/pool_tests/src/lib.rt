@@ -1,9 +1,9 @@
-//! Tests of `buffer_pool`, and of `work_pair` above it (`pair`). They are in a crate of their own, so that each of the
-//! two is proved once, not twice, and use public calls only.
+//! Tests of `buffer_pool`, and of `work_pair` above it (`pair`). They are in a crate of their own, so that the two
+//! crates are proved once, and not again with their tests. They use public calls only.
 //!
-//! They test what only a run shows: that calls succeed, that memory runs out, last tags, and that threads end. `worked`
-//! has the run that `buffer_pool` quotes, `waiting` and `mark_bits` the words of a pool's table, and `forged` what its
-//! rule excludes.
+//! They test what only a run shows: that calls succeed, what happens without memory and at last tags, and that threads
+//! end. `worked` has the run that `buffer_pool` quotes, `waiting` and `mark_bits` the words of a pool's table, and
+//! `forged` what its rule excludes.
 
 #![tactic(auto)]
 

@@ -59,8 +59,9 @@ fn claim_and_finish<R: Abort, A: Allocator>(
     (claimed, word_now(pool, 0))
 }
 
-/// The words of marks while objects 0, 31 and 32 are claimed and the first two of them finished at once: word 0 after
-/// each of these four steps, words 0, 1 and 2 at the end, and what the marks say then.
+/// The results of a run that claims and finishes object 0, then object 31, then object 32. They are word 0 after each
+/// of the first four steps, words 0, 1 and 2 while object 32 is claimed and not finished, and what the marks say at the
+/// end.
 type Words = ([Option<u64>; 4], [Option<u64>; 3], Told);
 
 /// The number of finished objects, and the first object that is not finished: of all, and from object 31 on.

@@ -1,11 +1,13 @@
-//! Tests that run out of memory at each request of the opening of a pool. Its other calls make none: `worked.rt`.
+//! Tests that run out of memory at each request of the opening of a pool. The other calls of a pool make no request:
+//! see `worked.rt`.
 
 use crate::edges::Roots;
 use buffer_pool::{Pool, PoolFault, Which};
 use limited_heap::{LimitedHeap, requests_of};
 use std::alloc::Global;
 
-/// Tests whether a pool of four buffers is opened on `heap`, or is out of memory and the heap refused a request.
+/// Tests whether a pool of four buffers is opened on `heap`, or the opening is out of memory and `heap` refused a
+/// request.
 fn is_right_or_told(heap: &LimitedHeap<Global>) -> bool {
     match Pool::new(heap, &Roots { objects: 3 }, 4, 2, 0) {
         Ok((pool, mut worker)) => !pool.sees_empty(&mut worker, Which::Empty),
@@ -13,8 +15,8 @@ fn is_right_or_told(heap: &LimitedHeap<Global>) -> bool {
     }
 }
 
-/// Returns how many requests a pool of four buffers makes if none is refused, and 0 if a result is wrong while they are
-/// refused in turn.
+/// Refuses each request of the opening of a pool of four buffers in turn. Returns the number of requests, or 0 if a
+/// result is wrong.
 fn requests_of_a_pool(alloc: Global) -> u64 {
     requests_of(alloc, is_right_or_told).unwrap_or(0)
 }

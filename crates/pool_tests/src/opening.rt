@@ -1,4 +1,4 @@
-//! Sizes that a pool refuses.
+//! Sizes that a pool may just have, and sizes that it refuses.
 
 use crate::edges::Roots;
 use buffer_pool::{Pool, PoolFault};

@@ -1,6 +1,6 @@
-//! Four threads that pop and push four buffers at the same time. They lose exchanges when they overlap. How often is
-//! the machine's choice, and never is right too, as on a single processor that runs the threads one after another: no
-//! call of a pool can be held up between its load and its exchange. So losses are counted and not required.
+//! Four threads that pop and push four buffers at the same time. They lose exchanges when they overlap. How often they
+//! do depends on the machine: never, if a single processor runs the threads one after another. A test cannot hold up a
+//! call of a pool between its load and its exchange. So losses are counted and not required.
 ghost use Rattle.std.specs.Prelude.{◌≡◌, [], ◌∷◌, IfOk, MatchOption};
 ghost use Rattle.pool_tests.specs.Worked.{Holds, bare};
 
@@ -164,8 +164,8 @@ fn carry_back<R: Wait + Abort>(rt: &R, pool: &Pool<Global>, racer: Racer) -> (u6
 }
 
 /// All pops and pushes end, even if threads lose exchanges, and the tags count the exchanges that were won. A try is
-/// lost only to an exchange that another thread won since its load, and each of these costs each of the three others at
-/// most one try.
+/// lost only to an exchange that another thread won since the try's load. Each exchange that is won costs each of the
+/// three other threads at most one try.
 #[test]
 fn lost_exchanges(rt: HostRuntime) -> Result<(), Fail> {
     let (pool, worker) = bare_pool(rt.alloc(), 0)?;

@@ -20,8 +20,8 @@ const PART: u32 = 1_000;
 /// The number of objects of one round, which is as many as a buffer takes.
 const ROUND: u32 = 16;
 
-/// The most tries of one pop or push. A try is lost only if another thread's pop or push succeeds between its two
-/// steps, and all threads together make about a thousand of these.
+/// The most tries of one pop or push. A try is lost only if another thread's pop or push succeeds between the try's
+/// load and its exchange. All threads together make about a thousand successful pops and pushes.
 const TURNS: u32 = 10_000;
 
 fn pop_within<R: Abort, A: Allocator>(

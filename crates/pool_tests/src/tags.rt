@@ -9,7 +9,7 @@ use std::alloc::Allocator;
 use std::test::Fail;
 use tagged_index::LAST_TAG;
 
-/// Tests whether the full stack is empty to a pop and to a look, and whether a pop of the empty one finds its last tag.
+/// Tests whether a pop and a look find the full stack empty, and whether a pop of the empty stack finds its last tag.
 fn look_at_both<A: Allocator>(pool: &Pool<A>, worker: &mut Worker<A>) -> [bool; 3]
     requires pool { worker.old.pool ≡ pool.now }
     requires none { Holds 2 [] worker.old }
@@ -20,9 +20,9 @@ fn look_at_both<A: Allocator>(pool: &Pool<A>, worker: &mut Worker<A>) -> [bool; 
     [popped, seen, spent]
 }
 
-/// Pops a buffer of the empty stack and pushes it there, which finds the last tag. Returns how many items the buffer
-/// has before and after the push, and whether a pop finds that tag too. Returns `None` if the pop or the push has
-/// another result.
+/// Pops a buffer of the empty stack, and tries to push it there, which finds the last tag. Returns how many items the
+/// buffer has before and after the push, and whether a further pop finds that tag too. Returns `None` if the pop or the
+/// push has another result.
 fn pop_and_push<A: Allocator>(pool: &Pool<A>, worker: &mut Worker<A>) -> Option<(u32, u32, bool)>
     requires pool { worker.old.pool ≡ pool.now }
     requires none { Holds 2 [] worker.old }

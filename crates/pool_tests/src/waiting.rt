@@ -1,4 +1,4 @@
-//! Pops and pushes that try again until a try is not lost, and the stacks between them.
+//! Pops and pushes that try again until a try is not lost, and the stacks before and after them.
 ghost use Rattle.std.specs.Prelude.{◌≡◌, ℕ, ◌<◌, List, [], ◌∷◌, ◌++◌, Contains, IfOk};
 ghost use Rattle.mark_core.specs.Lists.{remove_one};
 ghost use Rattle.mark_core.specs.Shares.{whole};
@@ -62,7 +62,7 @@ fn links<R: Abort, A: Allocator>(rt: &R, pool: &Pool<A>) -> [u64; 4] {
     ]
 }
 
-/// Pops this buffer, which has no items.
+/// Pops buffer `wanted`, which has no items.
 fn pop_bare<R: Wait + Abort, A: Allocator>(
     rt: &R,
     pool: &Pool<A>,
@@ -129,7 +129,8 @@ fn pop_three<R: Wait + Abort, A: Allocator>(
     (second, third)
 }
 
-/// Pushes buffer 2 and then 1 on the full stack, which is seen empty before the first and not after it.
+/// Pushes buffer 2 and then buffer 1 on the full stack. The stack is seen empty before the first push, and not after
+/// it.
 fn push_two<R: Wait + Abort, A: Allocator>(
     rt: &R,
     pool: &Pool<A>,
@@ -148,7 +149,7 @@ fn push_two<R: Wait + Abort, A: Allocator>(
     push_bare(rt, pool, worker, Which::Full, second);
 }
 
-/// Pops both from the full stack, which is then seen empty, and pushes buffer 1 back.
+/// Pops both buffers from the full stack, which is then seen empty, and pushes buffer 1 back.
 fn pop_two_push_one<R: Wait + Abort, A: Allocator>(rt: &R, pool: &Pool<A>, worker: &mut Worker<A>)
     requires pool { worker.old.pool ≡ pool.now }
     requires none { Holds 2 [] worker.old }
@@ -194,8 +195,8 @@ fn stacks_at_the_opening(rt: HostRuntime) -> Result<(), Fail> {
     Ok(())
 }
 
-/// Makes the pops and pushes of the worked table of events. Returns the stacks after two buffers were pushed, and at
-/// the end.
+/// Makes the pops and pushes of `OVERTAKEN` in `crates/core_tests/src/world/lists.rt`. Returns the stacks after two
+/// buffers were pushed, and at the end.
 fn go_in_turn<R: Wait + Abort, A: Allocator + Copy>(
     rt: &R,
     alloc: A,

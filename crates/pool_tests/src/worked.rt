@@ -58,7 +58,7 @@ enum Who {
 }
 
 /// A turn: claims a range of objects and pushes a buffer with them on the full stack, or finishes the objects of a
-/// buffer of the full stack, and finds one or none.
+/// buffer of the full stack. The flag says whether that stack has a buffer.
 #[derive(Clone, Copy, Drop)]
 enum Does {
     Fill(u32, u32),
@@ -199,12 +199,12 @@ fn take_three<A: Allocator>(held: &mut Held<A>) -> Taken {
     (taken, held.len())
 }
 
-/// The object that was refused when one more was put than there is room for, the number of objects of each of two
-/// buffers then, and what was taken from each after the upper half was moved.
+/// The object that a full buffer refused, the number of objects in each of two buffers then, and what was taken from
+/// each buffer after the upper half was moved.
 type Items = (Option<u32>, (u32, u32), Taken, Taken);
 
-/// Puts 10 to 15 into a buffer of a new pool and moves the upper half into another one. Returns `None` if there are not
-/// two.
+/// Puts 10 to 15 into a buffer of a new pool and moves the upper half into another one. Returns `None` if a pop finds
+/// no buffer.
 fn items_of_two<A: Allocator>(pool: &Pool<A>, worker: &mut Worker<A>) -> Option<Items>
     requires pool { worker.old.pool ≡ pool.now }
     requires awake { worker.old.book.account.idle ≡ 0 }

@@ -15,8 +15,8 @@ pub const LAST_INDEX: u32 = 65_534;
 /// The number of values of the lower 16 bits.
 const LOW_VALUES: u64 = 65_536;
 
-/// The head of a stack: the index of its first buffer, if any, and a tag. Contracts see these two. [`HeadWord::word`]
-/// returns the 64 bits.
+/// The head of a stack: the index of its first buffer, if any, and a tag. Contracts see the index and the tag.
+/// [`HeadWord::word`] returns the 64 bits.
 #[derive(Clone, Copy, PartialEq, Eq, Debug)]
 pub struct HeadWord {
     word: u64,

@@ -1,8 +1,8 @@
 //! The head word of a stack: the index of the buffer on top, if any, and a tag that counts the changes, in 64 bits.
 //!
-//! An exchange of a head compares the whole word. Each change raises the tag by one, so a head that was changed and
-//! changed back is another word, and an exchange that began before fails. At the last tag `next` returns `None`: tags
-//! never wrap.
+//! An exchange of a head compares the whole word. Each change raises the tag by one. So a head that was changed and
+//! changed back is another word, and an exchange that began before the changes fails. At the last tag `next` returns
+//! `None`: tags never wrap.
 //!
 //! From `crates/core_tests/src/head_example.rt`, which is proved and run as a test:
 //!

@@ -6,7 +6,7 @@ use crate::record::Record;
 use crate::sub::{ClassParts, Sub};
 use std::alloc::{AllocError, Global};
 
-/// A buffer that grows by numbers, records and sub-records, with identifiers of one size.
+/// A buffer to which numbers, records and sub-records are appended. All identifiers have one size.
 #[derive(Drop)]
 pub struct Bytes {
     /// The bytes written so far.
@@ -53,7 +53,7 @@ impl Bytes {
         self.raw(&value.to_be_bytes())
     }
 
-    /// Appends `count` as a number of 2 bytes, and 65,535 if it is larger.
+    /// Appends `count` as a number of 2 bytes, or 65,535 if `count` is larger.
     fn count(&mut self, count: usize) -> Result<(), AllocError> {
         self.raw(&u16::try_from(count).unwrap_or(u16::MAX).to_be_bytes())
     }

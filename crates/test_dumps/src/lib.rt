@@ -2,7 +2,7 @@
 //!
 //! A test writes down the records that matter, and `Bytes` encodes them with identifiers of 4 or 8 bytes. `TWO_OBJECTS`
 //! is the worked dump of the documents: a class with one field, two instances that refer to each other, and a root.
-//! Nothing is promised of this crate, only of what reads its bytes.
+//! Only `Bytes::raw` has a contract here. The tests rely on the contracts of the crates that read the bytes.
 #![tactic(auto)]
 
 mod encoding;

@@ -62,15 +62,15 @@ TouchesNoFull old before new after =
     × (HasPushOnFull effect.moves → ⊥)
     × (HasPopFromFull effect.moves → ⊥)
 
--- no pair was opened: the first look for an empty buffer found none, or the second did, and then the one popped was
--- pushed back
+-- no pair was opened: the first look for an empty buffer found none; or the first popped a buffer, the second found
+-- none, and the popped buffer was pushed back
 abbrev pub OpensNone : Book → Book → Type 0
 OpensNone before after =
     (effect : CallEffect empty_pair before [] [] empty_pair after)
     × ((effect.moves ≡ FoundNone Empty ∷ [])
     ⊎ ((h : HeldBuffer) × (effect.moves ≡ Took Empty h ∷ FoundNone Empty ∷ Gave Empty h ∷ [])))
 
--- a pair was opened: two buffers were popped from empty, and the one popped first is at its first place
+-- a pair was opened: its first buffer was popped from empty, and then its second
 abbrev pub OpensTwo : Book → PairState → Book → Type 0
 OpensTwo before opened after =
     (effect : CallEffect empty_pair before [] [] opened after) × (h : HeldBuffer) × (k : HeldBuffer)
@@ -94,22 +94,22 @@ GivesSecond old moves new =
     (h : HeldBuffer) × (h.items ≡ []) × (items_at old.second ≢ [])
     × (moves ≡ Took Empty h ∷ push_of old.second) × (new.first ≡ old.first) × (new.second ≡ Some h)
 
--- the second had none, and stays; the first kept its upper half, now in the popped buffer, and the lower part was
--- pushed
+-- the second buffer had no items, and stays; the lower part of the first was pushed, and the popped buffer, now the
+-- first, has the upper half
 abbrev pub GivesLowerPart : PairState → List Move → PairState → Type 0
 GivesLowerPart old moves new =
     (h : HeldBuffer) × (k : HeldBuffer) × (items_at old.second ≡ []) × (old.first ≡ Some k)
     × (moves ≡ Took Empty h ∷ Gave Full (record k { items = lower_part k.items }) ∷ [])
     × (new.first ≡ Some (record h { items = upper_half k.items })) × (new.second ≡ old.second)
 
--- the buffer that a balance gave, and how much of it; or it pushed none, and both are as before
+-- what a balance pushed: nothing, and both buffers are as before; or the second buffer; or the lower part of the first
 abbrev pub Gives : PairState → List Move → PairState → Type 0
 Gives old moves new =
     ((HasPushOnFull moves → ⊥) × (new.first ≡ old.first) × (new.second ≡ old.second))
     ⊎ (GivesSecond old moves new ⊎ GivesLowerPart old moves new)
 
--- a balance: if there were more than a few, it pushed a buffer with items on full, or it did nothing with the stacks
--- except a look for an empty buffer that found none. It popped nothing from full
+-- a balance: if the second buffer had items or the first more than four, it pushed a buffer with items on full, or it
+-- looked for an empty buffer, found none and did nothing else with the stacks. It popped nothing from full
 abbrev pub Balances : PairState → Book → PairState → Book → Type 0
 Balances old before new after =
     (effect : CallEffect old before [] [] new after)
@@ -117,7 +117,8 @@ Balances old before new after =
     × (HasPopFromFull effect.moves → ⊥)
     × Gives old effect.moves new
 
--- the second buffer was pushed, the first is the second now, and the popped one has only the object
+-- the second buffer, if there was one, was pushed; the old first is now the second; and the popped one, now the first,
+-- has only the object
 abbrev pub FillsNext : PairState → ℕ → List Move → PairState → Type 0
 FillsNext old object moves new =
     (h : HeldBuffer) × (moves ≡ Took Empty h ∷ push_of old.second)
@@ -132,20 +133,21 @@ PublishesPlace old moves new =
     ⊎ ((h : HeldBuffer) × (h.items ≡ []) × (items_at old ≢ []) × (moves ≡ Took Empty h ∷ push_of old)
     × (new ≡ Some h)))
 
--- the first place, and then the second
+-- the effect of a publishing on the first place, and then on the second
 abbrev pub Publishes : PairState → List Move → PairState → Type 0
 Publishes old moves new =
     (first : List Move) × (second : List Move) × (moves ≡ first ++ second)
     × PublishesPlace old.first first new.first × PublishesPlace old.second second new.second
 
--- the effect of a publishing as a whole
+-- a publishing: its effect on the book and on both places
 abbrev pub PublishesBoth : PairState → Book → PairState → Book → Type 0
 PublishesBoth old before new after =
     (effect : CallEffect old before [] [] new after) × Publishes old effect.moves new
 
--- an object was put into a buffer, or at the end of the spill list. In the second case all that the call did with the
--- stacks was a look for an empty buffer that found none. It popped nothing from full. If a buffer had room it did
--- nothing with the stacks, and otherwise it pushed the one that was filled first
+-- an object was put into a buffer, or at the end of the spill list. In the second case the call looked for an empty
+-- buffer, found none and did nothing else with the stacks. It popped nothing from full. If a buffer had room, it did
+-- nothing with the stacks. If none had room and an empty buffer was popped, it pushed the second buffer, if there was
+-- one
 abbrev pub Puts : PairState → Book → ℕ → PairState → Book → Type 0
 Puts old before object new after =
     (effect : CallEffect old before (object ∷ []) [] new after)
@@ -160,7 +162,8 @@ TakesLast old object new =
     (h : HeldBuffer) × (rest : List ℕ) × (old ≡ Some h) × (h.items ≡ rest ++ object ∷ [])
     × (new ≡ Some (record h { items = rest }))
 
--- it was taken from the first buffer; or that had none, and it was taken from the second, and the two exchanged places
+-- the object was taken from the first buffer; or the first had no item, the object was taken from the second, and the
+-- two exchanged places
 abbrev pub TakesOwn : PairState → ℕ → PairState → Type 0
 TakesOwn old object new =
     (TakesLast old.first object new.first × (new.second ≡ old.second))
@@ -173,7 +176,7 @@ FindsNoOwn old new =
     × (new.first ≡ old.second) × (new.second ≡ old.first)
 
 -- the buffers in the list, the last one first, were popped from full. Each was popped when neither of the pair's two
--- had an item: it takes the first place, the buffer there goes to the second, and the one there is pushed on empty
+-- had an item: it becomes the first, the old first becomes the second, and the old second is pushed on empty
 abbrev pub Refills : List HeldBuffer → PairState → List Move → PairState → Type 0
 Refills [] old moves new = (moves ≡ []) × (new.first ≡ old.first) × (new.second ≡ old.second)
 Refills (h ∷ popped) old moves new =
@@ -203,8 +206,8 @@ abbrev pub Gets : PairState → Book → Option ℕ → PairState → Book → T
 Gets old before got new after =
     (effect : CallEffect old before [] (got_of got) new after) × GetsBy old effect.moves got new
 
--- a call that pushed buffers back, none on full if there were no items in them, and popped nothing from full; a spill
--- list was given up before
+-- a call that dropped the spill list and pushed buffers back. It pushed none on full if the buffers had no items, and
+-- popped nothing from full
 abbrev pub Disposes : PairState → Book → PairState → Book → Type 0
 Disposes old before new after =
     (effect : CallEffect (without_spill old) before [] [] new after)

@@ -11,8 +11,9 @@ pub record PairState : Type 0 where
   pub third : Option HeldBuffer
   -- the objects for which there was no buffer, the last put at the end
   pub spill : List ℕ
-  -- a call was stopped by a last tag; a call ran out of memory
+  -- a call was stopped by a last tag
   pub stopped : Bool
+  -- a call ran out of memory
   pub starved : Bool
 
 -- the items of the buffer at a place, and its number
@@ -29,13 +30,15 @@ abbrev pub count_at : Option HeldBuffer → Option ℕ
 count_at None = None
 count_at (Some h) = Some (length h.items)
 
--- the items of a pair's buffers; those with its spill list; and the numbers of the buffers, regardless of order
+-- the items of a pair's buffers
 abbrev pub buffered_items : PairState → List ℕ
 buffered_items p = items_at p.first ++ items_at p.second ++ items_at p.third
 
+-- the items of a pair: those of its spill list and of its buffers
 abbrev pub pair_items : PairState → List ℕ
 pair_items p = p.spill ++ buffered_items p
 
+-- the numbers of a pair's buffers
 abbrev pub numbers_of : PairState → List ℕ
 numbers_of p = buffer_number p.first ++ buffer_number p.second ++ buffer_number p.third
 
@@ -100,7 +103,7 @@ pub record AreOfSize (size : ℕ) (p : PairState) : Type 0 where
   pub third : IsOfSize size p.third
 
 -- the worker of the book holds the buffers of the pair, which are of its pool's size, and has the pair's items and the
--- objects besides in its charge
+-- objects `besides` in its charge
 pub record IsBacked (p : PairState) (besides : List ℕ) (b : Book) : Type 0 where
   pub held : IsPart (numbers_of p) b.account.held
   pub charged : IsPart (pair_items p ++ besides) b.account.charge

@@ -12,8 +12,8 @@ use std::sync::Wait;
 mod giving;
 
 /// Two buffers, and one that a stopped call left over. The calls of [`Pair`](crate::Pair) forward to the calls of this
-/// type, which knows neither the spill list nor which stop ended a call. So buffers and stacks are proved without
-/// these.
+/// type, which knows neither the spill list nor which stop ended a call. So the proofs about buffers and stacks need
+/// neither.
 #[derive(Drop)]
 pub(crate) struct Buffers<A: Allocator> {
     pub(crate) first: Option<Held<A>>,
@@ -29,9 +29,10 @@ impl<A: Allocator> Buffers<A> {
     ghost use Rattle.work_pair.specs.working.Buffers.{as_pair};
     ghost use Rattle.work_pair.specs.working.Steps.{ClearAnswers, GetsObject, PutsObject, Takes};
 
-    /// Puts `object` into the second buffer, which becomes the first, or into an empty one. The first buffer has no
-    /// room. Returns `false` if there is no empty one. Then nothing changes except the places of the two.
-    // A call, so that the many puts that find room neither save registers for it nor clear its locals.
+    /// Puts `object` into the second buffer, which becomes the first, or else into a popped empty buffer. The first
+    /// buffer must have no room. Returns `false` if no empty buffer was found. Then the two buffers have exchanged
+    /// places, and nothing else has changed.
+    // Not inlined, so that the many puts that find room neither save registers for it nor clear its locals.
     #[inline(never)]
     pub(crate) fn put_elsewhere<R: Wait>(
         &mut self,
@@ -68,7 +69,7 @@ impl<A: Allocator> Buffers<A> {
 
     /// Takes an object from the pair's buffers, or from those of the full stack. Skips a buffer that was pushed there
     /// without items.
-    // A call, so that the many gets that find an object neither save registers for it nor clear its locals.
+    // Not inlined, so that the many gets that find an object neither save registers for it nor clear its locals.
     #[inline(never)]
     pub(crate) fn get_elsewhere<R: Wait>(
         &mut self,
@@ -91,7 +92,8 @@ impl<A: Allocator> Buffers<A> {
         unreachable!()
     }
 
-    /// Pushes all buffers, those with items on full and the others on empty. The rest stays if a last tag was loaded.
+    /// Pushes each buffer: on the full stack if it has items, and otherwise on the empty stack. If a last tag was
+    /// loaded, the buffers that were not pushed yet stay.
     pub(crate) fn clear<R: Wait>(
         &mut self,
         rt: &R,

@@ -86,7 +86,7 @@ impl<A: Allocator> Pair<A> {
 
     /// Opens a pair of two empty buffers, which are popped from the empty stack. Returns `None` if there are not two;
     /// one that was popped is then pushed back. If a last tag was loaded, the popped buffers stay among those that the
-    /// worker's account holds, and nobody can push them. The spill list will allocate from `alloc`, and has not yet.
+    /// worker's account holds, and nobody can push them. Allocates nothing; the spill list grows from `alloc` later.
     pub fn open<R: Wait>(
         rt: &R,
         alloc: A,

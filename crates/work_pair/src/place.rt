@@ -75,7 +75,8 @@ fn split_at<A: Allocator>(place: &mut Option<Held<A>>, upper: &mut Held<A>)
     }
 }
 
-/// Pushes the buffer at `place`, and puts `next` there. If a last tag was loaded, `next` goes to the third place.
+/// Pushes the buffer at `place`, and puts `next` there. If a last tag was loaded, the buffer stays and `next` goes to
+/// `third`.
 pub(crate) fn put_out<R: Wait, A: Allocator>(
     rt: &R,
     pool: &Pool<A>,

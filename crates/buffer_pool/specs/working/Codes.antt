@@ -22,7 +22,7 @@ look_code =
     code_by (Option Head × Option (Option ℕ)) (coded× (coded_option head_code) (coded_option (coded_option coded_ℕ)))
     (λ l. (l.head, l.link)) (λ p. record { head = p.0; link = p.1 }) (λ _. refl)
 
--- the share and the open push, the lists, what was loaded last, and the notes for going idle
+-- the share and the open push, the lists, what was last loaded of the stacks, the idle number and word, and the notes
 abbrev pub account_code : Coded Account
 account_code =
     code_by
@@ -112,7 +112,7 @@ Numbered = (ℕ ⊎ ℕ) ⊎ (ℕ ⊎ ℕ)
 abbrev Stacked : Type 0
 Stacked = (Which ⊎ Which) ⊎ (Which ⊎ Which)
 
--- the last has an option of a truth value for each of the three kinds of the idle word
+-- `Option Bool` has three values, one for each of the three kinds that step on the idle word
 abbrev Written : Type 0
 Written = ((ℕ × Option ℕ) ⊎ ((Which × ℕ) × List ℕ)) ⊎ Option Bool
 

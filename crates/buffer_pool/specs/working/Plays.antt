@@ -58,7 +58,7 @@ SeatDid m kinds after = Did m.0.log kinds after.0.log
 abbrev pub StoryLeads : {B : Type 0} → Me (Option B) SeatView → Type 0
 StoryLeads after = LeadsToBook after.0.log after.0.book
 
--- the seat rests with the book: its log has exactly the new events after it, and leads to the book
+-- the seat rests with the book: `kinds` are exactly its new steps in the log, whose story leads to the book
 pub record RestsWith
     {B : Type 0} (m : Me (Option B) SeatView) (book : Book) (kinds : List Kind) (after : Me (Option B) SeatView)
     : Type 0 where
@@ -156,9 +156,10 @@ module _ {B : Type 0} where
   set_aside st m n after = (after ≡ (record (logged after.0.log (free m.0)) { aside = st.first }, []))
       × SeatDid m [] after
 
-  -- The slot that was out went home, and the account has each thing once, all of it the pool's. The log is up to date:
-  -- it has the noted steps, and continues the story that was taken in. That story is another worker's, which did
-  -- nothing after it if it was joined. A worker that learns its number only now did nothing
+  -- The slot that was out went home. The account has each buffer and each object at most once, and all are the pool's.
+  -- The log is up to date: it has the noted steps, and continues the story that was taken in. That story is another
+  -- worker's. If that worker was joined, it did nothing after its story. A worker that learns its number only now has
+  -- done nothing
   pub record IsUpToDate (m after : Me (Option B) SeatView) : Type 0 where
     pub same : after ≡ (logged after.0.log (free m.0), [])
     pub each : HasEachOnce m.0.book.account

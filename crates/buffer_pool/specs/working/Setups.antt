@@ -38,7 +38,7 @@ view_with b =
 abbrev pub first_view : Setup → SeatView
 first_view e = record (view_with (new_book e whole)) { named = true }
 
--- what a worker keeps at a split, which it notes, and what it gives away
+-- what a worker keeps at a split, with the split noted; below it, what the worker gives away
 abbrev pub kept_part : SeatView → SeatView
 kept_part v = record v { book = parted v.aside v.book; unsaid = v.unsaid ++ Split v.aside ∷ []; aside = 0 }
 

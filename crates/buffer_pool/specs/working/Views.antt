@@ -5,7 +5,7 @@ use Rattle.mark_core.specs.Events.{Event, Join}
 use Rattle.buffer_pool.specs.declared.seat_view.SeatView.{SeatView}
 use Rattle.buffer_pool.specs.WorkerLog.{Log, LeadsToBook, deeds}
 
--- the worker n, whose story is given, did nothing after it until it was joined to another
+-- the worker n did nothing after `story`, its story, until it was joined to another worker
 pub record IsTakenIn (events : List Event) (n : ℕ) (story : List Event) : Type 0 where
   pub quiet : List Event
   pub by : ℕ
@@ -19,11 +19,11 @@ pub record IsViewOf (events : List Event) (w : ℕ) (v : SeatView) : Type 0 wher
   pub number : v.named ≡ true → v.log.number ≡ w
   pub since : List Event
   pub goes_on : events ≡ v.log.story ++ since
-  -- its steps since then are splits and joins, and noted
+  -- its steps since then, splits and joins, are noted
   pub unsaid : deeds w since ≡ v.unsaid
   -- the story that it took in is a prefix too
   pub taken : (more : List Event) × (events ≡ v.taken ++ more)
-  -- it is another worker's, which did nothing after it if it was joined
+  -- that story is another worker's. If that worker was joined, it did nothing after its story
   pub apart : (n : ℕ) → v.from ≡ Some n → n ≢ w
   pub ended : v.named ≡ true → (n : ℕ) → v.from ≡ Some n → IsTakenIn events n v.taken
   -- a worker that does not know its number did nothing
@@ -31,7 +31,7 @@ pub record IsViewOf (events : List Event) (w : ℕ) (v : SeatView) : Type 0 wher
   -- its story leads to its book, if it has no step left to say
   pub leads : v.named ≡ true → v.unsaid ≡ [] → LeadsToBook v.log v.book
 
--- each view that has a share is such a view
+-- each view that has a share is the view of its worker
 abbrev pub AreViewsOf : List Event → List SeatView → Type 0
 AreViewsOf events views = (w : ℕ) (v : SeatView) → StandsAt views w v → 0 < v.book.account.share → IsViewOf events w v
 

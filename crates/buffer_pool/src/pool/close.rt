@@ -11,8 +11,8 @@ use crate::worker::Worker;
 use std::alloc::Allocator;
 
 impl<A: Allocator> Pool<A> {
-    /// Ends the marking and returns the marks. `worker` has the whole share, no buffer and no charge, so no other
-    /// worker has anything. Frees the buffers.
+    /// Ends the marking and returns the marks. `worker` must have the whole share, no buffer and no charge; then no
+    /// other worker has anything. Frees the buffers.
     pub fn close(self, worker: Worker<A>) -> Marks<A>
         requires pool { worker.pool ≡ self }
         requires share { worker.book.account.share ≡ whole }

@@ -86,8 +86,8 @@ impl<A: Allocator> Marks<A> {
         (self.word_of(object) >> mark_place(object)) & 3
     }
 
-    /// Returns the first object from `object` on, of those that share its word, whose mark is not finished. It may be a
-    /// number beyond the last object.
+    /// Returns the first unfinished object from `object` on in the word that has the mark of `object`. The result may
+    /// be a number beyond the last object.
     fn first_unfinished_of_word(&self, object: u32) -> Option<u32>
         requires { object < length self.now }
         ensures found { IfSome result (λ found. IsFirstUnfinished self.now object found) }
@@ -134,8 +134,8 @@ impl<A: Allocator> Marks<A> {
         None
     }
 
-    /// Returns how many objects were finished, 0 up to the number of objects. One that was claimed and not finished
-    /// does not count. The workers counted them, so no mark is read.
+    /// Returns how many objects were finished, 0 up to the number of objects. An object that was claimed and not
+    /// finished does not count. The workers counted them, so no mark is read.
     pub fn finished_len(&self) -> u64
         ensures { result ≡ count_by (λ m. m == 2) self.now }
     {

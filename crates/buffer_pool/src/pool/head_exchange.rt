@@ -101,8 +101,8 @@ pub(crate) fn take_top<A: Allocator>(
     Some(buffer)
 }
 
-/// Returns the link word of a buffer that is pushed before `head`: 0 if it has no index, and the index plus 1
-/// otherwise.
+/// Returns the link word of a buffer that is pushed on a stack with the head `head`: 0 if `head` has no index, and the
+/// index plus 1 otherwise.
 fn link_to(head: HeadWord) -> u64
     ensures { result ≡ low_of head.index }
 {
@@ -135,7 +135,7 @@ pub(crate) fn store_link<A: Allocator>(
     words.store::<StoreLink>(seat, FIRST_LINK + index as usize, link_to(head));
 }
 
-/// Exchanges a head for the buffer whose slot is out, if it has not changed. Returns the head found.
+/// Exchanges a head for the buffer whose slot is out, if the head has not changed. Returns the head found.
 fn exchange_for_buffer<A: Allocator>(
     words: &Words<A>,
     seat: &mut Token<A>,

@@ -1,4 +1,4 @@
-//! The ranges of a pool's numbers, and the error of making one.
+//! The ranges of a pool's numbers, and the errors of `Pool::new`.
 ghost use Rattle.std.specs.Prelude.{◌≡◌, ◌↔◌, IsTrue};
 ghost use Rattle.buffer_pool.specs.Ranges.{IsInside};
 

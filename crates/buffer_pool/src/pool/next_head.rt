@@ -1,4 +1,4 @@
-//! The heads by which a pop and a push replace the one that they loaded.
+//! The heads by which a pop and a push replace the loaded head.
 ghost use Rattle.std.specs.Prelude.{◌≡◌, ◌<◌, ◌≤◌, Some, MatchOption};
 ghost use Rattle.std.specs.Option.{ForSome};
 ghost use Rattle.tagged_index.specs.Head.{after, last_tag};

@@ -15,8 +15,8 @@ use std::alloc::Allocator;
 
 /// Splits `units` units off the share of a seat, for a new seat.
 // A view changes only at a step on a word, and a split sees only the view. So the units are noted first, by an exchange
-// that changes nothing. Nor does a split see what happened in the table. So each of the two seats reports the split by
-// a load of its own.
+// that changes nothing. A split does not see what happened in the table either. So each of the two seats reports the
+// split by a load of its own.
 fn give_part<A: Allocator>(words: &Words<A>, seat: &mut Token<A>, units: u64) -> Token<A>
     requires table { seat.old.table_id ≡ words.now.table_id }
     requires sound { IsSound seat.old.table_id seat.old.me }
@@ -36,7 +36,7 @@ fn give_part<A: Allocator>(words: &Words<A>, seat: &mut Token<A>, units: u64) ->
 }
 
 /// Joins the seat `other` to `seat`.
-// The slot of `other` goes home before it is joined. The last load shows that the two had nothing in common.
+// The slot of `other` goes home before the join. The last load shows that the two seats had nothing in common.
 fn take_in<A: Allocator>(words: &Words<A>, seat: &mut Token<A>, mut other: Token<A>)
     requires table { (seat.old.table_id ≡ words.now.table_id) × (other.table_id ≡ words.now.table_id) }
     requires sound { IsSound seat.old.table_id seat.old.me × IsSound other.table_id other.me }
@@ -74,8 +74,9 @@ impl<A: Allocator> Pool<A> {
         (Worker { seat, finished }, newcomer)
     }
 
-    /// Joins `other` to `worker`: adds shares and counts, and buffers, charges, objects seen and objects finished. What
-    /// `worker` loaded of the stacks stays. The two had nothing in common.
+    /// Joins `other` to `worker`: adds the shares and counts of the two, and unites their buffers, their charges, and
+    /// the objects that they saw and finished. What `worker` loaded stays. The two had no buffer and no object in
+    /// common.
     pub fn join(&self, worker: Worker<A>, other: Worker<A>) -> Worker<A>
         requires pool { (worker.pool ≡ self.now) × (other.pool ≡ self.now) }
         ensures together { result ≡ record worker { book = joined worker.book other.book; log = result.log } }

@@ -27,7 +27,7 @@ pub(super) fn first_slots<A: Allocator + Copy>(
     Ok(slots)
 }
 
-/// Drops each buffer. After it no slot has one.
+/// Drops each buffer. Afterwards no slot has a buffer.
 pub(super) fn empty_slots<A: Allocator>(closed: &mut Closed<Option<Buffer<A>>, A>)
     requires full { IsFull closed.old.slots }
     ensures words { closed.new.words ≡ closed.old.words }

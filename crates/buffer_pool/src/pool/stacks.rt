@@ -31,7 +31,7 @@ impl<A: Allocator> Pool<A> {
     }
 
     /// Tries once to take the buffer on top of the stack `which`. Waits for nobody and does not allocate. Returns
-    /// `Empty` for an empty stack also at the last tag.
+    /// `Empty` for an empty stack, even at the last tag.
     pub fn try_pop(&self, worker: &mut Worker<A>, which: Which) -> TryPopped<Held<A>>
         requires pool { worker.old.pool ≡ self.now }
         requires busy { IsBusy worker.old.book.account }
@@ -42,8 +42,8 @@ impl<A: Allocator> Pool<A> {
         try_pop(&self.table.shared, &mut worker.seat, which)
     }
 
-    /// Tries once to put a held buffer on the stack `which`. Waits for nobody and does not allocate. Its items are part
-    /// of the worker's charge, and on the empty stack it has none.
+    /// Tries once to put a held buffer on the stack `which`. Waits for nobody and does not allocate. The buffer's items
+    /// must be part of the worker's charge. A buffer for the empty stack must have no items.
     pub fn try_push(
         &self,
         worker: &mut Worker<A>,

@@ -15,10 +15,11 @@ use mark_core::Which;
 use std::alloc::Allocator;
 use tagged_index::LAST_TAG;
 
-/// Loads the head and its link, and exchanges the head for the link. The tag is tested first: a head with the last tag
-/// is never exchanged again, so its link is of no use, and such a try has one event, as a push has there.
+/// Loads the head and its link, and exchanges the head for the link. The tag is tested before the link is loaded: a
+/// head with the last tag is never exchanged again, so its link is of no use. So a try that returns `Spent` has one
+/// event, like a try of a push that returns `Spent`.
 ///
-/// This is `Pool::try_pop` on the words and the worker's seat. `Pool` and `Worker` are opened around it.
+/// This is `Pool::try_pop` on the words and the worker's seat, which the caller takes out of `Pool` and `Worker`.
 pub(crate) fn try_pop<A: Allocator>(
     words: &Words<A>,
     seat: &mut Token<A>,

@@ -15,7 +15,7 @@ use std::alloc::Allocator;
 
 /// Loads the head, stores its index as the buffer's link, and exchanges the head for the buffer.
 ///
-/// This is `Pool::try_push` on the words and the worker's seat. `Pool` and `Worker` are opened around it.
+/// This is `Pool::try_push` on the words and the worker's seat, which the caller takes out of `Pool` and `Worker`.
 pub(crate) fn try_push<A: Allocator>(
     words: &Words<A>,
     seat: &mut Token<A>,

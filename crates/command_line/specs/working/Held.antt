@@ -19,7 +19,7 @@ pub record HoldsAll (found : Found) : Type 0 where
   pub buffers : HoldsNumber found (codes "buffers") 4 65534
   pub first_tag : HoldsNumber found (codes "first-tag") 0 281474976710655
 
--- the number that the text found spells
+-- the text found for `name` spells `number`
 pub record ReadsNumber (found : Found) (name : Text) (number : ℕ) : Type 0 where
   pub text : Text
   pub first : first_value found name ≡ Some text

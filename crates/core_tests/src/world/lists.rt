@@ -9,7 +9,7 @@ use Which::{Empty, Full};
 use mark_core::{Kind, OutOfMemory, Which, World};
 use std::alloc::Allocator;
 
-/// A step of an account, as a row of a table has it. A buffer that is pushed has no items.
+/// A step of an account, as a constant can have it: a [`Kind`] without a list of items. `Push` pushes no items.
 #[derive(Clone, Copy, Drop)]
 pub enum Does {
     Claim(u32),
@@ -85,7 +85,7 @@ const POP_FULL: &[Does] = &[Load(Full), LoadLink(Full), Pop(Full)];
 
 pub const START: List = (ThreeObjects, &[]);
 
-/// Account 0 has claimed the root, and account 1 has one unit and has seen it.
+/// Account 0 has claimed the root. Account 1 has one unit, and has seen the root marked.
 pub const ROOT_CLAIMED: List = (
     ThreeObjects,
     &[(0, &[Claim(1), Split(1)]), (1, &[Claim(1)])],
@@ -132,8 +132,8 @@ const STACK_TWO: &[Does] = &[
 
 pub const TWO_STACKED: List = (NoObjects, &[(0, STACK_TWO)]);
 
-/// Account 0 loads the full head and its link, and before its exchange account 1 pops both buffers and pushes the first
-/// one again.
+/// Account 0 loads the full head and its link, and before its exchange account 1 pops both buffers and pushes buffer 1
+/// again.
 pub const OVERTAKEN: List = (
     NoObjects,
     &[
@@ -145,7 +145,7 @@ pub const OVERTAKEN: List = (
     ],
 );
 
-/// The same, and then account 0 finds another head.
+/// Like [`OVERTAKEN`], and then account 0 fails to exchange the head.
 pub const FAILED: List = (
     NoObjects,
     &[
@@ -196,7 +196,7 @@ pub const ONE_PUSHED: List = (
     ],
 );
 
-/// Account 1 has popped that buffer again, and found the full stack empty once more.
+/// Like [`ONE_PUSHED`], and then account 1 has popped the buffer again and found the full stack empty once more.
 pub const ONE_LOOKED_AGAIN: List = (
     ThreeObjects,
     &[

@@ -9,8 +9,8 @@ use std::alloc::Global;
 /// Lists that allocate, and how they end.
 static TAKING: [(List, End); 2] = [(OVERTAKEN, End::Overtaken), (ALL_FINISHED, End::Finished)];
 
-/// Tests whether `list` ends as `end` on `heap`, or is out of memory and the heap refused a request. Returns that, and
-/// whether the heap refused none.
+/// Returns whether the result of `list` on `heap` is right, and whether `heap` refused no request. The result is right
+/// if the list ends as `end`, or if the replay is out of memory and `heap` refused a request.
 fn is_right_or_told(heap: &LimitedHeap<Global>, list: &List, end: End) -> (bool, bool) {
     let right = match ends(heap, list, end) {
         Ok(right) => right,
@@ -38,8 +38,8 @@ fn where_one_is_refused(alloc: Global, request: u64, list: &List, end: End) -> (
     is_right_or_told(&heap, list, end)
 }
 
-/// One heap serves a whole replay, so the allocations of a step are refused as well as those of the world: each with
-/// all later ones, and alone.
+/// Refuses each request of a replay in turn: first with all later requests, then that request only. One heap serves the
+/// whole replay, so the allocations of the steps are refused as well as those of the world.
 #[test]
 fn each_request_may_be_refused(rt: HostRuntime) {
     let alloc = rt.alloc();
@@ -68,15 +68,15 @@ fn left_behind(
     }
 }
 
-/// Runs `list` on a heap that grants exactly as many requests as it makes. Returns how many are left after it, whether
-/// the world is right, and how many requests were refused.
+/// Replays `list` on a heap that grants exactly the requests that `list` makes. Returns how many requests are left
+/// after the replay, whether the world is right, and how many requests were refused until the world was read.
 fn looked_at(alloc: Global, list: &List, end: End) -> Result<(u64, bool, u64), OutOfMemory> {
     let heap = LimitedHeap::new(alloc, requests_of(alloc, list, end));
     let (left, right) = left_behind(&heap, list, end)?;
     Ok((left, right, heap.refusals()))
 }
 
-/// Reading a world makes no allocation: it is read while each request would be refused.
+/// Reading a world makes no allocation: the world is read while the heap would refuse each request.
 #[test]
 fn looking_takes_no_memory(rt: HostRuntime) -> Result<(), OutOfMemory> {
     for (list, end) in &TAKING {

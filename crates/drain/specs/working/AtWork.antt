@@ -11,7 +11,7 @@ use Rattle.drain.specs.declared.paired_worker.Opened.TheVariants as opened
 use Rattle.work_pair.specs.CallEffects.{OpensNone, OpensTwo}
 use Rattle.work_pair.specs.PairState.{AreOfSize, IsOpen, PairState, buffered_items, pair_items, numbers_of}
 
--- The setup `e` has these objects, roots and references of a graph.
+-- The setup `e` has `count` objects, the roots `root_list` and the references `pair_list`.
 pub record IsSetupOf (count : ℕ) (root_list : List ℕ) (pair_list : List (ℕ × ℕ)) (e : Setup) : Type 0 where
   pub objects : e.objects ≡ count
   pub roots : e.roots ≡ root_list
@@ -54,12 +54,12 @@ abbrev pub StaysAtWork : PairState → Holder → PairState → Holder → Type 
 StaysAtWork old_pair old new_pair new =
     (besides : List ℕ) → IsAtWork old_pair besides old → IsAtWork new_pair besides new
 
--- A worker whose charge has the objects `besides` may claim `o`: it is a root, or one of them refers to it.
+-- A worker whose charge has the objects `besides` may claim `o`: `o` is a root, or one of `besides` refers to `o`.
 abbrev pub MayClaim : Setup → List ℕ → ℕ → Type 0
 MayClaim e besides o = Contains e.roots o ⊎ ((p : ℕ) × Contains besides p × Contains e.pairs (p, o))
 
--- `object` was claimed: it was seen. If it was white the worker has it at hand besides what it had, and is about to put
--- it; otherwise its charge is what it was.
+-- `object` was claimed: the worker saw it marked. If it was white, it is now at hand besides the objects `besides`, and
+-- the worker is about to put it. Otherwise the worker has the same objects at hand as before.
 pub record IsClaimed (object : ℕ) (old_pair : PairState) (old : Holder) (new_pair : PairState) (new : Holder)
     (white : Bool) : Type 0 where
   pub goes_on : GoesOn old new
@@ -67,13 +67,14 @@ pub record IsClaimed (object : ℕ) (old_pair : PairState) (old : Holder) (new_p
   pub at_work : (besides : List ℕ) → IsAtWork old_pair besides old
       → IsAtWork new_pair (if white then object ∷ besides else besides) new
 
--- `object`, which was at hand, was put: it is in the pair, or went with a buffer of it.
+-- `object`, which was at hand, was put: it is in the pair, or in a buffer that the pair pushed.
 pub record IsPut (object : ℕ) (old_pair : PairState) (old : Holder) (new_pair : PairState) (new : Holder)
     : Type 0 where
   pub goes_on : GoesOn old new
   pub at_work : (besides : List ℕ) → IsAtWork old_pair (object ∷ besides) old → IsAtWork new_pair besides new
 
--- `objects` were claimed: they were seen, and those that were white are in the pair, or went with a buffer of it.
+-- `objects` were claimed: the worker saw them marked, and those that were white are in the pair, or in a buffer that it
+-- pushed.
 pub record AreClaimed (objects : List ℕ) (old_pair : PairState) (old : Holder) (new_pair : PairState) (new : Holder)
     : Type 0 where
   pub goes_on : GoesOn old new
@@ -95,12 +96,13 @@ HasNoneLeft p w =
 abbrev pub IsThrough : Holder → Holder → Type 0
 IsThrough begun w = CameFrom begun w × IsFree w
 
--- Others have what the buffers of the pair held: these have no items, or the worker saw that no empty buffer was left.
+-- The items of the pair's buffers were given to others as long as there were empty buffers: no item is left, or the
+-- worker has seen the empty stack empty.
 abbrev pub HasGiven : PairState → Holder → Type 0
 HasGiven p w = (buffered_items p ≡ []) ⊎ (0 < empties_of w.book Empty)
 
--- A pair was opened: the worker went on from `w`. It is at work with two buffers and nothing at hand besides the pair's
--- items; or it is as free as it was, and there were not two empty buffers.
+-- The result of opening a pair for the worker `w`: it is at work with two buffers, and with nothing at hand besides the
+-- pair's items; or it is free, and two empty buffers were not found.
 abbrev pub HasOpened : {A : Type 0} → Holder → Opened A → Type 0
 HasOpened w (opened.Paired p) =
     GoesOn w p.worker × IsAtWork p.pair [] p.worker × OpensTwo w.book p.pair p.worker.book

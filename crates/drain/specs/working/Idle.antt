@@ -20,8 +20,8 @@ pub data WaitsInVain (workers : ℕ) : ℕ → Book → Book → Type 0 where
   more : (turns : ℕ) (old mid new : Book) → WaitsInVain workers turns old mid → TurnsInVain workers mid new
       → WaitsInVain workers (turns + 1) old new
 
--- The worker went idle and made turns in vain, fewer than `turns`, until it loaded the number of workers from the idle
--- word; or it made `turns` of them. It is idle still.
+-- The worker went idle and made turns in vain: fewer than `turns`, until it loaded the number of workers from the idle
+-- word; or `turns` turns. It is still idle.
 abbrev pub HasWaited : ℕ → ℕ → Book → Book → Type 0
 HasWaited workers turns old new =
     ((made : ℕ) × (mid : Book) × (made < turns) × WaitsInVain workers made (idled old) mid

@@ -33,8 +33,8 @@ pub record IsOnJob {A V G S : Type 0} (count : V → ℕ) (roots : V → List �
   pub at_work : IsAtWork paired.pair besides paired.worker
   pub tally : HasTallied (measure job.graph.now) paired.worker t
 
--- the worker works on with nothing at hand besides its pair's items, and its tally and its table are of what it
--- finished and saw
+-- the worker works on with nothing at hand besides its pair's items; the tally counts what it finished, and the table
+-- has only objects that it saw marked
 pub record HasScanned {A : Type 0} (m : Measure) (old new : PairedWorker A) (table : RecentlySeen) (t : Tally A)
     : Type 0 where
   pub goes_on : WorksOn old.worker new.worker
@@ -80,7 +80,8 @@ HasWorkedOff {A} workers old new =
     × TakesTurns workers begun last
     × FindsNone last mid × (new.pair ≡ mid.pair) × HasWaited workers 1024 mid.worker.book new.worker.book
 
--- the worker opened a pair of two buffers, worked off what it found, and gave the buffers back; or there were not two
+-- the worker opened a pair of two buffers, worked off what it found, and gave the buffers back; or two empty buffers
+-- were not found
 abbrev pub HasWorked : {A : Type 0} → ℕ → Holder → TalliedWorker A → Type 0
 HasWorked {A} workers begun t =
     ((opened : PairedWorker A) × (last : PairedWorker A)
@@ -88,8 +89,8 @@ HasWorked {A} workers begun t =
     × ShelvesAll last.pair last.worker.book t.worker.book)
     ⊎ OpensNone begun.book t.worker.book
 
--- a leader of the job's pool and graph with more units than there are workers, room for as many threads and as many
--- returned workers, none of which exists yet, and as many tallies of no object
+-- a leader of the job's pool and graph with more than `job.workers` units. It has room for `job.workers` threads and
+-- for `job.workers` returned workers, none of which exists yet, and at least `job.workers` tallies, all of no object
 pub record MayRun {A V G S : Type 0} (count : V → ℕ) (roots : V → List ℕ) (pairs : V → List (ℕ × ℕ))
     (measure : V → Measure) (job : Job A V G S) (leader : Holder) (threads space back back_space : ℕ)
     (tallies : List (Tally A)) (made : ℕ) : Type 0 where

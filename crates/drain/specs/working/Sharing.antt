@@ -1,4 +1,4 @@
--- What a worker does that shares: it looks at the full stack once, and if that has no buffer it gives some of its pair.
+-- How a worker shares: it looks at the full stack once, and gives some of its objects to others if that has no buffer.
 use Rattle.std.specs.Prelude.{Bool, List, [], false, length, true, ℕ, ◌++◌, ◌<◌, ◌≡◌, ◌≤◌, ◌∷◌}
 use Rattle.mark_core.specs.declared.which.Which.TheVariants.{Full}
 use Rattle.buffer_pool.specs.Book.{Book}

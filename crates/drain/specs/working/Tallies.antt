@@ -18,7 +18,7 @@ pub record Measure : Type 0 where
   pub bytes : ℕ → ℕ
   pub unresolved : ℕ → ℕ
 
--- of `count` objects: each has a row, and its numbers are small
+-- `m` is a measure of `count` objects: each object has a row, and its numbers are small
 pub record IsMeasureOf (count : ℕ) (m : Measure) : Type 0 where
   pub few_objects : count ≤ 2 ^ 24
   pub within : (o : ℕ) → o < count → m.row o < m.rows

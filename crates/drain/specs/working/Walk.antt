@@ -21,7 +21,7 @@ abbrev pub HasEnded : {S : Type 0} → (S → Option ℕ → S → Type 0) → S
 HasEnded {S} steps start end = (given : List ℕ) × (last : S) × Yields steps start given last × steps last None end
 
 -- The class, if it is known, and the objects that the iterator `s` then yields are exactly those that `o` refers to.
--- Then the calls end, and what is read of the object is complete.
+-- The iterator ends, and what it has read of the object by then is complete.
 pub record IsGiven {S : Type 0} (callable : S → Type 0) (steps : S → Option ℕ → S → Type 0) (left : S → Count)
     (read : S → ScannedObject) (refers : ℕ → Type 0) (m : Measure) (o : ℕ) (class : Option ℕ) (s : S) : Type 0 where
   pub can : callable s

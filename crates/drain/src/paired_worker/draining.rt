@@ -22,10 +22,10 @@ impl<A: Allocator> PairedWorker<A> {
     ghost use Rattle.drain.specs.working.Tallies.{Measure};
     ghost use Rattle.drain.specs.working.Tallying.{HasTallied};
 
-    /// Scans until no object is left, and waits until all are idle or it waited long enough. Before it looks for an
-    /// object it gives some of what it has to others if the full stack is empty, unless it was idle: then it has
-    /// nothing.
-    // A call, once for a thread, so that what a turn uses is in one function and shares registers with no other.
+    /// Scans until no object is left, and waits until all workers are idle or it waited long enough. At the beginning
+    /// and after each scan, gives some of its objects to others if the full stack is empty.
+    // Not inlined, so that what a turn uses is in one function and shares registers with no other. A thread calls it
+    // only once.
     #[inline(never)]
     pub(crate) fn work_off<R: Wait, V: Walk, G: Gate, S>(
         &mut self,
@@ -47,7 +47,7 @@ impl<A: Allocator> PairedWorker<A> {
         self.offer(rt, job.pool)?;
         for _ in rt.forever() {
             if self.scan_next(rt, job, number, &mut seen, tally)? {
-                // As `offer` does, but a turn in which nothing is given tests no byte after it.
+                // Like `offer`, but a turn that gives nothing makes no call that may wait, and so tests no byte.
                 if self.others_want(job.pool) {
                     self.give(rt, job.pool)?;
                 }

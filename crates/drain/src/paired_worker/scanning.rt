@@ -51,7 +51,7 @@ impl<A: Allocator> PairedWorker<A> {
 
     /// Scans `object`, which is at hand and has the references `given`: claims these, finishes the object, and adds it
     /// to `tally`.
-    // Inlined, so that there is a loop of its own for references of each kind.
+    // Inlined, so that references of each kind have a loop of their own.
     #[inline(always)]
     fn scan<R: Wait, V: Walk, G: Gate, S, I: Reads>(
         &mut self,
@@ -83,7 +83,7 @@ impl<A: Allocator> PairedWorker<A> {
     }
 
     /// Scans `object`, which is at hand, wherever its references are in the dump.
-    // A call, so that the worker's loop has no locals for the few objects that need it.
+    // Not inlined, so that the worker's loop has no locals for the few objects that need it.
     #[inline(never)]
     fn scan_any<R: Wait, V: Walk, G: Gate, S>(
         &mut self,
@@ -132,7 +132,7 @@ impl<A: Allocator> PairedWorker<A> {
 
     /// Scans the next object of the pair or of the full stack: claims what it refers to, finishes it, and adds it to
     /// `tally`. Returns false if there is none.
-    // Inlined into the loop of a worker, so that what it knows of the graph stays in registers.
+    // Inlined into the loop of a worker, so that what the loop knows of the graph stays in registers.
     #[inline(always)]
     pub(super) fn scan_next<R: Wait, V: Walk, G: Gate, S>(
         &mut self,

@@ -11,7 +11,7 @@ use Rattle.heapmark.specs.declared.no_report.NoReport.TheVariants as no_report
 abbrev pub wanted : Arguments → Choice
 wanted a = choice a.workers a.buffer a.buffers a.first_tag
 
--- fewer than two buffers for each worker and two more
+-- fewer buffers than two for each worker and two more
 abbrev pub HasTooFewBuffers : Arguments → Type 0
 HasTooFewBuffers a = a.buffers < 2 * a.workers + 2
 

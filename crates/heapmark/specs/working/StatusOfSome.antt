@@ -5,8 +5,8 @@ use Rattle.heapmark.specs.SkippedFields.{WritesBeginningForSome}
 use Rattle.histogram.specs.Counting.{failures_of, inner_of}
 use Rattle.histogram.specs.declared.counted.Counted.{Counted}
 
--- The status of the program for some words. `old` and `new` are its output before and after, and `bytes_of` what an
--- output has, if a contract can name it.
+-- The status of the program for some words. `old` and `new` are the program's output before and after. `bytes_of`
+-- yields the bytes of an output, if a contract can name them.
 pub record IsStatusOfSome {W : Type 0} (status : ℕ) (bytes_of : W → Option (List ℕ)) (old new : Counted W)
     : Type 0 where
   pub most : status ≤ 2

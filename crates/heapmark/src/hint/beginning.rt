@@ -22,7 +22,7 @@ pub(super) enum Beginning {
     Part,
     /// They are those of a dump of another version.
     Version(Version),
-    /// They are those of a file that this program has compressed.
+    /// They are those of a file compressed by a known program.
     Packed(Packer),
     /// They are none of these.
     Other,
@@ -42,7 +42,7 @@ pub(crate) enum Packer {
     Bzip2,
 }
 
-/// The first bytes of the files of each program. A virtual machine that compresses its dumps writes those of gzip.
+/// The first bytes of each program's files. A virtual machine that compresses its dumps writes gzip files.
 const MARKS: [(&[u8], Packer); 5] = [
     (&[0x1f, 0x8b], Packer::Gzip),
     (b"PK\x03\x04", Packer::Zip),
@@ -98,7 +98,7 @@ impl fmt::Display for Version {
 }
 
 impl Packer {
-    /// Returns the program whose files begin as `bytes` do, if there is one.
+    /// Returns the program that writes files that begin like `bytes`, if one is known.
     fn of(bytes: &[u8]) -> Option<Packer> {
         for (mark, packer) in MARKS {
             if bytes.starts_with(mark) {

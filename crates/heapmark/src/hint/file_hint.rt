@@ -8,9 +8,9 @@ use std::fmt;
 pub(crate) enum FileHint {
     /// It has no bytes.
     Empty,
-    /// It ends within a dump.
+    /// It ends before its dump is complete.
     EndsEarly,
-    /// It was compressed by this program.
+    /// It was compressed by the program that is named.
     Packed(Packer),
     /// It is a dump of this other version of the format.
     OtherVersion(Version),

@@ -15,8 +15,8 @@ const FRONT: usize = 9;
 /// Returns the end of the record of `file` in which the offset `place` lies. Returns `None` if the file has no such
 /// record, or if a read or an allocation fails.
 ///
-/// A file may have a hundred million records. They are read through a buffer, so that a short one costs no call of the
-/// system.
+/// A file may have a hundred million records. They are read through a buffer, so that a short record costs no system
+/// call.
 pub(crate) fn record_end<F: Read + Seek + Drop>(alloc: Global, file: F, place: u64) -> Option<u64>
     ensures { IfSome result (λ end. place < end) }
 {

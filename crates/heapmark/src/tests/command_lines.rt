@@ -54,7 +54,8 @@ const OPTIONS: &[Line] = &[
     ("a --skip a.b --skip c.d", 2, SKIP_TWICE),
 ];
 
-/// The last tags that are enough without objects: the leader and each worker make four exchanges of one head.
+/// The highest first tags that are enough without objects, and those above them, which are not. The leader and each
+/// worker make four exchanges of one head.
 const TAGS_OF_NOTHING: &[Line] = &[
     ("FILE --workers 1 --first-tag 281474976710647", 0, ""),
     ("FILE --workers 1 --first-tag 281474976710648", 1, TAG_SPENT),
@@ -78,9 +79,9 @@ const LAST_TAG: &[Line] = &[("FILE --first-tag 281474976710655", 1, TAG_SPENT)];
 /// The least buffers for one worker.
 const LEAST_BUFFERS: &[Line] = &[("FILE --workers 1 --buffer 2 --buffers 4", 0, "")];
 
-/// The default buffers, few or small ones for an array of 64 objects, and the last tags that are enough for one worker.
-/// The head of the empty stack changes 72 times with 128 buffers of 2, 20 times with 8 of 64, and 12 times with 4 of 2:
-/// so a run has the numbers of its command line.
+/// For an array of 64 objects: the default buffers, few or small buffers, and the highest first tags that are enough
+/// for one worker. The head of the empty stack changes 72 times with 128 buffers of 2, 20 times with 8 of 64, and 12
+/// times with 4 of 2. So these tags show that a run uses the numbers of its command line.
 const BUFFERS_OF_AN_ARRAY: &[Line] = &[
     ("FILE --workers 1", 0, ""),
     ("FILE --workers 2", 0, ""),

@@ -1,6 +1,6 @@
 //! The dump of two objects with each byte changed to each other value.
 //!
-//! 44,370 files: `rt test` builds the runs fast enough, `rt try --test` does not.
+//! 44,370 files: the runs are fast enough as `rt test` builds them, but too slow as `rt try --test` does.
 
 mod answers;
 mod two_workers;
@@ -13,9 +13,8 @@ use std::alloc::Global;
 use std::sync::Wait;
 use std::thread::Threads;
 
-/// A place, the first and the last of some values there, and the result for each of them but the one that the dump has:
-/// the code and the place of a refusal, and 0; or 0, the length of a report, and these reports mixed, one after the
-/// other.
+/// A place, the first and the last value of a range, and the result for each value there but the dump's own. A refusal
+/// has its code, its place, and 0. A report has 0, its length, and the mix of the range's reports in order ([`mixed`]).
 pub type Answer = (usize, u8, u8, u8, u64, u32);
 
 /// For each code, or 0 for reports, the number of files that have it, and the sum of the places, or of the lengths.
@@ -118,8 +117,8 @@ fn files_of<T: Threads + Wait + Sync>(
     }
 }
 
-/// Returns what the files of all rows have together, by codes; or the place and the values of the first row that does
-/// not follow the rows before it, or has a file with another result.
+/// Returns for each code the sums over the files of all rows, as in `SUMS`. `Err` with a row's place and values if that
+/// row is the first that overlaps the rows before it, or that has a file with another result.
 fn sums_of_rows<T: Threads + Wait + Sync>(
     rt: &T,
     alloc: Global,

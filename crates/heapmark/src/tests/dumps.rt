@@ -3,7 +3,7 @@
 use std::alloc::{AllocError, Global};
 pub use test_dumps::{Bytes, NOTHING, Record, Sub, TWO_OBJECTS};
 
-/// The report of no object.
+/// The report of a dump without objects.
 pub const NOTHING_REPORT: &str = "         0               0  (reachable)
          0               0  (unreachable)
          0               0  (unresolved)

@@ -1,4 +1,4 @@
-//! Files as the program opens them: the room that it takes for one, and those that it does not open a second time.
+//! Files as the program opens them: the room that it reserves, and which files it does not open a second time.
 
 use super::hints::advice;
 use super::program::{answered_to_people, file_of};
@@ -40,7 +40,7 @@ fn room_of_path<T: AllocGlobal + Files>(rt: &T, path: Path<'_>) -> Option<(usize
     room_of(rt, path.to_str()?)
 }
 
-/// Returns `size` bytes, none of them a header.
+/// Returns `size` zeros, which are no dump.
 fn zeros(alloc: Global, size: usize) -> Result<Vec<u8>, AllocError> {
     vec![in alloc; 0u8; size]
 }
@@ -57,7 +57,7 @@ fn a_file_gets_the_room_of_its_size(rt: HostRuntime) {
     }
 }
 
-/// A device is no plain file, nor is a pipe, which would be waited for. So nothing is known of its first bytes.
+/// Only a plain file is opened again, since opening a pipe could wait. So a device's first bytes stay unknown.
 #[test]
 fn only_a_plain_file_is_opened_again(rt: HostRuntime) {
     let refusal = "heapmark: refused 1 BadHeader at 0\n";
@@ -74,7 +74,7 @@ fn hollow_file<T: AllocGlobal + Env + Files>(rt: &T, size: u64) -> io::Result<Pa
     Ok(path)
 }
 
-/// Tests whether `want` ends the hint about refused memory for the file at `path`.
+/// Tests whether the hint about too little memory for the file at `path` ends with `want`.
 fn is_hint_at<T: AllocGlobal + Files>(rt: &T, path: Path<'_>, want: &str) -> bool {
     match path.to_str() {
         Some(file) => {
@@ -85,7 +85,7 @@ fn is_hint_at<T: AllocGlobal + Files>(rt: &T, path: Path<'_>, want: &str) -> boo
     }
 }
 
-/// Tests whether `want` ends the hint about refused memory for a file of `size` bytes.
+/// Tests whether the hint about too little memory for a file of `size` bytes ends with `want`.
 fn is_hint_of_size<T: AllocGlobal + Env + Files>(rt: &T, size: u64, want: &str) -> bool {
     let Ok(path) = hollow_file(rt, size) else {
         return false;

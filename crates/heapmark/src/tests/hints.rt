@@ -234,8 +234,8 @@ fn dump_is_told<T: AllocGlobal + Env + Files + Threads + Wait + Sync>(
     }
 }
 
-/// Records, their refusal, and the end of the line that follows it: a root that is cut in a heap dump at the end of the
-/// file or before, and two heap dumps.
+/// Records, their refusal, and the end of the line that follows it. The first two end with a cut root; the third has
+/// such a root before its last record; the fourth has two heap dumps.
 static FAULTS: [(&[Record], &str, &str); 4] = [
     (
         &[Heap(&[Raw(&[0xff, 0])])],

@@ -21,8 +21,8 @@ const TURNS: u32 = 500;
 /// The number of runs on each dump.
 const RUNS_OF_MANY: u32 = 200;
 
-/// Holds the worker that takes the root until the other has found nothing to do, and then, after it has given away all
-/// that the root refers to, until the other has come.
+/// Holds the first worker, which takes the root, until the second has found nothing to do. Holds the first again after
+/// it has shared what the root refers to, until the second has come.
 #[derive(Drop)]
 struct Late<C: Clock> {
     clock: C,
@@ -86,7 +86,7 @@ fn run_late<T: Clock + Threads + Wait + Sync>(rt: &T, alloc: Global) -> Option<(
     }
 }
 
-/// Returns in how many of the runs the two workers have met, if each run writes the report.
+/// Returns the number of runs in which the two workers have met, or `None` if a run does not write the report.
 fn runs_that_met<T: Clock + Threads + Wait + Sync>(rt: &T, alloc: Global) -> Option<u32> {
     let mut met: u32 = 0;
     for _ in 0..RUNS {

@@ -33,7 +33,7 @@ fn id_of(number: u32, nodes: u32) -> u32 {
     }
 }
 
-/// Puts the node `number`, whose two fields refer to the nodes of twice its number and of one more.
+/// Puts the node `number`, whose two fields refer to the nodes 2 * `number` and 2 * `number` + 1.
 fn put_node(heap: &mut Bytes, number: u32, nodes: u32) -> Result<(), AllocError> {
     let left = number.wrapping_mul(2);
     heap.raw(&[0x21])?;

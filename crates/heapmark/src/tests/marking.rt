@@ -11,7 +11,7 @@ use std::alloc::Global;
 use std::sync::Wait;
 use std::thread::Threads;
 
-/// The last tag of a stack's head, which is also the number of exchanges of a head for which there are tags.
+/// The last tag of a stack's head. It is also the number of exchanges that a head can make from tag 0 on.
 const LAST_TAG: u64 = 281_474_976_710_655;
 
 /// A dump; workers, objects in a buffer, buffers, and the number of exchanges of a head that the first tag leaves; and

@@ -118,8 +118,8 @@ fn run_refusing<T: Threads + Wait + Sync>(
     )
 }
 
-/// Fails each allocation in turn until none fails in a run. Returns the first whose run has another result than out of
-/// memory; or the last, if few or none failed.
+/// Fails each allocation in turn until none fails in a run. Returns the number of the first whose run has a wrong
+/// result. A run that makes fewer than nine allocations, or 4,096 and more, counts as wrong, too.
 fn first_other<T: Threads + Wait + Sync>(
     rt: &T,
     alloc: Global,

@@ -42,9 +42,10 @@ const NO_TEXT: &str = "error: a word of the command line is not UTF-8 text
 For more information, try '--help'.
 ";
 
-/// The refusal of a file that does not exist, and with the line that follows it at a terminal.
+/// The refusal of a file that does not exist.
 const NOT_READ: &str = "heapmark: refused 19 ReadFault\n";
 
+/// That refusal, and the line that follows it at a terminal.
 const NOT_THERE: &str = "heapmark: refused 19 ReadFault
 heapmark: /nowhere/heapmark.hprof: No such file or directory (os error 2)
 ";
@@ -157,7 +158,7 @@ static LINES: [(&str, u8, &str); 7] = [
     ),
 ];
 
-/// A file is reported, at a terminal or not, and each word after it counts.
+/// A file is reported, at a terminal or not, and the words after FILE are read, too.
 #[test]
 fn a_line_is_answered_to_its_end(rt: HostRuntime) {
     // The blanks, also the last one, are part of the name.

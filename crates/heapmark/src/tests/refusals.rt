@@ -36,7 +36,7 @@ fn each_code_has_its_name(rt: HostRuntime) {
     }
 }
 
-/// Returns the status of `refusal`, and whether just `want` is printed of it.
+/// Returns the status of `refusal`, and whether just `want` is printed for it.
 fn told(alloc: Global, refusal: &Refusal, want: &str) -> (u8, bool) {
     let mut err = Vec::new(alloc);
     let status = print_refusal(&mut err, refusal);

@@ -190,7 +190,7 @@ fn long_string_is_refused<T: Threads + Wait + Sync>(rt: &T, alloc: Global) -> bo
     }
 }
 
-/// A string of 2 ^ 32 - 1 bytes in a file that ends there.
+/// A file that ends where a string of 2 ^ 32 - 1 bytes begins.
 #[test]
 fn a_long_string_is_refused(rt: HostRuntime) {
     assert!(rt; long_string_is_refused(&rt, rt.alloc()));

@@ -26,8 +26,8 @@ pub type Skipped = (
     &'static [Line],
 );
 
-/// Three instances of a class `T` whose field has the name of its superclass's. The fields of the first name the two
-/// others, and the superclass's field of the third names nothing.
+/// Three instances of a class `T`. It and its superclass declare a field `referent` each. The two fields of the first
+/// instance name the other instances; the superclass's field of the third names no object.
 pub const REFERENCES: &[Record] = &[
     Text(1, b"java/lang/ref/Reference"),
     Text(2, b"referent"),

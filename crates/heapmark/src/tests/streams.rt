@@ -19,7 +19,7 @@ pub struct Drip<'a> {
 }
 
 impl<'a> Drip<'a> {
-    /// Creates a reader of `bytes` that fails at no call that a test makes.
+    /// Creates a reader of `bytes` that fails only after more calls than a test makes.
     pub fn new(bytes: &'a [u8]) -> Self {
         Drip {
             bytes,
@@ -217,7 +217,7 @@ fn a_fault_of_the_flush_is_told(rt: HostRuntime) {
     );
 }
 
-/// In a report without rows the first of the last three lines is cut after its count.
+/// The report has no rows: the first of its last three lines is cut after the count.
 #[test]
 fn a_write_fault_leaves_a_beginning_of_the_last_lines(rt: HostRuntime) {
     for options in [least(2), usual(1), usual(2), usual(64)] {

@@ -21,7 +21,7 @@ const MANY_ROOTS: &str = "        60               0  A
 /// How often a worker that waits tests whether the others have come, 1 ms apart.
 const TURNS: u32 = 2_000;
 
-/// Holds each worker at its first scan until all have come to one, and notes each call.
+/// Holds each worker at its first scan until every worker has begun one, and notes each call.
 #[derive(Drop)]
 struct Meeting<C: Clock> {
     clock: C,
@@ -75,8 +75,8 @@ impl<C: Clock + Sync> Gate for Meeting<C> {
     }
 }
 
-/// Returns the result of a run on `bytes` whose workers meet at the gate; and how many of them waited in vain, the
-/// number of calls of the gate, a bit for each object, and how many calls no worker made.
+/// Returns the result of a run on `bytes` whose workers meet at the gate; and the number of workers that waited in
+/// vain, the number of calls of the gate, a bit for each object, and the number of calls by the leader.
 fn run_meeting_on<T: Clock + Threads + Wait + Sync>(
     rt: &T,
     alloc: Global,

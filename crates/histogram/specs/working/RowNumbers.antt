@@ -16,6 +16,6 @@ abbrev pub entries_below : ObjectGraph → List ℕ → ℕ → List Entry
 entries_below g objects n =
     filter (λ e. nat_lt 0 e.count) (map (λ k. entry g objects (numbered_row k)) (range_with_len 0 n))
 
--- those of these objects whose row has a number below n
+-- the members of `objects` whose row has a number below `n`
 abbrev pub objects_below : ObjectGraph → ℕ → List ℕ → List ℕ
 objects_below g n objects = filter (λ o. nat_lt (row_number (row_at g o)) n) objects

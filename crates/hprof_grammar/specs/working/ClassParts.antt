@@ -22,7 +22,7 @@ fields_from_statics s c = counted_fields (static_fields s) c.statics ++ fields_f
 abbrev pub fields_from_constants : ℕ → Class → List Field
 fields_from_constants s c = counted_fields constant_fields c.constants ++ fields_from_statics s c
 
--- the bytes are the given last fields of the class dump and a rest
+-- the bytes are `fields`, the last fields of the class dump, and a rest
 pub record IsPartOf (s : ℕ) (c : Class) (fields : List Field) (bytes : List ℕ) : Type 0 where
   pub rest : List ℕ
   pub bytes_are : bytes ≡ spelled fields ++ rest

@@ -2,8 +2,8 @@
 use Rattle.std.specs.Prelude.{List, [], ℕ, ◌+◌, ◌∷◌, ◌≡◌, ◌≤◌}
 use Rattle.hprof_grammar.specs.declared.cuts.Cut.{Cut}
 
--- The cuts lead from a place to an end, each from where the one before it ends, and each but the last has `size` bytes
--- or more.
+-- The cuts cover all bytes from `from` to `end`. Each cut begins where the previous one ends, and each but the last has
+-- `size` bytes or more.
 abbrev pub AreCuts : ℕ → ℕ → List Cut → ℕ → Type 0
 AreCuts size from [] end = from ≡ end
 AreCuts size from (cut ∷ []) end = (cut.from.place ≡ from) × (cut.to ≡ end)

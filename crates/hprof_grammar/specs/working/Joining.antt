@@ -42,7 +42,7 @@ with_subs p at subs = record {
   objects = p.objects ++ places_where is_object (placed_subs p.id_size at subs);
 }
 
--- the bytes are sub-records and the rest, and the places of these are added
+-- the bytes are sub-records and the rest, and the places of the sub-records are added
 pub record AddsSubs (at : ℕ) (body rest : List ℕ) (old new : Places) : Type 0 where
   pub subs : List SubRecord
   pub parts : body ≡ flat_map (spelling_of old.id_size) subs ++ rest
@@ -89,11 +89,11 @@ pub data FrameFault (s at tag : ℕ) (body : List ℕ) (before : SnapshotState) 
       → ((tags : List ℕ) → IsAt before tags → CanGoOn (tags ++ tag ∷ []))
       → HasSubFault s (at + 9) body fault → FrameFault s at tag body before fault
 
--- all sub-records of records of which the first is at the place `at`: from place 31 on, the heap list
+-- all sub-records of `records` with their places, if the first record is at `at`; if `at` is 31, this is the heap list
 abbrev pub heap_from : ℕ → ℕ → List Record → List (ℕ × SubRecord)
 heap_from s at records = flat_map (λ p. placed_subs s (p.0 + 9) (subs_of p.1)) (placed s at records)
 
--- `p` with the places of records of which the first is at the place `at`
+-- `p` with the places of `records`, if the first record is at `at`
 abbrev pub with_records : Places → ℕ → List Record → Places
 with_records p at records = record {
   id_size = p.id_size;
@@ -113,8 +113,8 @@ with_places p more = record {
   objects = p.objects ++ more.objects;
 }
 
--- the bytes at the place `at` are records and the rest, the places of these are added, and the snapshot state goes from
--- `before` to `reached`
+-- the bytes at the place `at` are records and the rest, the places of the records are added, and the snapshot state
+-- goes from `before` to `reached`
 pub record AddsRecordsFrom (at : ℕ) (before : SnapshotState) (bytes rest : List ℕ) (reached : SnapshotState)
     (old new : Places) : Type 0 where
   pub records : List Record
@@ -123,7 +123,7 @@ pub record AddsRecordsFrom (at : ℕ) (before : SnapshotState) (bytes rest : Lis
   pub order : (tags : List ℕ) → IsAt before tags → IsAt reached (tags ++ map tag_of records)
   pub joined : new ≡ with_records old at records
 
--- the same of the bytes after the header
+-- `AddsRecordsFrom` for the bytes after the header
 abbrev pub AddsRecords : List ℕ → List ℕ → SnapshotState → Places → Places → Type 0
 AddsRecords = AddsRecordsFrom 31 Before
 

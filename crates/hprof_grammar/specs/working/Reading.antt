@@ -110,7 +110,7 @@ primitive_array_at s = as_at
     (then_at (number_at s) (λ _. then_at (number_at 4)
     (λ _. then_at (number_at 4) (λ n. then_at (type_at InArray) (λ t. raw_at (n * size_of s t))))))
 
--- a root of one kind
+-- a root without a field after its object, with one field, and with two
 abbrev pub lone_root : RootOrigin → ℕ → SubRecord
 lone_root origin object = root (record { object = object; origin = origin })
 
@@ -148,7 +148,7 @@ unfoldable pub sub_record_at : ℕ → List ℕ → Result (SubRecord × List �
 sub_record_at s [] = Err Short
 sub_record_at s (tag ∷ rest) = body_at s (kind_of tag) rest
 
--- ---- the effect of a function of the parser: it goes to the end of what is read, or finds the flaw
+-- ---- the effect of a parser's function: `rest` are the bytes after what it read, or its error is the flaw
 
 abbrev pub Reads : {X : Type 0} → Result X Flaw → List ℕ → Result (X × List ℕ) Flaw → Type 0
 Reads (Ok x) rest read = read ≡ Ok (x, rest)

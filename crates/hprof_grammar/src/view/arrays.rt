@@ -9,7 +9,8 @@ use crate::view::identifiers::number_at;
 use crate::view::ids::Ids;
 use crate::view::{BEHIND_STACK_TRACE, View, bytes_at, u32_at};
 
-/// The offsets of the fields of array dumps, each without the identifiers before it.
+/// The offset of the number of elements in an array dump. This and the offsets below are numbers of bytes from the tag,
+/// without the identifiers before the field.
 const COUNT: usize = BEHIND_STACK_TRACE;
 
 /// The offset of the identifier of an object array's class.

@@ -14,20 +14,22 @@ use crate::view::members::Members;
 use crate::view::values::{Values, skip_values};
 use crate::view::{BEHIND_STACK_TRACE, View, bytes_from, u32_at};
 
-/// The offsets of the fields of a class dump, each without the identifiers before it.
+/// The offset of the first identifier after the stack trace of a class dump. This and the next two offsets are numbers
+/// of bytes from the tag, without the identifiers before the field.
 const FIRST_ID: usize = BEHIND_STACK_TRACE;
 
 const INSTANCE_SIZE: usize = FIRST_ID;
 
 const CONSTANTS: usize = INSTANCE_SIZE + 4;
 
-/// The number of identifiers before the instance size in a class dump: the object, and those after the stack trace.
+/// The number of identifiers before the instance size in a class dump: the object, and six after the stack trace.
 const IDS: usize = 7;
 
 /// The size in bytes of a constant's index.
 const INDEX_SIZE: u8 = 2;
 
-/// The positions of the identifiers after the stack trace of a class dump, among themselves.
+/// The position of the superclass among the six identifiers after the stack trace, counted from 0. The positions of the
+/// other five follow.
 const SUPERCLASS: usize = 0;
 
 const LOADER: usize = 1;
@@ -40,8 +42,7 @@ const RESERVED: usize = 4;
 
 const RESERVED_TOO: usize = 5;
 
-/// The number of identifiers after the stack trace that are followed: the first ones. Those that the manual reserves
-/// come after them.
+/// The number of identifiers after the stack trace that are followed. These four come before the two reserved ones.
 const LEADING_IDS: u32 = 4;
 
 impl<'a> View<'a> {
@@ -77,7 +78,7 @@ impl<'a> View<'a> {
         self.class_id(at, PROTECTION_DOMAIN)
     }
 
-    /// Returns the first of the two identifiers that the manual reserves. No result depends on it.
+    /// Returns the first of the two reserved identifiers of a class dump. Only tests read it.
     pub fn reserved(&self, at: u32) -> u64
         requires { (c : Class) × Stands self.now at (class_dump c) }
         ensures { (c : Class) → Stands self.now at (class_dump c) → result ≡ c.reserved }
@@ -85,7 +86,7 @@ impl<'a> View<'a> {
         self.class_id(at, RESERVED)
     }
 
-    /// Returns the second of the two identifiers that the manual reserves. No result depends on it.
+    /// Returns the second of the two reserved identifiers of a class dump. Only tests read it.
     pub fn reserved_too(&self, at: u32) -> u64
         requires { (c : Class) × Stands self.now at (class_dump c) }
         ensures { (c : Class) → Stands self.now at (class_dump c) → result ≡ c.reserved_too }
@@ -93,8 +94,8 @@ impl<'a> View<'a> {
         self.class_id(at, RESERVED_TOO)
     }
 
-    /// Returns the four identifiers of a class dump that are followed, which are next to one another: superclass,
-    /// loader, signers, protection domain.
+    /// Returns the four adjacent identifiers of a class dump that are followed: superclass, loader, signers, protection
+    /// domain.
     pub fn leading_ids(&self, at: u32) -> Ids<'a>
         requires { (c : Class) × Stands self.now at (class_dump c) }
         ensures { (c : Class) → Stands self.now at (class_dump c)
@@ -105,7 +106,7 @@ impl<'a> View<'a> {
         Ids::new(self.bytes, first, self.id_size, LEADING_IDS)
     }
 
-    /// Returns the size in bytes of an instance of a class, as the dump says. No result depends on it.
+    /// Returns the instance size that a class dump states, in bytes. Only tests read it.
     pub fn instance_size(&self, at: u32) -> u32
         requires { (c : Class) × Stands self.now at (class_dump c) }
         ensures { (c : Class) → Stands self.now at (class_dump c) → result ≡ c.instance_size }
@@ -140,7 +141,7 @@ impl<'a> View<'a> {
         Members::new(members, self.id_size)
     }
 
-    /// Returns the identifier at the position `nth` among those after a class's stack trace.
+    /// Returns the identifier at the position `nth`, counted from 0, of the six after a class's stack trace.
     fn class_id(&self, at: u32, nth: usize) -> u64
         requires stands { (c : Class) × Stands self.now at (class_dump c) }
         requires nth { nth < 6 }

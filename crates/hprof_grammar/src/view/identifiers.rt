@@ -11,8 +11,8 @@ use byteorder::{BigEndian, ByteOrder};
 
 /// Returns the big-endian number of `width` bytes at the offset `at`: the identifier there, if `width` is the size of
 /// identifiers.
-// Each width that a field has is an arm of its own, so that it is known to the compiler.
-// Inlined: each reference that is followed is read so.
+// Each width of a field has its own arm, so that the compiler knows the width.
+// Inlined, because this function reads every reference that is followed.
 #[inline(always)]
 pub fn number_at(bytes: &[u8], at: usize, width: usize) -> u64
     requires low { 1 ≤ width }
@@ -38,7 +38,7 @@ impl<'a> View<'a> {
         number_at(self.bytes, at as usize + OBJECT, self.id_size as usize)
     }
 
-    /// Returns the identifier at the offset `at` of `bytes`, such as the values of an instance.
+    /// Returns the identifier at the offset `at` of `bytes`, which are, for example, the values of an instance.
     pub fn identifier_at(&self, bytes: &[u8], at: usize) -> u64
         requires room { at + self.now.id_size ≤ length bytes.now }
         ensures { result ≡ big_number self.now.id_size (drop at bytes.now) }

@@ -8,7 +8,8 @@ ghost use Rattle.hprof_grammar.specs.Standing.{Stands};
 use crate::view::identifiers::number_at;
 use crate::view::{BEHIND_STACK_TRACE, View, bytes_at, u32_at};
 
-/// The offsets of the fields of an instance dump, each without the identifiers before it.
+/// The offset of the class in an instance dump. This and the offsets below are numbers of bytes from the tag, without
+/// the identifiers before the field.
 const CLASS: usize = BEHIND_STACK_TRACE;
 
 const COUNT: usize = CLASS;

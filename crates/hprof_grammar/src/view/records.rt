@@ -10,14 +10,15 @@ use crate::view::{View, bytes_at, u32_at};
 /// The offset of the two words of the header's time.
 const HEADER_TIME: usize = 23;
 
-/// The offsets of a record's time, length and body from its tag.
+/// The offset of a record's time. This and the next two offsets are numbers of bytes from the tag.
 const TIME: usize = 1;
 
 const LENGTH: usize = 5;
 
 const BODY: usize = 9;
 
-/// The offsets of the fields of a LOAD CLASS, each without the identifier before it.
+/// The offset of the serial number in a LOAD CLASS. This and the offsets below are numbers of bytes from the tag,
+/// without the identifier before the field.
 const SERIAL: usize = BODY;
 
 const CLASS: usize = SERIAL + 4;

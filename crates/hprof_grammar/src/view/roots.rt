@@ -12,8 +12,9 @@ use crate::tags_and_types::kind_of;
 use crate::view::identifiers::number_at;
 use crate::view::{OBJECT, View, u32_at};
 
-/// The offsets of a root's fields after its object, each without the identifier of the object. By its kind a root has
-/// the reference, or the thread, or the thread and after it the frame or the stack trace, or none of them.
+/// The offset of a root's JNI reference. This and the offsets below are numbers of bytes from the tag, without the
+/// identifier of the object. The kind of a root says which of these fields it has: none, the reference, the thread, or
+/// the thread and then a frame or a stack trace.
 const REFERENCE: usize = OBJECT;
 
 const THREAD: usize = OBJECT;

@@ -97,7 +97,7 @@ pub(crate) fn put<R: Wait + Abort, A: Allocator>(
     };
 }
 
-/// Claims `object`, which is white and for which there is no buffer and no memory.
+/// Claims `object`, which is white, and puts it in vain: there is no buffer and no memory for it.
 pub(crate) fn put_in_vain<R: Wait + Abort, A: Allocator>(
     rt: &R,
     pool: &Pool<A>,
@@ -116,7 +116,7 @@ pub(crate) fn put_in_vain<R: Wait + Abort, A: Allocator>(
     assert!(rt; back == object);
 }
 
-/// Gets an object. If there is none left, none is spilled.
+/// Gets an object. Returns `None` if no object is left; then the spill list is empty too.
 pub(crate) fn get<R: Wait + Abort, A: Allocator>(
     rt: &R,
     pool: &Pool<A>,
@@ -177,7 +177,7 @@ pub(crate) fn full_is_empty<A: Allocator>(
     pool.sees_empty(worker, buffer_pool::Which::Full)
 }
 
-/// Disposes of the pair. Returns what its places have if a last tag stops that.
+/// Disposes of the pair. Returns what the pair's places have if a last tag stops the disposal.
 pub(crate) fn dispose<R: Wait + Abort, A: Allocator>(
     rt: &R,
     pool: &Pool<A>,

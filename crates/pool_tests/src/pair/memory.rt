@@ -98,7 +98,8 @@ const SIX: Run = (
     AllGot,
 );
 
-/// A run, the size of a buffer, the requests refused after the opening of the pool, and the number of those refused.
+/// A run, the size of a buffer, the requests to be refused after the opening of the pool, and how many then are
+/// refused.
 type Row = (Run, u32, Refused, u64);
 
 /// The run of six objects makes no request while each would be refused.
@@ -109,7 +110,8 @@ const ROWS: [Row; 4] = [
     (SIX, 8, Refused::Each, 0),
 ];
 
-/// Makes a run on such a heap. Returns what is left of the pair, and how many requests were refused.
+/// Makes `run` on a heap that refuses `refused` after the opening of the pool. Returns what is left of the pair, and
+/// how many requests were refused.
 fn refused_in<R: Wait + Abort>(
     rt: &R,
     alloc: Global,

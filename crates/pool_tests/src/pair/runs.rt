@@ -160,7 +160,7 @@ fn finish<R: Wait + Abort, A: Allocator>(
 }
 
 /// Opens a pair on a new pool of four buffers, makes a run, and disposes of the pair. Returns what the places of the
-/// pair have if a last tag stops that.
+/// pair have if a last tag stops the disposal.
 pub(crate) fn left_after<R: Wait + Abort, A: Allocator + Copy>(
     rt: &R,
     alloc: A,

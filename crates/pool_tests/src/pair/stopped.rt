@@ -1,5 +1,5 @@
-//! Tests that a pair keeps each buffer that it could not push after a last tag stopped it, in the middle of a call or
-//! before it changed anything, and also when it is disposed of.
+//! Tests that a stopped pair keeps each buffer that it could not push. A last tag stops the pair in the middle of a
+//! call, before the call changed anything, or at the disposal.
 ghost use Rattle.pool_tests.specs.Ready.{IsReady, IsWorker};
 
 use super::hand::{Lens, OBJECTS, bare, claim, dispose, get, open, pool_of_roots};
@@ -24,10 +24,11 @@ enum Call {
     Gets,
 }
 
-/// What the places of a pair have after a last tag stopped it, and after one stopped its disposal too, if it did.
+/// What the places of a pair have after a last tag stopped a call, and what they have after the disposal, if a last tag
+/// stopped that too.
 type Stopped = (Lens, Option<Lens>);
 
-/// Claims `object`, which is white and whose put is stopped, and disposes of the pair.
+/// Claims `object`, which is white, tries to put it, which a last tag stops, and disposes of the pair.
 fn stopped_by_put<R: Wait + Abort, A: Allocator>(
     rt: &R,
     pool: &Pool<A>,
@@ -45,7 +46,7 @@ fn stopped_by_put<R: Wait + Abort, A: Allocator>(
     (pair.lens(), dispose(rt, pool, worker, pair))
 }
 
-/// Gets an object of the full stack, which is stopped, and disposes of the pair.
+/// Tries to get an object of the full stack, which a last tag stops, and disposes of the pair.
 fn stopped_by_get<R: Wait + Abort, A: Allocator>(
     rt: &R,
     pool: &Pool<A>,
@@ -60,8 +61,8 @@ fn stopped_by_get<R: Wait + Abort, A: Allocator>(
     (pair.lens(), dispose(rt, pool, worker, pair))
 }
 
-/// Pops a buffer from the full stack, takes an object from it, and gives it back: two exchanges of that stack's head,
-/// and none of the other's.
+/// Pops a buffer from the full stack, takes an object from it, and gives the buffer back: two exchanges of the full
+/// head, and none of the empty head.
 fn exchange_full_twice<R: Wait + Abort, A: Allocator>(
     rt: &R,
     alloc: A,
@@ -79,7 +80,7 @@ fn exchange_full_twice<R: Wait + Abort, A: Allocator>(
     assert!(rt; left.is_none());
 }
 
-/// Does that a number of times.
+/// Calls [`exchange_full_twice`] `times` times.
 fn exchange_full<R: Wait + Abort, A: Allocator + Copy>(
     rt: &R,
     alloc: A,
@@ -95,8 +96,8 @@ fn exchange_full<R: Wait + Abort, A: Allocator + Copy>(
     }
 }
 
-/// Opens a pair on a new pool of four buffers for four objects, makes some steps, lets another worker exchange the full
-/// stack's head twice a number of times, and makes the call that is stopped.
+/// Opens a pair on a new pool of four buffers for four objects, makes `steps`, lets another worker exchange the full
+/// head twice, `exchanges` times, and makes `call`, which a last tag stops.
 fn stopped_after<R: Wait + Abort>(
     rt: &R,
     alloc: Global,
@@ -116,13 +117,13 @@ fn stopped_after<R: Wait + Abort>(
     })
 }
 
-/// The first tag, the steps, how often the full stack's head is exchanged twice after them, the call, and what the pair
-/// has after it was stopped, and after its disposal was, if it was.
+/// The first tag, the steps, how often the full head is exchanged twice after them, the call, and what the places of
+/// the pair have after the call, and after the disposal, if a last tag stopped that too.
 type Row = (u64, &'static [Step], u32, Call, Lens, Option<Lens>);
 
 const ROWS: [Row; 3] = [
-    // A put takes a buffer from the empty stack and cannot push the full one. Each head may be exchanged five times:
-    // that of the empty stack is four times, and that of the full one was five times before.
+    // A put takes a buffer from the empty stack and cannot push the full one. Each head may be exchanged five times.
+    // The empty head is exchanged four times, the full head was exchanged five times before this put.
     (
         LAST_TAG - 5,
         &[Fill(12)],
@@ -131,8 +132,8 @@ const ROWS: [Row; 3] = [
         [Some(4), Some(4), Some(0)],
         Some([Some(4), Some(4), Some(0)]),
     ),
-    // A put finds the empty stack at its last tag: its head was exchanged three times, and that of the full stack once,
-    // which has tags left.
+    // A put finds the empty stack at its last tag: the empty head was exchanged three times. The full head was
+    // exchanged once, and has tags left.
     (
         LAST_TAG - 3,
         &[Fill(12)],

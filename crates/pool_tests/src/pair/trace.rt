@@ -78,7 +78,7 @@ fn buffers_on<R: Wait + Abort, A: Allocator>(
     stack
 }
 
-/// Opens a pair, puts a number of objects, from 1 on, and publishes them if asked to.
+/// Opens a pair, puts `puts` objects, from 1 on, and publishes them if `publishes` is true.
 fn pair_after<R: Wait + Abort, A: Allocator>(
     rt: &R,
     alloc: A,
@@ -100,7 +100,7 @@ fn pair_after<R: Wait + Abort, A: Allocator>(
     pair
 }
 
-/// Does that in a new pool, and returns what is seen afterwards.
+/// Calls [`pair_after`] in a new pool, and returns what is seen afterwards.
 fn seen_after<R: Wait + Abort>(
     rt: &R,
     alloc: Global,
@@ -119,7 +119,7 @@ fn seen_after<R: Wait + Abort>(
     })
 }
 
-/// The buffers before anything is put, and with the objects that they take.
+/// The four buffers without objects, and then with objects.
 const BARE_0: Option<Two> = Some((0, [None, None]));
 
 const BARE_1: Option<Two> = Some((1, [None, None]));

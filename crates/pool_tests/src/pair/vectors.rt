@@ -44,8 +44,8 @@ const NINE: Run = (
 /// A run, the size of a buffer, the first tag, and what the pair has left if it could not be disposed of.
 type Row = (Run, u32, u64, Option<Lens>);
 
-/// From the opening to the end of five objects the head of the empty stack changes six times, and it can do so from six
-/// tags before the last. If it begins one tag later the last buffer cannot be pushed, and stays with the pair.
+/// In the run `FIVE` the head of the empty stack changes six times. So it must begin at least six tags before the last.
+/// If it begins one tag later, the last buffer cannot be pushed, and stays with the pair.
 const ROWS: [Row; 5] = [
     (FIVE, 8, 0, None),
     (FOUR, 8, 0, None),
@@ -66,11 +66,11 @@ fn runs_of_one_pair(rt: HostRuntime) -> Result<(), Fail> {
 /// A pair without buffers takes two objects, both are got again, and it still has no buffer.
 const TAKES_AND_GIVES: &[Step] = &[Fill(2), Get(&[1, 0]), NoneLeft, Has([None, None, None])];
 
-/// It has a buffer as soon as there is one.
+/// The pair takes a buffer as soon as there is one on the empty stack.
 const FINDS_A_BUFFER: &[Step] = &[Put(2), Has([Some(1), None, None]), FullIsEmpty(true)];
 
-/// Makes both runs with `pair`, which is `worker`'s, and disposes of `one`, which is `other`'s, between the two.
-/// Returns what was left of `one`.
+/// Makes both runs with `pair`, which belongs to `worker`. Between the two, disposes of `one`, which belongs to
+/// `other`. Returns what was left of `one`.
 fn left_between<R: Wait + Abort>(
     rt: &R,
     pool: &Pool<Global>,
@@ -90,8 +90,8 @@ fn left_between<R: Wait + Abort>(
     left
 }
 
-/// Makes both runs with a pair without buffers, while others have all buffers. One of the others is disposed of between
-/// the two. Returns what was left of it.
+/// Makes both runs with a pair without buffers, while others have all buffers. Between the two runs, one of the other
+/// pairs is disposed of. Returns what was left of that pair.
 fn left_beside_a_bare_pair<R: Wait + Abort>(
     rt: &R,
     alloc: Global,

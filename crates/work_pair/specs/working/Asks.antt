@@ -13,14 +13,14 @@ pub record IsBackedAt (place : Option HeldBuffer) (b : Book) : Type 0 where
   pub charged : IsPart (items_at place) b.account.charge
   pub sized : IsOfSize b.setup.size place
 
--- a worker of the pool may push the buffer at a place, and one that is left over may go to the third place
+-- a worker of the pool may push the buffer at a place, and the third place is vacant for a buffer that is left over
 pub record MayRenew (w : Holder) (pool : TableId) (place third : Option HeldBuffer) : Type 0 where
   pub same : w.pool ≡ pool
   pub vacant : third ≡ None
   pub backed : IsBackedAt place w.book
   pub busy : IsBusy w.book.account
 
--- it may do so with each buffer of a pair, and has the objects besides in its charge
+-- a worker of the pool may do so with each buffer of a pair, and has the objects `besides` in its charge
 pub record MayTrade (w : Holder) (pool : TableId) (p : PairState) (besides : List ℕ) : Type 0 where
   pub same : w.pool ≡ pool
   pub third : p.third ≡ None

@@ -69,7 +69,7 @@ impl<A: Allocator> SpillList<A> {
 
 impl<A: Allocator> Pair<A> {
     /// Puts `object` at the end of the spill list. Returns it if the list could not grow.
-    // A call, so that the growth of a list is not inlined into each caller of `put`.
+    // Not inlined, so that the growth of a list is not inlined into each caller of `put`.
     #[inline(never)]
     pub(super) fn spill_over(&mut self, object: u32) -> Result<(), (u32, Stop)>
         ensures spilled { OnOk result (self.new ≡ record self.old { spill = self.old.spill ++ object ∷ [] }) }

@@ -13,8 +13,8 @@ use std::thread::Threads;
 /// The number of places of the dump that a test changes.
 const PLACES: usize = 8;
 
-/// Returns options with two workers, and two buffers of two objects more than the least. With the least one of them may
-/// find no pair: it is never idle, so the other waits for it in all its turns, some 0.4 s.
+/// Returns options with two workers, and with two more buffers than the least, of two objects each. With the least, a
+/// worker may get no pair. That worker is never idle, so the other waits for it in all its turns, some 0.4 s.
 fn two_workers() -> Options {
     let Ok(options) = Options::new(2, 2, 8, 0) else {
         unreachable!();

@@ -1,4 +1,5 @@
-//! Which names a field is skipped by: that of the class that declares it and the field's own, each by its first record.
+//! A field is skipped by two names: that of the class that declares it, and its own. If a name has several records, the
+//! first counts.
 
 use super::Skipped;
 use crate::tests::dumps::Record;
@@ -14,7 +15,7 @@ const HEAP: Record = Heap(&[
     Root(0x201),
 ]);
 
-/// The class is `T`, and its field `referent`, where each comes again.
+/// The class is named twice, first `T`; its field is named twice, first `referent`.
 const NAMED_TWICE: &[Record] = &[
     Text(2, b"referent"),
     Text(2, b"other"),
