@@ -1,5 +1,5 @@
-//! Small files with the report or the refusal that each has to give: by the table and by the bytes, without `--threads`
-//! and with 1, 2 and 64. No test marks with `--atomic`.
+//! Small files, and the report or refusal that each has to give, with `--references table` and with `bytes`, each
+//! without `--threads` and with 1, 2 and 64. No test marks with `--atomic`.
 
 mod file;
 

@@ -70,7 +70,7 @@ pub fn program<T: Files + AllocGlobal + Threads + Wait + Sync, W: Write, E: Writ
         → (AsksAboutProgram (texts_of words.now) → ⊥)
         → (result ≢ 0) × Keeps (W.contents (inner_of out.old)) (W.contents (inner_of out.new)) }
 
-    // A text that lists no fields is refused, too, with nothing written.
+    // A text that is no list of fields is refused, too, with nothing written.
     ensures bad_list { HasBadList (text_given (codes "skip") (texts_of words.now))
         → (AsksAboutProgram (texts_of words.now) → ⊥)
         → (result ≢ 0) × Keeps (W.contents (inner_of out.old)) (W.contents (inner_of out.new)) }

@@ -60,8 +60,8 @@ pub record PrimitiveArray : Type 0 where
   pub type : ℕ
   pub values : List ℕ
 
--- The reason why an object is a root, with its fields: a JNI reference by its ID, threads and stack traces by their
--- serial numbers, a frame by its number in the stack trace.
+-- The reason why an object is a root, and what the sub-record says about it: a JNI reference by its ID, threads and
+-- stack traces by their serial numbers, a frame by its number in the stack trace.
 pub data RootOrigin : Type 0 where
   unknown : RootOrigin
   jni_global : (reference : ℕ) → RootOrigin

@@ -1,5 +1,5 @@
-//! Reads a dump in parts, each by a thread. The parts are tested before they are joined: on any fault of the bytes and
-//! on any failed allocation the result is `None`, and one thread reads the dump.
+//! Reads a dump in parts, each by a thread. Each part is tested before it is joined to those before it. On any fault of
+//! the bytes and on any failed allocation the result is `None`, and the caller reads the whole dump with one thread.
 
 ghost use Rattle.std.specs.Prelude.{All, IfSome, drop, ◌+◌, ◌<◌, ◌≡◌, ◌≤◌, ◌^◌, length};
 ghost use Rattle.hprof_grammar.specs.working.Joining.{AddsAll, HasHeader, nothing_of};

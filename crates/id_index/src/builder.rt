@@ -16,10 +16,10 @@ use std::marker::Model;
 /// The identifiers of objects in the order of the file: an index is made of them.
 #[derive(Drop)]
 pub(crate) struct RunIndexBuilder<A: Allocator> {
-    /// The runs but for the last one, in the order of the file.
+    /// The runs but for the one in `last`, in the order of the file.
     runs: Vec<Run, A>,
-    /// The last run, which the next object may join. There is none before the first object, and none after a list was
-    /// appended.
+    /// The last run, which the next object may join. There is none before the first object, and none after the objects
+    /// of another builder were appended.
     last: Option<Run>,
     /// The number of objects.
     count: u32,

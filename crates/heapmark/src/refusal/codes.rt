@@ -17,7 +17,7 @@ pub(crate) const READ_FAULT: u8 = 19;
 /// The writer failed.
 pub(crate) const WRITE_FAULT: u8 = 20;
 
-/// There are too few buffers for the workers, or the text of `--skip` lists no fields.
+/// There are too few buffers for the workers, or the text of `--skip` is no list of fields.
 pub(crate) const BAD_OPTIONS: u8 = 21;
 
 impl Refusal {
@@ -54,7 +54,7 @@ impl Refusal {
         offset: None,
     };
 
-    /// There are too few buffers for the workers, or the text of `--skip` lists no fields.
+    /// There are too few buffers for the workers, or the text of `--skip` is no list of fields.
     pub const BAD_OPTIONS: Refusal = Refusal {
         code: BAD_OPTIONS,
         offset: None,

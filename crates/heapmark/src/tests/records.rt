@@ -27,7 +27,7 @@ impl Seek for Observed<'_> {
     }
 }
 
-/// The records of the file, 9 bytes each.
+/// The number of short records in the file, 9 bytes each.
 const RECORDS: u64 = 50_000;
 
 /// Returns a header, the short records, and one with a body of 300 bytes.
@@ -41,7 +41,7 @@ fn many_records(alloc: Global) -> Result<Vec<u8>, AllocError> {
     Ok(bytes)
 }
 
-/// Returns the end of the record at the offset `place` of `bytes`, and how many calls of the file it took.
+/// Returns the end of the record in which the offset `place` of `bytes` lies, and how many calls of the file it took.
 fn end_at(alloc: Global, bytes: &[u8], place: u64) -> (Option<u64>, u64) {
     let calls = AtomicU64::new(0);
     let file = Observed {
@@ -52,7 +52,7 @@ fn end_at(alloc: Global, bytes: &[u8], place: u64) -> (Option<u64>, u64) {
     (end, calls.load(Ordering::SeqCst))
 }
 
-/// Tests whether the record at each offset of `cases` has the end that the case names, found with at most 200 calls.
+/// Tests whether the record around each offset of `cases` has the end that its case names, found in at most 200 calls.
 fn ends_are_found(alloc: Global, bytes: &[u8], cases: &[(u64, Option<u64>)]) -> bool {
     for (place, want) in cases {
         let (end, calls) = end_at(alloc, bytes, *place);

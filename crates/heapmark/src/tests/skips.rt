@@ -1,4 +1,4 @@
-//! Fields that are not followed, with 1, 2 and 64 workers, and texts that list no fields.
+//! Fields that are not followed, with 1, 2 and 64 workers, and texts that are no list of fields.
 
 mod names;
 mod unmet;
@@ -218,7 +218,7 @@ fn the_words_list_the_fields(rt: HostRuntime) {
     assert!(rt; is_reported(&rt, "--skip=T.other FILE", ALL));
 }
 
-/// Checks that the program refuses `words` by the line `refusal` and writes nothing.
+/// Checks that the program refuses `words` by the line `refusal` on standard error, and writes no report.
 fn is_refused<T: Abort + Files + AllocGlobal + Threads + Wait + Sync>(
     rt: &T,
     words: &[&str],
@@ -228,7 +228,7 @@ fn is_refused<T: Abort + Files + AllocGlobal + Threads + Wait + Sync>(
     assert_eq!(rt; told, (1, true, true), "{refusal}");
 }
 
-/// Texts that list no fields.
+/// Texts that are no list of fields.
 const BAD_LISTS: [&str; 8] = [
     "referent",
     "T.",
