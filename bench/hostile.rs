@@ -19,7 +19,7 @@ const INVERSE: u64 = 0xf1de_83e1_9937_733d;
 
 type Build = fn(File, u64) -> File;
 
-const KINDS: [(&str, Build); 30] = [
+const KINDS: [(&str, Build); 31] = [
     ("chain", chain),
     ("chain_upwards", chain_upwards),
     ("cycle", cycle),
@@ -38,6 +38,7 @@ const KINDS: [(&str, Build); 30] = [
     ("falling_pages", falling_pages),
     ("full_page", full_page),
     ("one_repeat", one_repeat),
+    ("far_page", far_page),
     ("sparse_pages", sparse_pages),
     ("too_sparse_pages", too_sparse_pages),
     ("below_32_bits", below_32_bits),
@@ -264,6 +265,12 @@ fn falling_pages(_: File, count: u64) -> File {
 /// Like `falling_pages`, and one more object, with an ID that another has.
 fn one_repeat(_: File, count: u64) -> File {
     arrays(falling(count.div_ceil(64), count).chain([on_page(0, 7)]))
+}
+
+/// Like `falling_pages`, and after them one more object, alone on a page far above. So no sample has it.
+fn far_page(_: File, count: u64) -> File {
+    let pages = count.div_ceil(64);
+    arrays(falling(pages, count).chain([on_page(3 * pages, 0)]))
 }
 
 /// `count` objects, two on each page, on as many pages as pairs may span.

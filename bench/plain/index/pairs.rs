@@ -10,6 +10,9 @@ const MOST_PAGES: u64 = 1 << 26;
 const STRETCHES: usize = 64;
 const NEIGHBOURS: usize = 1024;
 
+/// The part of a sample's pages that is added on either side, so that its ends serve for most heaps.
+const MARGIN: u64 = 16;
+
 /// An object's number, and its ID without the low bits and less the first one of the least page.
 #[derive(Clone, Copy, Default)]
 struct Pair {
@@ -47,24 +50,14 @@ impl Pairs {
         ids: impl Iterator<Item = u64>,
         low: LowBits,
     ) -> Option<Pairs> {
-        if !are_scattered(count, &id, low) {
-            return None;
-        }
-        let (least, greatest) = ends(count, &id, low)?;
-        if greatest - least >= MOST_PAGES.min(count as u64 / 2) {
-            return None;
-        }
-        let mut pages = vec![Page::default(); (greatest - least) as usize + 1];
-        for number in 0..count {
-            let (page, place) = low.page_and_place(id(number))?;
-            pages[(page - least) as usize].places |= 1 << place;
-        }
-        let mut begin = 0;
-        for page in &mut pages {
-            page.begin = begin;
-            begin += page.places.count_ones();
-        }
-        (begin as usize == count).then(|| Pairs { least, pairs: placed(least, &pages, count, ids, low), pages })
+        let (first, last) = ends_if_scattered(count, &id, low)?;
+        let margin = (last - first) / MARGIN;
+        let (least, pages) = noted(count, &id, low, (first.saturating_sub(margin), last + margin)).or_else(|| {
+            let ends = ends(count, &id, low)?;
+            noted(count, &id, low, ends)
+        })?;
+        let pairs = placed(least, &pages, count, ids, low);
+        Some(Pairs { least, pages, pairs })
     }
 
     pub fn find(&self, page: u64, place: u32) -> Option<u32> {
@@ -84,21 +77,23 @@ impl Pairs {
     }
 }
 
-/// Tests whether more than half of the objects that are sampled begin a run.
-fn are_scattered(count: usize, id: impl Fn(usize) -> u64, low: LowBits) -> bool {
+/// Samples objects. Returns their least and their greatest page, if more than half of them begin a run.
+fn ends_if_scattered(count: usize, id: impl Fn(usize) -> u64, low: LowBits) -> Option<(u64, u64)> {
     let step = (count / STRETCHES).max(NEIGHBOURS);
     let (mut runs, mut seen) = (0, 0);
+    let (mut least, mut greatest) = (u64::MAX, 0);
     for start in (0..STRETCHES).map(|stretch| stretch * step) {
         let mut last = None;
         for number in start..count.min(start + NEIGHBOURS) {
-            let at = low.page_and_place(id(number));
-            let goes_on = matches!((last, at), (Some((page, place)), Some(next)) if next.0 == page && next.1 > place);
+            let (page, place) = low.page_and_place(id(number))?;
+            let goes_on = last.is_some_and(|(before, at)| before == page && at < place);
             runs += usize::from(!goes_on);
             seen += 1;
-            last = at;
+            last = Some((page, place));
+            (least, greatest) = (page.min(least), page.max(greatest));
         }
     }
-    runs > seen / 2
+    (runs > seen / 2).then_some((least, greatest))
 }
 
 /// Returns the least and the greatest page of the objects, if all have these low bits.
@@ -107,6 +102,34 @@ fn ends(count: usize, id: impl Fn(usize) -> u64, low: LowBits) -> Option<(u64, u
         let (page, _) = low.page_and_place(id(number))?;
         Some((page.min(least), page.max(greatest)))
     })
+}
+
+/// Notes the objects on the pages from `least` to `greatest`. Returns the first page that has an object, and the pages
+/// from there to the last one that has an object, if no object is elsewhere, all have these low bits and all IDs differ.
+fn noted(
+    count: usize,
+    id: impl Fn(usize) -> u64,
+    low: LowBits,
+    (least, greatest): (u64, u64),
+) -> Option<(u64, Vec<Page>)> {
+    if greatest - least >= MOST_PAGES.min(count as u64 / 2) {
+        return None;
+    }
+    let mut bits = vec![0u64; (greatest - least) as usize + 1];
+    for number in 0..count {
+        let (page, place) = low.page_and_place(id(number))?;
+        *bits.get_mut(page.checked_sub(least)? as usize)? |= 1 << place;
+    }
+    let begin = bits.iter().position(|places| *places != 0)?;
+    let end = bits.iter().rposition(|places| *places != 0)? + 1;
+    let mut before = 0;
+    let pages = bits[begin..end].iter().map(|places| {
+        let page = Page { places: *places, begin: before };
+        before += places.count_ones();
+        page
+    });
+    let pages = pages.collect();
+    (before as usize == count).then_some((least + begin as u64, pages))
 }
 
 /// Returns a pair for each of the `count` objects with the IDs `ids`, where `pages` guess it.
