@@ -28,7 +28,7 @@ pub record IsAtTheEnd (log : Log) (b : Book) (marks : List ℕ) : Type 0 where
   pub own : StandsAt last.accounts log.number b.account × StandsAt counts log.number (counts_of b)
   pub same_marks : (o : ℕ) → slice_index marks o ≡ last.mark o
 
--- what follows if that worker has the whole share, no buffer and no charge
+-- what follows if the worker with the book b has the whole share, no buffer and no charge
 pub record MarksTell (b : Book) (last : Marking) (marks : List ℕ) : Type 0 where
   -- the law holds of the marking
   pub law : Law b.setup last

@@ -6,14 +6,14 @@ ghost use Rattle.buffer_pool.specs.working.Layout.{head_word, link_word};
 
 use mark_core::Which;
 
-/// The word of the full stack's head. The heads are 128 bytes apart, so that they share no cache line with each other
-/// or with the links.
+/// The number of the word with the full stack's head. The heads are 128 bytes apart, so that they share no cache line
+/// with each other or with the links.
 const FULL_HEAD: usize = 0;
 
-/// The word of the empty stack's head.
+/// The number of the word with the empty stack's head.
 const EMPTY_HEAD: usize = 16;
 
-/// The idle word, 64 bytes from each head.
+/// The number of the idle word, which is 64 bytes from each head.
 pub(crate) const IDLE: usize = 8;
 
 /// The number of the word with the link of buffer 0. The links of the other buffers follow, in order.

@@ -11,7 +11,7 @@ use atomic_table::{Join, Seat, Shared, Split, TableRule};
 use std::alloc::Allocator;
 
 /// The rule of the table: between any two steps, the table stands for a marking to which a list of possible events
-/// leads from the opening. So the law of a marking holds there.
+/// leads from the opening. So the law of a marking holds too.
 pub struct MarkingRule;
 
 impl<A: Allocator> TableRule<Option<Buffer<A>>, SeatView, Key> for MarkingRule {

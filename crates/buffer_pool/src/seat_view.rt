@@ -23,8 +23,8 @@ pub struct SeatView {
     pub ghost taken: { List Event } by { coded_list event_code },
     /// The number of that other worker, or `None` if there is none.
     pub ghost from: { Option ℕ } by { coded_option coded_ℕ },
-    /// Whether the log has the worker's number. The first worker's log has it from the opening on, the log of a worker
-    /// made by a split from that worker's first step on.
+    /// Whether the log has the worker's number. The first worker's log has it from the opening on. If a worker came
+    /// from a split, its log has the number from its own first step on.
     pub ghost named: { Bool } by { coded_bool },
     /// The units that the worker is about to give away by a split.
     pub ghost aside: { ℕ } by { coded_ℕ },

@@ -35,8 +35,8 @@ three_objects = record { objects = 3; buffers = 4; size = 2; first_tag = 0; root
 abbrev pub claimed_again : ℕ → Book → Book
 claimed_again o b = record b { account = record b.account { seen = b.account.seen ++ o ∷ [] } }
 
--- the worker's book before the first claim; after the root and what it refers to were claimed; after the root was
--- finished; after the class was finished and the successors of object 2 were seen; after all were finished
+-- the worker's book before the first claim; after the root and the objects to which it refers were claimed; after the
+-- root was finished; after the class was finished and the successors of object 2 were seen; after all were finished
 abbrev pub begun : Book
 begun = new_book three_objects whole
 

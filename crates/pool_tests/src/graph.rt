@@ -63,7 +63,7 @@ fn claim_marked<R: Abort, A: Allocator>(rt: &R, pool: &Pool<A>, worker: &mut Wor
     assert!(rt; !pool.claim(worker, object), "object {object}");
 }
 
-/// Claims the root and the two objects to which it refers, and finishes it.
+/// Claims the root and the two objects to which it refers, and finishes the root.
 fn scan_root<R: Abort, A: Allocator>(rt: &R, pool: &Pool<A>, worker: &mut Worker<A>)
     requires pool { worker.old.pool ≡ pool.now }
     requires book { worker.old.book ≡ begun }

@@ -1,7 +1,7 @@
-//! Four threads that pop and push four buffers at the same time. A thread may lose an exchange if another thread
-//! exchanges the same head meanwhile. How many are lost depends on the machine: none, if a single processor runs the
-//! threads one after another. A test cannot hold up a call of a pool between its load and its exchange. So losses are
-//! counted and not required.
+//! Four threads that pop and push four buffers at the same time. A thread loses an exchange if another thread has
+//! exchanged the same head since the first thread's load. How many exchanges are lost depends on the machine: none, if
+//! a single processor runs the threads one after another. A test cannot hold up a call of a pool between its load and
+//! its exchange. So losses are counted and not required.
 ghost use Rattle.std.specs.Prelude.{◌≡◌, [], ◌∷◌, IfOk, MatchOption};
 ghost use Rattle.pool_tests.specs.Worked.{Holds, bare};
 
@@ -17,7 +17,7 @@ use std::thread::{Threads, join};
 const ROUNDS: u32 = 20_000;
 
 /// A worker, the number of exchanges of a head that it has won, and the number of calls of `try_pop` that it has lost,
-/// all with those of the workers joined to it.
+/// each with those of the workers that were joined to it.
 #[derive(Drop)]
 struct Racer {
     worker: Worker<Global>,

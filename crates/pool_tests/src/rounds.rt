@@ -203,7 +203,7 @@ fn go_side_by_side<R: Threads + Abort + Sync>(
     pool.join(first, second)
 }
 
-/// Finishes the objects of the buffers that are left on the full stack.
+/// Finishes the objects of the buffers that remain on the full stack.
 fn finish_rest<R: Abort, A: Allocator>(rt: &R, pool: &Pool<A>, worker: Worker<A>) -> Worker<A>
     requires pool { worker.pool ≡ pool.now }
     requires roots { HasRoots OBJECTS worker }

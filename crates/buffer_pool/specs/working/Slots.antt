@@ -1,5 +1,5 @@
--- The slots of the pool's table, one for each buffer: which one is out with a seat, and what the others, at home in the
--- table, have.
+-- The slots of the pool's table, one for each buffer: which one is out with a seat, and what the slots that are at home
+-- in the table have.
 use Rattle.std.specs.Prelude.{◌≡◌, ℕ, zero, suc, ◌<◌, List, [], ◌∷◌, Option, Some, None, slice_index}
 use mathlib.Core.Option.{none, some}
 use mathlib.Core.Option as maybe

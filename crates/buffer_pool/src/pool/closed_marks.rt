@@ -135,8 +135,8 @@ impl<A: Allocator> Marks<A> {
         None
     }
 
-    /// Returns how many objects were finished, 0 up to the number of objects. An object that was claimed and not
-    /// finished does not count. The workers counted the finished objects, so no mark is read.
+    /// Returns the number of finished objects. An object that was claimed and not finished does not count. The workers
+    /// counted the finished objects, so no mark is read.
     pub fn finished_len(&self) -> u64
         ensures { result ≡ count_by (λ m. m == 2) self.now }
     {

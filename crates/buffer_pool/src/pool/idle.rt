@@ -78,11 +78,11 @@ impl<A: Allocator> Pool<A> {
 
     /// Tests whether the idle word is `workers`. This is one atomic step, which waits for nobody.
     ///
-    /// The worker's story then leads to a marking with the idle word that was loaded. Suppose that in this marking no
-    /// account was joined, and that `workers` is at least 1. Suppose also that account 0, which was there at the
-    /// opening, is busy, gave exactly `workers` units away, and pushed nothing on the full stack since it first gave
-    /// units away. Then `true` means that nothing is left for the workers to do: `mark_core::all_runs_keep_law`, clause
-    /// `quiet`.
+    /// After the call, the worker's story leads to a marking with the idle word that was loaded. Suppose that in this
+    /// marking no account was joined, and that `workers` is at least 1. Suppose also that account 0, which was there at
+    /// the opening, is busy, gave exactly `workers` units away, and pushed nothing on the full stack since it first
+    /// gave units away. Then `true` means that nothing is left for the workers to do: `mark_core::all_runs_keep_law`,
+    /// clause `quiet`.
     pub fn all_idle(&self, worker: &mut Worker<A>, workers: u32) -> bool
         requires { worker.old.pool ≡ self.now }
         ensures pool { worker.new.pool ≡ worker.old.pool }

@@ -15,8 +15,8 @@ use std::alloc::Allocator;
 
 /// Splits `units` units off the share of `seat`, and returns a new seat that has them.
 // A split of a seat sees only the seat's view, and a number comes into a view only by a step on a word. So the units
-// are noted first, by an exchange that changes no word. Nor does a split see what happened in the table. So the split
-// comes into the log of each of the two seats by a load of that seat.
+// are noted first, by an exchange that changes no word. A split also does not see what happened in the table. So the
+// split comes into the log of each of the two seats by a load of that seat.
 fn give_part<A: Allocator>(words: &Words<A>, seat: &mut Token<A>, units: u64) -> Token<A>
     requires table { seat.old.table_id ≡ words.now.table_id }
     requires sound { IsSound seat.old.table_id seat.old.me }

@@ -12,7 +12,7 @@ use std::process::Abort;
 use std::sync::Wait;
 use work_pair::{Pair, Stop};
 
-/// The number of objects of each test.
+/// The number of objects of the pool in each test.
 pub(crate) const OBJECTS: u32 = 400;
 
 /// The number of objects at each place of a pair, and `None` for a place without a buffer.

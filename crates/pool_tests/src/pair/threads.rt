@@ -73,7 +73,7 @@ fn put_one<R: Wait + Abort, A: Allocator>(
     }
 }
 
-/// Puts the objects of one thread, from `begin` on. Some are got in between.
+/// Puts the objects of one thread, from `begin` on. Gets some objects in between.
 fn put_part<R: Wait + Abort, A: Allocator>(
     rt: &R,
     pool: &Pool<A>,
@@ -261,7 +261,7 @@ fn are_all(got: &[u32]) -> bool {
     got.len() == OBJECTS as usize
 }
 
-/// Gets the objects that are left, with a new pair, and tests whether each object was got once in all.
+/// Gets the remaining objects with a new pair, and tests whether each object was got once in all.
 fn all_got<R: Wait + Abort>(rt: &R, alloc: Global, pool: &Pool<Global>, taker: Taker) -> bool
     requires { IsWorker OBJECTS pool.now taker.worker }
 {
