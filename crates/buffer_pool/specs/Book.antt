@@ -25,7 +25,7 @@ abbrev pub empties_of : Book → Which → ℕ
 empties_of b Full = b.full_empties
 empties_of b Empty = b.empty_empties
 
--- a book with some units and nothing else
+-- a book with the setup `e`, some units and nothing else
 abbrev pub new_book : Setup → ℕ → Book
 new_book e units =
     record { setup = e; account = part units; loads = 0; full_empties = 0; empty_empties = 0; failures = 0 }
@@ -59,7 +59,7 @@ loaded Empty h b =
 abbrev pub link_loaded : Which → Option ℕ → Book → Book
 link_loaded q l b = record b { account = after_load_link q l b.account }
 
--- the worker went idle, and came back
+-- the worker went idle; below, it came back
 abbrev pub idled : Book → Book
 idled b = record b { account = after_idle_up b.account }
 
@@ -94,7 +94,7 @@ finished o b = record b { account = after_finish o b.account }
 abbrev pub parted : ℕ → Book → Book
 parted units b = record b { account = after_split units b.account }
 
--- two books joined: lists, shares and counts are added
+-- two books joined: lists, shares and counts are added, and the first book's setup stays
 abbrev pub joined : Book → Book → Book
 joined a b =
     record {

@@ -31,7 +31,7 @@ pub record HeldBuffer : Type 0 where
   pub items : List ℕ
   pub size : ℕ
 
--- the steps lead from one book to the other, the first step first
+-- the steps lead from the book `old` to the book `new`, the first step first
 abbrev pub After : Book → List (Book → Book) → Book → Type 0
 After old [] new = new ≡ old
 After old (step ∷ steps) new = After (step old) steps new
@@ -55,8 +55,8 @@ TriesPop q old new try_pop.Lost =
 TriesPop q old new try_pop.Spent =
     (head : Head) × (i : ℕ) × (head.index ≡ Some i) × (head.tag ≡ last_tag) × After old (loaded q head ∷ []) new
 
--- the worker holds the buffer, which is of the pool's size, and the buffer's items are part of the worker's charge. A
--- buffer for the empty stack has no items. For the full stack the worker is busy
+-- the worker holds the buffer, which takes as many items as the pool's buffers do, and the buffer's items are part of
+-- the worker's charge. A buffer for the empty stack has no items. For the full stack the worker is busy
 pub record MayPush (q : Which) (h : HeldBuffer) (b : Book) : Type 0 where
   pub held : Contains b.account.held h.index
   pub size : h.size ≡ b.setup.size
@@ -75,7 +75,7 @@ TriesPush q h old new (try_push.Lost back) =
 TriesPush q h old new (try_push.Spent back) =
     (head : Head) × (back ≡ h) × (head.tag ≡ last_tag) × After old (loaded q head ∷ []) new
 
--- tries of a pop that were all lost, from one book to another
+-- any number of tries of a pop, all lost, that lead from one book to another
 pub data LostPops (q : Which) : Book → Book → Type 0 where
   none : (b : Book) → LostPops q b b
   more : (old mid new : Book) → LostPops q old mid → TriesPop q mid new try_pop.Lost → LostPops q old new
@@ -90,7 +90,7 @@ last_try pop.Spent = try_pop.Spent
 abbrev pub Pops : Which → Book → Book → Popped HeldBuffer → Type 0
 Pops q old new result = (mid : Book) × LostPops q old mid × TriesPop q mid new (last_try result)
 
--- tries of a push that were all lost
+-- any number of tries of a push of the buffer h, all lost, that lead from one book to another
 pub data LostPushes (q : Which) (h : HeldBuffer) : Book → Book → Type 0 where
   none : (b : Book) → LostPushes q h b b
   more : (old mid new : Book) → LostPushes q h old mid → TriesPush q h mid new (try_push.Lost h)

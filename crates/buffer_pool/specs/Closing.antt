@@ -12,13 +12,13 @@ use Rattle.mark_core.specs.Runs.{IsListOf, LiesIn}
 use Rattle.buffer_pool.specs.Book.{Book, counts_of}
 use Rattle.buffer_pool.specs.WorkerLog.{Log, EndsStory}
 
--- none of the first `count` places has a value
+-- none of the first `count` places has a value: `filled` says which places have one
 abbrev pub IsEmptied : ℕ → List Bool → Type 0
 IsEmptied count filled = (k : ℕ) → k < count → slice_index_or filled k false ≡ false
 
--- `events` begin with the worker's story, and lead from the opening to the marking `last` and to `counts`, those after
--- the last step. There, the account and counts of the worker's number are those of its book. `marks` are the marks in
--- `last`
+-- `events` begin with the worker's story, and lead from the opening to the marking `last` and to `counts`, the counts
+-- of all workers after the last step. There, the account and counts of the worker's number are those of its book.
+-- `marks` are the marks in `last`
 pub record IsAtTheEnd (log : Log) (b : Book) (marks : List ℕ) : Type 0 where
   pub events : List Event
   pub last : Marking
@@ -28,7 +28,7 @@ pub record IsAtTheEnd (log : Log) (b : Book) (marks : List ℕ) : Type 0 where
   pub own : StandsAt last.accounts log.number b.account × StandsAt counts log.number (counts_of b)
   pub same_marks : (o : ℕ) → slice_index marks o ≡ last.mark o
 
--- what follows if that worker has the whole share, no buffer and no charge
+-- what follows if the worker with the book b has the whole share, no buffer and no charge
 pub record MarksTell (b : Book) (last : Marking) (marks : List ℕ) : Type 0 where
   -- the law holds of the marking
   pub law : Law b.setup last
@@ -41,7 +41,7 @@ pub record MarksTell (b : Book) (last : Marking) (marks : List ℕ) : Type 0 whe
   pub claimed : (full : List ℕ) → IsListOf last Full full → (o : ℕ) → (slice_index marks o ≡ 1) ↔ LiesIn last full o
   -- every marked object is finished if no push on full is open
   pub emptied : b.account.open_push ≡ false → (o : ℕ) → 1 ≤ slice_index marks o → slice_index marks o ≡ 2
-  -- each buffer is on one of the stacks
+  -- each buffer is on one of the two stacks, once
   pub buffers :
       (full empty : List ℕ) → IsListOf last Full full → IsListOf last Empty empty
       → (i : ℕ) → times i full + times i empty ≡ one_where (nat_lt i b.setup.buffers)

@@ -12,7 +12,7 @@ pub record IsInside (object_count buffer_count item_count first_tag : ℕ) : Typ
   pub large : item_count ≤ 4096
   pub tag : first_tag ≤ 281474976710655
 
--- held buffers are buffers, and charged objects are objects
+-- each held buffer is one of the pool's, and so is each object in the charge
 pub record IsWithin (e : Setup) (a : Account) : Type 0 where
   pub held : (i : ℕ) → Contains a.held i → i < e.buffers
   pub charge : (o : ℕ) → Contains a.charge o → o < e.objects

@@ -32,7 +32,7 @@ lost_pops q (suc lost) = lost_pops q lost ++ Load q ∷ LoadLink q ∷ Fail q �
 abbrev pub PopDid : {H : Type 0} → Which → Popped H → Log → Log → Type 0
 PopDid q result old new = (lost : ℕ) × Did old (lost_pops q lost ++ try_pop_steps q (last_try result)) new
 
--- lost tries of a push of a buffer: one try for each of the links, the last link first
+-- lost tries of a push of a buffer, one for each of the links. The list begins with the link of the last try
 abbrev pub lost_pushes : Which → Held → List (Option ℕ) → List Kind
 lost_pushes q h [] = []
 lost_pushes q h (link ∷ links) = lost_pushes q h links ++ try_push_steps q h link (try_push.Lost h)

@@ -1,4 +1,5 @@
--- A worker's log: the steps of all workers of a pool up to its last one, and which of them are its own.
+-- A worker's log: the steps of all workers of a pool up to this worker's last step, and which of these steps are its
+-- own.
 use Rattle.std.specs.Prelude.{◌≡◌, ℕ, ◌==◌, if◌then◌else◌, List, [], ◌∷◌, ◌++◌}
 use Rattle.mark_core.specs.Lists.{StandsAt}
 use Rattle.mark_core.specs.World.{Marking}
@@ -26,11 +27,11 @@ Did old kinds new =
 abbrev pub first_log : Log
 first_log = record { number = 0; story = [] }
 
--- the log of a new worker: it knows the story of the log that it was split from, and did nothing
+-- the log `new` of a new worker: its story continues that of the log `from`, and the worker did nothing
 abbrev pub IsNewcomer : Log → Log → Type 0
 IsNewcomer from new = ((more : List Event) × (new.story ≡ from.story ++ more)) × (deeds new.number new.story ≡ [])
 
--- the events begin with the worker's story, and it did nothing after it
+-- `events` begin with the worker's story, and after that story the worker did nothing
 abbrev pub EndsStory : Log → List Event → Type 0
 EndsStory log events = (since : List Event) × (events ≡ log.story ++ since) × (deeds log.number since ≡ [])
 

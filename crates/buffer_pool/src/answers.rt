@@ -1,4 +1,4 @@
-//! The results of pops and pushes, and of single tries.
+//! The results of a pop, and of single tries of a pop and of a push.
 
 /// The result of one try of a pop.
 #[derive(Drop)]
@@ -18,13 +18,13 @@ pub enum TryPopped<H> {
 pub enum TryPushed<H> {
     /// The buffer is on the stack.
     Done,
-    /// Another worker's step came first: returns the buffer with its items.
+    /// Another worker's step came first. This is the buffer, with its items.
     Lost(H),
-    /// The head has the last tag: returns the buffer with its items.
+    /// The head has the last tag: it is never exchanged again. This is the buffer, with its items.
     Spent(H),
 }
 
-/// The result of a pop: that of its first try that was not lost.
+/// The result of a pop: the result of its first try that was not lost.
 #[derive(Drop)]
 pub enum Popped<H> {
     /// The buffer that was on top.

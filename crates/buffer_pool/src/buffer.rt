@@ -27,7 +27,8 @@ impl<A: Allocator> Buffer<A> {
     pub(crate) fn len(&self) -> u32
         ensures { result ≡ vec_len self.now.items }
     {
-        // Read only so that its range is known: there are at most `size` items, so their number fits.
+        // `size` is read only so that its range is known here: there are at most `size` items, so their number fits in
+        // a `u32`.
         let _most = self.size;
         self.items.len() as u32
     }
@@ -48,7 +49,7 @@ impl<A: Allocator> Buffer<A> {
         self.items.push_reserved(object);
     }
 
-    /// Takes the object that was put last. Returns `None` if there is none.
+    /// Removes the last object and returns it. Returns `None` if the buffer is empty.
     pub(crate) fn pop(&mut self) -> Option<u32>
         ensures items { MatchOption result ((self.old.items.items ≡ []) × (self.new.items.items ≡ []))
             (λ o. self.old.items.items ≡ self.new.items.items ++ o ∷ []) }
@@ -57,7 +58,8 @@ impl<A: Allocator> Buffer<A> {
         self.items.pop()
     }
 
-    /// Moves the upper half of the objects, rounded down, into `other`, an empty buffer of at least this size.
+    /// Moves the upper half of the objects, rounded down, to `other`, in their order. `other` must be empty, and its
+    /// size at least that of this buffer.
     pub(crate) fn split_upper_into(&mut self, other: &mut Buffer<A>)
         requires empty { other.old.items.items ≡ [] }
         requires room { self.old.size ≤ other.old.size }

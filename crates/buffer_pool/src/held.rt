@@ -53,7 +53,7 @@ impl<A: Allocator> Held<A> {
         Ok(())
     }
 
-    /// Takes the object that was put last. Returns `None` if there is none.
+    /// Removes the buffer's last object and returns it. Returns `None` if the buffer is empty.
     pub fn take(&mut self) -> Option<u32>
         ensures { MatchOption result ((self.old.items ≡ []) × (self.new ≡ self.old))
             (λ o. (self.old.items ≡ self.new.items ++ o ∷ [])
@@ -62,7 +62,8 @@ impl<A: Allocator> Held<A> {
         self.buffer.pop()
     }
 
-    /// Moves the upper half of the objects, rounded down, into `other`, an empty buffer, in their order.
+    /// Moves the upper half of the objects, rounded down, to `other`, in their order. `other` must be empty, and take
+    /// at least as many objects as this buffer.
     pub fn split_upper_into(&mut self, other: &mut Held<A>)
         requires empty { other.old.items ≡ [] }
         requires room { self.old.size ≤ other.old.size }

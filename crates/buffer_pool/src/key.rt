@@ -1,4 +1,4 @@
-//! The constants of a pool's table, fixed when it is made.
+//! The constants of a pool's table, fixed when the table is made.
 ghost use Rattle.std.specs.Borrow.{ftrue};
 ghost use Rattle.std.specs.Prelude.{◌≡◌, ℕ, List};
 ghost use Rattle.std.specs.Coded.{coded_list, coded_ℕ, coded×};
@@ -23,7 +23,7 @@ impl NamedEdges {
     pub(crate) fn of<E: Edges>(edges: &E) -> NamedEdges
         ensures { (result.roots ≡ E.roots edges.now) × (result.pairs ≡ E.pairs edges.now) }
     {
-        // Read for its clauses only: the value has no bytes.
+        // Only the clauses above use `edges`: the result has no bytes.
         let _ = edges;
         NamedEdges {
             marker: PhantomData,

@@ -6,20 +6,20 @@ ghost use Rattle.buffer_pool.specs.working.Layout.{head_word, link_word};
 
 use mark_core::Which;
 
-/// The word of the full stack's head. The heads are 128 bytes apart, so that they share no cache line with each other
-/// or with the links.
+/// The number of the word with the full stack's head. The heads are 128 bytes apart, so that they share no cache line
+/// with each other or with the links.
 const FULL_HEAD: usize = 0;
 
-/// The word of the empty stack's head.
+/// The number of the word with the empty stack's head.
 const EMPTY_HEAD: usize = 16;
 
-/// The idle word, 64 bytes from each head.
+/// The number of the idle word, which is 64 bytes from each head.
 pub(crate) const IDLE: usize = 8;
 
-/// The word of the first buffer's link. Those of the others follow.
+/// The number of the word with the link of buffer 0. The links of the other buffers follow, in order.
 pub const FIRST_LINK: usize = 32;
 
-/// Returns the word of a stack's head.
+/// Returns the number of the word that has the head of the stack `which`.
 pub fn head_word(which: Which) -> usize
     ensures { result ≡ head_word which }
 {
@@ -29,7 +29,7 @@ pub fn head_word(which: Which) -> usize
     }
 }
 
-/// Returns the word that has the mark of `object`, after the links of `buffers` buffers.
+/// Returns the number of the word that has the mark of `object`, in a pool of `buffers` buffers.
 pub fn mark_word(buffers: u32, object: u32) -> usize
     ensures { result ≡ 32 + buffers + object / 32 }
 {

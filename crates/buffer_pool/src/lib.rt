@@ -1,10 +1,11 @@
 //! A pool of buffers on two lock-free stacks, and the marks of objects, for workers that mark a heap together.
 //!
-//! A worker pops a buffer of objects from the stack of full ones, claims what they refer to, pushes what it claimed,
-//! and finishes each object that it scanned. A claim and a finish are one atomic step each. A pop or a push takes a few
-//! steps, and is tried again until no other worker came first. Each call's contract says which events of `mark_core` it
-//! made, so the law of the marking holds of the pool's words between any two steps. `close` says what follows from the
-//! law once all workers are joined.
+//! A worker pops a buffer with objects from the full stack, and claims the objects to which they refer. It pushes a
+//! buffer with those that were white, and finishes each object whose references it followed. Each claim and each finish
+//! is one atomic step. A try of a pop or of a push takes a few steps, and is lost if another worker came first. `pop`
+//! and `push` try until a try is not lost. Each call's contract says which events of `mark_core` the call made. The law
+//! of the marking holds of the pool's words between any two steps. `close` says what follows from the law once all
+//! workers are joined.
 //!
 //! From `crates/pool_tests/src/worked.rt`, which is proved and run with the tests:
 //!
@@ -16,7 +17,7 @@
 //!     let worker = pool.join(worker, other);
 //!     let marks = pool.close(worker);
 //!
-//! The crate's README.md has a list of the calls. `docs/MARKING.md` says what the words mean.
+//! The crate's README.md has a list of the calls. `docs/MARKING.md` explains the terms.
 #![tactic(auto)]
 
 mod answers;

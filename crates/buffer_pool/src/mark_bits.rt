@@ -3,10 +3,10 @@
 ghost use Rattle.std.specs.Prelude.{◌≡◌, ◌*◌, ◌%◌, ◌<◌};
 ghost use Rattle.buffer_pool.specs.working.MarkBits.{mark_words, pair_bits};
 
-/// The bits of a claimed object: the low one of its two. A white object has none.
+/// The bits of a claimed object: of its two bits, only the low one is set. A white object has neither bit set.
 pub(crate) const CLAIMED: u64 = 1;
 
-/// The bits of a finished object: both.
+/// The bits of a finished object: both are set.
 pub(crate) const FINISHED: u64 = 3;
 
 /// Returns how many words the marks of `objects` objects take: 32 objects to a word.

@@ -38,7 +38,7 @@ impl<A: Allocator> Play<Option<Buffer<A>>, SeatView> for StoreLink {
     ghost then = { link_stored };
 }
 
-/// An exchange of a head for the link of its buffer.
+/// An exchange of a head for the link of the buffer on top.
 pub struct TakeTop;
 
 impl<A: Allocator> Play<Option<Buffer<A>>, SeatView> for TakeTop {
@@ -80,7 +80,7 @@ impl<A: Allocator> Play<Option<Buffer<A>>, SeatView> for GoIdle {
     ghost then = { went_idle };
 }
 
-/// A step by which a worker comes back.
+/// A step by which an idle worker comes back.
 pub struct ComeBack;
 
 impl<A: Allocator> Play<Option<Buffer<A>>, SeatView> for ComeBack {
@@ -94,14 +94,14 @@ impl<A: Allocator> Play<Option<Buffer<A>>, SeatView> for SeeIdle {
     ghost then = { idle_seen };
 }
 
-/// A step that changes nothing and notes how many units will be given away.
+/// A step that changes no word and notes how many units will be given away.
 pub struct SetAside;
 
 impl<A: Allocator> Play<Option<Buffer<A>>, SeatView> for SetAside {
     ghost then = { set_aside };
 }
 
-/// A load that brings home the slot that is out, and brings the log up to date.
+/// A load that returns the slot that is out, if any, to the table, and brings the log up to date.
 pub struct Settle;
 
 impl<A: Allocator> Play<Option<Buffer<A>>, SeatView> for Settle {

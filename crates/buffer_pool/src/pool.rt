@@ -1,5 +1,5 @@
-//! A pool of buffers and marks that many workers share. Each step of a call is one sequentially consistent step on a
-//! word of the pool's table: `atomic_table` promises that of all steps on a table (its README, "Limits").
+//! A pool of buffers and marks that many workers share. Each atomic step of a call is sequentially consistent, and is
+//! on one word of the pool's table: `atomic_table` promises this of all steps on a table (its README, "Limits").
 ghost use Rattle.std.specs.Prelude.{◌≡◌, MatchResult};
 ghost use Rattle.mark_core.specs.Shares.{whole};
 ghost use Rattle.mark_core.specs.World.{Setup};
@@ -60,10 +60,11 @@ impl<A: Allocator> Model for Pool<A> {
 }
 
 impl<A: Allocator + Copy> Pool<A> {
-    /// Creates a pool for the objects of `edges`, at most 16,777,216, with `buffers` buffers, 4 to 65,534, each for
-    /// `size` objects, 2 to 4,096. The heads of both stacks begin with `first_tag`, at most 281,474,976,710,655. No
-    /// object is marked, all buffers are on the empty stack, and the returned worker has the whole share. Allocates all
-    /// memory of the pool. Returns `Err(PoolFault::BadOptions)` if a number is out of its range.
+    /// Creates a pool for the objects of `edges` (at most 16,777,216), with `buffers` buffers (4 to 65,534) that take
+    /// `size` objects each (2 to 4,096). The heads of both stacks begin with the tag `first_tag` (at most
+    /// 281,474,976,710,655). No object is marked, all buffers are on the empty stack, and the returned worker has the
+    /// whole share. Allocates all memory of the pool. Returns `Err(PoolFault::BadOptions)` if a number is out of its
+    /// range, and `Err(PoolFault::OutOfMemory)` if an allocation fails.
     pub fn new<E: Edges>(
         alloc: A,
         edges: &E,

@@ -10,7 +10,8 @@ use crate::seat_view::SeatView;
 use atomic_table::{Join, Seat, Shared, Split, TableRule};
 use std::alloc::Allocator;
 
-/// The rule of the table: the law of a marking holds between any two steps.
+/// The rule of the table: between any two steps, the table stands for a marking to which a list of possible events
+/// leads from the opening. So the law of a marking holds too.
 pub struct MarkingRule;
 
 impl<A: Allocator> TableRule<Option<Buffer<A>>, SeatView, Key> for MarkingRule {

@@ -4,12 +4,12 @@ use crate::rules::Token;
 use std::alloc::Allocator;
 use std::marker::Model;
 
-/// A worker of one pool: a share of it, the buffers that it holds, the objects in its charge, and those that it
-/// finished. Its only bytes are the number of finished objects.
+/// A worker of one pool: its share, the buffers that it holds, the objects in its charge, and those that it finished.
+/// Its only bytes are the number of finished objects.
 #[derive(Drop)]
 pub struct Worker<A: Allocator> {
     pub(crate) seat: Token<A>,
-    /// The number of objects that it finished, with those of the workers that were joined to it.
+    /// The number of objects that were finished by this worker, or by a worker that was joined to it.
     pub(crate) finished: u64,
 }
 
@@ -32,8 +32,8 @@ impl<A: Allocator> Worker<A> {
     ghost use Rattle.buffer_pool.specs.Ranges.{IsWithin};
     ghost use Rattle.buffer_pool.specs.WorkerLog.{LeadsToBook};
 
-    /// Does nothing. Its contract recalls an invariant of each worker: the buffers that it holds are the pool's, and
-    /// its charge has only objects. So a worker may scan what it pops from the full stack.
+    /// Does nothing. Its contract recalls an invariant of each worker: each buffer that it holds and each object in its
+    /// charge is one of the pool's. So a worker may scan the objects that it pops from the full stack.
     pub fn recall_within(&self)
         ensures { IsWithin self.now.book.setup self.now.book.account }
     {
@@ -51,10 +51,11 @@ impl<A: Allocator> Worker<A> {
         let _seat = &self.seat;
     }
 
-    /// Does nothing. Its contract recalls an invariant of each worker: its story is a run from the opening of the pool,
-    /// and at the end of the run the worker has its book. So what its calls returned did happen. For a `Lost`, the
-    /// story has a failed exchange that was possible there. Between the load of the head and that exchange, another
-    /// worker exchanged the head (`mark_core::all_runs_keep_law`, clause `losses`).
+    /// Does nothing. Its contract recalls an invariant of each worker: its story leads from the opening of the pool to
+    /// a marking in which the worker has the account and the counts of its book. So what its calls returned did happen.
+    /// If a try returned `Lost`, the story has a failed exchange, at a moment at which it was possible. Between the
+    /// load of the head and the failed exchange, another worker exchanged the head (`mark_core::all_runs_keep_law`,
+    /// clause `losses`).
     pub fn recall_story(&self)
         ensures { LeadsToBook self.now.log self.now.book }
     {

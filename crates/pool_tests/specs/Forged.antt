@@ -24,7 +24,8 @@ WasNotLost try_push.Done = Unit {0}
 WasNotLost (try_push.Lost back) = ⊥
 WasNotLost (try_push.Spent back) = Unit {0}
 
--- a table between two steps, which has a seat with the number `id` and a word with the number `word`
+-- a table between two steps, with `slots` slots: the seat of number `id` has the view of `me`, and the word of number
+-- `word` fits in 64 bits
 pub record IsBetweenSteps {B : Type 0} (r : Reading B) (e : Setup) (slots id word : ℕ) (me : Me (Option B) SeatView)
     (s : State (Option B) SeatView) : Type 0 where
   pub rule : Rule r e s
@@ -36,7 +37,7 @@ pub record IsBetweenSteps {B : Type 0} (r : Reading B) (e : Setup) (slots id wor
 abbrev pub HasFirstTag : Setup → List ℕ → Which → Type 0
 HasFirstTag e words q = (head_of (slice_index words (head_word q))).tag ≡ e.first_tag
 
--- the words of a table after a step that applies f to a word
+-- the words of a table after a step that applies f to the word of number `word`
 abbrev pub words_after : {B : Type 0} → State (Option B) SeatView → ℕ → (ℕ → ℕ) → List ℕ
 words_after s word f = slice_set s.words word (f (slice_index s.words word))
 
@@ -53,29 +54,30 @@ OtherFirstHeadsWereNot =
     (e : Setup) (q : Which) (h : Head) → h.tag ≡ e.first_tag → h ≢ first_heads e.first_tag q → NeverWas e q h
 
 module _ {B : Type 0} (r : Reading B) where
-  -- while no head has changed, no step on any word can report that an exchange has failed
+  -- while no head has changed since the opening, no step on any word can report that an exchange has failed
   abbrev pub NoForgedLoss : Type 0
   NoForgedLoss =
       (e : Setup) (slots id word : ℕ) (me : Me (Option B) SeatView) (f : ℕ → ℕ) (s : State (Option B) SeatView)
       → IsBetweenSteps r e slots id word me s → ((q : Which) → HasFirstTag e (words_after s word f) q)
       → Allows (Rule r e) slots id me word f (λ n after. 0 < after.0.book.failures) → ⊥
 
-  -- no step on any word can report as the last loaded head one that never was
+  -- no step on any word can report, as the last loaded head of a stack, a head that the stack never had
   abbrev pub NoForgedHead : Type 0
   NoForgedHead =
       (e : Setup) (slots id word : ℕ) (me : Me (Option B) SeatView) (f : ℕ → ℕ) (s : State (Option B) SeatView)
       → IsBetweenSteps r e slots id word me s → (q : Which) (h : Head) → NeverWas e q h
       → Allows (Rule r e) slots id me word f (λ n after. (look_of after.0.book.account q).head ≡ Some h) → ⊥
 
-  -- while the full head has not changed, no step can report a push on full, such as an exchange of the empty head
+  -- while the full head has not changed since the opening, no step, such as an exchange of the empty head, can report a
+  -- push on full
   abbrev pub NoForgedPush : Type 0
   NoForgedPush =
       (e : Setup) (slots id word : ℕ) (me : Me (Option B) SeatView) (f : ℕ → ℕ) (s : State (Option B) SeatView)
       → IsBetweenSteps r e slots id word me s → HasFirstTag e (words_after s word f) Full
       → Allows (Rule r e) slots id me word f (λ n after. after.0.book.account.open_push ≡ true) → ⊥
 
-  -- no step can exchange a head for the link of its buffer under the same tag, or under a tag that is an even number
-  -- more, whatever the step reports
+  -- no step can exchange a head for the link of its buffer under the same tag, or under a tag that is greater by an
+  -- even number, whatever the step reports
   abbrev pub NoEvenPop : Type 0
   NoEvenPop =
       (e : Setup) (slots id : ℕ) (q : Which) (me : Me (Option B) SeatView) (f : ℕ → ℕ) (s : State (Option B) SeatView)

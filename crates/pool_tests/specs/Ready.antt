@@ -5,13 +5,13 @@ use Rattle.buffer_pool.specs.Calls.{Holder}
 use Rattle.work_pair.specs.PairState.{PairState, IsOpen, IsBacked}
 use Rattle.pool_tests.specs.Rounds.{numbers}
 
--- a worker of the pool, which is for n objects that are all roots; it is not idle
+-- a worker of the pool whose table is `pool`. The pool's roots are the n numbers from 0 on, and the worker is not idle
 pub record IsWorker (n : ℕ) (pool : TableId) (w : Holder) : Type 0 where
   pub same : w.pool ≡ pool
   pub roots : w.book.setup.roots ≡ numbers n
   pub idle : w.book.account.idle ≡ 0
 
--- such a worker, with a pair that it backs
+-- such a worker, with an open pair that it backs
 pub record IsReady (n : ℕ) (pool : TableId) (w : Holder) (p : PairState) : Type 0 where
   pub worker : IsWorker n pool w
   pub going : IsOpen p

@@ -8,7 +8,7 @@ use Rattle.buffer_pool.specs.Calls.{Holder, HeldBuffer}
 unfoldable pub numbers : ℕ → List ℕ
 numbers n = range_with_len 0 n
 
--- a worker of the same pool, with the same share and the same idle number
+-- a worker of the same pool, with the same setup, share and idle number
 pub record IsSameWorker (old new : Holder) : Type 0 where
   pub pool : new.pool ≡ old.pool
   pub setup : new.book.setup ≡ old.book.setup
@@ -21,13 +21,13 @@ pub record HasRoots (n : ℕ) (w : Holder) : Type 0 where
   pub roots : w.book.setup.roots ≡ numbers n
   pub pairs : w.book.setup.pairs ≡ []
 
--- it holds no buffer, has nothing in its charge, and is not idle
+-- the worker holds no buffer, has nothing in its charge, and is not idle
 pub record HasNone (w : Holder) : Type 0 where
   pub held : w.book.account.held ≡ []
   pub charge : w.book.account.charge ≡ []
   pub awake : w.book.account.idle ≡ 0
 
--- it holds only the buffer h, has its items in its charge, and is not idle
+-- the worker holds only the buffer h, is charged with exactly the items of h, and is not idle
 pub record HasOne (w : Holder) (h : HeldBuffer) : Type 0 where
   pub held : w.book.account.held ≡ h.index ∷ []
   pub charge : (o : ℕ) → times o w.book.account.charge ≡ times o h.items

@@ -23,7 +23,7 @@ fn claim_all<A: Allocator>(pool: &Pool<A>, mut worker: Worker<A>, objects: u32) 
     white
 }
 
-/// Lets two threads claim all of `objects` objects each, and returns how many claims were of a white object.
+/// Lets each of two threads claim all `objects` objects, and returns how many claims found a white object.
 fn claim_twice<R: Threads>(rt: &R, alloc: Global, objects: u32) -> Result<u32, PoolFault> {
     let (pool, worker) = pool_of_roots(alloc, objects, 4, 2)?;
     let (one, other) = pool.split(worker, 1);

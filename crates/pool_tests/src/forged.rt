@@ -13,15 +13,16 @@ use std::test::Fail;
 
 /// Does nothing. Its contract says what the rule of a pool's table excludes.
 ///
-/// - `loss`: while no head has changed, no step reports that an exchange has failed. So a wrong try of a pop cannot
-///   return `Lost` there, neither after a load of the head only, nor because it finds a lock taken.
-/// - `head`: no step reports as the last loaded head one that the stack never had.
+/// - `loss`: while no head has changed since the opening, no step reports that an exchange has failed. So in that time
+///   a wrong try of a pop cannot return `Lost`, neither after a load of the head only, nor because the try finds a lock
+///   taken.
+/// - `head`: no step reports, as the last loaded head, a head that the stack never had.
 /// - `first`: a stack never had a head with the first tag other than its first head. So at the first tag `sees_empty`
-///   cannot invent a head without a buffer on the empty stack, or one with a buffer on full.
-/// - `push`: while the full head has not changed, no step reports a push on full. So a wrong push on full that
-///   exchanges the empty stack's head cannot return `Done` there.
-/// - `pop`: no step exchanges a head for the link of its buffer under the same tag, or under a tag that is an even
-///   number more.
+///   cannot invent a head without a buffer for the empty stack, or a head with a buffer for the full stack.
+/// - `push`: while the full stack's head has not changed since the opening, no step reports a push on the full stack.
+///   So in that time a wrong push that exchanges the empty stack's head instead cannot return `Done`.
+/// - `pop`: no step exchanges a head for the link of its buffer under the same tag, or under a tag that is greater by
+///   an even number.
 fn no_telling_is_forged<A: Allocator>()
     ensures loss { NoForgedLoss (buffer_reading {A = A}) }
     ensures head { NoForgedHead (buffer_reading {A = A}) }
@@ -35,8 +36,8 @@ fn tellings() {
     no_telling_is_forged::<Global>();
 }
 
-/// Tries to push a buffer for a worker that has the whole share: such a try is never lost. This follows only from the
-/// contracts of the calls, and names nothing that a pool's author may choose.
+/// Tries to push `held` for a worker that has the whole share. Such a try is never lost (`never`). This follows from
+/// the contracts of the calls, without anything that a pool's author may choose.
 fn push_alone<A: Allocator>(
     pool: &Pool<A>,
     worker: &mut Worker<A>,

@@ -63,7 +63,7 @@ fn claim_marked<R: Abort, A: Allocator>(rt: &R, pool: &Pool<A>, worker: &mut Wor
     assert!(rt; !pool.claim(worker, object), "object {object}");
 }
 
-/// Claims the root, scans it, and finishes it.
+/// Claims the root and the two objects to which it refers, and finishes the root.
 fn scan_root<R: Abort, A: Allocator>(rt: &R, pool: &Pool<A>, worker: &mut Worker<A>)
     requires pool { worker.old.pool ≡ pool.now }
     requires book { worker.old.book ≡ begun }
@@ -76,7 +76,8 @@ fn scan_root<R: Abort, A: Allocator>(rt: &R, pool: &Pool<A>, worker: &mut Worker
     pool.finish(worker, 1);
 }
 
-/// Finishes the class, which refers to nothing, and scans the other object, whose successors are marked.
+/// Finishes the class, which refers to nothing. Then claims the successors of object 2, which are marked already, and
+/// finishes object 2.
 fn scan_rest<R: Abort, A: Allocator>(rt: &R, pool: &Pool<A>, worker: &mut Worker<A>)
     requires pool { worker.old.pool ≡ pool.now }
     requires book { worker.old.book ≡ root_finished }

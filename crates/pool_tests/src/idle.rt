@@ -8,9 +8,9 @@ use buffer_pool::{Pool, PoolFault, Which, Worker};
 use std::alloc::Allocator;
 use std::test::Fail;
 
-/// Lets both workers go idle, and the first one come back. Returns the results of four tests: whether two are idle
-/// after the first went idle, whether two are and whether one is after both did, and whether two are after the first
-/// came back. Returns `None` if the full stack was not seen empty.
+/// Lets `one` and then `other` go idle, and then `one` come back. Returns four results of `all_idle`: for two workers
+/// after `one` went idle; for two and for one after both did; and for two after `one` came back. Returns `None` if a
+/// worker did not see the full stack empty.
 fn idle_in_turn<A: Allocator>(
     pool: &Pool<A>,
     one: &mut Worker<A>,
@@ -31,7 +31,7 @@ fn idle_in_turn<A: Allocator>(
     Some([two_with_one_idle, two, one_alone, pool.all_idle(other, 2)])
 }
 
-/// Lets two workers of one unit each go idle in turn, in a new pool.
+/// Calls [`idle_in_turn`] with two workers of one unit each, in a new pool.
 fn two_idle_workers<A: Allocator + Copy>(alloc: A) -> Result<Option<[bool; 4]>, PoolFault> {
     let (pool, leader) = pool_of_roots(alloc, 1, 4, 2)?;
     let (leader, mut one) = pool.split(leader, 1);

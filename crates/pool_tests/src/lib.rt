@@ -2,8 +2,8 @@
 //! crates are proved once, and not again with their tests. They use public calls only.
 //!
 //! They test what only a run shows: that calls succeed, what happens without memory and at last tags, and that threads
-//! end. `worked` has the run that `buffer_pool` quotes, `waiting` and `mark_bits` the words of a pool's table, and
-//! `forged` what its rule excludes.
+//! end. `worked` has the run that `buffer_pool` quotes. `waiting` and `mark_bits` test the words of a pool's table, and
+//! `forged` has what the table's rule excludes.
 
 #![tactic(auto)]
 

@@ -18,7 +18,7 @@ const OBJECTS: u32 = 33;
 
 const BUFFERS: u32 = 4;
 
-/// Returns word `number` of the marks as it is now, if there is one.
+/// Returns word `number` of the marks as it is now, or `None` beyond the last word.
 fn word_now<A: Allocator>(pool: &Pool<A>, number: usize) -> Option<u64>
     requires { number < 4 }
 {
@@ -37,7 +37,7 @@ fn claim_root<R: Abort, A: Allocator>(rt: &R, pool: &Pool<A>, worker: &mut Worke
     claim_white(rt, pool, worker, object);
 }
 
-/// Claims `object`, which is white, and finishes it. Returns word 0 after each of the two.
+/// Claims `object`, which is white, and finishes it. Returns word 0 of the marks after the claim, and after the finish.
 fn claim_and_finish<R: Abort, A: Allocator>(
     rt: &R,
     pool: &Pool<A>,
@@ -59,12 +59,12 @@ fn claim_and_finish<R: Abort, A: Allocator>(
     (claimed, word_now(pool, 0))
 }
 
-/// The results of a run that claims and finishes object 0, then object 31, then object 32. They are word 0 after each
-/// of the first four steps, words 0, 1 and 2 while object 32 is claimed and not finished, and what the marks say at the
-/// end.
+/// The results of a run that claims and finishes object 0, then object 31, then object 32. They are word 0 of the marks
+/// after each of the first four steps, words 0, 1 and 2 while object 32 is claimed and not finished, and what calls on
+/// the closed pool's marks return (`Told`).
 type Words = ([Option<u64>; 4], [Option<u64>; 3], Told);
 
-/// The number of finished objects, and the first object that is not finished: of all, and from object 31 on.
+/// The number of finished objects, the first unfinished object of all, and the first from object 31 on.
 type Told = (u64, [Option<u32>; 2]);
 
 fn words_of_33<R: Abort>(rt: &R, alloc: Global) -> Result<Words, PoolFault> {

@@ -1,13 +1,13 @@
-//! Tests that run out of memory at each request of the opening of a pool. The other calls of a pool make no request:
-//! see `worked.rt`.
+//! Tests that refuse each request for memory of the opening of a pool in turn. The other calls of a pool make no
+//! request: see `worked.rt`.
 
 use crate::edges::Roots;
 use buffer_pool::{Pool, PoolFault, Which};
 use limited_heap::{LimitedHeap, requests_of};
 use std::alloc::Global;
 
-/// Tests whether a pool of four buffers is opened on `heap`, or the opening is out of memory and `heap` refused a
-/// request.
+/// Tests whether the opening of a pool of four buffers on `heap` succeeds, with a buffer on the empty stack, or returns
+/// `OutOfMemory` after `heap` refused a request.
 fn is_right_or_told(heap: &LimitedHeap<Global>) -> bool {
     match Pool::new(heap, &Roots { objects: 3 }, 4, 2, 0) {
         Ok((pool, mut worker)) => !pool.sees_empty(&mut worker, Which::Empty),
@@ -21,7 +21,7 @@ fn requests_of_a_pool(alloc: Global) -> u64 {
     requests_of(alloc, is_right_or_told).unwrap_or(0)
 }
 
-/// Creates a heap that grants the requests of a pool of four buffers, and no later one.
+/// Creates a heap that grants the requests of the opening of a pool of four buffers, and refuses all later ones.
 pub(crate) fn heap_of_a_pool(alloc: Global) -> LimitedHeap<Global> {
     LimitedHeap::new(alloc, requests_of_a_pool(alloc))
 }

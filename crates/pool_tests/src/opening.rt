@@ -1,10 +1,10 @@
-//! Sizes that a pool may just have, and sizes that it refuses.
+//! Numbers that are just in the ranges of `Pool::new`, and numbers that are just outside.
 
 use crate::edges::Roots;
 use buffer_pool::{Pool, PoolFault};
 use tagged_index::LAST_TAG;
 
-/// Objects, buffers, size and first tag, and whether a pool may have them.
+/// The numbers of objects and buffers, the size of a buffer and the first tag, and whether a pool may have them.
 const SIZES: [(u32, u32, u32, u64, bool); 10] = [
     (0, 4, 2, 0, true),
     (16_777_216, 4, 2, LAST_TAG, true),

@@ -1,6 +1,7 @@
-//! Four threads that pop and push four buffers at the same time. They lose exchanges when they overlap. How often they
-//! do depends on the machine: never, if a single processor runs the threads one after another. A test cannot hold up a
-//! call of a pool between its load and its exchange. So losses are counted and not required.
+//! Four threads that pop and push four buffers at the same time. A thread loses an exchange if another thread has
+//! exchanged the same head since the first thread's load. How many exchanges are lost depends on the machine: none, if
+//! a single processor runs the threads one after another. A test cannot hold up a call of a pool between its load and
+//! its exchange. So losses are counted and not required.
 ghost use Rattle.std.specs.Prelude.{◌≡◌, [], ◌∷◌, IfOk, MatchOption};
 ghost use Rattle.pool_tests.specs.Worked.{Holds, bare};
 
@@ -15,7 +16,8 @@ use std::thread::{Threads, join};
 /// The rounds of each of the four threads.
 const ROUNDS: u32 = 20_000;
 
-/// A worker, the number of exchanges of a head that it has won, and the number of tries of a pop that it has lost.
+/// A worker, the number of exchanges of a head that it has won, and the number of calls of `try_pop` that it has lost,
+/// each with those of the workers that were joined to it.
 #[derive(Drop)]
 struct Racer {
     worker: Worker<Global>,
@@ -23,7 +25,8 @@ struct Racer {
     lost: u64,
 }
 
-/// Pops the buffer on top, which has no items.
+/// Pops the buffer on top of the stack `which`, and tests that it has no items. Returns `None` if the stack has no
+/// buffer.
 fn pop_any<R: Wait + Abort, A: Allocator>(
     rt: &R,
     pool: &Pool<A>,
@@ -46,8 +49,8 @@ fn pop_any<R: Wait + Abort, A: Allocator>(
     }
 }
 
-/// Moves the buffer on top of one stack to the other. Returns how many exchanges were won: two, or none if there is no
-/// buffer.
+/// Moves the buffer on top of the stack `from` to the stack `to`. Returns how many exchanges were won: two, or none if
+/// `from` has no buffer.
 fn carry<R: Wait + Abort, A: Allocator>(
     rt: &R,
     pool: &Pool<A>,
@@ -69,7 +72,8 @@ fn carry<R: Wait + Abort, A: Allocator>(
     }
 }
 
-/// Tries once to pop, and pushes back what was popped. Returns whether the try was lost.
+/// Tries once to pop from the empty stack. Pushes a popped buffer back, and then adds the two exchanges to `won`.
+/// Returns whether the try was lost.
 fn loses<R: Wait + Abort, A: Allocator>(
     rt: &R,
     pool: &Pool<A>,
@@ -114,7 +118,7 @@ fn run<R: Wait + Abort>(rt: &R, pool: &Pool<Global>, worker: Worker<Global>) -> 
     Racer { worker, won, lost }
 }
 
-/// Runs two threads side by side.
+/// Runs two threads side by side, and unites their results.
 fn run_two<R: Threads + Wait + Abort + Sync>(
     rt: &R,
     pool: &Pool<Global>,

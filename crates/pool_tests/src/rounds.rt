@@ -17,7 +17,7 @@ const BUFFERS: u32 = 64;
 /// The number of objects of one thread.
 const PART: u32 = 1_000;
 
-/// The number of objects of one round, which is as many as a buffer takes.
+/// The most objects of one round: as many as a buffer takes.
 const ROUND: u32 = 16;
 
 /// The most tries of one pop or push. A try is lost only if another thread's pop or push succeeds between the try's
@@ -108,8 +108,8 @@ fn finish_items<A: Allocator>(pool: &Pool<A>, worker: &mut Worker<A>, held: &mut
     }
 }
 
-/// Pops a buffer from the full stack, finishes its objects, and pushes it on the empty one. Returns `false` if there is
-/// none.
+/// Pops a buffer from the full stack, finishes its objects, and pushes the buffer on the empty stack. Returns `false`
+/// if the full stack has no buffer.
 pub(crate) fn finish_buffer<R: Abort, A: Allocator>(
     rt: &R,
     pool: &Pool<A>,
@@ -129,7 +129,8 @@ pub(crate) fn finish_buffer<R: Abort, A: Allocator>(
     true
 }
 
-/// Claims objects `from` to `to` - 1, and pushes a buffer with those that were white on the full stack.
+/// Claims objects `from` to `to` - 1, puts those that were white into a buffer, and pushes the buffer on the full
+/// stack.
 pub(crate) fn fill_buffer<R: Abort, A: Allocator>(
     rt: &R,
     pool: &Pool<A>,
@@ -151,7 +152,8 @@ pub(crate) fn fill_buffer<R: Abort, A: Allocator>(
     push_within(rt, pool, worker, Which::Full, held);
 }
 
-/// Does the work of one thread.
+/// Does the work of one thread, in rounds: each fills a buffer with objects of the thread's part, which begins at
+/// object `begin`, and then finishes a buffer.
 fn go_through<R: Abort, A: Allocator>(
     rt: &R,
     pool: &Pool<A>,
@@ -175,7 +177,8 @@ fn go_through<R: Abort, A: Allocator>(
     worker
 }
 
-/// Runs two threads side by side, each with a part of its own.
+/// Runs two threads side by side, each with a part of its own. The first part begins at object `begin`. Returns the two
+/// workers, joined.
 fn go_side_by_side<R: Threads + Abort + Sync>(
     rt: &R,
     pool: &Pool<Global>,
@@ -200,7 +203,7 @@ fn go_side_by_side<R: Threads + Abort + Sync>(
     pool.join(first, second)
 }
 
-/// Finishes what is left on the full stack.
+/// Finishes the objects of the buffers that remain on the full stack.
 fn finish_rest<R: Abort, A: Allocator>(rt: &R, pool: &Pool<A>, worker: Worker<A>) -> Worker<A>
     requires pool { worker.pool ≡ pool.now }
     requires roots { HasRoots OBJECTS worker }

@@ -9,7 +9,8 @@ use std::alloc::Allocator;
 use std::test::Fail;
 use tagged_index::LAST_TAG;
 
-/// Tests whether a pop and a look find the full stack empty, and whether a pop of the empty stack finds its last tag.
+/// Returns whether a pop finds that the full stack has no buffer, whether `sees_empty` finds the same, and whether a
+/// pop from the empty stack finds the last tag.
 fn look_at_both<A: Allocator>(pool: &Pool<A>, worker: &mut Worker<A>) -> [bool; 3]
     requires pool { worker.old.pool ≡ pool.now }
     requires none { Holds 2 [] worker.old }
@@ -20,9 +21,9 @@ fn look_at_both<A: Allocator>(pool: &Pool<A>, worker: &mut Worker<A>) -> [bool; 
     [popped, seen, spent]
 }
 
-/// Pops a buffer of the empty stack, and tries to push it there, which finds the last tag. Returns how many items the
-/// buffer has before and after the push, and whether a further pop finds that tag too. Returns `None` if the pop or the
-/// push has another result.
+/// Pops a buffer from the empty stack, and tries to push it back; the push finds the last tag. Returns how many items
+/// the buffer has before and after that push, and whether a further pop finds the last tag too. Returns `None` if the
+/// first pop takes no buffer, or if the push does not find the last tag.
 fn pop_and_push<A: Allocator>(pool: &Pool<A>, worker: &mut Worker<A>) -> Option<(u32, u32, bool)>
     requires pool { worker.old.pool ≡ pool.now }
     requires none { Holds 2 [] worker.old }
@@ -48,7 +49,7 @@ fn before_the_last<A: Allocator + Copy>(alloc: A) -> Result<Option<(u32, u32, bo
     Ok(pop_and_push(&pool, &mut worker))
 }
 
-/// An empty stack is empty also at the last tag.
+/// A pop from a stack without buffers returns `Empty` also at the last tag.
 #[test]
 fn at_the_last_tag(rt: HostRuntime) -> Result<(), Fail> {
     let heap = heap_of_a_pool(rt.alloc());
@@ -57,7 +58,7 @@ fn at_the_last_tag(rt: HostRuntime) -> Result<(), Fail> {
     Ok(())
 }
 
-/// One exchange is left: a pop takes it, and the push of that buffer is refused.
+/// The head can be exchanged once more. A pop does it, and then the push of the popped buffer returns `Spent`.
 #[test]
 fn before_the_last_tag(rt: HostRuntime) -> Result<(), Fail> {
     let heap = heap_of_a_pool(rt.alloc());

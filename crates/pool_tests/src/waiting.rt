@@ -36,7 +36,7 @@ fn word<R: Abort, A: Allocator>(rt: &R, pool: &Pool<A>, number: usize) -> u64 {
     word
 }
 
-/// Returns the index and the tag of a head as they are in the table.
+/// Returns the index and the tag of the head of the stack `which`, as they are in the table now.
 pub(crate) fn head<R: Abort, A: Allocator>(
     rt: &R,
     pool: &Pool<A>,
@@ -46,7 +46,7 @@ pub(crate) fn head<R: Abort, A: Allocator>(
     (head.index(), head.tag())
 }
 
-/// Returns the link word of `buffer` as it is in the table.
+/// Returns the link word of `buffer` as it is in the table now.
 fn link<R: Abort, A: Allocator>(rt: &R, pool: &Pool<A>, buffer: usize) -> u64
     requires { buffer < 4 }
 {
@@ -62,7 +62,7 @@ fn links<R: Abort, A: Allocator>(rt: &R, pool: &Pool<A>) -> [u64; 4] {
     ]
 }
 
-/// Pops buffer `wanted`, which has no items.
+/// Pops a buffer, and tests that it is buffer `wanted` and has no items.
 fn pop_bare<R: Wait + Abort, A: Allocator>(
     rt: &R,
     pool: &Pool<A>,
@@ -84,7 +84,7 @@ fn pop_bare<R: Wait + Abort, A: Allocator>(
     held
 }
 
-/// Pushes a buffer without items.
+/// Pushes `held`, which has no items.
 pub(crate) fn push_bare<R: Wait + Abort, A: Allocator>(
     rt: &R,
     pool: &Pool<A>,
@@ -111,7 +111,7 @@ fn sees_empty<A: Allocator>(pool: &Pool<A>, worker: &mut Worker<A>, which: Which
     pool.sees_empty(worker, which)
 }
 
-/// Pops buffers 0, 1 and 2 from the empty stack, and returns the last two.
+/// Pops buffers 0, 1 and 2 from the empty stack, and returns buffers 1 and 2. Buffer 0 is dropped.
 fn pop_three<R: Wait + Abort, A: Allocator>(
     rt: &R,
     pool: &Pool<A>,
@@ -129,8 +129,8 @@ fn pop_three<R: Wait + Abort, A: Allocator>(
     (second, third)
 }
 
-/// Pushes buffer 2 and then buffer 1 on the full stack. The stack is seen empty before the first push, and not after
-/// it.
+/// Pushes buffer 2 and then buffer 1 on the full stack. Tests that the stack is seen empty before the first push, and
+/// not after it.
 fn push_two<R: Wait + Abort, A: Allocator>(
     rt: &R,
     pool: &Pool<A>,
@@ -149,7 +149,8 @@ fn push_two<R: Wait + Abort, A: Allocator>(
     push_bare(rt, pool, worker, Which::Full, second);
 }
 
-/// Pops both buffers from the full stack, which is then seen empty, and pushes buffer 1 back.
+/// Pops buffers 1 and 2 from the full stack, and pushes buffer 1 back. Tests that the stack is seen empty between the
+/// second pop and the push, and not before or after.
 fn pop_two_push_one<R: Wait + Abort, A: Allocator>(rt: &R, pool: &Pool<A>, worker: &mut Worker<A>)
     requires pool { worker.old.pool ≡ pool.now }
     requires none { Holds 2 [] worker.old }
@@ -162,7 +163,7 @@ fn pop_two_push_one<R: Wait + Abort, A: Allocator>(rt: &R, pool: &Pool<A>, worke
     assert!(rt; !sees_empty(pool, worker, Which::Full));
 }
 
-/// The heads of the full stack and of the empty one, and the link words.
+/// The heads of the full stack and of the empty one, each as its index and tag, and the four link words.
 type Stacks = ((Option<u32>, u64), (Option<u32>, u64), [u64; 4]);
 
 fn stacks<R: Abort, A: Allocator>(rt: &R, pool: &Pool<A>) -> Stacks {

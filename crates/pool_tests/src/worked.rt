@@ -34,7 +34,7 @@ fn told<A: Allocator>(marks: &Marks<A>) -> Told
 }
 
 /// Returns the marks after a run in which objects 0 and 1 are finished, 2 and 3 are on the full stack, and 4 is white.
-/// Returns also the first object that is not finished, of all and from object 3 on.
+/// Returns also the first unfinished object of all, and the first from object 3 on.
 fn marks_of_each_kind<R: Abort>(
     rt: &R,
     alloc: Global,
@@ -57,8 +57,9 @@ enum Who {
     Other,
 }
 
-/// A turn: claims a range of objects and pushes a buffer with them on the full stack, or finishes the objects of a
-/// buffer of the full stack. The flag says whether that stack has a buffer.
+/// A turn. `Fill(from, to)` claims objects `from` to `to` - 1, puts those that were white into a buffer, and pushes the
+/// buffer on the full stack. `Finish` finishes the objects of a buffer of the full stack; its flag says whether the
+/// stack has a buffer.
 #[derive(Clone, Copy, Drop)]
 enum Does {
     Fill(u32, u32),
@@ -81,7 +82,7 @@ fn take_turn<R: Abort, A: Allocator>(rt: &R, pool: &Pool<A>, worker: &mut Worker
     }
 }
 
-/// Lets two workers take their turns.
+/// Lets `one` and `other` take `turns`, in order.
 fn go_in_turn<R: Abort, A: Allocator>(
     rt: &R,
     pool: &Pool<A>,
@@ -103,7 +104,7 @@ fn go_in_turn<R: Abort, A: Allocator>(
     }
 }
 
-/// Returns the marks of a new pool after two workers have taken their turns.
+/// Returns the marks of a new pool after two workers have taken `turns`.
 fn told_after<R: Abort, A: Allocator + Copy>(
     rt: &R,
     alloc: A,
@@ -126,9 +127,9 @@ const FINISHED: (bool, bool) = (true, true);
 /// The turns of two workers, and then the marks of objects 0 to 4 and the number of finished objects.
 type Run = (&'static [(Who, Does)], &'static [(bool, bool)], u64);
 
-/// Three runs. In the first nothing is claimed. In the second one worker finishes objects 0 and 1, the other one object
-/// 2, and 3 is claimed and not finished. In the third both claim object 1, each finishes a buffer, and then the full
-/// stack is empty.
+/// Three runs. In the first, nothing is claimed. In the second, one worker finishes objects 0 and 1, the other finishes
+/// object 2, and object 3 is only claimed. In the third, both workers claim object 1, each finishes a buffer, and then
+/// the full stack is empty.
 static RUNS: [Run; 3] = [
     (&[], &[WHITE, WHITE, WHITE, WHITE, WHITE], 0),
     (
@@ -164,8 +165,9 @@ fn marks_of_one_run(rt: HostRuntime) -> Result<(), Fail> {
     Ok(())
 }
 
-/// The calls of a pool make no allocation: they run while each request would be refused, and make none. The tests of
-/// idle workers, of the last tags, of items and of pops and pushes that wait run on such a heap too.
+/// The calls on an open pool make no allocation: they run on a heap that refuses every further request, and it refuses
+/// none. Such a heap also serves the tests of idle workers, of the last tags, of buffers' items, and of pops and pushes
+/// that try again.
 #[test]
 fn the_pool_takes_no_memory(rt: HostRuntime) -> Result<(), Fail> {
     for (turns, wanted, wanted_finished) in &RUNS {
@@ -179,7 +181,7 @@ fn the_pool_takes_no_memory(rt: HostRuntime) -> Result<(), Fail> {
     Ok(())
 }
 
-/// Puts `objects` into the buffer until one is refused, and returns that one.
+/// Puts `objects` into `held` until one is refused. Returns the refused object, or `None` if the buffer took all.
 fn put_until_full<A: Allocator>(held: &mut Held<A>, objects: &[u32]) -> Option<u32>
     ensures { held.new.size ≡ held.old.size }
 {
@@ -191,7 +193,7 @@ fn put_until_full<A: Allocator>(held: &mut Held<A>, objects: &[u32]) -> Option<u
     None
 }
 
-/// The results of three takes, and the number of objects left.
+/// The results of three calls of `take`, and the number of objects left.
 type Taken = ([Option<u32>; 3], u32);
 
 fn take_three<A: Allocator>(held: &mut Held<A>) -> Taken {
@@ -199,12 +201,12 @@ fn take_three<A: Allocator>(held: &mut Held<A>) -> Taken {
     (taken, held.len())
 }
 
-/// The object that a full buffer refused, the number of objects in each of two buffers then, and what was taken from
-/// each buffer after the upper half was moved.
+/// The object that the first buffer refused, how many objects each of two buffers had then, and what was taken from
+/// each buffer after the upper half of the first was moved into the second.
 type Items = (Option<u32>, (u32, u32), Taken, Taken);
 
-/// Puts 10 to 15 into a buffer of a new pool and moves the upper half into another one. Returns `None` if a pop finds
-/// no buffer.
+/// Puts objects 10 to 15 into a buffer of a new pool until one is refused, moves the upper half into another buffer,
+/// and takes three objects from each. Returns `None` if a pop finds no buffer.
 fn items_of_two<A: Allocator>(pool: &Pool<A>, worker: &mut Worker<A>) -> Option<Items>
     requires pool { worker.old.pool ≡ pool.now }
     requires awake { worker.old.book.account.idle ≡ 0 }
@@ -226,7 +228,8 @@ fn items_of_a_pool<A: Allocator + Copy>(alloc: A) -> Result<Option<Items>, PoolF
     Ok(items_of_two(&pool, &mut worker))
 }
 
-/// Puts five objects, moves two of them, and takes all, the last first. A full buffer refuses an object.
+/// Five objects fit into a buffer, and a sixth is refused. Two are moved to another buffer, and all are taken, from
+/// each buffer the last object first.
 #[test]
 fn items_of_buffers(rt: HostRuntime) -> Result<(), Fail> {
     let heap = heap_of_a_pool(rt.alloc());

@@ -14,7 +14,8 @@ use Rattle.buffer_pool.specs.working.Setups.{setup_of}
 use Rattle.buffer_pool.specs.working.Slots.{Carries}
 use Rattle.buffer_pool.specs.working.Views.{HasSaidAll}
 
--- the table has the words and slots of the setup, and roots and pairs are of objects
+-- the table has the words and slots of the setup. The setup's numbers of buffers and objects are in their ranges, and
+-- its roots and pairs are of objects
 pub record IsLaid (t : TableId) (e : Setup) : Type 0 where
   pub words : t.words ≡ 32 + e.buffers + mark_words e.objects
   pub slots : t.slots ≡ e.buffers

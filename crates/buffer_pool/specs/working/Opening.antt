@@ -6,8 +6,9 @@ use Rattle.mark_core.specs.Runs.{first_heads}
 use Rattle.buffer_pool.specs.working.Layout.{head_word, idle_word, link_word}
 use Rattle.buffer_pool.specs.working.Slots.{Reading}
 
--- the full stack has no buffer, each of the first buffers of the empty stack links to the next one, and each later word
--- is 0
+-- the `count` words of a new pool, of whose buffers the first `linked` are linked so far. Both heads have the tag
+-- `tag`, with no buffer on the full stack and buffer 0 on top of the empty one. Each of the linked buffers but the last
+-- links to the next one. The idle word, the link of the last of these buffers, and each later word are 0
 pub record HasFirstWords (count tag linked : ℕ) (words : List ℕ) : Type 0 where
   pub word_count : length words ≡ count
   pub heads : (q : Which) → head_of (slice_index words (head_word q)) ≡ first_heads tag q
@@ -15,6 +16,6 @@ pub record HasFirstWords (count tag linked : ℕ) (words : List ℕ) : Type 0 wh
   pub links : (i : ℕ) → i + 1 < linked → slice_index words (link_word i) ≡ i + 2
   pub rest : (k : ℕ) → 31 + linked ≤ k → slice_index words k ≡ 0
 
--- a slot with a buffer of the given size that has no items
+-- a slot with a buffer that takes `size` items and has none
 abbrev pub IsFirstSlot : {B : Type 0} → Reading B → ℕ → Option B → Type 0
 IsFirstSlot {B} r size slot = (b : B) × (slot ≡ Some b) × (r.items b ≡ []) × (r.size b ≡ size)

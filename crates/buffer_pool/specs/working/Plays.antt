@@ -1,5 +1,5 @@
--- The plays: what each step on the table says to the worker that makes it. Each relates the step, the seat before, the
--- number found and the seat after.
+-- The plays: what each step on the table says to the worker that makes it. Each play relates the step, the seat before
+-- it, the number found in the word, and the seat after it.
 use Rattle.std.specs.Prelude.{Contains, ◌≡◌, ◌≢◌, ℕ, suc, ◌%◌, ◌<◌, ◌≤◌, true, false, List, [], ◌∷◌, ◌++◌, length}
 use Rattle.std.specs.Prelude.{Option, Some, None}
 use Rattle.atomic_table.specs.Table.{Me, Step}
@@ -23,7 +23,7 @@ use Rattle.buffer_pool.specs.working.MarkBits.{pair_bits, pair_mark}
 use Rattle.buffer_pool.specs.working.Layout.{head_word, link_word, mark_word}
 use Rattle.buffer_pool.specs.working.Slots.{Reading, free}
 
--- the seat between two calls, with a log, a book and no slot out
+-- the seat m with the log `log`, the book b and no slot out, as it is between two calls
 abbrev pub rested : {B : Type 0} → Me (Option B) SeatView → Log → Book → Me (Option B) SeatView
 rested m log b = (record (logged log (free m.0)) { book = b }, [])
 
@@ -32,7 +32,8 @@ pub record IsOurs {B : Type 0} (r : Reading B) (e : Setup) (b : B) : Type 0 wher
   pub size : r.size b ≡ e.size
   pub objects : (o : ℕ) → Contains (r.items b) o → o < e.objects
 
--- the seat may exchange the head `old` for the buffer b of number i, whose slot is out and has b
+-- the seat may exchange the head `old` for `new`, which names the buffer of number i. The slot of this buffer is out,
+-- and has b
 pub record CanPut
     {B : Type 0} (r : Reading B) (q : Which) (m : Me (Option B) SeatView) (old new i : ℕ) (b : B) : Type 0 where
   pub carried : m.1 ≡ (i, Some b) ∷ []
@@ -50,7 +51,7 @@ pub record CanPut
   pub fits : length (r.items b) ≤ m.0.book.setup.size
   pub busy : q ≡ Full → IsBusy m.0.book.account
 
--- the seat took exactly these steps, and its log has them afterwards
+-- the seat took exactly the steps `kinds`, and its log has them afterwards
 abbrev pub SeatDid : {B : Type 0} → Me (Option B) SeatView → List Kind → Me (Option B) SeatView → Type 0
 SeatDid m kinds after = Did m.0.log kinds after.0.log
 
@@ -58,7 +59,8 @@ SeatDid m kinds after = Did m.0.log kinds after.0.log
 abbrev pub StoryLeads : {B : Type 0} → Me (Option B) SeatView → Type 0
 StoryLeads after = LeadsToBook after.0.log after.0.book
 
--- the seat rests with the book: `kinds` are exactly its new steps in the log, whose story leads to the book
+-- the seat rests with `book`, and no slot is out: `kinds` are exactly its new steps in the log, whose story leads to
+-- the book
 pub record RestsWith
     {B : Type 0} (m : Me (Option B) SeatView) (book : Book) (kinds : List Kind) (after : Me (Option B) SeatView)
     : Type 0 where
@@ -67,7 +69,7 @@ pub record RestsWith
   pub story : StoryLeads after
 
 module _ {B : Type 0} where
-  -- a load of a head: the slot that was out goes home
+  -- a load of a head: a slot that was out goes home
   abbrev pub head_seen : Step (Option B) → Me (Option B) SeatView → ℕ → Me (Option B) SeatView → Type 0
   head_seen st m n after =
       (q : Which) → st.word ≡ head_word q
@@ -86,7 +88,7 @@ module _ {B : Type 0} where
       → (after ≡ (record (logged after.0.log m.0) { out = suc i; out_link = n }, (i, None) ∷ []))
       × SeatDid m (StoreLink i (index_of n) ∷ []) after × StoryLeads after
 
-  -- an exchange of a head for the link of its buffer i has succeeded: the buffer's slot comes out, with its value
+  -- an exchange of a head for the link of its buffer i has succeeded: the buffer's slot comes out, with `value` in it
   pub record HasTaken
       (r : Reading B) (q : Which) (i : ℕ) (value : Option B) (m after : Me (Option B) SeatView) (b : B) : Type 0 where
     pub slots : after.1 ≡ (i, value) ∷ []
@@ -113,7 +115,7 @@ module _ {B : Type 0} where
   abbrev pub HasPushed : Which → ℕ → List ℕ → Me (Option B) SeatView → Me (Option B) SeatView → Type 0
   HasPushed q i items m after = RestsWith m (pushed q i items m.0.book) (Push q i items ∷ []) after
 
-  -- such an exchange has failed, and the slots that are out stay out
+  -- an exchange of a head for a buffer has failed, and `slots`, which are out, stay out
   abbrev pub HasKept : Which → List (ℕ × Option B) → Me (Option B) SeatView → Me (Option B) SeatView → Type 0
   HasKept q slots m after =
       (after ≡ (record (logged after.0.log m.0) { book = failed m.0.book }, slots)) × SeatDid m (Fail q ∷ []) after
@@ -139,7 +141,7 @@ module _ {B : Type 0} where
       → RestsWith m (finished o m.0.book) (Finish o ∷ []) after
       × ((p : ℕ) → times p after.0.book.account.finished ≤ 1)
 
-  -- the worker went idle, or came back
+  -- the worker went idle; below, it came back
   abbrev pub went_idle : Step (Option B) → Me (Option B) SeatView → ℕ → Me (Option B) SeatView → Type 0
   went_idle st m n after = RestsWith m (idled m.0.book) (IdleUp ∷ []) after
 
@@ -156,10 +158,11 @@ module _ {B : Type 0} where
   set_aside st m n after = (after ≡ (record (logged after.0.log (free m.0)) { aside = st.first }, []))
       × SeatDid m [] after
 
-  -- The slot that was out went home. The account has each buffer and each object at most once, and all are the pool's.
-  -- The log is up to date: it has the noted steps, and continues the story that was taken in. That story is another
-  -- worker's. If that worker was joined, it did nothing after its story. A worker that learns its number only now has
-  -- done nothing
+  -- A slot that was out went home. The account holds each buffer at most once, and has each object at most once in its
+  -- charge and finished list. The held buffers and charged objects are the pool's. The log is up to date: it has the
+  -- noted steps, and continues the story that was taken in, which is another worker's. If the view had its worker's
+  -- number before, that other worker did nothing after its story. A worker that learns its number only now has done
+  -- nothing
   pub record IsUpToDate (m after : Me (Option B) SeatView) : Type 0 where
     pub same : after ≡ (logged after.0.log (free m.0), [])
     pub each : HasEachOnce m.0.book.account

@@ -1,5 +1,5 @@
--- The slots of the pool's table, one for each buffer: which one is out with a seat, and what the others, at home in the
--- table, have.
+-- The slots of the pool's table, one for each buffer: which one is out with a seat, and what the slots that are at home
+-- in the table have.
 use Rattle.std.specs.Prelude.{◌≡◌, ℕ, zero, suc, ◌<◌, List, [], ◌∷◌, Option, Some, None, slice_index}
 use mathlib.Core.Option.{none, some}
 use mathlib.Core.Option as maybe
@@ -14,7 +14,7 @@ pub record Reading (B : Type 0) : Type 0 where
   pub items : B → List ℕ
   pub size : B → ℕ
 
--- what a seat holds between two calls: the slot that it took last, without its buffer
+-- what a seat holds between two calls: the slot that is out, if any, without its buffer
 abbrev pub slots_of : {B : Type 0} → ℕ → List (ℕ × Option B)
 slots_of zero = []
 slots_of (suc i) = (i, None) ∷ []
@@ -22,11 +22,11 @@ slots_of (suc i) = (i, None) ∷ []
 abbrev pub Carries : {B : Type 0} → Me (Option B) SeatView → Type 0
 Carries m = m.1 ≡ slots_of m.0.out
 
--- the view after that slot went home
+-- the view after the slot that was out went home
 abbrev pub free : SeatView → SeatView
 free v = record v { out = 0; out_link = 0 }
 
--- a buffer whose slot is out is held, and its link is as it was noted
+-- a buffer whose slot is out is held, and its link word is `out_link`
 abbrev pub IsTied : List ℕ → SeatView → Type 0
 IsTied words v =
     (i : ℕ) → v.out ≡ suc i → (0 < times i v.book.account.held) × (slice_index words (link_word i) ≡ v.out_link)
@@ -35,7 +35,7 @@ IsTied words v =
 abbrev pub Rests : {B : Type 0} → List (maybe.Option (Option B)) → SeatView → Type 0
 Rests homes v = (i : ℕ) → 0 < times i v.book.account.held → (v.out ≡ suc i → ⊥) → get_elem? homes i ≡ some (some None)
 
--- the items at home in a slot
+-- the items of the buffer in a slot. None if the slot is not at home, or has no buffer
 abbrev pub slot_of : {B : Type 0} → Reading B → maybe.Option (Option B) → Option (List ℕ)
 slot_of r none = None
 slot_of r (some None) = None

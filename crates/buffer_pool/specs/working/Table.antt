@@ -30,7 +30,7 @@ account_of v = v.book.account
 abbrev pub view_counts : SeatView → Counts
 view_counts v = counts_of v.book
 
--- the links of the buffers only: None for all other numbers
+-- the links of the first `buffers` buffers: None for all other numbers
 abbrev pub cut : ℕ → (ℕ → Option ℕ) → ℕ → Option ℕ
 cut buffers link i = if nat_lt i buffers then link i else None
 
@@ -47,8 +47,8 @@ module _ {B : Type 0} (r : Reading B) where
         accounts = map account_of s.views;
       }
 
-  -- a list of events leads from the opening to the marking and to the counts in the views, and each log is a prefix of
-  -- it
+  -- a list of events leads from the opening to the marking and to the counts in the views. The story of each view with
+  -- a share is a prefix of the list
   pub record Reached (e : Setup) (s : State (Option B) SeatView) : Type 0 where
     pub events : List Event
     pub led : LeadTo e events (marking_of e s) (map view_counts s.views)

@@ -14,32 +14,33 @@ pub record IsTakenIn (events : List Event) (n : ℕ) (story : List Event) : Type
   pub other : by ≢ n
   pub nothing : deeds n quiet ≡ []
 
--- the view of the worker w: its log is a prefix of the events
+-- the view of the worker w: the story of its log is a prefix of the events
 pub record IsViewOf (events : List Event) (w : ℕ) (v : SeatView) : Type 0 where
   pub number : v.named ≡ true → v.log.number ≡ w
   pub since : List Event
   pub goes_on : events ≡ v.log.story ++ since
-  -- its steps since then, splits and joins, are noted
+  -- the worker's steps since that story, which are splits and joins, are those in `unsaid`
   pub unsaid : deeds w since ≡ v.unsaid
   -- the story that it took in is a prefix too
   pub taken : (more : List Event) × (events ≡ v.taken ++ more)
-  -- that story is another worker's. If that worker was joined, it did nothing after its story
+  -- the story that it took in is another worker's. If the view has the number of its own worker, that other worker was
+  -- joined, and did nothing between its story and the join
   pub apart : (n : ℕ) → v.from ≡ Some n → n ≢ w
   pub ended : v.named ≡ true → (n : ℕ) → v.from ≡ Some n → IsTakenIn events n v.taken
   -- a worker that does not know its number did nothing
   pub fresh : v.named ≡ false → deeds w events ≡ []
-  -- its story leads to its book, if it has no step left to say
+  -- its story leads to its book, if no step is left in `unsaid`
   pub leads : v.named ≡ true → v.unsaid ≡ [] → LeadsToBook v.log v.book
 
 -- each view that has a share is the view of its worker
 abbrev pub AreViewsOf : List Event → List SeatView → Type 0
 AreViewsOf events views = (w : ℕ) (v : SeatView) → StandsAt views w v → 0 < v.book.account.share → IsViewOf events w v
 
--- the view once its log has the events, and nothing is left to say
+-- the view once it has the log `log`, and nothing is left in `unsaid`
 abbrev pub logged : Log → SeatView → SeatView
 logged log v = record v { log = log; unsaid = []; taken = []; from = None; named = true }
 
--- it knows its number, and nothing is left to say
+-- the view has its worker's number, and nothing is left in `unsaid`
 pub record HasSaidAll (v : SeatView) : Type 0 where
   pub named : v.named ≡ true
   pub unsaid : v.unsaid ≡ []

@@ -1,4 +1,4 @@
-//! Claims and finishes: the marks of objects.
+//! Claims and finishes: the steps that raise the marks of objects.
 ghost use Rattle.std.specs.Prelude.{◌≡◌, ◌↔◌, ◌≤◌, ℕ, [], ◌∷◌, IsTrue};
 ghost use Rattle.mark_core.specs.Events.{CanClaim, CanFinish, IsBusy};
 ghost use Rattle.mark_core.specs.Events as events;
@@ -16,9 +16,9 @@ use crate::rules::{Token, Words};
 use crate::worker::Worker;
 use std::alloc::Allocator;
 
-/// Raises the mark of `object` to claimed if it is lower, and returns whether it was white.
-// It writes even if the object is already marked. A load first would not do: a load has no operand, so its play could
-// not know which of the word's 32 objects is meant.
+/// Raises the mark of `object` to claimed if the object is white, and returns whether it was.
+// The step writes even if the object is already marked. A test by a load would not do: a load has no operand, so its
+// play could not know which of the word's 32 objects is meant.
 fn raise_to_claimed<A: Allocator>(
     words: &Words<A>,
     seat: &mut Token<A>,
@@ -63,8 +63,9 @@ fn raise_to_finished<A: Allocator>(words: &Words<A>, seat: &mut Token<A>, buffer
 }
 
 impl<A: Allocator> Pool<A> {
-    /// Claims `object` and returns whether it was white. A white object joins the worker's charge. This is one atomic
-    /// step, which waits for nobody.
+    /// Claims `object`, and returns whether it was white. A white object joins the worker's charge. `object` must be a
+    /// root, or a successor of an object in that charge, and the worker must be busy. This is one atomic step, which
+    /// waits for nobody.
     pub fn claim(&self, worker: &mut Worker<A>, object: u32) -> bool
         requires pool { worker.old.pool ≡ self.now }
         requires can { CanClaim worker.old.book.setup object worker.old.book.account }
@@ -77,7 +78,7 @@ impl<A: Allocator> Pool<A> {
         raise_to_claimed(&self.table.shared, &mut worker.seat, self.buffers, object)
     }
 
-    /// Finishes `object`. It has to be in the worker's charge, and the worker has to have seen each of its successors
+    /// Finishes `object`, which must be in the worker's charge. The worker must have seen each successor of `object`
     /// marked. This is one atomic step, which waits for nobody.
     pub fn finish(&self, worker: &mut Worker<A>, object: u32)
         requires pool { worker.old.pool ≡ self.now }

@@ -39,7 +39,8 @@ impl<A: Allocator> Model for Marks<A> {
 }
 
 impl<A: Allocator> Marks<A> {
-    /// Creates the marks of a closed table with empty slots. They are its words from `first_mark` to the last.
+    /// Creates the marks of the table `closed`, whose slots are empty. The words from `first_mark` to the last have the
+    /// marks of `objects` objects, of which `finished` are finished.
     pub(super) fn of_words(
         closed: Closed<Option<Buffer<A>>, A>,
         first_mark: usize,
@@ -86,8 +87,8 @@ impl<A: Allocator> Marks<A> {
         (self.word_of(object) >> mark_place(object)) & 3
     }
 
-    /// Returns the first unfinished object from `object` on in the word that has the mark of `object`. The result may
-    /// be a number beyond the last object.
+    /// Returns the first unfinished object from `object` on, among the objects whose marks are in the same word.
+    /// Returns `None` if all of these are finished. The result may be a number beyond the last object.
     fn first_unfinished_of_word(&self, object: u32) -> Option<u32>
         requires { object < length self.now }
         ensures found { IfSome result (λ found. IsFirstUnfinished self.now object found) }
@@ -116,7 +117,7 @@ impl<A: Allocator> Marks<A> {
         self.bits(object) == 3
     }
 
-    /// Returns the first object from number `from` on that was not finished, or `None` if each of them was. Reads a
+    /// Returns the first object from number `from` on that was not finished, or `None` if there is none. Reads each
     /// word of 32 marks as a whole.
     pub fn next_unfinished(&self, from: u32) -> Option<u32>
         ensures { result ≡ find (λ o. not (slice_index self.now o == 2))
@@ -134,8 +135,8 @@ impl<A: Allocator> Marks<A> {
         None
     }
 
-    /// Returns how many objects were finished, 0 up to the number of objects. An object that was claimed and not
-    /// finished does not count. The workers counted them, so no mark is read.
+    /// Returns the number of finished objects. An object that was claimed and not finished does not count. The workers
+    /// counted the finished objects, so no mark is read.
     pub fn finished_len(&self) -> u64
         ensures { result ≡ count_by (λ m. m == 2) self.now }
     {

@@ -1,4 +1,5 @@
-//! The steps of a pop and of a push. Each is one atomic step on the table, or one access to a slot that is out.
+//! The steps of a pop and of a push. Each function makes at most one atomic step on the table. `take_top` and `put_top`
+//! also access the slot that is out.
 ghost use Rattle.std.specs.Prelude.{◌≡◌, ℕ, suc, ◌+◌, ◌<◌, ◌≤◌, [], ◌∷◌, Option, Some, None, MatchOption, MatchResult};
 ghost use Rattle.std.specs.Prelude.{Contains, length};
 ghost use Rattle.std.specs.Option.{ForSome};
@@ -27,7 +28,7 @@ use mark_core::Which;
 use std::alloc::Allocator;
 use tagged_index::HeadWord;
 
-/// Loads the head of a stack, and returns it.
+/// Loads the head of the stack `which`, and returns it.
 pub(crate) fn load_head<A: Allocator>(
     words: &Words<A>,
     seat: &mut Token<A>,
@@ -43,7 +44,8 @@ pub(crate) fn load_head<A: Allocator>(
     HeadWord::from_word(words.load::<SeeHead>(seat, head_word(which)))
 }
 
-/// Loads the link of the buffer that the last loaded head names, and returns it.
+/// Loads the link of buffer `index`, which the last loaded head of the stack `which` names. Returns the link, or `None`
+/// if the word of the link is 0.
 pub(crate) fn load_link<A: Allocator>(
     words: &Words<A>,
     seat: &mut Token<A>,
@@ -71,7 +73,8 @@ pub(crate) fn load_link<A: Allocator>(
     }
 }
 
-/// Exchanges the head for the next one, and takes the buffer that was on top. Returns `None` if the head had changed.
+/// Exchanges `head` for `next`, and takes buffer `index`, which was on top of the stack `which`. Returns `None` if the
+/// stack's head was no longer `head`.
 pub(crate) fn take_top<A: Allocator>(
     words: &Words<A>,
     seat: &mut Token<A>,
@@ -112,7 +115,7 @@ fn link_to(head: HeadWord) -> u64
     }
 }
 
-/// Stores the index of a loaded head as the link of a held buffer.
+/// Stores the index of `head`, which was loaded, as the link of buffer `index`, which is held.
 pub(crate) fn store_link<A: Allocator>(
     words: &Words<A>,
     seat: &mut Token<A>,
@@ -135,7 +138,8 @@ pub(crate) fn store_link<A: Allocator>(
     words.store::<StoreLink>(seat, FIRST_LINK + index as usize, link_to(head));
 }
 
-/// Exchanges a head for the buffer whose slot is out, if the head has not changed. Returns the head found.
+/// Exchanges the head `old` of the stack `which` for `new`, which names the buffer whose slot is out, if the head is
+/// still `old`. Returns the head found.
 fn exchange_for_buffer<A: Allocator>(
     words: &Words<A>,
     seat: &mut Token<A>,
@@ -156,7 +160,8 @@ fn exchange_for_buffer<A: Allocator>(
     }
 }
 
-/// Exchanges the head for a held buffer whose link was stored. Returns the buffer if the head had changed.
+/// Exchanges `head` for `next`, which names `held`, a buffer whose link was stored. Returns `Err(held)` if the head of
+/// the stack `which` was no longer `head`.
 pub(crate) fn put_top<A: Allocator>(
     words: &Words<A>,
     seat: &mut Token<A>,

@@ -52,8 +52,8 @@ fn load_idle<A: Allocator>(words: &Words<A>, seat: &mut Token<A>) -> u64
 
 impl<A: Allocator> Pool<A> {
     /// Lets `worker` go idle. The worker must have one unit, idle number 0 and nothing in its charge. It must have
-    /// found the full stack empty since it was split off and since its own last push there. One atomic step that waits
-    /// for nobody.
+    /// found the full stack empty after it was split off, and after its own last push there. This is one atomic step,
+    /// which waits for nobody.
     pub fn idle_up(&self, worker: &mut Worker<A>)
         requires pool { worker.old.pool ≡ self.now }
         requires may { CanIdle worker.old.book.account }
@@ -64,7 +64,8 @@ impl<A: Allocator> Pool<A> {
         add_idle(&self.table.shared, &mut worker.seat);
     }
 
-    /// Lets `worker` come back. The worker must have one unit and be idle. One atomic step that waits for nobody.
+    /// Lets `worker` come back. The worker must have one unit and idle number 1. This is one atomic step, which waits
+    /// for nobody.
     pub fn idle_down(&self, worker: &mut Worker<A>)
         requires pool { worker.old.pool ≡ self.now }
         requires may { CanWake worker.old.book.account }
@@ -75,12 +76,13 @@ impl<A: Allocator> Pool<A> {
         take_idle(&self.table.shared, &mut worker.seat);
     }
 
-    /// Tests whether the idle word is `workers`. One atomic step that waits for nobody.
+    /// Tests whether the idle word is `workers`. This is one atomic step, which waits for nobody.
     ///
-    /// The worker's story then leads to a marking with the idle word that was loaded. Suppose that no account was
-    /// joined there, and that the opening account is busy, gave exactly `workers` units away, at least 1, and has
-    /// pushed nothing on full since it first gave units away. Then `true` means that nothing is left for the workers to
-    /// do: `mark_core::all_runs_keep_law`, clause `quiet`.
+    /// After the call, the worker's story leads to a marking with the idle word that was loaded. Suppose that in this
+    /// marking no account was joined, and that `workers` is at least 1. Suppose also that account 0, which was there at
+    /// the opening, is busy, gave exactly `workers` units away, and pushed nothing on the full stack since it first
+    /// gave units away. Then `true` means that nothing is left for the workers to do: `mark_core::all_runs_keep_law`,
+    /// clause `quiet`.
     pub fn all_idle(&self, worker: &mut Worker<A>, workers: u32) -> bool
         requires { worker.old.pool ≡ self.now }
         ensures pool { worker.new.pool ≡ worker.old.pool }

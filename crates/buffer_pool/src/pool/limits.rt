@@ -42,7 +42,7 @@ impl From<AllocError> for PoolFault {
     }
 }
 
-/// Tests whether a pool may be made with these numbers.
+/// Tests whether all four numbers are in their ranges.
 pub(super) fn is_inside(objects: u32, buffers: u32, size: u32, first_tag: u64) -> bool
     ensures { IsTrue result ↔ IsInside objects buffers size first_tag }
 {

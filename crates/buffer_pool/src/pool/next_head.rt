@@ -5,8 +5,8 @@ ghost use Rattle.tagged_index.specs.Head.{after, last_tag};
 
 use tagged_index::HeadWord;
 
-/// Returns the head after a pop of `head`, whose tag is not the last: the link of the buffer taken, and the tag one
-/// higher.
+/// Returns the head after a pop from a stack with the head `head`, whose tag is not the last: it has the index `link`,
+/// the link of the popped buffer, and the next tag.
 pub(super) fn head_below(head: HeadWord, link: Option<u32>) -> HeadWord
     requires tag { head.tag < last_tag }
     requires link { ForSome link (λ i. i ≤ 65534) }
@@ -18,8 +18,8 @@ pub(super) fn head_below(head: HeadWord, link: Option<u32>) -> HeadWord
     next
 }
 
-/// Returns the head after a push of buffer `index` on `head`: the buffer, and the tag one higher. Returns `None`
-/// exactly at the last tag.
+/// Returns the head after a push of buffer `index` on a stack with the head `head`: it has this index and the next tag.
+/// Returns `None` exactly if `head` has the last tag.
 pub(super) fn head_above(head: HeadWord, index: u32) -> Option<HeadWord>
     requires { index ≤ 65534 }
     ensures { MatchOption result (head.tag ≡ last_tag) (λ next. (head.tag < last_tag)

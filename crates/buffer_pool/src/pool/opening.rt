@@ -9,7 +9,8 @@ use mark_core::Which;
 use std::alloc::{AllocError, Allocator};
 use tagged_index::HeadWord;
 
-/// Returns the words of a new pool: all buffers on the empty stack, with buffer 0 on top, and all marks 0.
+/// Returns the words of a new pool: both heads have the tag `first_tag`, all buffers are on the empty stack, with
+/// buffer 0 on top, and all marks are 0.
 #[tactic(auto, using(crate::proofs::Starts::heads_alone, crate::proofs::Starts::link_laid))]
 pub(crate) fn first_words<A: Allocator>(
     alloc: A,

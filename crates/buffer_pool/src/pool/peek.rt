@@ -6,7 +6,7 @@ use std::alloc::Allocator;
 
 impl<A: Allocator> Pool<A> {
     /// Returns word number `word` of the table as it is now, or `None` beyond the last one. `layout` says which word is
-    /// which. It is a step of no worker, so nothing is known of what it finds.
+    /// which. The call is no worker's step, so its contract says nothing of the word's value.
     pub fn peek(&self, word: usize) -> Option<u64>
         ensures { MatchOption result (self.now.words ≤ word) (λ _. word < self.now.words) }
     {

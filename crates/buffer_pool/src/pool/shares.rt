@@ -13,10 +13,10 @@ use crate::rules::{GivePart, TakeIn, Token, Words};
 use crate::worker::Worker;
 use std::alloc::Allocator;
 
-/// Splits `units` units off the share of a seat, for a new seat.
-// A view changes only at a step on a word, and a split sees only the view. So the units are noted first, by an exchange
-// that changes nothing. A split does not see what happened in the table either. So each of the two seats reports the
-// split by a load of its own.
+/// Splits `units` units off the share of `seat`, and returns a new seat that has them.
+// A split of a seat sees only the seat's view, and a number comes into a view only by a step on a word. So the units
+// are noted first, by an exchange that changes no word. A split also does not see what happened in the table. So the
+// split comes into the log of each of the two seats by a load of that seat.
 fn give_part<A: Allocator>(words: &Words<A>, seat: &mut Token<A>, units: u64) -> Token<A>
     requires table { seat.old.table_id ≡ words.now.table_id }
     requires sound { IsSound seat.old.table_id seat.old.me }
@@ -36,7 +36,8 @@ fn give_part<A: Allocator>(words: &Words<A>, seat: &mut Token<A>, units: u64) ->
 }
 
 /// Joins the seat `other` to `seat`.
-// The slot of `other` goes home before the join. The last load shows that the two seats had nothing in common.
+// The first load returns the slot of `other`, if it is out, to the table. The last load shows that the two seats had
+// nothing in common.
 fn take_in<A: Allocator>(words: &Words<A>, seat: &mut Token<A>, mut other: Token<A>)
     requires table { (seat.old.table_id ≡ words.now.table_id) × (other.table_id ≡ words.now.table_id) }
     requires sound { IsSound seat.old.table_id seat.old.me × IsSound other.table_id other.me }
@@ -54,8 +55,8 @@ fn take_in<A: Allocator>(words: &Words<A>, seat: &mut Token<A>, mut other: Token
 }
 
 impl<A: Allocator> Pool<A> {
-    /// Gives `units` units of a worker's share to a new worker, which has no buffer and no charge. The first worker
-    /// keeps everything else. Returns both.
+    /// Gives `units` units of the share of `worker` to a new worker, which has nothing else. `units` must be at least
+    /// 1, and less than the share. Returns `worker`, which keeps everything else, and then the new worker.
     pub fn split(&self, worker: Worker<A>, units: u32) -> (Worker<A>, Worker<A>)
         requires pool { worker.pool ≡ self.now }
         requires units { (0 < units) × (units < worker.book.account.share) }
@@ -75,8 +76,8 @@ impl<A: Allocator> Pool<A> {
     }
 
     /// Joins `other` to `worker`: adds the shares and counts of the two, and unites their buffers, their charges, and
-    /// the objects that they saw and finished. What `worker` loaded stays. The two had no buffer and no object in
-    /// common.
+    /// the objects that they saw and finished. What `worker` loaded stays, and what `other` loaded is forgotten. The
+    /// two held no buffer in common, and had no object in common in their charges and finished lists.
     pub fn join(&self, worker: Worker<A>, other: Worker<A>) -> Worker<A>
         requires pool { (worker.pool ≡ self.now) × (other.pool ≡ self.now) }
         ensures together { result ≡ record worker { book = joined worker.book other.book; log = result.log } }

@@ -1,6 +1,6 @@
-//! The slots of the pool's table, one for each buffer: their first values, and how they are emptied at the end.
-//! `head_exchange.rt` has what a step takes from a slot and puts there. `specs/working/Slots.antt` says what they have
-//! between two steps.
+//! The slots of the pool's table, one for each buffer: their first values, and how they are emptied at the end. The
+//! functions of `head_exchange.rt` take buffers out of slots and put them back. `specs/working/Slots.antt` says what
+//! the slots have between two steps.
 ghost use Rattle.std.specs.Prelude.{◌≡◌, ◌<◌, All, IfOk, length};
 ghost use Rattle.std.specs.Slots.{IsFull, slots_filled, slots_len};
 ghost use Rattle.buffer_pool.specs.Closing.{IsEmptied};
@@ -11,7 +11,7 @@ use crate::buffer::Buffer;
 use atomic_table::Closed;
 use std::alloc::{AllocError, Allocator};
 
-/// Creates a slot for each of `buffers` buffers, with that buffer, which has no items.
+/// Creates `buffers` slots, each with a buffer that takes `size` objects and has none.
 pub(super) fn first_slots<A: Allocator + Copy>(
     alloc: A,
     buffers: u32,
@@ -27,7 +27,7 @@ pub(super) fn first_slots<A: Allocator + Copy>(
     Ok(slots)
 }
 
-/// Drops each buffer. Afterwards no slot has a buffer.
+/// Drops the buffers in the slots of `closed`. Afterwards no slot has a buffer.
 pub(super) fn empty_slots<A: Allocator>(closed: &mut Closed<Option<Buffer<A>>, A>)
     requires full { IsFull closed.old.slots }
     ensures words { closed.new.words ≡ closed.old.words }

@@ -18,7 +18,8 @@ use std::alloc::Allocator;
 use std::sync::Wait;
 
 impl<A: Allocator> Pool<A> {
-    /// Loads the head of the stack `which` and tests whether it has no buffer. One atomic step that waits for nobody.
+    /// Tests whether the stack `which` has no buffer, by a load of its head. This is one atomic step, which waits for
+    /// nobody.
     pub fn sees_empty(&self, worker: &mut Worker<A>, which: Which) -> bool
         requires { worker.old.pool ≡ self.now }
         ensures pool { worker.new.pool ≡ worker.old.pool }
@@ -30,8 +31,8 @@ impl<A: Allocator> Pool<A> {
             .is_none()
     }
 
-    /// Tries once to take the buffer on top of the stack `which`. Waits for nobody and does not allocate. Returns
-    /// `Empty` for an empty stack, even at the last tag.
+    /// Tries once to take the buffer on top of the stack `which`, for a busy worker. Waits for nobody and does not
+    /// allocate. Returns `Empty` for an empty stack, even at the last tag.
     pub fn try_pop(&self, worker: &mut Worker<A>, which: Which) -> TryPopped<Held<A>>
         requires pool { worker.old.pool ≡ self.now }
         requires busy { IsBusy worker.old.book.account }
@@ -42,8 +43,9 @@ impl<A: Allocator> Pool<A> {
         try_pop(&self.table.shared, &mut worker.seat, which)
     }
 
-    /// Tries once to put a held buffer on the stack `which`. Waits for nobody and does not allocate. The buffer's items
-    /// must be part of the worker's charge. A buffer for the empty stack must have no items.
+    /// Tries once to put `held` on the stack `which`. Waits for nobody and does not allocate. The buffer's items must
+    /// be part of the worker's charge. A buffer for the empty stack must have no items. For the full stack the worker
+    /// must be busy.
     pub fn try_push(
         &self,
         worker: &mut Worker<A>,
@@ -59,7 +61,7 @@ impl<A: Allocator> Pool<A> {
         try_push(&self.table.shared, &mut worker.seat, which, held)
     }
 
-    /// Tries to take the buffer on top of the stack `which` until a try is not lost.
+    /// Tries to take the buffer on top of the stack `which`, for a busy worker, until a try is not lost.
     pub fn pop<R: Wait>(&self, rt: &R, worker: &mut Worker<A>, which: Which) -> Popped<Held<A>>
         requires pool { worker.old.pool ≡ self.now }
         requires busy { IsBusy worker.old.book.account }
@@ -79,8 +81,8 @@ impl<A: Allocator> Pool<A> {
         unreachable!()
     }
 
-    /// Tries to put a held buffer on the stack `which` until a try is not lost. Returns the buffer if the stack's last
-    /// tag was loaded.
+    /// Tries to put `held` on the stack `which` until a try is not lost. Requires the same as `try_push`. Returns the
+    /// buffer as `Err` if the last try loaded a head with the last tag.
     pub fn push<R: Wait>(
         &self,
         rt: &R,

@@ -15,9 +15,9 @@ use mark_core::Which;
 use std::alloc::Allocator;
 use tagged_index::LAST_TAG;
 
-/// Loads the head and its link, and exchanges the head for the link. The tag is tested before the link is loaded: a
-/// head with the last tag is never exchanged again, so its link is of no use. So a try that returns `Spent` has one
-/// event, like a try of a push that returns `Spent`.
+/// Loads the head and the link of the buffer on top, and exchanges the head for the link. The tag is tested before the
+/// link is loaded: a head with the last tag is never exchanged again, so the link would be of no use. So a try that
+/// returns `Spent` has one event, whether it is a try of a pop or of a push.
 ///
 /// This is `Pool::try_pop` on the words and the worker's seat, which the caller takes out of `Pool` and `Worker`.
 pub(crate) fn try_pop<A: Allocator>(

@@ -13,7 +13,8 @@ use crate::rules::{Token, Words};
 use mark_core::Which;
 use std::alloc::Allocator;
 
-/// Loads the head, stores its index as the buffer's link, and exchanges the head for the buffer.
+/// Loads the head, stores its index as the buffer's link, and exchanges the head for the buffer. Only loads if the head
+/// has the last tag.
 ///
 /// This is `Pool::try_push` on the words and the worker's seat, which the caller takes out of `Pool` and `Worker`.
 pub(crate) fn try_push<A: Allocator>(

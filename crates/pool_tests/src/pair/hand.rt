@@ -12,7 +12,7 @@ use std::process::Abort;
 use std::sync::Wait;
 use work_pair::{Pair, Stop};
 
-/// The number of objects of each test.
+/// The number of objects of the pool in each test.
 pub(crate) const OBJECTS: u32 = 400;
 
 /// The number of objects at each place of a pair, and `None` for a place without a buffer.
@@ -31,7 +31,7 @@ pub(crate) fn pool_of_roots<A: Allocator + Copy>(
     Pool::new(alloc, &Roots { objects: OBJECTS }, buffers, size, first_tag)
 }
 
-/// Opens a pair, for which there are two buffers.
+/// Opens a pair. The empty stack must have two buffers for it.
 pub(crate) fn open<R: Wait + Abort, A: Allocator>(
     rt: &R,
     alloc: A,
@@ -135,7 +135,7 @@ pub(crate) fn get<R: Wait + Abort, A: Allocator>(
     }
 }
 
-/// Gives work to others.
+/// Gives work to others, by [`Pair::balance`].
 pub(crate) fn balance<R: Wait + Abort, A: Allocator>(
     rt: &R,
     pool: &Pool<A>,
@@ -150,7 +150,7 @@ pub(crate) fn balance<R: Wait + Abort, A: Allocator>(
     };
 }
 
-/// Gives all work to others.
+/// Gives the work in the pair's buffers to others, by [`Pair::publish`].
 pub(crate) fn publish<R: Wait + Abort, A: Allocator>(
     rt: &R,
     pool: &Pool<A>,
@@ -177,7 +177,7 @@ pub(crate) fn full_is_empty<A: Allocator>(
     pool.sees_empty(worker, buffer_pool::Which::Full)
 }
 
-/// Disposes of the pair. Returns what the pair's places have if a last tag stops the disposal.
+/// Disposes of the pair. Returns what the pair's places have if a last tag stops the disposal, and `None` otherwise.
 pub(crate) fn dispose<R: Wait + Abort, A: Allocator>(
     rt: &R,
     pool: &Pool<A>,

@@ -1,4 +1,5 @@
-//! Tests of memory: the spill list runs out of it, and all other calls make no allocation.
+//! Tests of a pair whose spill list runs out of memory. While the list need not grow, the calls of a pair make no
+//! allocation.
 ghost use Rattle.std.specs.Prelude.{◌≤◌, IfOk};
 
 use super::hand::{Lens, bare, pool_of_roots};
@@ -12,10 +13,10 @@ use std::process::Abort;
 use std::sync::Wait;
 use std::test::Fail;
 
-/// A limit that no pool of these tests reaches.
+/// More requests for memory than the opening of a pool of these tests makes.
 const MANY: u64 = 1 << 32;
 
-/// The requests that are refused after the opening of a pool.
+/// The requests for memory that are refused after the opening of a pool.
 #[derive(Clone, Copy, Debug)]
 enum Refused {
     /// All.
@@ -26,7 +27,7 @@ enum Refused {
     First,
 }
 
-/// Returns how many requests a pool of four buffers for two objects makes.
+/// Returns how many requests the opening of a pool of four buffers for two objects each makes.
 fn requests_of_a_pool(alloc: Global) -> Result<u64, PoolFault>
     ensures { IfOk result (λ n. n ≤ MANY) }
 {
@@ -35,7 +36,7 @@ fn requests_of_a_pool(alloc: Global) -> Result<u64, PoolFault>
     Ok(MANY - heap.requests_left())
 }
 
-/// Creates a heap that grants the requests of such a pool, and refuses `refused` after them.
+/// Creates a heap that grants the requests of the opening of a pool of four buffers, and refuses `refused` after them.
 fn heap_of_a_pool(alloc: Global, refused: Refused) -> Result<LimitedHeap<Global>, PoolFault> {
     let requests = requests_of_a_pool(alloc)?;
     Ok(match refused {
@@ -45,7 +46,7 @@ fn heap_of_a_pool(alloc: Global, refused: Refused) -> Result<LimitedHeap<Global>
     })
 }
 
-/// If the list cannot have its first block, the ninth object is returned, and the pair keeps its eight.
+/// If the spill list cannot have its first block, the ninth object is returned, and the other eight are got as usual.
 const NINTH: Run = (
     "the ninth in vain",
     &[
@@ -57,15 +58,16 @@ const NINTH: Run = (
     AllGot,
 );
 
-/// If the list has a block but cannot have a larger one, its objects are given up with the pair.
+/// If the spill list has a block but cannot have a larger one, the thirteenth object is returned, and the list's four
+/// objects are given up when the pair is disposed of.
 const THIRTEENTH: Run = (
     "the thirteenth in vain",
     &[Fill(12), Spilled(4)],
     End::InVain(12, 4),
 );
 
-/// If only the list's first block is refused, the ninth object is returned, and the next one is put and got as usual.
-/// Each of the two puts has exchanged the buffers, so they are where they were.
+/// If the spill list's first block is refused once, the ninth object is returned, and the next object is put and got as
+/// usual. Each of the two puts has exchanged the pair's buffers, so the buffers are at their first places again.
 const TENTH: Run = (
     "the tenth behind a ninth in vain",
     &[
@@ -98,11 +100,11 @@ const SIX: Run = (
     AllGot,
 );
 
-/// A run, the size of a buffer, the requests to be refused after the opening of the pool, and how many then are
-/// refused.
+/// A run, the size of a buffer, the requests that the heap would refuse after the opening of the pool, and how many
+/// requests it refuses in the run.
 type Row = (Run, u32, Refused, u64);
 
-/// The run of six objects makes no request while each would be refused.
+/// The run of six objects makes no request: the heap would refuse each, and refuses none.
 const ROWS: [Row; 4] = [
     (NINTH, 2, Refused::Each, 1),
     (THIRTEENTH, 2, Refused::EachButOne, 1),
@@ -110,8 +112,8 @@ const ROWS: [Row; 4] = [
     (SIX, 8, Refused::Each, 0),
 ];
 
-/// Makes `run` on a heap that refuses `refused` after the opening of the pool. Returns what is left of the pair, and
-/// how many requests were refused.
+/// Makes `run` on a heap that refuses `refused` after the opening of the pool. Returns what is left of the pair, or
+/// `None` if nothing is, and how many requests were refused.
 fn refused_in<R: Wait + Abort>(
     rt: &R,
     alloc: Global,
@@ -139,8 +141,8 @@ fn bare_lens<A: Allocator + Copy>(alloc: A) -> Result<Lens, PoolFault> {
     Ok(bare(alloc, &pool, &worker).lens())
 }
 
-/// Creates a pair without buffers on a heap that has no request left after the pool. Returns what its places have, how
-/// many requests are left, and how many were refused.
+/// Creates a pair without buffers on a heap that refuses every request after the opening of the pool. Returns what its
+/// places have, how many requests are left, and how many were refused.
 fn bare_pair_without_memory(alloc: Global) -> Result<(Lens, u64, u64), PoolFault> {
     let heap = heap_of_a_pool(alloc, Refused::Each)?;
     let lens = bare_lens(&heap)?;

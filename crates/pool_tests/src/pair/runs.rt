@@ -1,4 +1,4 @@
-//! Runs of a pair: tables of steps, and the function that makes them.
+//! Runs of a pair: lists of steps, and the functions that make the steps.
 ghost use Rattle.std.specs.Prelude.{◌≡◌, ◌⊎◌, []};
 ghost use Rattle.work_pair.specs.PairState.{HasStopped};
 ghost use Rattle.pool_tests.specs.Ready.{IsReady};
@@ -23,7 +23,7 @@ pub(crate) enum Step {
     InVain(u32),
     Balance,
     Publish,
-    /// Gets objects, which come in this order.
+    /// Gets exactly these objects, in this order.
     Get(&'static [u32]),
     NoneLeft,
     FullIsEmpty(bool),
@@ -33,12 +33,12 @@ pub(crate) enum Step {
     Spilled(usize),
 }
 
-/// The end of a run, after which its pair can be disposed of.
+/// The end of a run. After it, the pair can be disposed of.
 #[derive(Clone, Copy)]
 pub(crate) enum End {
     /// No object is left, and the full stack is seen empty.
     AllGot,
-    /// There is no buffer and no memory for an object, and the spill list has the given number of objects.
+    /// There is no buffer and no memory for the object of this number, and the spill list has this many objects.
     InVain(u32, usize),
 }
 
@@ -135,7 +135,7 @@ pub(crate) fn go_through<R: Wait + Abort, A: Allocator>(
     }
 }
 
-/// Ends a run. After it the pair can be disposed of.
+/// Ends a run as `end` says. Afterwards the pair can be disposed of.
 fn finish<R: Wait + Abort, A: Allocator>(
     rt: &R,
     pool: &Pool<A>,
@@ -159,8 +159,8 @@ fn finish<R: Wait + Abort, A: Allocator>(
     }
 }
 
-/// Opens a pair on a new pool of four buffers, makes a run, and disposes of the pair. Returns what the places of the
-/// pair have if a last tag stops the disposal.
+/// Opens a pair on a new pool of four buffers, makes `run`, and disposes of the pair. Returns what the places of the
+/// pair have if a last tag stops the disposal, and `None` otherwise.
 pub(crate) fn left_after<R: Wait + Abort, A: Allocator + Copy>(
     rt: &R,
     alloc: A,

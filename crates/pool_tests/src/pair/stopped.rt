@@ -24,11 +24,11 @@ enum Call {
     Gets,
 }
 
-/// What the places of a pair have after a last tag stopped a call, and what they have after the disposal, if a last tag
-/// stopped that too.
+/// What the places of a pair have after a last tag stopped a call, and what they have if a last tag then stops the
+/// disposal too.
 type Stopped = (Lens, Option<Lens>);
 
-/// Claims `object`, which is white, tries to put it, which a last tag stops, and disposes of the pair.
+/// Claims `object`, which is white, and tries to put it. A last tag stops the put. Then disposes of the pair.
 fn stopped_by_put<R: Wait + Abort, A: Allocator>(
     rt: &R,
     pool: &Pool<A>,
@@ -46,7 +46,7 @@ fn stopped_by_put<R: Wait + Abort, A: Allocator>(
     (pair.lens(), dispose(rt, pool, worker, pair))
 }
 
-/// Tries to get an object of the full stack, which a last tag stops, and disposes of the pair.
+/// Tries to get an object of the full stack. A last tag stops the call. Then disposes of the pair.
 fn stopped_by_get<R: Wait + Abort, A: Allocator>(
     rt: &R,
     pool: &Pool<A>,
@@ -96,8 +96,8 @@ fn exchange_full<R: Wait + Abort, A: Allocator + Copy>(
     }
 }
 
-/// Opens a pair on a new pool of four buffers for four objects, makes `steps`, lets another worker exchange the full
-/// head twice, `exchanges` times, and makes `call`, which a last tag stops.
+/// Opens a pair on a new pool of four buffers for four objects, and makes `steps`. Lets another worker call
+/// [`exchange_full_twice`] `exchanges` times. Then makes `call`, which a last tag stops.
 fn stopped_after<R: Wait + Abort>(
     rt: &R,
     alloc: Global,
@@ -117,13 +117,13 @@ fn stopped_after<R: Wait + Abort>(
     })
 }
 
-/// The first tag, the steps, how often the full head is exchanged twice after them, the call, and what the places of
-/// the pair have after the call, and after the disposal, if a last tag stopped that too.
+/// The first tag, the steps, how often another worker then calls [`exchange_full_twice`], the call, and what the places
+/// of the pair have after the call, and after the disposal if a last tag stops that too.
 type Row = (u64, &'static [Step], u32, Call, Lens, Option<Lens>);
 
 const ROWS: [Row; 3] = [
-    // A put takes a buffer from the empty stack and cannot push the full one. Each head may be exchanged five times.
-    // The empty head is exchanged four times, the full head was exchanged five times before this put.
+    // A put takes a buffer from the empty stack, and cannot push the pair's full buffer. Each head may be exchanged
+    // five times. The empty head is exchanged four times. The full head was exchanged five times before this put.
     (
         LAST_TAG - 5,
         &[Fill(12)],
@@ -142,8 +142,8 @@ const ROWS: [Row; 3] = [
         [Some(4), Some(4), None],
         None,
     ),
-    // A get takes a buffer from the full stack and cannot push the empty one: the empty stack's head was exchanged
-    // three times.
+    // A get takes a buffer from the full stack, and cannot push the pair's empty buffer: the empty stack's head was
+    // exchanged three times.
     (
         LAST_TAG - 3,
         &[Fill(9), Get(&[8, 7, 6, 5, 4])],

@@ -1,4 +1,4 @@
-//! Four threads, each with a pair on one pool of few buffers, put objects and get until none is left.
+//! Four threads, each with a pair on one pool of few buffers, put objects, and get objects until none is left.
 ghost use Rattle.std.specs.Prelude.{◌≡◌, ◌+◌, ◌*◌, ◌≤◌, [], false};
 ghost use Rattle.mark_core.specs.Shares.{whole};
 ghost use Rattle.pool_tests.specs.Ready.{IsReady, IsWorker};
@@ -29,7 +29,7 @@ struct Taker {
     got: Vec<u32>,
 }
 
-/// Gets an object, if there is one.
+/// Gets an object and appends it to `got`. Returns `false` if there is none.
 fn get_one<R: Wait + Abort, A: Allocator>(
     rt: &R,
     pool: &Pool<A>,
@@ -50,7 +50,7 @@ fn get_one<R: Wait + Abort, A: Allocator>(
     true
 }
 
-/// Puts an object and, by its number, gives work away or gets an object.
+/// Puts `object`. Then, depending on its number, balances, publishes, gets an object, or does nothing.
 fn put_one<R: Wait + Abort, A: Allocator>(
     rt: &R,
     pool: &Pool<A>,
@@ -73,7 +73,7 @@ fn put_one<R: Wait + Abort, A: Allocator>(
     }
 }
 
-/// Puts the objects of one thread.
+/// Puts the objects of one thread, from `begin` on. Gets some objects in between.
 fn put_part<R: Wait + Abort, A: Allocator>(
     rt: &R,
     pool: &Pool<A>,
@@ -91,7 +91,7 @@ fn put_part<R: Wait + Abort, A: Allocator>(
     }
 }
 
-/// Gets objects until there is none.
+/// Gets objects and appends them to `got`, until there is none.
 fn get_rest<R: Wait + Abort, A: Allocator>(
     rt: &R,
     pool: &Pool<A>,
@@ -111,7 +111,7 @@ fn get_rest<R: Wait + Abort, A: Allocator>(
     unreachable!()
 }
 
-/// Puts the objects of one thread, gets until there is none, and disposes of the pair.
+/// Puts the objects of one thread, gets objects until there is none, and disposes of the pair.
 fn put_and_get<R: Wait + Abort, A: Allocator>(
     rt: &R,
     pool: &Pool<A>,
@@ -130,7 +130,7 @@ fn put_and_get<R: Wait + Abort, A: Allocator>(
     assert!(rt; left.is_none());
 }
 
-/// Does the work of one thread. Returns its worker with what it got.
+/// Does the work of one thread. Returns the thread's worker with the objects that it got.
 fn go_through<R: Wait + Abort>(
     rt: &R,
     alloc: Global,
@@ -148,7 +148,7 @@ fn go_through<R: Wait + Abort>(
     Taker { worker, got }
 }
 
-/// Runs two threads side by side, each with a part of its own.
+/// Runs two threads side by side, each with a part of its own. The first part begins at object `begin`.
 fn go_side_by_side<R: Threads + Wait + Abort + Sync>(
     rt: &R,
     alloc: Global,
@@ -170,7 +170,7 @@ fn go_side_by_side<R: Threads + Wait + Abort + Sync>(
     both(rt, pool, front, back)
 }
 
-/// Joins two workers, and what they got.
+/// Joins two workers, and unites the lists of objects that they got.
 fn both<R: Abort>(rt: &R, pool: &Pool<Global>, front: Taker, back: Taker) -> Taker
     requires front { IsWorker OBJECTS pool.now front.worker }
     requires back { IsWorker OBJECTS pool.now back.worker }
@@ -229,7 +229,8 @@ fn go_in_four<R: Threads + Wait + Abort + Sync>(
     both(rt, pool, front, back)
 }
 
-/// Runs four workers with a pair each. Returns what they got.
+/// Splits `worker` in four, and runs these workers with a pair each. Returns the four workers, joined, with all objects
+/// that they got.
 fn got_by_four<R: Threads + Wait + Abort + Sync>(
     rt: &R,
     alloc: Global,
@@ -250,7 +251,7 @@ fn got_by_four<R: Threads + Wait + Abort + Sync>(
     go_in_four(rt, alloc, pool, (first, second), (third, fourth))
 }
 
-/// Tests whether `got` has each object, in order.
+/// Tests whether `got` has each object once, in order.
 fn are_all(got: &[u32]) -> bool {
     for (place, object) in got.iter().enumerate() {
         if *object as usize != place {
@@ -260,7 +261,7 @@ fn are_all(got: &[u32]) -> bool {
     got.len() == OBJECTS as usize
 }
 
-/// Adds what one more worker gets afterwards, and tests whether each object was got once.
+/// Gets the remaining objects with a new pair, and tests whether each object was got once in all.
 fn all_got<R: Wait + Abort>(rt: &R, alloc: Global, pool: &Pool<Global>, taker: Taker) -> bool
     requires { IsWorker OBJECTS pool.now taker.worker }
 {

@@ -16,7 +16,7 @@ type Two = (u32, [Option<u32>; 2]);
 /// The buffers of a stack, its top first.
 type Stack = [Option<Two>; 4];
 
-/// The buffers at the first and at the second place, the full stack, the empty one, and the number of spilled objects.
+/// The buffers at a pair's first and second place, the full stack, the empty stack, and the number of spilled objects.
 #[derive(Clone, Copy, PartialEq, Eq)]
 struct Seen {
     places: [Option<Two>; 2],
@@ -44,7 +44,7 @@ fn two_at<A: Allocator>(place: Option<Held<A>>) -> Option<Two> {
     }
 }
 
-/// Pops a buffer. Returns `None` if the stack has none.
+/// Pops a buffer from the stack `which`. Returns `None` if the stack has none.
 fn pop_one<R: Wait + Abort, A: Allocator>(
     rt: &R,
     pool: &Pool<A>,
@@ -61,7 +61,7 @@ fn pop_one<R: Wait + Abort, A: Allocator>(
     }
 }
 
-/// Pops all buffers of a stack.
+/// Pops all buffers of the stack `which`, and returns them.
 fn buffers_on<R: Wait + Abort, A: Allocator>(
     rt: &R,
     pool: &Pool<A>,
@@ -119,7 +119,7 @@ fn seen_after<R: Wait + Abort>(
     })
 }
 
-/// The four buffers without objects, and then with objects.
+/// The four buffers without objects, and then with objects: `SEVEN` and `EIGHT` are the same buffer.
 const BARE_0: Option<Two> = Some((0, [None, None]));
 
 const BARE_1: Option<Two> = Some((1, [None, None]));
@@ -138,7 +138,8 @@ const SEVEN: Option<Two> = Some((3, [Some(7), None]));
 
 const EIGHT: Option<Two> = Some((3, [Some(7), Some(8)]));
 
-/// A stack without buffers, the empty stack with two and with one, and the full stack with one and with two.
+/// A stack without buffers, the empty stack with two buffers and with one, and the full stack with one buffer and with
+/// two.
 const NONE: Stack = [None; 4];
 
 const TWO_LEFT: Stack = [BARE_2, BARE_3, None, None];
@@ -149,11 +150,11 @@ const ONE_GIVEN: Stack = [ONE, None, None, None];
 
 const TWO_GIVEN: Stack = [THREE, ONE, None, None];
 
-/// The number of objects put, whether they are published, the two places, the full stack and the empty one, and the
-/// number of spilled objects.
+/// The number of objects put and whether they are published, and then the fields of [`Seen`].
 type Row = (u32, bool, [Option<Two>; 2], Stack, Stack, usize);
 
-/// The seventh object takes the last buffer, so there is none left to publish with, or for a ninth object.
+/// The seventh object takes the last buffer. So a publish finds no buffer to put in place of another and changes
+/// nothing, and a ninth object is spilled.
 const ROWS: [Row; 8] = [
     (0, false, [BARE_0, BARE_1], NONE, TWO_LEFT, 0),
     (2, false, [ONE, BARE_1], NONE, TWO_LEFT, 0),
@@ -165,7 +166,7 @@ const ROWS: [Row; 8] = [
     (9, false, [FIVE, EIGHT], TWO_GIVEN, NONE, 1),
 ];
 
-/// Tests whether what is seen is as in `row`.
+/// Tests whether a new pair is seen as `row` says after the puts of `row`.
 fn is_seen<R: Wait + Abort>(rt: &R, alloc: Global, row: &Row) -> Result<bool, PoolFault> {
     let (puts, publishes, places, full, empty, spilled) = *row;
     let wanted = Seen {

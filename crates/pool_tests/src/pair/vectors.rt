@@ -28,8 +28,8 @@ const FOUR: Run = (
     AllGot,
 );
 
-/// Four buffers for two objects take eight. A ninth goes to the spill list, and changes nothing else except the places
-/// of the buffers. It is got first.
+/// Four buffers for two objects each take eight objects. A ninth object goes to the spill list. Otherwise its put only
+/// exchanges the pair's two buffers. The ninth object is got first.
 const NINE: Run = (
     "nine objects",
     &[
@@ -41,11 +41,11 @@ const NINE: Run = (
     AllGot,
 );
 
-/// A run, the size of a buffer, the first tag, and what the pair has left if it could not be disposed of.
+/// A run, the size of a buffer, the first tag, and what the pair's places have if a last tag stops the disposal.
 type Row = (Run, u32, u64, Option<Lens>);
 
-/// In the run `FIVE` the head of the empty stack changes six times. So it must begin at least six tags before the last.
-/// If it begins one tag later, the last buffer cannot be pushed, and stays with the pair.
+/// In the run `FIVE` the head of the empty stack changes six times. So its first tag must be at least six below the
+/// last tag. If it is only five below, the last buffer cannot be pushed, and stays with the pair.
 const ROWS: [Row; 5] = [
     (FIVE, 8, 0, None),
     (FOUR, 8, 0, None),
@@ -63,14 +63,14 @@ fn runs_of_one_pair(rt: HostRuntime) -> Result<(), Fail> {
     Ok(())
 }
 
-/// A pair without buffers takes two objects, both are got again, and it still has no buffer.
+/// A pair without buffers takes two objects, both are got again, and the pair still has no buffer.
 const TAKES_AND_GIVES: &[Step] = &[Fill(2), Get(&[1, 0]), NoneLeft, Has([None, None, None])];
 
-/// The pair takes a buffer as soon as there is one on the empty stack.
+/// At the next put, the pair takes a buffer, since the empty stack has one now.
 const FINDS_A_BUFFER: &[Step] = &[Put(2), Has([Some(1), None, None]), FullIsEmpty(true)];
 
-/// Makes both runs with `pair`, which belongs to `worker`. Between the two, disposes of `one`, which belongs to
-/// `other`. Returns what was left of `one`.
+/// Makes the steps `TAKES_AND_GIVES` and then `FINDS_A_BUFFER` with `pair`, the pair of `worker`. Between them,
+/// disposes of `one`, the pair of `other`. Returns what was left of `one`, or `None` if nothing was.
 fn left_between<R: Wait + Abort>(
     rt: &R,
     pool: &Pool<Global>,
@@ -90,8 +90,8 @@ fn left_between<R: Wait + Abort>(
     left
 }
 
-/// Makes both runs with a pair without buffers, while others have all buffers. Between the two runs, one of the other
-/// pairs is disposed of. Returns what was left of that pair.
+/// Calls [`left_between`] with a pair without buffers, in a new pool in which two other pairs have all four buffers at
+/// first.
 fn left_beside_a_bare_pair<R: Wait + Abort>(
     rt: &R,
     alloc: Global,
@@ -105,7 +105,8 @@ fn left_beside_a_bare_pair<R: Wait + Abort>(
     Ok(left_between(rt, &pool, &mut worker, pair, &mut other, one))
 }
 
-/// A pair without buffers keeps what is put into it, and has a buffer as soon as there is one.
+/// A pair without buffers keeps what is put into it, and takes a buffer at the first put at which the empty stack has
+/// one.
 #[test]
 fn a_bare_pair_takes_and_gives(rt: HostRuntime) -> Result<(), Fail> {
     let left = left_beside_a_bare_pair(&rt, rt.alloc())?;
