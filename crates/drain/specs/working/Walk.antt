@@ -7,8 +7,8 @@ use Rattle.heap_graph.specs.RowNumbers.{row_number}
 use Rattle.drain.specs.working.Scans.{MatchesMeasure}
 use Rattle.drain.specs.working.Tallies.{Measure}
 
--- `v` is a visit of the object `o`: it yields exactly the objects that `o` refers to, all below `count`, and reads its
--- row, its bytes and its identifiers.
+-- `v` is a visit of the object `o`: it yields exactly the objects that `o` refers to, all below `count`, and reads the
+-- row, the bytes and the unresolved identifiers of `o`.
 pub record IsVisitOf (refers : ℕ → Type 0) (count : ℕ) (m : Measure) (o : ℕ) (v : Visited) : Type 0 where
   pub exact : (x : ℕ) → Contains (references_left v) x ↔ refers x
   pub within : All (λ x. x < count) (references_left v)
