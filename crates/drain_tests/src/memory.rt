@@ -72,7 +72,8 @@ fn marks_over<T: Threads + Wait + Sync>(
     }
 }
 
-/// Fails each allocation of marking `graph` in turn. Returns the number of allocations, or `None` if a result is wrong.
+/// Fails each allocation of marking `graph` in turn. Returns the number of allocations, or `None` if a result is wrong
+/// or the number varies.
 fn requests_to_mark<T: Threads + Wait + Sync>(
     rt: &T,
     alloc: Global,

@@ -53,8 +53,8 @@ static STARTS: [Start; 9] = [
     ((4, 256, 1024, 0), 2, Err(RunFault::WorkerRefused)),
     ((4, 256, 1024, 0), 3, Err(RunFault::WorkerRefused)),
     ((4, 256, 1024, 0), 4, Ok(62)),
-    // Six buffers of two have room for 12 of the 60 instances. The others go to the spill list of the worker that
-    // claims them.
+    // Six buffers of two have room for at most 12 of the 60 instances. The others go to the spill list of the worker
+    // that claims them.
     ((2, 2, 6, 0), 2, Ok(62)),
     ((2, 256, 1024, LATE), 2, Err(RunFault::TagSpent)),
     // Worker 0 is stopped as well, but worker 1 was not started.

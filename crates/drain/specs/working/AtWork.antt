@@ -96,8 +96,8 @@ HasNoneLeft p w =
 abbrev pub IsThrough : Holder → Holder → Type 0
 IsThrough begun w = CameFrom begun w × IsFree w
 
--- The items of the pair's buffers were given to others as long as there were empty buffers: no item is left, or the
--- worker has seen the empty stack empty.
+-- The items of the pair's buffers were given to others as long as there were empty buffers: no item is left in the
+-- buffers, or the worker has seen the empty stack empty.
 abbrev pub HasGiven : PairState → Holder → Type 0
 HasGiven p w = (buffered_items p ≡ []) ⊎ (0 < empties_of w.book Empty)
 

@@ -16,7 +16,7 @@ pub record IsVisitOf (refers : ℕ → Type 0) (count : ℕ) (m : Measure) (o : 
   pub bytes : v.bytes ≡ m.bytes o
   pub unresolved : v.unresolved + unresolved_left v.left ≡ m.unresolved o
 
--- Some objects were yielded, and then none.
+-- The iterator in the state `start` yielded some objects, or none, and then ended in the state `end`.
 abbrev pub HasEnded : {S : Type 0} → (S → Option ℕ → S → Type 0) → S → S → Type 0
 HasEnded {S} steps start end = (given : List ℕ) × (last : S) × Yields steps start given last × steps last None end
 

@@ -1,4 +1,4 @@
--- Each turn goes on from the one before, and after each turn the worker is awake.
+-- The worker's turns: each goes on from the one before, and after each the worker is awake.
 use Rattle.drain.proofs.Words.{inl, inr, rules, subst}
 use Rattle.drain.specs.working.Jobs.{ScansNext}
 use Rattle.drain.specs.working.Jobs.TakesTurns.{more, none}
@@ -8,7 +8,7 @@ use Rattle.drain.proofs.Scanning.{same_tally, still_awake, still_on_job}
 use Rattle.drain.proofs.Sharing.{gives_some, needs_none}
 use Rattle.drain.proofs.paired_worker.PairedWorker.work_off.Goals as goal
 
--- the worker finished an object, and gave some of what it had
+-- it finished an object, and gave some of what it had
 pub loop-preserved-in-Continue-branch-3 : goal.loop-preserved-in-Continue-branch-3
 loop-preserved-in-Continue-branch-3 g c =
     let (on_job, awake, came, _, turns) = c.loop.invariant in
@@ -29,7 +29,7 @@ loop-preserved-in-Continue-branch-3 g c =
       more _ old now turns (mid, inl (one, shares)),
     )
 
--- the worker finished an object, and the full stack had a buffer
+-- it finished an object, and the full stack had a buffer
 pub loop-preserved-else-others_want : goal.loop-preserved-else-others_want
 loop-preserved-else-others_want g c =
     let (on_job, awake, came, _, turns) = c.loop.invariant in
@@ -49,7 +49,7 @@ loop-preserved-else-others_want g c =
       more _ old now turns (mid, inl (one, shares)),
     )
 
--- the worker waited, and there was more
+-- it waited, and there was more
 pub loop-preserved : goal.loop-preserved
 loop-preserved g c =
     let (on_job, awake, came, _, turns) = c.loop.invariant in
