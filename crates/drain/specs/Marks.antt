@@ -7,7 +7,7 @@ use Rattle.drain.specs.Sums.{sum_of_row}
 use Rattle.drain.specs.Totals.{marked_objects, of_row, total}
 use Rattle.drain.specs.declared.sum.Sum.{Sum}
 
--- `mark` is set: it is 0 for a white object, 1 for a claimed one, and 2 for a finished one
+-- `mark` is not 0: a white object has 0, a claimed one 1, and a finished one 2
 abbrev pub is_set : ℕ → Bool
 is_set mark = nat_le 1 mark
 

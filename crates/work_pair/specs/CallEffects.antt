@@ -22,7 +22,7 @@ pub record Keeps (old new : Book) : Type 0 where
 -- a call with a pair, in which objects were put and got
 pub record CallEffect (old : PairState) (before : Book) (put got : List ℕ) (new : PairState)
     (after : Book) : Type 0 where
-  -- what was popped and pushed, in order
+  -- the pops and pushes in order, with those that found no buffer or loaded a last tag
   pub moves : List Move
   pub books : Moves before moves after
   -- the items after: those before, plus those of buffers popped and those put, minus those of buffers pushed and those
