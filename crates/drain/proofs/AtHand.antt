@@ -79,7 +79,7 @@ gone_free {w} hand closed = record {
   open_push = closed;
 }
 
--- the worker holds the buffers of its pair, and its charge is the items and what it puts
+-- a worker that has `put` and `rest` at hand backs its pair and the objects `put`
 pub backs : {p : PairState} (put rest : List ℕ) {w : Holder} → HasAtHand p (put ++ rest) w → IsBacked p put w.book
 backs {p} put rest hand = record {
   held = λ i. omega (arith, hand.held i);
@@ -188,7 +188,7 @@ module _ (old new : Holder) (pool : new.pool ≡ old.pool) (o found : ℕ) (is :
         );
       }
 
-  -- an object that was found marked does not
+  -- an object that was found marked does not join the charge
   marked_at_hand : found ≢ 0 → (p : PairState) (besides : List ℕ) → HasAtHand p besides old
       → HasAtHand p besides new
   marked_at_hand marked p besides was =
@@ -234,12 +234,12 @@ marked_claimed {o} {p} {q} {a} {b} marked claim =
     let none = subst (IsClaimed o p a q b) marked claim in
     record { goes_on = none.goes_on; saw = sees_one o b none.saw; at_work = none.at_work }
 
--- an object that was found white is at hand, besides those that were
+-- an object that was found white is at hand, besides those that were before
 pub white_at_work : {o : ℕ} {p q : PairState} {a b : Holder} {white : Bool} (besides : List ℕ) → white ≡ true
     → IsClaimed o p a q b white → IsAtWork p besides a → IsAtWork q (o ∷ besides) b
 white_at_work {o} {p} {q} {a} {b} besides is claim = (subst (IsClaimed o p a q b) is claim).at_work besides
 
--- once it is put, it is claimed
+-- a white object that was then put is claimed
 pub white_claimed : {o : ℕ} {p q r : PairState} {a b c : Holder} {white : Bool} → white ≡ true
     → IsClaimed o p a q b white → IsPut o q b r c → AreClaimed (o ∷ []) p a r c
 white_claimed {o} {c = c} is claim puts = record {

@@ -20,7 +20,7 @@ came_back measure {w = w} t owed through tally = record {
 abbrev pub Back : {A : Type 0} → Measure → Holder → TalliedWorker A → Type 0
 Back m leader t = IsBackUnder m leader t.worker t.tally
 
--- for a leader of the same pool and setup as well
+-- a worker that is back for one leader is back for another of the same pool and setup
 pub back_still : {A : Type 0} {m : Measure} {old : Holder} (new : Holder) {w : Holder} {t : Tally A}
     → new.pool ≡ old.pool → new.book.setup ≡ old.book.setup → IsBackUnder m old w t → IsBackUnder m new w t
 back_still new pool setup back = record {

@@ -19,7 +19,7 @@ pushed_holds {X} P xs ys x n long is all last k d below =
     (λ (high : n ≤ k). subst P (sym (get_or_push xs x d k (omega (arith, high, below, long)))) last)
     (cases_lt k n))
 
--- and if the last is taken away, of it and of the remaining ones
+-- what holds of each element holds of the last, and of those that remain without the last
 module _ {X : Type 0} (P : X → Type 0) (old left : List X) (x : X) (is : old ≡ left ++ x ∷ []) (all : All P old) where
   long : length old ≡ length left + 1
   long = ap (λ (ys : List X). length ys) is ∙ length_push left x
@@ -38,7 +38,7 @@ module _ {X : Type 0} (P : X → Type 0) (old left : List X) (x : X) (is : old �
       in
       subst P here (all k d (omega (arith, below, long)))
 
--- if it holds of each and of one more
+-- what holds of each element and of one more holds of each of the longer list
 pub more_hold : {X : Type 0} (P : X → Type 0) (xs : List X) (x : X) → All P xs → P x → All P (xs ++ x ∷ [])
 more_hold P xs x all last k d below =
     pushed_holds P xs (xs ++ x ∷ []) x (length xs) refl refl (λ j e low. all j e low) last k d

@@ -21,7 +21,7 @@ module _ (is_root : ℕ → Type 0) (refers : ℕ → ℕ → Type 0) where
   }
 
   module _ (holds : ℕ → Type 0) (closed : (a b : ℕ) → holds a → refers a b → holds b) where
-    -- a path from an object for which it holds ends at one for which it holds
+    -- if `holds` is true of the first object of a path, it is true of the last
     ends_within : (a : ℕ) (path : List ℕ) (b : ℕ) → holds a → LeadsTo refers a path b → holds b
     ends_within a [] b here same = subst holds same here
     ends_within a (c ∷ path) b here leads = ends_within c path b (closed a c here leads.0) leads.1

@@ -34,7 +34,7 @@ gave_away old new units pool is = record {
   pushed = ap (λ (b : Book). b.account.pushed) is;
 }
 
--- and so does one that took in a free worker
+-- a leader that took in a free worker still leads
 pub took_in : (old other new : Holder) → new.pool ≡ old.pool → new.book ≡ joined old.book other.book → IsFree other
     → Leads old new
 took_in old other new pool is free = record {
@@ -57,7 +57,7 @@ took_in old other new pool is free = record {
   pushed = ap (λ (b : Book). b.account.pushed) is;
 }
 
--- after that it is free if it was free before
+-- a leader that took in a free worker is free if it was free before
 pub joined_free : (old other new : Holder) → new.book ≡ joined old.book other.book → IsFree old → IsFree other
     → IsFree new
 joined_free old other new is free other_free = record {
@@ -66,7 +66,7 @@ joined_free old other new is free other_free = record {
   open_push = ap (λ (b : Book). b.account.open_push) is ∙ (λ k. free.open_push k || other_free.open_push k);
 }
 
--- it has the same pair at hand
+-- a leader that leads has the same pair at hand
 leads_hand : {p : PairState} {old new : Holder} → Leads old new → HasAtHand p [] old → HasAtHand p [] new
 leads_hand {p} leads was = record {
   going = was.going;
@@ -75,11 +75,11 @@ leads_hand {p} leads was = record {
   charge = λ o. leads.charge o ∙ was.charge o;
 }
 
--- with several units it is busy, whatever its idle number
+-- a worker with several units is busy, whatever its idle number
 pub several_busy : (w : Holder) → 1 < w.book.account.share → IsBusy w.book.account
 several_busy w several = inl (λ one. omega (arith, several, one))
 
--- it is at work again once it has several units
+-- a leader is at work again once it has several units
 pub leads_on : {p : PairState} {old new : Holder} → Leads old new → 1 < new.book.account.share → HasAtHand p [] old
     → IsAtWork p [] new
 leads_on {new = new} leads several was = record { hand = leads_hand leads was; busy = several_busy new several }

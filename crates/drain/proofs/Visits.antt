@@ -1,4 +1,5 @@
--- A visit keeps what it reads of its object: after the last object that it yields this is all that is read of it.
+-- A visit reads the row and the bytes of its object first, and counts unresolved identifiers as it goes. After the last
+-- object that it yields, the count is complete.
 use Rattle.drain.proofs.Words.{All, Contains, IsMeasureOf, IsWhole, List, Measure, None, ObjectGraph, Option, Some}
 use Rattle.drain.proofs.Words.{Yields, YieldsFirst, YieldsList-from_shown, [], ap, arith, bytes_at, item_count, length}
 use Rattle.drain.proofs.Words.{measure_of, number_within, object_count, pairs_of, references_of, refl, row_at}
@@ -12,7 +13,7 @@ use Rattle.drain.proofs.Pairs.{pair_is_reference}
 abbrev pub visits : Visited → Option ℕ → Visited → Type 0
 visits old object new = YieldsFirst references_left old object new × Advances old object new
 
--- the row, the bytes, and what is missed in all stay the same
+-- the row, the bytes, and the unresolved identifiers counted and still to be counted stay the same
 record IsSameVisit (old new : Visited) : Type 0 where
   row : new.row ≡ old.row
   bytes : new.bytes ≡ old.bytes
@@ -32,8 +33,8 @@ all_calls [] start last same =
 all_calls (o ∷ given) start last run =
     two_calls start run.0 last (one_call start (Some o) run.0 run.1) (all_calls given run.0 last run.2)
 
--- the rest of the references follows the class of an object, if that is known, and at their end what is read of it is
--- complete
+-- the class of an object, if it is known, and the rest of the visit are the object's references; at the end of the rest
+-- what is read of the object is complete
 pub are_given :
     (refers : ℕ → Type 0) (count : ℕ) (m : Measure) (o : ℕ) (whole : Visited) (class : Option ℕ) (rest : Visited)
     → IsVisitOf refers count m o whole → IsBehind whole class rest

@@ -7,7 +7,7 @@ use Rattle.drain.specs.Sums.{sum_of_row}
 use Rattle.drain.specs.Totals.{marked_objects, of_row, total}
 use Rattle.drain.specs.declared.sum.Sum.{Sum}
 
--- a white object has 0, a claimed one 1, and a finished one 2
+-- `mark` is not 0: a white object has 0, a claimed one 1, and a finished one 2
 abbrev pub is_set : ℕ → Bool
 is_set mark = nat_le 1 mark
 
@@ -22,7 +22,8 @@ pub record MarkedObjects : Type 0 where
   pub sums : List Sum
   pub unresolved : ℕ
 
--- `m` has the marks of the objects of `g`, and its sums and its unresolved identifiers are those of the marked objects.
+-- `m` has a mark for each object of `g`, and its sums and its number of unresolved identifiers are those of the marked
+-- objects.
 pub record IsMarkingOf (g : ObjectGraph) (m : MarkedObjects) : Type 0 where
   pub one_each : length m.marks ≡ object_count g
   pub tallies : (row : RowKey) → sum_of_row m.sums row ≡ total g (of_row g row (marked_objects g m.marks))

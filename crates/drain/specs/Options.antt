@@ -11,7 +11,7 @@ abbrev pub choice : ℕ → ℕ → ℕ → ℕ → Choice
 choice workers buffer buffers first_tag =
     record { workers = workers; buffer = buffer; buffers = buffers; first_tag = first_tag }
 
--- Each value is in its range, and there are two buffers for each worker and two more.
+-- Each value is in its range, and there are at least two buffers for each worker and two more.
 pub record IsInRange (c : Choice) : Type 0 where
   pub some_worker : 1 ≤ c.workers
   pub most_workers : c.workers ≤ 64

@@ -1,4 +1,4 @@
--- Why a graph was not marked, if a call of a pair was stopped.
+-- The fault of a marking for each stop of a pair's call.
 use Rattle.work_pair.specs.declared.stop.Stop.{Stop}
 use Rattle.work_pair.specs.declared.stop.Stop.TheVariants as stop
 use Rattle.drain.specs.declared.marked.RunFault.{RunFault}

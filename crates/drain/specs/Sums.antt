@@ -7,7 +7,7 @@ use Rattle.drain.specs.declared.sum.Sum.{Sum}
 abbrev pub no_object : Sum
 no_object = record { count = 0; bytes = 0 }
 
--- the number of objects of the row at `place` and their bytes together: 0 and 0 if there is no such place
+-- the number of objects of the row at `place` and their bytes together, or 0 and 0 if there is no row at `place`
 abbrev pub sum_at : List Sum → ℕ → ℕ × ℕ
 sum_at rows place = ((slice_index_or rows place no_object).count, (slice_index_or rows place no_object).bytes)
 

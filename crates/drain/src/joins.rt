@@ -1,4 +1,4 @@
-//! The joins: after the leader has drained, it takes in its workers and their tallies.
+//! The joins: the leader scans what its workers left, and then takes in the workers and their tallies.
 
 ghost use Rattle.std.specs.Prelude.{◌≡◌, ◌+◌, [], ℕ, Contains, IfOk, vec_len};
 ghost use Rattle.drain.specs.working.AtWork.{IsFree, Leads};
@@ -18,7 +18,7 @@ use std::alloc::Allocator;
 use std::sync::Wait;
 use work_pair::Stop;
 
-/// Joins the worker of `back`, which is through, to the leader, and its tally to the leader's tally.
+/// Joins the worker of `back` to the leader, and its tally to the leader's tally. The worker must be through.
 fn join_share<A: Allocator, V: Measured>(
     graph: &V,
     pool: &Pool<A>,
@@ -47,8 +47,8 @@ fn join_share<A: Allocator, V: Measured>(
     TalliedWorker { worker, tally }
 }
 
-/// Joins the workers of `back`, which are through, to the leader, which has returned its buffers, and their tallies to
-/// the leader's tally.
+/// Joins the workers of `back` to the leader, and their tallies to the leader's tally. The workers must be through, and
+/// the leader must have returned its buffers.
 fn join_shares<A: Allocator, V: Measured>(
     graph: &V,
     pool: &Pool<A>,

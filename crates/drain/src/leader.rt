@@ -56,7 +56,7 @@ where
 ///
 /// `Err(RunFault::OutOfMemory)` if an allocation fails: before any thread is started, or for the spill list of a worker
 /// or the leader. `Err(RunFault::TagSpent)` if a stack's last tag is loaded when an exchange is due. If several workers
-/// stop with one of these two, the fault of the one with the least number is returned; a fault of the leader's own
+/// stop with one of these two, the fault of the worker with the least number is returned; a fault of the leader's own
 /// drain is returned only if no worker stopped. `Err(RunFault::WorkerRefused)` if a thread cannot be started. When
 /// `mark` returns, all threads that it started have ended.
 pub fn mark<T, A, B, G>(
@@ -77,7 +77,8 @@ where
     mark_where(rt, alloc, graph, options, gate, &StartsAll)
 }
 
-/// Marks like [`mark`], but `hook` has to allow the thread of each worker.
+/// Marks like [`mark`], but calls `hook` before each worker's thread is started. `Err(RunFault::WorkerRefused)` also if
+/// `hook` refuses one.
 pub fn mark_where<T, A, B, G, S>(
     rt: &T,
     alloc: A,

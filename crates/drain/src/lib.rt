@@ -1,8 +1,9 @@
 //! Marking the reachable objects of a heap.
 //!
 //! `mark` claims the roots of a graph, starts a thread for each worker, and returns which objects were marked, and for
-//! each row their number and their bytes. Its clause `exactly_reachable` is the theorem: the marked objects are exactly
-//! those that a path of references joins to a root, whatever the number of workers and the order of their steps.
+//! each row the number and the bytes of its marked objects. Its clause `exactly_reachable` is the theorem: the marked
+//! objects are exactly those that a path of references joins to a root, whatever the number of workers and the order of
+//! their steps.
 //!
 //! From `crates/drain_tests/src/memory.rt`, which is proved and run as a test:
 //!

@@ -11,11 +11,11 @@ use work_pair::Stop;
 /// Why a graph was not marked.
 #[derive(Clone, Copy, Debug, PartialEq, Eq, Error)]
 pub enum RunFault {
-    /// An allocation failed: before any thread was started, or for the spill list of a worker that had an object and
-    /// found no empty buffer for it.
+    /// An allocation failed: before any thread was started, or for the spill list of a worker, or of the leader, that
+    /// found no empty buffer for an object.
     #[error("out of memory")]
     OutOfMemory,
-    /// A stack's last tag was loaded when an exchange was due.
+    /// A stack's last tag was loaded when the stack's head was to be exchanged.
     #[error("a stack's last tag was loaded")]
     TagSpent,
     /// A worker's thread could not be started.
@@ -48,7 +48,8 @@ impl From<Stop> for RunFault {
     }
 }
 
-/// The marks of a graph's objects, and for each row the number of its marked objects and their bytes.
+/// The marks of a graph's objects, for each row the number of its marked objects and their bytes, and how many
+/// identifiers in marked objects are unresolved.
 #[derive(Drop)]
 pub struct Marked<A: Allocator> {
     marks: Marks<A>,
@@ -117,7 +118,8 @@ impl<A: Allocator> Marked<A> {
         self.marks.finished_len()
     }
 
-    /// Returns the number of marked objects of `row` and the sum of their bytes. Both are 0 if no object has this row.
+    /// Returns the number of marked objects of `row` and the sum of their bytes. Both are 0 if no marked object has
+    /// this row.
     pub fn tally(&self, row: &RowKey) -> (u64, u64)
         ensures { result ≡ sum_of_row self.now.sums row.now }
     {
@@ -127,7 +129,7 @@ impl<A: Allocator> Marked<A> {
         }
     }
 
-    /// Returns the number of identifiers in marked objects that are other than 0 and name no object.
+    /// Returns how many identifiers in marked objects are unresolved: other than 0, and the identifier of no object.
     pub fn unresolved(&self) -> u64
         ensures { result ≡ self.now.unresolved }
     {

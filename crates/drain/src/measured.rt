@@ -13,8 +13,8 @@ pub trait Measured: Edges {
     /// What a tally reads of the objects.
     ghost measure: { Self → Measure };
 
-    /// Recalls what holds of each graph: it has few objects, each has a row, and its numbers are small. The call does
-    /// nothing.
+    /// Recalls what holds of each graph: it has few objects, and each object has a row, few bytes and few unresolved
+    /// identifiers. The call does nothing.
     fn recall_measure(&self)
         ensures { IsMeasureOf (Self.count self.now) (measure self.now) };
 

@@ -3,7 +3,7 @@
 use std::marker::Model;
 use thiserror::Error;
 
-/// A value of the options is out of its range.
+/// A value of the options is out of its range, or there are too few buffers for the workers.
 #[derive(Clone, Copy, Debug, PartialEq, Eq, Error)]
 #[error("an option is out of its range")]
 pub struct BadOptions;

@@ -12,7 +12,7 @@ mod idle_turns;
 mod leading;
 mod scanning;
 
-/// A worker and its two buffers.
+/// A worker and its pair.
 #[derive(Drop)]
 pub(crate) struct PairedWorker<A: Allocator> {
     pub(crate) worker: Worker<A>,
@@ -24,7 +24,7 @@ pub(crate) struct PairedWorker<A: Allocator> {
 pub(crate) enum Opened<A: Allocator> {
     /// The worker at its pair.
     Paired(PairedWorker<A>),
-    /// The worker as it was: there were not two empty buffers.
+    /// The worker without a pair: two empty buffers were not found.
     Unpaired(Worker<A>),
 }
 
@@ -112,8 +112,8 @@ impl<A: Allocator> PairedWorker<A> {
 
     /// Claims `object` unless the worker recently saw it marked: then a claim would change nothing. Returns whether it
     /// was white: then the worker has it at hand.
-    // Inlined, as `claim` is. It does not wait, so the toolchain tests no byte after it: most claims are of marked
-    // objects.
+    // Inlined, as `claim` is. It does not wait, so the toolchain tests no byte after it. Most claims are of marked
+    // objects, which are not put.
     #[inline(always)]
     fn claim_unless_seen(&mut self, pool: &Pool<A>, seen: &mut RecentlySeen, object: u32) -> bool
         requires pool { self.old.worker.pool ≡ pool.now }
@@ -179,7 +179,7 @@ impl<A: Allocator> PairedWorker<A> {
         Ok(())
     }
 
-    /// Gives what is in the pair's buffers to others, as long as there are empty buffers.
+    /// Gives what is in the pair's buffers to others, as long as empty buffers are found to replace them.
     pub(crate) fn publish<R: Wait>(&mut self, rt: &R, pool: &Pool<A>) -> Result<(), Stop>
         requires pool { self.old.worker.pool ≡ pool.now }
         requires at_work { IsAtWork self.old.pair [] self.old.worker }
@@ -191,7 +191,8 @@ impl<A: Allocator> PairedWorker<A> {
         self.pair.publish(rt, pool, &mut self.worker)
     }
 
-    /// Puts the last spilled object into the pair again. Returns false if there is no buffer for it.
+    /// Puts the last spilled object into the pair again. Returns false if the object is spilled again, because no empty
+    /// buffer was found for it.
     fn unspill_one<R: Wait>(&mut self, rt: &R, pool: &Pool<A>) -> Result<bool, Stop>
         requires pool { self.old.worker.pool ≡ pool.now }
         requires at_work { IsAtWork self.old.pair [] self.old.worker }
@@ -211,8 +212,8 @@ impl<A: Allocator> PairedWorker<A> {
         }
     }
 
-    /// Puts the spilled objects into buffers, and buffers that get full on the full stack, as long as there is room or
-    /// an empty buffer is found.
+    /// Puts the spilled objects into buffers until none is spilled, or no empty buffer is found for one. Pushes full
+    /// buffers on the full stack.
     fn unspill<R: Wait>(&mut self, rt: &R, pool: &Pool<A>) -> Result<(), Stop>
         requires pool { self.old.worker.pool ≡ pool.now }
         requires at_work { IsAtWork self.old.pair [] self.old.worker }
@@ -229,7 +230,8 @@ impl<A: Allocator> PairedWorker<A> {
         Ok(())
     }
 
-    /// Gives some of what is in the pair to others, the spilled objects first.
+    /// Puts the spilled objects into buffers again, and then gives a buffer with items to others, if the pair has
+    /// enough items and an empty buffer is found.
     // Not inlined, so that the many turns in which nothing is given neither save registers for it nor clear its locals.
     #[inline(never)]
     fn give<R: Wait>(&mut self, rt: &R, pool: &Pool<A>) -> Result<(), Stop>
@@ -243,7 +245,7 @@ impl<A: Allocator> PairedWorker<A> {
         self.pair.balance(rt, pool, &mut self.worker)
     }
 
-    /// Tests whether others may have nothing to scan: the full stack is seen empty.
+    /// Tests whether the full stack is seen empty: then others may have nothing to scan.
     // Inlined: only this look is made in each turn of the worker's loop. It does not wait, so the toolchain tests no
     // byte after it.
     #[inline(always)]
@@ -257,7 +259,7 @@ impl<A: Allocator> PairedWorker<A> {
         pool.sees_empty(&mut self.worker, Which::Full)
     }
 
-    /// Gives some of what is in the pair to others if the full stack is seen empty.
+    /// Calls [`give`](Self::give) if the full stack is seen empty.
     fn offer<R: Wait>(&mut self, rt: &R, pool: &Pool<A>) -> Result<(), Stop>
         requires pool { self.old.worker.pool ≡ pool.now }
         requires at_work { IsAtWork self.old.pair [] self.old.worker }

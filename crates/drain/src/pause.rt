@@ -14,9 +14,9 @@ const FIRST_NAP: u64 = 50;
 const TURNS_OF_A_LENGTH: u32 = 128;
 
 /// Spins at first and then lets other threads run, so that work that comes at once is seen at once. After that
-/// (`Backoff` says when) it naps: 50 microseconds in the first turns, and 400 in the last ones. A worker that waits in
-/// vain thus stays for about 0.4 seconds. If all naps took 50, it would stay for 0.13, and some linked lists take
-/// longer to mark.
+/// (`Backoff` says when) naps: for 50 microseconds at first, and for 400 in the last turns. So a worker that waits in
+/// vain stays for about 0.4 seconds. If all naps took 50 microseconds, it would stay for 0.13 seconds, and marking some
+/// linked lists takes longer.
 pub(crate) fn pause<R: Wait>(rt: &R, backoff: &Backoff, turn: u32) {
     if backoff.is_completed() {
         let doublings = (turn / TURNS_OF_A_LENGTH).min(3);

@@ -1,7 +1,8 @@
 //! The objects that a worker recently saw marked.
 //!
-//! About half of all claims are of marked objects, above all of the class that each instance names first. Such a claim
-//! changes nothing, but it writes a word that all workers write. A mark never falls, so the claim may be skipped.
+//! About half of all claims are of marked objects, most often of the class that an instance names first. A claim of a
+//! marked object changes nothing, but it writes a word that all workers write. A mark never falls, so the claim may be
+//! skipped.
 
 ghost use Rattle.std.specs.Prelude.{◌≡◌, ◌%◌, ◌↔◌, ℕ, IsTrue, slice_set};
 ghost use Rattle.drain.specs.working.RecentlySeen.{IsNoted};

@@ -1,4 +1,4 @@
-//! What is known of an object after its scan.
+//! What a scan reads of an object.
 
 /// What is read of an object while its references are followed.
 #[derive(Clone, Copy)]

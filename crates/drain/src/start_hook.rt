@@ -1,4 +1,4 @@
-//! A hook with which a test refuses to start a worker's thread. A test cannot make the system refuse it.
+//! A hook with which a test refuses to start a worker's thread. A test cannot make the system refuse one.
 
 /// A hook, which is called before the thread of each worker is started.
 pub trait StartHook: Sync {

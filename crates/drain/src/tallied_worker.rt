@@ -1,4 +1,4 @@
-//! A worker that is through with its work, and what it counted.
+//! A worker before or after its work, and what it counted.
 
 use crate::tally::Tally;
 use buffer_pool::Worker;
@@ -9,6 +9,6 @@ use std::alloc::Allocator;
 pub struct TalliedWorker<A: Allocator> {
     /// The worker, which has no buffer and no charge.
     pub worker: Worker<A>,
-    /// The tally of what it finished.
+    /// The tally of the objects that the worker finished.
     pub tally: Tally<A>,
 }

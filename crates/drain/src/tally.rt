@@ -10,13 +10,13 @@ use crate::scanned_object::ScannedObject;
 use crate::sum::Sum;
 use std::alloc::{AllocError, Allocator};
 
-/// The counts of some objects: for each row their number and their bytes, and how many of their identifiers name no
-/// object.
+/// The counts of some objects: for each row their number and their bytes, and how many identifiers of all are other
+/// than 0 and name no object.
 #[derive(Drop)]
 pub struct Tally<A: Allocator> {
     /// The sums of the rows, by their places.
     pub rows: Vec<Sum, A>,
-    /// The number of identifiers that are other than 0 and name no object.
+    /// The number of the objects' identifiers that are other than 0 and name no object.
     pub unresolved: u64,
 }
 
@@ -46,7 +46,7 @@ impl<A: Allocator> Tally<A> {
         self.unresolved += object.unresolved;
     }
 
-    /// Adds the objects of `other`, which has as many rows.
+    /// Adds the counts of `other`, which must have as many rows.
     pub fn join(&mut self, other: &Tally<A>)
         requires rows { length self.old.rows.items ≡ length other.now.rows.items }
         requires small { HasSmallSums self.old }
@@ -61,7 +61,8 @@ impl<A: Allocator> Tally<A> {
         self.unresolved += other.unresolved;
     }
 
-    /// Returns the number of objects of the row at `place` and their bytes together: (0, 0) if there is no such place.
+    /// Returns the number of objects of the row at `place` and their bytes together, or (0, 0) if there is no row at
+    /// `place`.
     pub fn told_at(&self, place: usize) -> (u64, u64)
         ensures { result ≡ sum_at self.now.rows.items place }
     {

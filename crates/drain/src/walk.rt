@@ -5,7 +5,8 @@ use crate::scanned_object::ScannedObject;
 use heap_graph::Visit;
 use std::alloc::Allocator;
 
-/// The objects that an object refers to, one after the other, and what is read of the object on the way.
+/// The objects that an object refers to, one after the other, and what is read of the object on the way. The object's
+/// class is skipped if it is known without a look-up.
 pub trait Reads: Iterator<Item = u32> + Drop + Send {
     ghost use Rattle.std.specs.Prelude.{◌≡◌};
     ghost use Rattle.drain.specs.declared.scanned_object.ScannedObject.{ScannedObject};
@@ -13,7 +14,7 @@ pub trait Reads: Iterator<Item = u32> + Drop + Send {
     /// What has been read of the object so far.
     ghost read_so_far: { Self → ScannedObject };
 
-    /// Returns what has been read of the object. After the last reference this is all of it.
+    /// Returns what has been read of the object so far. After the last reference the result is complete.
     fn read(&self) -> ScannedObject
         ensures { result ≡ read_so_far self.now };
 }

@@ -38,7 +38,7 @@ impl<'a, 'b, A: Allocator> Measured for WalkedGraph<'a, 'b, A> {
     ghost measure = { λ l. measure_of l.graph.now };
 
     fn recall_measure(&self) {
-        // Called only for its clause `whole`: what is true of each graph bounds its rows, bytes and identifiers.
+        // `len` is called only for its clause `whole`, which bounds the graph's rows, bytes and identifiers.
         let _objects = self.graph.len();
     }
 
@@ -48,7 +48,8 @@ impl<'a, 'b, A: Allocator> Measured for WalkedGraph<'a, 'b, A> {
 }
 
 /// Returns what a tally counts of an object: its row, its size, and how many of its identifiers name no object.
-// Inlined, like all that a visit reports: a call would write its three words, and its caller would read them again.
+// Inlined, like all that a visit reports: a call would write the three words of its result, and its caller would read
+// them again.
 #[inline(always)]
 fn scanned(row: RowKey, bytes: u64, unresolved: u64) -> ScannedObject
     ensures { result ≡ record { row = numbers.row_number row; bytes = bytes; unresolved = unresolved } }

@@ -31,9 +31,10 @@ use work_pair::Stop;
 /// worker finished.
 #[derive(Drop)]
 pub struct Duty<A: Allocator, V> {
-    /// The worker as it began: a promise is plain data, and the returned worker is compared only with this one.
+    /// The worker as it began, with which the returned worker is compared. It is a snapshot, as a promise is plain
+    /// data.
     pub begun: Snapshot<Worker<A>>,
-    /// The graph that it works on.
+    /// The graph that the worker works on.
     pub graph: Snapshot<V>,
 }
 
@@ -49,8 +50,8 @@ impl<A: Allocator, V: Measured> Promise<Result<TalliedWorker<A>, Stop>> for Duty
 /// The thread of a worker that was started.
 pub type StartedWorker<A, V> = PromisedHandle<Result<TalliedWorker<A>, Stop>, Duty<A, V>>;
 
-/// Does the work of worker `number`: it scans until it has nothing left, and stays until all are idle or it has waited
-/// long enough. It has nothing to do if there are not two empty buffers for it.
+/// Does the work of worker `number`: it scans, and waits for more when nothing is left, until all workers are idle or
+/// it has waited long enough. Returns the worker at once if there are not two empty buffers for it.
 fn work<T: Wait, A: Allocator + Copy, V: Walk, G: Gate, S>(
     rt: &T,
     job: &Job<'_, A, V, G, S>,
@@ -106,8 +107,8 @@ where
     }
 }
 
-/// A leader that gives units away, the threads that were started with them so far, and the tallies of those still to be
-/// started.
+/// A leader that gives units away, the threads that were started with them so far, and tallies for the threads that are
+/// still to be started.
 #[derive(Drop)]
 struct Starting<A: Allocator, V: Measured> {
     leader: Worker<A>,
@@ -115,7 +116,7 @@ struct Starting<A: Allocator, V: Measured> {
     tallies: Vec<Tally<A>, A>,
 }
 
-/// Splits off a unit for worker `number`, and starts its thread with a tally of its own.
+/// Splits a unit off the leader for worker `number`, and starts the worker's thread with one of the tallies.
 fn start_next<'s, E, T, A, V, G, S>(
     rt: &'s T,
     scope: &'s Scope<'s, E>,
@@ -164,7 +165,8 @@ where
     })
 }
 
-/// Starts a thread for each worker. Returns the threads and the leader with its remaining units.
+/// Starts a thread for each worker. Returns the threads and the leader with its remaining units, or
+/// `Err(RunFault::WorkerRefused)` as soon as a thread is refused.
 fn start_all<'s, E, T, A, V, G, S>(
     rt: &'s T,
     scope: &'s Scope<'s, E>,
@@ -262,7 +264,7 @@ where
     )
 }
 
-/// A leader whose workers have ended: it has joined none of them yet.
+/// A leader after its workers have ended, and before they are joined to it.
 #[derive(Drop)]
 pub(crate) struct RunWorkers<A: Allocator> {
     /// The leader with its pair.

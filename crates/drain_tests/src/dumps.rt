@@ -36,7 +36,7 @@ pub(crate) fn dump_of(alloc: Global, heap: &[u8]) -> Result<Vec<u8>, AllocError>
     Ok(dump)
 }
 
-/// Appends an array that is the root, and the 60 instances that it refers to.
+/// Appends class 0x100, an array of that class, which is the root, and the 60 instances that the array refers to.
 fn put_wide_array(heap: &mut Vec<u8>) -> Result<(), AllocError> {
     put_class(heap)?;
     // Array 0x200 of that class.
@@ -50,7 +50,7 @@ fn put_wide_array(heap: &mut Vec<u8>) -> Result<(), AllocError> {
     heap.extend_from_slice(&[0xff, 0, 0, 2, 0])
 }
 
-/// Returns a dump with an array that is the root, and the 60 instances that it refers to.
+/// Returns a dump of 62 objects: a class, an array, which is the root, and the 60 instances that the array refers to.
 pub(crate) fn wide_array(alloc: Global) -> Result<Vec<u8>, AllocError> {
     let mut heap = Vec::new(alloc);
     put_wide_array(&mut heap)?;

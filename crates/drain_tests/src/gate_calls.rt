@@ -12,13 +12,13 @@ use std::thread;
 use std::thread::Threads;
 use std::time::{Clock, Duration};
 
-/// The number of times that a held worker checks whether the others have come, 1 ms apart.
+/// The most times that a held worker checks whether the others have come, 1 ms apart.
 const TURNS: u32 = 4_000;
 
 /// The most runs of two workers on the array: a worker that waits stays for about 0.4 s, and may leave too soon.
 const RUNS: u32 = 5;
 
-/// Notes who calls, and holds each worker until all have come.
+/// Notes who calls. After the first `free` calls, holds each worker until all have come, or one was held in vain.
 #[derive(Drop)]
 struct Meeting<C: Clock> {
     clock: C,
@@ -29,7 +29,7 @@ struct Meeting<C: Clock> {
     /// A bit for each worker that came.
     come: AtomicU64,
     by_leader: AtomicU64,
-    /// The number of calls that were held in vain: after the first of them no call is held.
+    /// The number of calls that were held in vain: after the first one no further call is held.
     late: AtomicU64,
 }
 
@@ -149,12 +149,12 @@ fn calls_of<T: Clock + Copy + Threads + Wait + Sync>(
 
 /// Roots; workers, objects in a buffer, buffers; the workers that came; the number of the leader's calls.
 static ROWS: [(u32, (u32, u32, u32), u64, u64); 4] = [
-    // There is a buffer of two roots for each of 64 workers, and none scans before all have come.
+    // There is a buffer of two roots for each of 64 workers, and no worker scans before all have come.
     (128, (64, 2, 1024), u64::MAX, 0),
-    // Each of four workers scans some of many objects, too, and none before all have come.
+    // Each of four workers scans some of the many objects, and no worker scans before all have come.
     (3_000, (4, 2, 4096), 0xf, 0),
     (150_000, (4, 256, 1024), 0xf, 0),
-    // Seven roots take all four buffers: the worker has no pair, and the leader scans all that there is.
+    // Seven roots take all four buffers: the worker has no pair, and the leader scans all eight objects.
     (7, (1, 2, 4), 0, 8),
 ];
 

@@ -84,7 +84,7 @@ impl Gate for Passes<'_> {
     }
 }
 
-/// Takes two buffers, which no other worker finds any more.
+/// Opens a pair for `worker` and drops both, so that no other worker finds the pair's two buffers any more.
 fn take_pair<T: Wait>(rt: &T, alloc: Global, pool: &Pool<Global>, worker: Worker<Global>)
     requires pool { worker.pool ≡ pool.now }
     requires busy { IsBusy worker.book.account }
@@ -119,7 +119,7 @@ fn behind_others<T: Wait>(
     leader
 }
 
-/// Leads `workers` workers over the graph, with `buffers` buffers of two objects. `others` other workers hold two
+/// Marks `watched` with `workers` workers and `buffers` buffers of two objects. `others` other workers have taken two
 /// buffers each. Returns whether the marking was done.
 fn lead_watched<T: Threads + Wait + Sync>(
     rt: &T,
@@ -148,8 +148,8 @@ fn lead_watched<T: Threads + Wait + Sync>(
     lead(rt, &job, leader).is_ok()
 }
 
-/// Leads like [`lead_watched`], over the wide array. Returns whether the marking was done, for how many objects the
-/// gate was called, and how often an object was visited before that.
+/// Marks the wide array like [`lead_watched`]. Returns whether the marking was done, for how many objects the gate was
+/// called, and how many visits of an object came before the gate's call for that object.
 fn lead_over_array<T: Threads + Wait + Sync>(
     rt: &T,
     alloc: Global,
@@ -198,8 +198,8 @@ const LEAST_WAIT: u64 = 250;
 
 #[test]
 fn a_worker_waits_long_for_one_without_a_pair(rt: HostRuntime) -> Result<(), Fail> {
-    // Two of seven buffers are held by another, two by the leader, and one is full of what it gives: so one of the two
-    // workers has no pair, and never goes idle.
+    // Another worker holds two of the seven buffers, the leader two, and one has the root that the leader gives away:
+    // so one of the two workers has no pair, and never goes idle.
     let start = Instant::now(&rt)?;
     let seen = lead_over_array(&rt, rt.alloc(), 2, 7, 1)?;
     let waits = start.elapsed(&rt)? >= Duration::from_millis(LEAST_WAIT);

@@ -1,4 +1,5 @@
-//! Out of memory: if an allocation fails, no thread is started; and the calls of a `Marked` allocate nothing.
+//! Out of memory: if an allocation before the first start fails, no thread is started. The calls of a `Marked` allocate
+//! nothing.
 
 use crate::dumps::{graph_of, wide_array};
 use drain::inside::{StartHook, mark_where};
@@ -53,8 +54,8 @@ impl StartHook for Calls {
     }
 }
 
-/// Marks `graph` on `heap`. Tests whether the result is right: all 62 objects and both workers, or, if an allocation
-/// failed, out of memory and no call at all.
+/// Marks `graph` on `heap`. Tests whether the result is right: all 62 objects are scanned and both workers started; or,
+/// if an allocation failed, the marking is out of memory, and neither the gate nor the hook was called.
 fn marks_over<T: Threads + Wait + Sync>(
     rt: &T,
     heap: &LimitedHeap<Global>,
@@ -71,7 +72,8 @@ fn marks_over<T: Threads + Wait + Sync>(
     }
 }
 
-/// Returns the number of allocations that marking `graph` takes, if each result is right while they fail in turn.
+/// Fails each allocation of marking `graph` in turn. Returns the number of allocations, or `None` if a result is wrong
+/// or the number varies.
 fn requests_to_mark<T: Threads + Wait + Sync>(
     rt: &T,
     alloc: Global,
@@ -81,7 +83,7 @@ fn requests_to_mark<T: Threads + Wait + Sync>(
     requests_of(alloc, |heap| marks_over(rt, heap, graph, options))
 }
 
-/// Returns the same number for the wide array.
+/// Returns the result of [`requests_to_mark`] for the wide array.
 fn requests_to_mark_array<T: Threads + Wait + Sync>(
     rt: &T,
     alloc: Global,
@@ -96,8 +98,8 @@ fn requests_to_mark_array<T: Threads + Wait + Sync>(
 #[test]
 fn want_of_memory_starts_no_thread(rt: HostRuntime) -> Result<(), Fail> {
     let requests = requests_to_mark_array(&rt, rt.alloc())?;
-    // The words, the slots, six buffers, two blocks of the table, the threads, the returned workers, the tallies and
-    // three of them.
+    // The words, the slots, six buffers, two blocks of the table, the list of threads, that of returned workers, that
+    // of tallies, and three tallies.
     assert_eq!(rt; requests, Some(16));
     Ok(())
 }
@@ -132,7 +134,8 @@ fn told_with<T: Threads + Wait + Sync>(
     Ok((left, told, heap.refusals()))
 }
 
-/// Marks the wide array on a heap that grants just as many allocations as that takes. Returns what [`told_with`] does.
+/// Marks the wide array on a heap that grants just as many allocations as the marking takes. Returns the result of
+/// [`told_with`].
 fn array_told<T: Threads + Wait + Sync>(
     rt: &T,
     alloc: Global,

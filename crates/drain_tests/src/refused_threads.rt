@@ -43,8 +43,8 @@ fn marked_where<T: Threads + Wait + Sync, G: Gate, S: StartHook>(
 /// Workers, objects in a buffer, buffers, and the first tag; the worker whose thread is refused; and the result.
 type Start = ((u32, u32, u32, u64), u32, Result<u64, RunFault>);
 
-/// The leader takes three buffers, two for its pair and one for the root that it gives away. Then the stack of the
-/// empty buffers has its last tag, and no worker finds a pair.
+/// The leader pops three empty buffers, two for its pair and one to replace the buffer that it gives away. Then the
+/// empty stack has its last tag, and each worker is stopped when it opens a pair.
 const LATE: u64 = Options::LAST_TAG - 3;
 
 static STARTS: [Start; 9] = [
@@ -53,7 +53,8 @@ static STARTS: [Start; 9] = [
     ((4, 256, 1024, 0), 2, Err(RunFault::WorkerRefused)),
     ((4, 256, 1024, 0), 3, Err(RunFault::WorkerRefused)),
     ((4, 256, 1024, 0), 4, Ok(62)),
-    // 60 references find no room in six buffers of two, and go to the spill lists of the workers that found them.
+    // Six buffers of two have room for at most 12 of the 60 instances. The others go to the spill list of the worker
+    // that claims them.
     ((2, 2, 6, 0), 2, Ok(62)),
     ((2, 256, 1024, LATE), 2, Err(RunFault::TagSpent)),
     // Worker 0 is stopped as well, but worker 1 was not started.
@@ -70,7 +71,7 @@ fn a_thread_that_cannot_be_started_is_told(rt: HostRuntime) -> Result<(), Fail> 
     Ok(())
 }
 
-/// The workers for which the hook was called, those that scanned, and the number of scans.
+/// The workers for which the hook was called and those that scanned, with a bit for each, and the number of scans.
 type Notes = (u64, u64, u64);
 
 /// Notes for which workers the hook is called, and refuses the thread of worker 1. Notes which workers scan, and how
@@ -118,7 +119,8 @@ impl<C: Clock> RefusesOne<C> {
     }
 }
 
-/// Marks, with the thread of worker 1 refused. Returns the result, the notes at the end, and the notes somewhat later.
+/// Marks the wide array with four workers, of which the hook refuses worker 1. Returns the result, the notes at the
+/// end, and the notes somewhat later.
 fn noted_twice<T: Clock + Copy + Threads + Wait + Sync>(
     rt: T,
     alloc: Global,
@@ -134,7 +136,7 @@ fn noted_twice<T: Clock + Copy + Threads + Wait + Sync>(
 fn no_worker_is_started_behind_a_refused_one(rt: HostRuntime) -> Result<(), Fail> {
     let (outcome, first, later) = noted_twice(rt, rt.alloc())?;
     assert_eq!(rt; outcome, Err(RunFault::WorkerRefused));
-    // The hook was called for workers 0 and 1; only worker 0 came, and all that it found was done.
+    // The hook was called for workers 0 and 1; only worker 0 scanned, and it scanned all 62 objects.
     assert_eq!(rt; first, (3, 1, 62));
     assert_eq!(rt; later, first, "no thread is left");
     Ok(())

@@ -81,7 +81,8 @@ fn answer<'s, E, V: Measured + Sync>(
     }
 }
 
-/// Starts a thread for each of `stops`, with a worker split off `leader`, that returns its worker or is stopped.
+/// Splits a worker off `leader` for each of `stops`, and starts a thread that returns the worker, or the stop if there
+/// is one. Returns the leader and the threads.
 fn answer_all<'s, E, V: Measured + Sync>(
     scope: &'s Scope<'s, E>,
     alloc: Global,
@@ -111,7 +112,8 @@ fn answer_all<'s, E, V: Measured + Sync>(
     Ok((leader, threads))
 }
 
-/// Starts a thread for each of `stops` and joins them. Returns the fault that this ends with, or `None`.
+/// Starts a thread for each of `stops` and joins the threads. Returns the fault that starting or joining returns, or
+/// `None`.
 fn told<T: Threads + Wait, V: Measured + Sync>(
     rt: &T,
     alloc: Global,
@@ -144,7 +146,8 @@ const TAG: Option<Stop> = Some(Stop::TagSpent);
 
 const MEMORY: Option<Stop> = Some(Stop::OutOfMemory);
 
-/// What the workers return, and what joining them returns.
+/// For each worker the stop that its thread returns, or `None` if that returns the worker; and the fault that joining
+/// the threads returns.
 static ANSWERS: [(&[Option<Stop>], Option<RunFault>); 7] = [
     (&[], None),
     (&[None, None, None], None),

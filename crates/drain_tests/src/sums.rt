@@ -13,7 +13,7 @@ const BYTES: u64 = 1 << 30;
 
 const UNRESOLVED: u64 = 1 << 33;
 
-/// Returns a tally of `objects` objects of one row, each of the largest size.
+/// Returns a tally of `objects` objects of one row, each of the largest size and with the most unresolved identifiers.
 fn of_largest(alloc: Global, objects: u64) -> Result<Tally<Global>, AllocError>
     requires { objects ≤ 2 ^ 24 }
     ensures { IfOk result (λ t. HasSmallSums t × (length t.rows.items ≡ 1)) }
@@ -31,14 +31,14 @@ fn of_largest(alloc: Global, objects: u64) -> Result<Tally<Global>, AllocError>
 /// The sum of the first row, the sum at the place after it, and the number of identifiers that name no object.
 type Told = ((u64, u64), (u64, u64), u64);
 
-/// The tally of [`OBJECTS`] objects of the largest size.
+/// What a tally of [`OBJECTS`] objects of the largest size has to report.
 const BOUNDS: Told = ((OBJECTS, OBJECTS * BYTES), (0, 0), OBJECTS * UNRESOLVED);
 
 fn told(tally: &Tally<Global>) -> Told {
     (tally.told_at(0), tally.told_at(1), tally.unresolved)
 }
 
-/// Returns the same tally, where the last object is added to a tally of the others.
+/// Returns what a tally of [`OBJECTS`] objects reports if the last object was added to a tally of the others.
 fn told_of_one_more(alloc: Global) -> Result<Told, AllocError> {
     let mut tally = of_largest(alloc, OBJECTS - 1)?;
     tally.add(ScannedObject {
@@ -49,7 +49,7 @@ fn told_of_one_more(alloc: Global) -> Result<Told, AllocError> {
     Ok(told(&tally))
 }
 
-/// Returns the same tally, joined from two halves.
+/// Returns what a tally of [`OBJECTS`] objects reports if it was joined from the tallies of two halves.
 fn told_of_halves(alloc: Global) -> Result<Told, AllocError> {
     let mut halves = of_largest(alloc, OBJECTS / 2)?;
     let other = of_largest(alloc, OBJECTS / 2)?;

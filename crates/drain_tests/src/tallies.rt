@@ -9,8 +9,8 @@ use std::sync::Wait;
 use std::test::Fail;
 use std::thread::Threads;
 
-/// Appends two arrays of the class, the first of which is a root. Both refer to a boolean array of 3 elements, and hold
-/// an identifier that names no object.
+/// Appends class 0x100, two arrays of that class, of which the first is the root, and a boolean array of 3 elements.
+/// Each of the two refers to the boolean array, and has one identifier that names no object.
 fn put_two_missing(heap: &mut Vec<u8>) -> Result<(), AllocError> {
     put_class(heap)?;
     for id in 0..2u8 {
@@ -21,7 +21,7 @@ fn put_two_missing(heap: &mut Vec<u8>) -> Result<(), AllocError> {
     heap.extend_from_slice(&[0xff, 0, 0, 2, 0])
 }
 
-/// Returns a dump with these two arrays.
+/// Returns a dump with the objects of [`put_two_missing`].
 fn two_missing(alloc: Global) -> Result<Vec<u8>, AllocError> {
     let mut heap = Vec::new(alloc);
     put_two_missing(&mut heap)?;
@@ -31,7 +31,7 @@ fn two_missing(alloc: Global) -> Result<Vec<u8>, AllocError> {
 /// A row, the number of its marked objects, and their bytes.
 type Row = (RowKey, (u64, u64));
 
-/// The array's 60 identifiers have 4 bytes each, and the instances have no bytes.
+/// Rows of the wide array. Its 60 identifiers have 4 bytes each, and the instances have no bytes.
 static WIDE: [Row; 6] = [
     (RowKey::Class(0), (61, 240)),
     (RowKey::Class(1), (0, 0)),

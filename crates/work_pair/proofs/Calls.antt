@@ -278,7 +278,7 @@ module _ {f s t : Option HeldBuffer} {w : Holder} {pool : TableId} {besides : Li
         )
         both_published (Err OutOfMemory) none = absurd none
 
-  -- there was nothing to do
+  -- the second buffer has no items and the first at most four: there is nothing to give
   pub few_left : length (items_at s) ≤ 0 → length (items_at f) ≤ 4
       → BalanceAnswers (places f s t) w.book (places f s t) w.book (Ok tt)
   few_left none few = (

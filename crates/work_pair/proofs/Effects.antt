@@ -67,7 +67,7 @@ module _ (q : Which) (h : HeldBuffer) (old new b : Book) (l : IsLook old b) wher
 looked : (q : Which) (head : Head) (old mid new : Book) → IsLook old mid → new ≡ loaded q head mid → IsLook old new
 looked q head old mid new l is = rw is (look_again old mid (loaded q head mid) l (look_head q head mid))
 
--- a call that ended at the last tag was a look
+-- a move that loaded the last tag was a look
 pub spent_look : (q : Which) (old new : Book) → Moved (Spent q) old new → IsLook old new
 spent_look q old new moved = ⊎_elim
     (λ p. looked q p.2.0 old p.0 new (lost_pops q old p.0 p.1) p.2.4)
@@ -145,7 +145,7 @@ moves_closed [] old new same quiet closed = ap (λ (c : Book). c.account.open_pu
 moves_closed (move ∷ moves) old new p quiet closed =
     moves_closed moves p.0 new p.2 (λ h. quiet (inr h)) (move_closed move old p.0 p.1 (λ h. quiet (inl h)) closed)
 
--- a stack that was found empty raises the count of its finds
+-- a look that finds a stack empty raises the count of such looks
 pub found_none : (q : Which) (old new : Book) → Moved (FoundNone q) old new → empties_of old q < empties_of new q
 found_none Full old new p =
     let l = lost_pops Full old p.0 p.1 in
@@ -170,7 +170,7 @@ or_true : (b : Bool) → b || true ≡ true
 or_true true = refl
 or_true false = refl
 
--- and the account has found the full stack empty then
+-- and the account then notes that the worker found the full stack empty
 pub found_none_tells : (old new : Book) → Moved (FoundNone Full) old new → new.account.found ≡ true
 found_none_tells old new p =
     ap (λ (c : Book). c.account.found) p.2.2 ∙ ap (λ (i : Option ℕ). p.0.account.found || is_none i) p.2.1

@@ -65,7 +65,7 @@ module _ {A : Type 0} {v : PairState} (i : Inside A) (is : seen_as i ≡ v) wher
   seen : {put : List ℕ} {b : Book} → IsBacked v put b → IsBacked (seen_as i) put b
   seen backed = rw is backed
 
-  -- what is required for the buffers
+  -- a worker that backs the pair backs its buffers
   pub inner : {put : List ℕ} {b : Book} → IsBacked v put b → IsBacked (as_pair i.buffers) put b
   inner backed = beside refl (seen backed)
 

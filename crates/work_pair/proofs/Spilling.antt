@@ -20,7 +20,7 @@ pub listed_sum : (o : ℕ) (p : PairState) (l : List ℕ) (was hungry : Bool) �
 listed_sum o p l was hungry bare =
     omega (arith, items_sum o p, items_sum o (listed p l was hungry), ap (times o) bare)
 
--- a worker that backs it backs the buffers alone as well
+-- a worker that backs the listed pair backs its buffers alone, too
 pub beside : {p : PairState} {l put : List ℕ} {was hungry : Bool} {b : Book} → p.spill ≡ []
     → IsBacked (listed p l was hungry) put b → IsBacked p put b
 beside {p} {l} {put} {was} {hungry} bare backed =

@@ -249,7 +249,7 @@ module _ {p : PairState} {besides : List ℕ} {b : Book} (backed : IsBacked p be
   pub third_backed : IsBackedAt p.third b
   third_backed = at_place p.third (λ told x. omega arith) backed.sized.third
 
--- and it backs the pair alone
+-- a worker that backs a pair and the objects `besides` backs the pair alone
 pub backed_less : (p : PairState) (besides : List ℕ) (b : Book) → IsBacked p besides b → IsBacked p [] b
 backed_less p besides b backed =
     record {

@@ -22,7 +22,7 @@ pub record Keeps (old new : Book) : Type 0 where
 -- a call with a pair, in which objects were put and got
 pub record CallEffect (old : PairState) (before : Book) (put got : List ℕ) (new : PairState)
     (after : Book) : Type 0 where
-  -- what was popped and pushed, in order
+  -- the pops and pushes in order, with those that found no buffer or loaded a last tag
   pub moves : List Move
   pub books : Moves before moves after
   -- the items after: those before, plus those of buffers popped and those put, minus those of buffers pushed and those
@@ -33,7 +33,7 @@ pub record CallEffect (old : PairState) (before : Book) (put got : List ℕ) (ne
   pub buffers : SameNumbers (numbers_of new ∷ pushed_numbers moves ∷ []) (numbers_of old ∷ popped_numbers moves ∷ [])
   -- only a buffer with items is pushed on full
   pub filled : AreFilled moves
-  -- the charge and the held buffers change by the buffers popped and pushed, and everything else stays
+  -- the charge and the held buffers change by the buffers popped and pushed; the fields of `Keeps` stay
   pub charge : SameNumbers (after.account.charge ∷ pushed_items moves ∷ [])
       (before.account.charge ∷ popped_items moves ∷ [])
   pub held : SameNumbers (after.account.held ∷ pushed_numbers moves ∷ [])
@@ -43,7 +43,7 @@ pub record CallEffect (old : PairState) (before : Book) (put got : List ℕ) (ne
   pub backed : IsBacked new got after
   -- a call that pushes nothing on full opens no push
   pub closed : (HasPushOnFull moves → ⊥) → before.account.open_push ≡ false → after.account.open_push ≡ false
-  -- a pair is stopped only if a last tag was loaded when an exchange was due
+  -- if the pair is stopped, the last move loaded a last tag
   pub last_tag : new.stopped ≡ true → EndAtLastTag moves
 
 -- the second buffer has items, or the first more than four
@@ -76,7 +76,7 @@ OpensTwo before opened after =
     (effect : CallEffect empty_pair before [] [] opened after) × (h : HeldBuffer) × (k : HeldBuffer)
     × (effect.moves ≡ Took Empty h ∷ Took Empty k ∷ []) × (opened.first ≡ Some h) × (opened.second ≡ Some k)
 
--- the push of the buffer at a place
+-- the push on full of the buffer at a place, if there is one
 abbrev pub push_of : Option HeldBuffer → List Move
 push_of None = []
 push_of (Some h) = Gave Full h ∷ []
@@ -109,7 +109,8 @@ Gives old moves new =
     ⊎ (GivesSecond old moves new ⊎ GivesLowerPart old moves new)
 
 -- a balance: if the second buffer had items or the first more than four, it pushed a buffer with items on full, or it
--- looked for an empty buffer, found none and did nothing else with the stacks. It popped nothing from full
+-- looked for an empty buffer, found none and did nothing else with the stacks. It popped nothing from full, and what it
+-- pushed is as `Gives` says
 abbrev pub Balances : PairState → Book → PairState → Book → Type 0
 Balances old before new after =
     (effect : CallEffect old before [] [] new after)
@@ -145,9 +146,9 @@ PublishesBoth old before new after =
     (effect : CallEffect old before [] [] new after) × Publishes old effect.moves new
 
 -- an object was put into a buffer, or at the end of the spill list. In the second case the call looked for an empty
--- buffer, found none and did nothing else with the stacks. It popped nothing from full. If a buffer had room, it did
--- nothing with the stacks. If none had room and an empty buffer was popped, it pushed the second buffer, if there was
--- one
+-- buffer, found none and did nothing else with the stacks. It popped nothing from full. One of three holds: a buffer
+-- had room, and the call made no move; or a look for an empty buffer found none; or an empty buffer was popped, and the
+-- second buffer, if there was one, was pushed
 abbrev pub Puts : PairState → Book → ℕ → PairState → Book → Type 0
 Puts old before object new after =
     (effect : CallEffect old before (object ∷ []) [] new after)

@@ -9,7 +9,7 @@ pub record PairState : Type 0 where
   pub first : Option HeldBuffer
   pub second : Option HeldBuffer
   pub third : Option HeldBuffer
-  -- the objects for which there was no buffer, the last put at the end
+  -- the objects for which there was no empty buffer, the last put at the end
   pub spill : List ℕ
   -- a call was stopped by a last tag
   pub stopped : Bool
@@ -91,12 +91,12 @@ pub record IsNew (p : PairState) : Type 0 where
   pub first : (h : HeldBuffer) × (p.first ≡ Some h) × (h.items ≡ [])
   pub second : (h : HeldBuffer) × (p.second ≡ Some h) × (h.items ≡ [])
 
--- the buffer at a place has the given size, which is that of the pool's buffers
+-- the buffer at a place, if there is one, is of the size `size`: it takes at most `size` items
 abbrev pub IsOfSize : ℕ → Option HeldBuffer → Type 0
 IsOfSize size None = Unit {0}
 IsOfSize size (Some h) = h.size ≡ size
 
--- the buffers of a pair have that size
+-- the buffers of a pair are of the size `size`
 pub record AreOfSize (size : ℕ) (p : PairState) : Type 0 where
   pub first : IsOfSize size p.first
   pub second : IsOfSize size p.second

@@ -11,9 +11,8 @@ use std::sync::Wait;
 
 mod giving;
 
-/// Two buffers, and one that a stopped call left over. The calls of [`Pair`](crate::Pair) forward to the calls of this
-/// type, which knows neither the spill list nor which stop ended a call. So the proofs about buffers and stacks need
-/// neither.
+/// The two buffers of a pair, and one that a stopped call left over; each may be missing. [`Pair`](crate::Pair) adds
+/// the spill list, and notes which stops its calls returned. So the proofs about buffers and stacks need neither.
 #[derive(Drop)]
 pub(crate) struct Buffers<A: Allocator> {
     pub(crate) first: Option<Held<A>>,
@@ -56,7 +55,8 @@ impl<A: Allocator> Buffers<A> {
         Ok(put_at(&mut self.first, object))
     }
 
-    /// Takes an object from the first buffer, or from the second, which becomes the first.
+    /// Takes an object from the first buffer, or else from the second, which becomes the first. Returns `None` if
+    /// neither has one.
     fn take(&mut self) -> Option<u32>
         ensures { Takes (as_pair self.old) (as_pair self.new) result }
     {
@@ -67,8 +67,8 @@ impl<A: Allocator> Buffers<A> {
         take_at(&mut self.first)
     }
 
-    /// Takes an object from the pair's buffers, or from those of the full stack. Skips a buffer that was pushed there
-    /// without items.
+    /// Takes an object from the pair's buffers, or else from a buffer that it pops from the full stack. Goes on to the
+    /// next buffer if that has no items. Returns `None` if the full stack was seen empty.
     // Not inlined, so that the many gets that find an object neither save registers for it nor clear its locals.
     #[inline(never)]
     pub(crate) fn get_elsewhere<R: Wait>(

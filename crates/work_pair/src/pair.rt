@@ -14,21 +14,22 @@ mod spill_list;
 
 use spill_list::SpillList;
 
-/// Two buffers of a worker. Objects are put into and got from the first, which exchanges places with the second if it
-/// cannot serve. Buffers with items go to the pool's full stack and come from there; the others go to its empty stack
-/// and come from that. An object for which no empty buffer is found goes to the pair's spill list, which takes 4 bytes
-/// an object, and doubles when it has no room.
+/// Two buffers of a worker. Objects are put into the first and got from there. If the first has no room at a put, or no
+/// items at a get, the two exchange places. Buffers with items go to the pool's full stack and come from there; the
+/// others go to its empty stack and come from that. An object for which no empty buffer is found goes to the pair's
+/// spill list, which takes 4 bytes an object, and doubles when it has no room.
 ///
 /// A call that returns [`Stop::TagSpent`] stops the pair. Then the pair holds each buffer that it had or took and did
 /// not push, and can only be disposed of. After [`Stop::OutOfMemory`] the pair stays usable.
 #[derive(Drop)]
 pub struct Pair<A: Allocator> {
     buffers: Buffers<A>,
-    /// The objects for which there was no buffer.
+    /// The objects for which no empty buffer was found.
     spill: SpillList<A>,
-    /// A call returned `TagSpent`. Only contracts read it.
+    /// Whether a call returned `TagSpent`. Only contracts read this field.
     stopped: bool,
-    /// A call returned `OutOfMemory`. No branch depends on it: `dispose` copies it, and contracts read it.
+    /// Whether a call returned `OutOfMemory`. `dispose` copies this field, and contracts read it; no branch depends on
+    /// it.
     starved: bool,
 }
 
@@ -85,8 +86,9 @@ impl<A: Allocator> Pair<A> {
     }
 
     /// Opens a pair of two empty buffers, which are popped from the empty stack. Returns `None` if there are not two;
-    /// one that was popped is then pushed back. If a last tag was loaded, the popped buffers stay among those that the
-    /// worker's account holds, and nobody can push them. Allocates nothing; the spill list grows from `alloc` later.
+    /// if one was popped, it is then pushed back. `Err(Stop::TagSpent)` if a last tag was loaded: then a buffer that
+    /// was popped stays held in the worker's account, and nobody can push it. Allocates nothing; the spill list grows
+    /// from `alloc` later.
     pub fn open<R: Wait>(
         rt: &R,
         alloc: A,
@@ -117,10 +119,10 @@ impl<A: Allocator> Pair<A> {
     }
 
     /// Puts `object` into the pair: into one of its buffers if one has room, without a step on the stacks; or else into
-    /// an empty buffer that it pops; or else on the spill list. Returns the object if a last tag was loaded, or if the
+    /// a popped empty buffer; or else on the spill list. Returns the object if a last tag was loaded, or if the
     /// list could not grow.
     // Called for each white object, which nearly always goes into the first buffer. So the put into the first buffer is
-    // inlined: the toolchain tests a byte after each call that may wait, and this is no call.
+    // inlined: the toolchain tests a byte after each call that may wait, and an inlined put is no call.
     #[inline]
     pub fn put<R: Wait>(
         &mut self,
@@ -207,9 +209,9 @@ impl<A: Allocator> Pair<A> {
         }
     }
 
-    /// Gives work to others: pushes on the full stack the second buffer if it has items, or else the lower part of the
-    /// first buffer if that has more than four. Does nothing if neither is so, or if no empty buffer was found. The
-    /// spill list stays.
+    /// Gives work to others. If the second buffer has items, pushes it on the full stack. Otherwise, if the first has
+    /// more than four items, pushes the lower part of them. Pushes nothing if no empty buffer is found as a
+    /// replacement. The spill list stays.
     pub fn balance<R: Wait>(
         &mut self,
         rt: &R,
@@ -237,8 +239,8 @@ impl<A: Allocator> Pair<A> {
         }
     }
 
-    /// Gives the work of the pair's buffers to others: pushes on the full stack each that has items. A buffer stays if
-    /// no empty one was found to take its place. The spill list stays.
+    /// Gives the work of the pair's buffers to others: pushes each one that has items on the full stack. A buffer stays
+    /// if no empty one was found to take its place. The spill list stays.
     pub fn publish<R: Wait>(
         &mut self,
         rt: &R,
@@ -270,9 +272,9 @@ impl<A: Allocator> Pair<A> {
         }
     }
 
-    /// Disposes of the pair: pushes the buffers with items on the full stack and the others on the empty one. Returns
-    /// what could not be pushed because a last tag was loaded. A spill list with objects is given up, which is allowed
-    /// only after a stop: its objects stay in the worker's charge, and the pool cannot be closed.
+    /// Disposes of the pair: pushes the buffers with items on the full stack and the others on the empty one. If a last
+    /// tag was loaded, returns a pair with the buffers that were not pushed. A spill list with objects is given up,
+    /// which is allowed only after a stop: its objects stay in the worker's charge, and the pool cannot be closed.
     pub fn dispose<R: Wait>(
         self,
         rt: &R,
@@ -322,8 +324,8 @@ impl<A: Allocator> Pair<A> {
         ]
     }
 
-    /// Returns the buffers of the pair in the order of [`lens`](Self::lens). Gives up what is spilled: its objects stay
-    /// in the worker's charge.
+    /// Returns the buffers of the pair in the order of [`lens`](Self::lens). Drops the spill list; its objects stay in
+    /// the worker's charge.
     pub fn into_buffers(self) -> (Option<Held<A>>, Option<Held<A>>, Option<Held<A>>)
         ensures { result ≡ (self.first, self.second, self.third) }
     {

@@ -1,4 +1,5 @@
-//! A place for a buffer in a pair. It is vacant in a bare pair, and may be vacant after a stop.
+//! A place for a buffer in a pair. The places of a bare pair are vacant. The third is vacant until a call is stopped;
+//! after that any place may be vacant.
 ghost use Rattle.std.specs.Prelude.{◌≡◌, ◌≢◌, ◌↔◌, ◌<◌, ℕ, [], ◌∷◌, ◌++◌, Some, None, IsTrue, length};
 ghost use Rattle.std.specs.Prelude.{true, false, IsOk, MatchOption};
 ghost use Rattle.std.specs.Bool.{OnTrue, OnFalse};
@@ -36,7 +37,7 @@ pub(crate) fn count_at<A: Allocator>(place: &Option<Held<A>>) -> Option<u32>
     }
 }
 
-/// Puts `object` into the buffer at `place`. Returns `false` if it is full or there is none.
+/// Puts `object` into the buffer at `place`. Returns `false` if the buffer is full or the place vacant.
 pub(crate) fn put_at<A: Allocator>(place: &mut Option<Held<A>>, object: u32) -> bool
     ensures put { OnTrue result ((h : HeldBuffer) × (place.old ≡ Some h) × (place.new
         ≡ Some (record h { items = h.items ++ object ∷ [] }))) }
@@ -51,7 +52,7 @@ pub(crate) fn put_at<A: Allocator>(place: &mut Option<Held<A>>, object: u32) -> 
     }
 }
 
-/// Takes the object that was put last into the buffer at `place`. Returns `None` if there is none.
+/// Takes the last object of the buffer at `place`. Returns `None` if it has none or the place is vacant.
 pub(crate) fn take_at<A: Allocator>(place: &mut Option<Held<A>>) -> Option<u32>
     ensures { MatchOption result ((items_at place.old ≡ []) × (place.new ≡ place.old)) (λ o. (h : HeldBuffer)
         × (k : HeldBuffer) × (place.old ≡ Some h) × (place.new ≡ Some k) × (h.items ≡ k.items ++ o ∷ []) × (k
@@ -75,8 +76,8 @@ fn split_at<A: Allocator>(place: &mut Option<Held<A>>, upper: &mut Held<A>)
     }
 }
 
-/// Pushes the buffer at `place`, and puts `next` there. If a last tag was loaded, the buffer stays and `next` goes to
-/// `third`.
+/// Pushes the buffer at `place`, if any, and puts `next` there. If a last tag was loaded, the buffer stays and `next`
+/// goes to `third`.
 pub(crate) fn put_out<R: Wait, A: Allocator>(
     rt: &R,
     pool: &Pool<A>,
@@ -101,7 +102,7 @@ pub(crate) fn put_out<R: Wait, A: Allocator>(
     }
 }
 
-/// Pushes the buffer at `place`. It stays if a last tag was loaded.
+/// Pushes the buffer at `place`, if any. The buffer stays if a last tag was loaded.
 pub(crate) fn clear_at<R: Wait, A: Allocator>(
     rt: &R,
     pool: &Pool<A>,
@@ -126,8 +127,8 @@ pub(crate) fn clear_at<R: Wait, A: Allocator>(
     }
 }
 
-/// Pops an empty buffer, pushes the one at `place`, and puts the popped one there. Returns `false` if the empty stack
-/// was seen empty. Then nothing changes.
+/// Pops an empty buffer, pushes the one at `place`, if any, and puts the popped one there. Returns `false` if the empty
+/// stack was seen empty. Then nothing changes.
 pub(crate) fn renew<R: Wait, A: Allocator>(
     rt: &R,
     pool: &Pool<A>,
@@ -147,7 +148,7 @@ pub(crate) fn renew<R: Wait, A: Allocator>(
 }
 
 /// Pops an empty buffer, moves the upper half of the objects at `place` into it, pushes the lower part, and puts the
-/// popped one there. Returns `false` if the empty stack was seen empty. Then nothing changes.
+/// popped buffer there. Returns `false` if the empty stack was seen empty. Then nothing changes.
 pub(crate) fn halve<R: Wait, A: Allocator>(
     rt: &R,
     pool: &Pool<A>,

@@ -1,4 +1,4 @@
-//! One pop, and one push on the stack that a buffer belongs to.
+//! One pop, and one push on the stack for buffers with items or for those without.
 ghost use Rattle.std.specs.Prelude.{◌≡◌, ◌≢◌, [], Contains};
 ghost use Rattle.mark_core.specs.Events.{IsBusy};
 ghost use Rattle.mark_core.specs.Lists.{IsPart};
@@ -9,8 +9,8 @@ use buffer_pool::{Held, Pool, Popped, Which, Worker};
 use std::alloc::Allocator;
 use std::sync::Wait;
 
-/// Pops a buffer. Returns `None` if the stack was seen empty. Unlike `Pool::pop`, it returns an error for a last tag,
-/// so that `?` ends a call there.
+/// Pops a buffer from the stack `which`. Returns `None` if the stack was seen empty. Unlike `Pool::pop`, returns an
+/// error if the last tag was loaded, so that `?` can end a pair's call.
 pub(crate) fn pop_one<R: Wait, A: Allocator>(
     rt: &R,
     pool: &Pool<A>,
@@ -29,7 +29,8 @@ pub(crate) fn pop_one<R: Wait, A: Allocator>(
     }
 }
 
-/// Pushes a buffer on full if it has items, and on empty otherwise. Returns it if that stack's last tag was loaded.
+/// Pushes `held` on the full stack if it has items, and on the empty stack otherwise. Returns it in `Err` if that
+/// stack's last tag was loaded.
 pub(crate) fn shelve<R: Wait, A: Allocator>(
     rt: &R,
     pool: &Pool<A>,

@@ -17,14 +17,14 @@ pub record IsSetupOf (count : ℕ) (root_list : List ℕ) (pair_list : List (ℕ
   pub roots : e.roots ≡ root_list
   pub pairs : e.pairs ≡ pair_list
 
--- The worker is of the same pool, has the same share, and has seen what it saw before.
+-- The worker is of the same pool and setup, has the same share, and has seen all objects that it saw before.
 pub record CameFrom (old new : Holder) : Type 0 where
   pub pool : new.pool ≡ old.pool
   pub setup : new.book.setup ≡ old.book.setup
   pub share : new.book.account.share ≡ old.book.account.share
   pub seen : (o : ℕ) → Contains old.book.account.seen o → Contains new.book.account.seen o
 
--- The worker came from the old one, and its idle number is unchanged: if it was busy it is busy.
+-- The worker came from the old one, and its idle number is unchanged: if it was busy, it is busy now.
 pub record WorksOn (old new : Holder) : Type 0 where
   pub came : CameFrom old new
   pub idle : new.book.account.idle ≡ old.book.account.idle
@@ -35,8 +35,8 @@ pub record GoesOn (old new : Holder) : Type 0 where
   pub idle : new.book.account.idle ≡ old.book.account.idle
   pub finished : new.book.account.finished ≡ old.book.account.finished
 
--- A worker with its pair: it holds the pair's buffers and no others. Its charge is the pair's items and the objects
--- `besides`, which it is about to put or to finish, and no others.
+-- A worker with its pair: it holds the pair's buffers and no others. Its charge is exactly the pair's items and the
+-- objects `besides`, which it is about to put or to finish.
 pub record HasAtHand (p : PairState) (besides : List ℕ) (w : Holder) : Type 0 where
   pub going : IsOpen p
   pub sized : AreOfSize w.book.setup.size p
@@ -49,7 +49,7 @@ pub record IsAtWork (p : PairState) (besides : List ℕ) (w : Holder) : Type 0 w
   pub hand : HasAtHand p besides w
   pub busy : IsBusy w.book.account
 
--- Whatever was in its charge besides the pair's items is in its charge still.
+-- A worker that was at work with any objects `besides` at hand is at work with the same objects still.
 abbrev pub StaysAtWork : PairState → Holder → PairState → Holder → Type 0
 StaysAtWork old_pair old new_pair new =
     (besides : List ℕ) → IsAtWork old_pair besides old → IsAtWork new_pair besides new
@@ -96,8 +96,8 @@ HasNoneLeft p w =
 abbrev pub IsThrough : Holder → Holder → Type 0
 IsThrough begun w = CameFrom begun w × IsFree w
 
--- The items of the pair's buffers were given to others as long as there were empty buffers: no item is left, or the
--- worker has seen the empty stack empty.
+-- The items of the pair's buffers were given to others as long as there were empty buffers: no item is left in the
+-- buffers, or the worker has seen the empty stack empty.
 abbrev pub HasGiven : PairState → Holder → Type 0
 HasGiven p w = (buffered_items p ≡ []) ⊎ (0 < empties_of w.book Empty)
 

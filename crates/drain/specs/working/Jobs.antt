@@ -90,7 +90,7 @@ HasWorked {A} workers begun t =
     ⊎ OpensNone begun.book t.worker.book
 
 -- a leader of the job's pool and graph with more than `job.workers` units. It has room for `job.workers` threads and
--- for `job.workers` returned workers, none of which exists yet, and at least `job.workers` tallies, all of no object
+-- for `job.workers` returned workers, has none of either yet, and has at least `job.workers` tallies, all of no object
 pub record MayRun {A V G S : Type 0} (count : V → ℕ) (roots : V → List ℕ) (pairs : V → List (ℕ × ℕ))
     (measure : V → Measure) (job : Job A V G S) (leader : Holder) (threads space back back_space : ℕ)
     (tallies : List (Tally A)) (made : ℕ) : Type 0 where

@@ -1,4 +1,5 @@
--- How a worker shares: it looks at the full stack once, and gives some of its objects to others if that has no buffer.
+-- How a worker shares: it looks at the full stack once, and gives some of its objects to others if that stack has no
+-- buffer and the worker has enough objects.
 use Rattle.std.specs.Prelude.{Bool, List, [], false, length, true, ℕ, ◌++◌, ◌<◌, ◌≡◌, ◌≤◌, ◌∷◌}
 use Rattle.mark_core.specs.declared.which.Which.TheVariants.{Full}
 use Rattle.buffer_pool.specs.Book.{Book}
@@ -12,8 +13,8 @@ PutsAgain old before new after =
     (rest : List ℕ) × (object : ℕ) × (old.spill ≡ rest ++ object ∷ [])
     × Puts (record old { spill = rest }) before object new after
 
--- the spilled objects were put again, the last first, until none was spilled or an object came back to the list because
--- no empty buffer was found
+-- the spilled objects were put again, the last first, until the spill list was empty, or an object came back to it
+-- because no empty buffer was found
 pub data Unspills : PairState → Book → PairState → Book → Type 0 where
   none : (p : PairState) (b : Book) → p.spill ≡ [] → Unspills p b p b
   last : (old : PairState) (before : Book) (new : PairState) (after : Book) → PutsAgain old before new after
@@ -27,7 +28,8 @@ abbrev pub GivesSome : PairState → Book → PairState → Book → Type 0
 GivesSome old before new after =
     (middle : PairState) × (between : Book) × Unspills old before middle between × Balances middle between new after
 
--- the full stack was looked at once: if it had a buffer nothing else was done, otherwise some was given
+-- the full stack was looked at once: if it had a buffer nothing else was done, otherwise the spilled objects were put
+-- again and the pair was balanced
 abbrev pub SharesWork : PairState → Book → PairState → Book → Type 0
 SharesWork old before new after =
     (none : Bool) × (looked : Book) × Sees Full before looked none

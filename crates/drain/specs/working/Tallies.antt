@@ -1,5 +1,5 @@
--- What a tally of objects counts: for each row its number of objects and their bytes together, and the identifiers that
--- name no object.
+-- What a tally of objects counts: for each row its number of objects and their bytes together, and of all objects the
+-- identifiers that are other than 0 and name no object.
 use Rattle.std.specs.Prelude.{List, if◌then◌else◌, length, slice_index_or, sum_by, ℕ, ◌+◌, ◌<◌, ◌==◌, ◌^◌, ◌≡◌, ◌≤◌}
 use Rattle.drain.specs.Sums.{no_object}
 use Rattle.drain.specs.declared.sum.Sum.{Sum}
@@ -18,7 +18,7 @@ pub record Measure : Type 0 where
   pub bytes : ℕ → ℕ
   pub unresolved : ℕ → ℕ
 
--- `m` is a measure of `count` objects: each object has a row, and its numbers are small
+-- `m` is a measure of `count` objects: each object has a row, few bytes and few unresolved identifiers
 pub record IsMeasureOf (count : ℕ) (m : Measure) : Type 0 where
   pub few_objects : count ≤ 2 ^ 24
   pub within : (o : ℕ) → o < count → m.row o < m.rows
@@ -38,7 +38,7 @@ pub record IsTallyOf (m : Measure) (objects : List ℕ) (rows : List Sum) (unres
   pub right : (n : ℕ) → n < m.rows → slice_index_or rows n no_object ≡ sum_in m n objects
   pub unresolved_is : unresolved ≡ sum_by m.unresolved objects
 
--- The sums are within the bounds of a tally of at most 2 ^ 24 objects.
+-- The sums and the number of unresolved identifiers are within the bounds of a tally of at most 2 ^ 24 objects.
 pub record IsSmall (rows : List Sum) (unresolved : ℕ) : Type 0 where
   pub counts : (n : ℕ) → n < length rows → (slice_index_or rows n no_object).count ≤ 2 ^ 24
   pub bytes : (n : ℕ) → n < length rows → (slice_index_or rows n no_object).bytes ≤ 2 ^ 54

@@ -7,8 +7,8 @@ use Rattle.heap_graph.specs.RowNumbers.{row_number}
 use Rattle.drain.specs.working.Scans.{MatchesMeasure}
 use Rattle.drain.specs.working.Tallies.{Measure}
 
--- `v` is a visit of the object `o`: it yields exactly the objects that `o` refers to, all below `count`, and reads its
--- row, its bytes and its identifiers.
+-- `v` is a visit of the object `o`: it yields exactly the objects that `o` refers to, all below `count`, and reads the
+-- row, the bytes and the unresolved identifiers of `o`.
 pub record IsVisitOf (refers : ℕ → Type 0) (count : ℕ) (m : Measure) (o : ℕ) (v : Visited) : Type 0 where
   pub exact : (x : ℕ) → Contains (references_left v) x ↔ refers x
   pub within : All (λ x. x < count) (references_left v)
@@ -16,7 +16,7 @@ pub record IsVisitOf (refers : ℕ → Type 0) (count : ℕ) (m : Measure) (o : 
   pub bytes : v.bytes ≡ m.bytes o
   pub unresolved : v.unresolved + unresolved_left v.left ≡ m.unresolved o
 
--- Some objects were yielded, and then none.
+-- The iterator in the state `start` yielded some objects, or none, and then ended in the state `end`.
 abbrev pub HasEnded : {S : Type 0} → (S → Option ℕ → S → Type 0) → S → S → Type 0
 HasEnded {S} steps start end = (given : List ℕ) × (last : S) × Yields steps start given last × steps last None end
 

@@ -1,4 +1,4 @@
-//! A worker scans until nothing is left.
+//! The loops in which a worker, or the leader, scans until nothing is left.
 
 use crate::gate::Gate;
 use crate::job::Job;
@@ -22,8 +22,9 @@ impl<A: Allocator> PairedWorker<A> {
     ghost use Rattle.drain.specs.working.Tallies.{Measure};
     ghost use Rattle.drain.specs.working.Tallying.{HasTallied};
 
-    /// Scans until no object is left, and waits until all workers are idle or it waited long enough. At the beginning
-    /// and after each scan, gives some of its objects to others if the full stack is empty.
+    /// Scans until no object is found, waits for more, and scans again. Returns when all workers are idle, or after it
+    /// waited long enough in vain. At the beginning and after each scan, gives some of its objects to others if the
+    /// full stack is seen empty.
     // Not inlined, so that what a turn uses is in one function and shares registers with no other. A thread calls it
     // only once.
     #[inline(never)]
@@ -58,7 +59,7 @@ impl<A: Allocator> PairedWorker<A> {
         unreachable!()
     }
 
-    /// Works off what it finds, as worker `number`, and returns the buffers to the pool.
+    /// Calls [`work_off`](Self::work_off) as worker `number`, and returns the buffers to the pool.
     pub(crate) fn work<R: Wait, V: Walk, G: Gate, S>(
         self,
         rt: &R,

@@ -7,8 +7,8 @@ use crossbeam_utils::Backoff;
 use std::alloc::Allocator;
 use std::sync::Wait;
 
-/// The most turns in a row that a worker waits. After them it leaves even if not all are idle, since a worker that
-/// found no pair or was stopped never goes idle.
+/// The most turns in a row that a worker waits. After them the worker leaves even if not all are idle, since a worker
+/// that found no pair or was stopped never goes idle.
 const TURNS: u32 = 1024;
 
 impl<A: Allocator> PairedWorker<A> {
@@ -40,8 +40,9 @@ impl<A: Allocator> PairedWorker<A> {
         pool.idle_down(&mut self.worker);
     }
 
-    /// Goes idle and waits until the full stack has a buffer again. Returns true if it has one: then the worker is no
-    /// longer idle. Returns false if all `workers` are idle, or after [`TURNS`] turns: then it is still idle.
+    /// Goes idle and waits until the full stack has a buffer again. Returns true if the stack has one: then the worker
+    /// is no longer idle. Returns false if all `workers` are idle, or after [`TURNS`] turns: then the worker is still
+    /// idle.
     pub(crate) fn finds_more<R: Wait>(&mut self, rt: &R, pool: &Pool<A>, workers: u32) -> bool
         requires pool { self.old.worker.pool ≡ pool.now }
         requires awake { IsAwake self.old.worker }

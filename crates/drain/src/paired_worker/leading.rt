@@ -35,8 +35,8 @@ impl<A: Allocator> PairedWorker<A> {
         Ok(())
     }
 
-    /// Claims each of `roots`, and then gives what is in the pair's buffers to others, as long as there are empty
-    /// buffers.
+    /// Claims each of `roots`, and then gives what is in the pair's buffers to others, as long as empty buffers are
+    /// found to replace them.
     fn begin<R: Wait>(&mut self, rt: &R, pool: &Pool<A>, roots: &[u32]) -> Result<(), Stop>
         requires pool { self.old.worker.pool ≡ pool.now }
         requires roots { roots.now ≡ self.old.worker.book.setup.roots }

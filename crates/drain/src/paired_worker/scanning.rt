@@ -49,8 +49,8 @@ impl<A: Allocator> PairedWorker<A> {
         Ok(())
     }
 
-    /// Scans `object`, which is at hand and has the references `given`: claims these, finishes the object, and adds it
-    /// to `tally`.
+    /// Scans `object`, which is at hand: claims all that it refers to, finishes it, and adds it to `tally`. `given` are
+    /// the object's references: its class, if that is known without a look-up, and an iterator over the others.
     // Inlined, so that references of each kind have a loop of their own.
     #[inline(always)]
     fn scan<R: Wait, V: Walk, G: Gate, S, I: Reads>(
@@ -82,8 +82,8 @@ impl<A: Allocator> PairedWorker<A> {
         Ok(())
     }
 
-    /// Scans `object`, which is at hand, wherever its references are in the dump.
-    // Not inlined, so that the worker's loop has no locals for the few objects that need it.
+    /// Scans `object`, which is at hand, by a visit that yields the references of any kind of object.
+    // Not inlined, so that the worker's loop has no locals for the few objects that need such a visit.
     #[inline(never)]
     fn scan_any<R: Wait, V: Walk, G: Gate, S>(
         &mut self,
@@ -131,7 +131,7 @@ impl<A: Allocator> PairedWorker<A> {
     }
 
     /// Scans the next object of the pair or of the full stack: claims what it refers to, finishes it, and adds it to
-    /// `tally`. Returns false if there is none.
+    /// `tally`. Returns false if neither has an object.
     // Inlined into the loop of a worker, so that what the loop knows of the graph stays in registers.
     #[inline(always)]
     pub(super) fn scan_next<R: Wait, V: Walk, G: Gate, S>(

@@ -20,7 +20,8 @@ pub record MayRenew (w : Holder) (pool : TableId) (place third : Option HeldBuff
   pub backed : IsBackedAt place w.book
   pub busy : IsBusy w.book.account
 
--- a worker of the pool may do so with each buffer of a pair, and has the objects `besides` in its charge
+-- a worker of the pool may push each buffer of a pair, whose third place is vacant, and has also the objects `besides`
+-- in its charge
 pub record MayTrade (w : Holder) (pool : TableId) (p : PairState) (besides : List ℕ) : Type 0 where
   pub same : w.pool ≡ pool
   pub third : p.third ≡ None

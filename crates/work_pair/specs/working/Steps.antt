@@ -82,13 +82,14 @@ abbrev pub IsFull : Which → Type 0
 IsFull Full = Unit {0}
 IsFull Empty = ⊥
 
--- what is pushed of the buffer at a place: all of it, or its lower part if it is halved
+-- what is pushed of the buffer at a place, if there is one: all of it, or its lower part if it is halved
 abbrev pub pushed_part : Bool → Option HeldBuffer → Option HeldBuffer
 pushed_part false old = old
 pushed_part true None = None
 pushed_part true (Some k) = Some (record k { items = lower_part k.items })
 
--- the buffer that is at the place then: the popped one, with the upper half of the items if the old one was halved
+-- the buffer that is at the place afterwards: the popped one, with the upper half of the items if the old one was
+-- halved
 abbrev pub next_of : Bool → Option HeldBuffer → HeldBuffer → HeldBuffer
 next_of false old h = h
 next_of true old h = record h { items = upper_half (items_at old) }

@@ -7,7 +7,7 @@ use buffer_pool::{Pool, Worker};
 use std::alloc::Allocator;
 use std::sync::Wait;
 
-/// The most objects that are few: the first buffer is halved if it has more.
+/// The largest number of objects that are too few: `balance` halves the first buffer only if it has more.
 const FEW: u32 = 4;
 
 impl<A: Allocator> Buffers<A> {
@@ -18,7 +18,8 @@ impl<A: Allocator> Buffers<A> {
     ghost use Rattle.work_pair.specs.working.Buffers.{as_pair};
     ghost use Rattle.work_pair.specs.working.Steps.{BalanceAnswers, PublishAnswers};
 
-    /// Pushes the second buffer if it has items, or else the lower part of the first if it has more than [`FEW`].
+    /// Pushes the second buffer if it has items, or else the lower part of the first if that has more than [`FEW`].
+    /// Pushes nothing if no empty buffer was found as a replacement.
     pub(crate) fn balance<R: Wait>(
         &mut self,
         rt: &R,
@@ -40,7 +41,7 @@ impl<A: Allocator> Buffers<A> {
         Ok(())
     }
 
-    /// Pushes each buffer that has items.
+    /// Pushes each buffer that has items and for which an empty one was found as a replacement.
     pub(crate) fn publish<R: Wait>(
         &mut self,
         rt: &R,

@@ -1,6 +1,7 @@
-//! The spill list of a pair: the objects for which it found no buffer.
+//! The spill list of a pair: the objects for which it found no empty buffer.
 //!
-//! A spilled object is got again by `Pair::get`, and given up by `Pair::dispose` after a stop.
+//! `Pair::get` returns the spilled objects again, the last first. `Pair::dispose` drops the list, which may have
+//! objects only after a stop.
 ghost use Rattle.std.specs.Prelude.{◌≡◌, ◌∷◌, ◌++◌, IfErr, IfNone, OnErr, OnOk, [], length, option_to_list, true};
 ghost use Rattle.work_pair.specs.declared.stop.Stop.TheVariants.{OutOfMemory};
 
@@ -9,7 +10,7 @@ use crate::stop::Stop;
 use std::alloc::{AllocError, Allocator};
 use std::marker::Model;
 
-/// Objects for which there was no buffer, the last put at the end.
+/// The objects for which no empty buffer was found, the last put at the end.
 #[derive(Drop)]
 pub(super) struct SpillList<A: Allocator> {
     objects: Vec<u32, A>,
@@ -42,8 +43,8 @@ impl<A: Allocator> SpillList<A> {
         Ok(())
     }
 
-    /// Removes the last object and returns it. Returns `None` if there is none.
-    // Inlined, because each get of a pair asks it first and nearly always finds the list empty.
+    /// Removes the last object and returns it. Returns `None` if the list is empty.
+    // Inlined, because `Pair::get` calls it first, and the list is nearly always empty.
     #[inline]
     pub(super) fn pop(&mut self) -> Option<u32>
         ensures items { self.old ≡ self.new ++ option_to_list result }

@@ -1,5 +1,5 @@
--- The leader that has drained is the one whose workers ran, and is free. It has the workers' units after they are
--- joined.
+-- The leader that has drained is the one whose workers ran, and is free. It has the workers' units after the
+-- workers are joined.
 use Rattle.drain.proofs.Words.{arith, rules, sym, ◌∙◌}
 use Rattle.drain.proofs.Duties.{back_still}
 use Rattle.drain.proofs.Scanning.{same_setup}

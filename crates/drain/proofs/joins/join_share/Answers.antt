@@ -1,4 +1,5 @@
--- Neither worker finished more than there is, so no sum overflows, and the joined list is tallied by both.
+-- Neither worker finished more objects than the graph has, so no sum overflows. The joined tally is that of the joined
+-- list of finished objects.
 use Rattle.drain.proofs.Words.{Book, Holder, ap, arith, sym, ◌∙◌}
 use Rattle.drain.proofs.Leading.{joined_free, took_in}
 use Rattle.drain.proofs.Scanning.{same_tally}

@@ -1,4 +1,4 @@
--- The joined worker is back for the leader still, and the rest goes on as it was.
+-- The next worker is still back for the leader, which joins it; the others are as before.
 use Rattle.drain.proofs.Words.{IsMeasureOf, Setup, arith, get_or, into_iter_items, into_iter_len, subst, sym, ◌∙◌}
 use Rattle.drain.proofs.Duties.{Back, back_still}
 use Rattle.drain.proofs.Each.{first_holds, others_hold}

@@ -1,5 +1,5 @@
--- The leader took in the joined workers and is free, the others are back still, and its tally is of all that it has
--- finished.
+-- The leader took in the joined workers and is free, and its tally is of all that it has finished. The others are still
+-- back.
 use Rattle.drain.proofs.Words.{HasTallied, IsFree, Leads, get_or, into_iter_items, into_iter_len, vec_len, ℕ, ◌+◌, ◌<◌}
 use Rattle.drain.proofs.Words.{◌≡◌}
 use Rattle.drain.proofs.Duties.{Back}

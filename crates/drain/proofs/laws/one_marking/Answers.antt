@@ -1,4 +1,4 @@
--- Two lists of marks have one length and agree at each object, as reachable leaves no choice.
+-- Two lists of marks have one length and agree at each object, since an object is reachable or not.
 use Rattle.drain.proofs.Words.{IsReferenceOf, IsRootOf, object_count}
 use Rattle.drain.proofs.OneMarking.{marks_determined}
 use Rattle.drain.proofs.laws.one_marking.Goals as goal

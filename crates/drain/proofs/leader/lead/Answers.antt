@@ -1,4 +1,5 @@
--- The leader sees all roots and keeps what it saw. It drains with the units that it kept, and has all units after that.
+-- The leader sees all roots and keeps what it saw. It drains with the units that it kept, and has all units after the
+-- joins.
 use Rattle.drain.proofs.Words.{Contains, IsAtWork, PairState, Setup, [], arith, rules, subst, sym, ◌<◌, ◌∙◌}
 use Rattle.drain.specs.working.Jobs.{IsOnJob}
 use Rattle.drain.proofs.Leading.{leads_on, several_busy}

@@ -1,4 +1,4 @@
--- There is room for each tally, and each further one is of no object, like those before it.
+-- There is room for each tally, and each new one is of no object, like those before it.
 use Rattle.drain.proofs.Words.{All, Tallies, [], arith, subst, sym}
 use Rattle.drain.proofs.Each.{more_hold}
 use Rattle.drain.proofs.supplies.tallies_of_none.Goals as goal

@@ -1,4 +1,4 @@
--- The joined thread kept its duty, so its worker is back, and the rest goes on as it was.
+-- The joined thread kept its duty, so its worker is back; the other threads are as before.
 use Rattle.drain.proofs.Words.{AreBackUnder, IsDutyUnder, arith, get_or, into_iter_items, into_iter_len, subst, sym}
 use Rattle.drain.proofs.Duties.{Back, came_back}
 use Rattle.drain.proofs.Each.{first_holds, more_hold, others_hold}

@@ -1,5 +1,5 @@
--- The joined workers are back for whatever leader all threads owe, the other threads owe theirs still, and there is
--- room.
+-- The joined workers are back for each leader to which all threads have a duty, the other threads still have theirs,
+-- and there is room.
 use Rattle.drain.proofs.Words.{AreBackUnder, Holder, IsDutyUnder, get_or, into_iter_items, into_iter_len, vec_capacity}
 use Rattle.drain.proofs.Words.{vec_len, ℕ, ◌+◌, ◌<◌, ◌≡◌, ◌≤◌}
 use Rattle.drain.proofs.worker_threads.join_all.Given as goal

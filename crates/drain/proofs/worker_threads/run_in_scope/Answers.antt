@@ -1,4 +1,4 @@
--- The closure requires what the call requires, and that what it has may be sent to threads.
+-- The closure requires what `run_in_scope` requires, and that its captured values may be sent to threads.
 use Rattle.drain.proofs.worker_threads.run_in_scope.Goals as goal
 
 pub scoped-requires : goal.scoped-requires

@@ -1,4 +1,4 @@
--- What the run requires was asked for.
+-- What `run_in_scope` requires is among what this call requires.
 use Rattle.drain.proofs.Scanning.{same_tally}
 use Rattle.drain.proofs.worker_threads.run_workers.Goals as goal
 

@@ -1,4 +1,4 @@
--- So far the leader gave a unit to each thread, and has one for the next.
+-- The leader gave a unit to each thread so far, and has one for the next.
 use Rattle.drain.proofs.Words.{arith, rules, ◌<◌, ◌∙◌}
 use Rattle.drain.proofs.Scanning.{same_setup}
 use Rattle.drain.proofs.worker_threads.start_all.Goals as goal

@@ -1,4 +1,5 @@
--- The popped tally is of no object, like its worker's list; the thread owes a worker that was just split off.
+-- The popped tally is of no object, and its worker has finished none. The thread's duty begins with a worker that was
+-- just split off.
 use Rattle.drain.proofs.Words.{Book, Holder, MayWork, Tallies, [], ap, arith, length, option_to_list, rules, ◌++◌, ◌∙◌}
 use Rattle.drain.proofs.Each.{last_holds, left_hold}
 use Rattle.drain.proofs.Leading.{new_awake, new_free}

@@ -1,4 +1,4 @@
--- The worker comes from the one that was passed and is not idle when it begins.
+-- The worker with the opened pair comes from the one that was passed, and is not idle when it begins.
 use Rattle.drain.proofs.Words.{IsAwake, [], inl, rules, ◌∙◌}
 use Rattle.drain.specs.working.Jobs.{IsOnJob}
 use Rattle.drain.proofs.AtHand.{came_again}

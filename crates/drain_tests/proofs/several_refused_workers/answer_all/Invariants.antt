@@ -1,4 +1,4 @@
--- So many threads were started, each with a unit of the leader's, who has finished no more than before.
+-- `number` threads were started, each with a unit of the leader's. The leader has finished no more than before.
 use Rattle.std.proofs.Common.{◌≡◌, ◌≤◌, length, vec_len, vec_capacity}
 use Rattle.drain.specs.working.Duties.{HasStarted}
 use Rattle.drain_tests.proofs.several_refused_workers.answer_all.Given as goal

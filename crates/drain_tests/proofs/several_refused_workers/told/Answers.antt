@@ -1,4 +1,4 @@
--- What the closure asks is what a new pool and a new list have.
+-- A new pool and a new list have what the closure requires.
 use Rattle.std.proofs.Common.{arith, rules}
 use Rattle.drain_tests.proofs.several_refused_workers.told.Goals as goal
 

@@ -1,4 +1,4 @@
--- The popped buffer has no items, and takes the upper half. The lower half stays at the place, and is pushed.
+-- The popped buffer has no items, and takes the upper half. The lower part stays at the place, and is pushed.
 use Rattle.std.proofs.Common.{true, refl, subst, Err, Option, Some, Ok, ◌∙◌}
 use Rattle.std.proofs.lemmas.Result.{err_from_is_err_and}
 use Rattle.mark_core.specs.declared.which.Which.TheVariants.{Empty}

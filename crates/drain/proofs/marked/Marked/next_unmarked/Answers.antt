@@ -6,7 +6,7 @@ use Rattle.std.proofs.Math.ListN.{get_or-map}
 use Rattle.std.specs.List.{range_with_len}
 use Rattle.drain.proofs.marked.Marked.next_unmarked.Goals as goal
 
--- the first of these that is not set, from a number on
+-- the first mark that is not set, from a number on
 abbrev first_unset : ℕ → List Bool → Option ℕ
 first_unset from marks = find (λ o. not (slice_index_or marks o false)) (range_with_len from (length marks - from))
 

@@ -34,7 +34,7 @@ put-requires-clause-at_hand g c =
     let was = c.loop-object.invariant.2.2.at_work besides c.requires.may.3 in
     (besides, white_at_work besides c.if-claim_unless_seen.true c.claim_unless_seen.ensures.claimed was)
 
--- it was white, and was put
+-- the object was white, and was put
 pub loop-object-preserved-in-Continue-1 : goal.loop-object-preserved-in-Continue-1
 loop-object-preserved-in-Continue-1 g c =
     let met = c.loop-object.invariant.2 in
@@ -53,7 +53,7 @@ loop-object-preserved-in-Continue-1 g c =
       λ o noted. puts.goes_on.came.seen o (claim.seen o noted),
     )
 
--- it was marked
+-- the object was marked
 pub loop-object-preserved : goal.loop-object-preserved
 loop-object-preserved g c =
     let met = c.loop-object.invariant.2 in

@@ -1,4 +1,4 @@
--- A known object is the only one of a list.
+-- A known object is the only one that is claimed.
 use Rattle.drain.proofs.Words.{All-contains, AreClaimed, Contains, Contains-push, MayClaim, [], option_to_list, subst}
 use Rattle.drain.proofs.Words.{sym}
 use Rattle.drain.proofs.AtHand.{white_at_work, white_claimed}

@@ -1,4 +1,4 @@
--- What the worker saw is claimed by doing nothing.
+-- An object that the worker saw marked is claimed by doing nothing.
 use Rattle.drain.proofs.AtHand.{seen_claimed}
 use Rattle.drain.proofs.paired_worker.PairedWorker.claim_unless_seen.Goals as goal
 

@@ -1,4 +1,4 @@
--- What was put into buffers stays at hand, and what was balanced went on from there.
+-- After the spilled objects were put again, the worker has the same at hand, and the balance goes on from there.
 use Rattle.drain.proofs.AtHand.{goes_on_after, goes_on_again}
 use Rattle.drain.proofs.Outcomes.{on_ok}
 use Rattle.drain.proofs.paired_worker.PairedWorker.give.Goals as goal

@@ -1,4 +1,4 @@
--- The look at the full stack comes first, and the gift is stated of the book after it.
+-- The look at the full stack comes first, and what `give` does is stated from the book after that look.
 use Rattle.drain.proofs.Outcomes.{on_ok}
 use Rattle.drain.proofs.Sharing.{gives_some, needs_none}
 use Rattle.drain.proofs.paired_worker.PairedWorker.offer.Goals as goal

@@ -1,4 +1,4 @@
--- If no pair was opened nothing is kept and nothing is pushed on full, so the worker is as free as before.
+-- If no pair was opened, no buffer is kept and none is pushed on full, so the worker is still free.
 use Rattle.drain.proofs.Words.{IfNone, TouchesNoFull, [], empty_pair, refl, subst}
 use Rattle.mark_core.specs.declared.which.Which.TheVariants.{Empty}
 use Rattle.work_pair.specs.CallEffects.{OpensNone}

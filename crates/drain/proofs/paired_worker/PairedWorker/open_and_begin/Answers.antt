@@ -1,4 +1,4 @@
--- The leader that has begun went on from the opened one.
+-- The leader that has claimed the roots goes on from the leader with the opened pair.
 use Rattle.drain.proofs.Words.{Setup, ap, sym, ◌∙◌}
 use Rattle.drain.proofs.AtHand.{goes_on_again}
 use Rattle.drain.proofs.paired_worker.PairedWorker.open_and_begin.Goals as goal

@@ -1,5 +1,5 @@
--- What the object refers to may be claimed since it is at hand. It is finished after all of that was seen, and the
--- tally takes it in.
+-- What the object refers to may be claimed, since the object is at hand. The object is finished after all that was
+-- seen, and the tally takes it in.
 use Rattle.drain.proofs.Words.{Book, Contains, Contains-append_left, Contains-append_right, List, Setup, [], ap, arith}
 use Rattle.drain.proofs.Words.{option_to_list, subst, sym, ℕ, ◌∙◌, ◌∷◌}
 use Rattle.drain.specs.working.Scans.{MatchesMeasure}

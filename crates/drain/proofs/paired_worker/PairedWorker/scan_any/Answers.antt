@@ -1,4 +1,4 @@
--- A visit yields the references of its object, and what is read of it is complete at their end.
+-- A visit yields the references of its object, and what it reads of the object is complete at their end.
 use Rattle.drain.proofs.Words.{None}
 use Rattle.drain.proofs.Visits.{are_given, behind_none}
 use Rattle.drain.proofs.paired_worker.PairedWorker.scan_any.Goals as goal

@@ -1,5 +1,5 @@
--- The object that was got is at hand besides what the pair has, and it is scanned; with a spilled one it would have got
--- that.
+-- The object that was got is at hand besides what the pair has, and is scanned. If none was got, none was spilled: a
+-- spilled one would have been got.
 use Rattle.drain.proofs.Words.{Contains, List, Some, [], ap, subst, sym, ℕ, ◌++◌, ◌<◌, ◌∙◌, ◌∷◌}
 use Rattle.work_pair.specs.CallEffects.{Gets}
 use Rattle.drain.proofs.AtHand.{at_work_after, backs, goes_on_after, got_is_object, works, works_on_again}
@@ -67,7 +67,7 @@ returns-clause-scans g c =
       finished = scan.finished ∙ ap (λ (xs : List ℕ). xs ++ o ∷ []) on.finished;
     }
 
--- none was got
+-- no object was got
 pub returns-in_default : goal.returns-in_default
 returns-in_default g c =
     let got = c.in_ok-object.ensures in

@@ -1,4 +1,4 @@
--- The class and what follows it are the references of the object, wherever they are in the dump.
+-- The class and what follows it are the references of the object, whatever kind of object it is.
 use Rattle.drain.proofs.Visits.{are_given}
 use Rattle.drain.proofs.paired_worker.PairedWorker.scan_one.Goals as goal
 

@@ -1,4 +1,4 @@
--- Each object that is put again makes the list shorter, or is the last that is put.
+-- Each object that is put again makes the spill list shorter, or is the last that is put.
 use Rattle.drain.proofs.Words.{arith, cases_lt, false≢true, length, sym, ⊎_elim, ◌∙◌}
 use Rattle.drain.specs.working.Sharing.Unspills.{last, more, none}
 use Rattle.drain.proofs.AtHand.{goes_on_again}

@@ -1,4 +1,5 @@
--- What the rest of the list becomes, the whole list becomes; it gets shorter.
+-- A result of unspilling from the pair as it is now is one of unspilling from the pair as it was at first. The spill
+-- list gets shorter.
 use Rattle.drain.proofs.Words.{Book, GoesOn, IsAtWork, PairState, Unspills, [], length}
 use Rattle.drain.proofs.paired_worker.PairedWorker.unspill.Given as goal
 

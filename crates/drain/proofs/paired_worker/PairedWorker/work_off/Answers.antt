@@ -1,4 +1,4 @@
--- Each turn comes from the one before, and after each the worker is awake.
+-- The worker's turns: each goes on from the one before, and after each the worker is awake.
 use Rattle.drain.proofs.Words.{inl, inr, rules, subst}
 use Rattle.drain.specs.working.Jobs.{ScansNext}
 use Rattle.drain.specs.working.Jobs.TakesTurns.{more, none}

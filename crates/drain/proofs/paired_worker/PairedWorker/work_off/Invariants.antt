@@ -1,5 +1,5 @@
--- Between two turns the worker is awake at its pair, and its tally and its table are of what it finished and saw; the
--- turns so far led to it.
+-- Between two turns the worker is awake at its pair, its tally is of what it finished, and its table has only objects
+-- that it saw marked. It came there by the turns so far.
 use Rattle.drain.proofs.Words.{CameFrom, HasSeenAll, IsAwake, []}
 use Rattle.drain.specs.working.Jobs.{IsOnJob, TakesTurns}
 use Rattle.drain.proofs.paired_worker.PairedWorker.work_off.Given as goal

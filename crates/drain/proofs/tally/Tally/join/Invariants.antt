@@ -1,4 +1,4 @@
--- The rows so far have the sums of both, the others those that they had.
+-- The rows so far have the sums of both tallies, the other rows those that they had.
 use Rattle.drain.proofs.Words.{length, no_object, slice_index_or, together, ℕ, ◌<◌, ◌≡◌, ◌≤◌}
 use Rattle.drain.proofs.tally.Tally.join.Given as goal
 

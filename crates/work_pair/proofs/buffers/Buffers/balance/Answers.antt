@@ -1,4 +1,4 @@
--- The second buffer is pushed if it has objects, or else the lower half of the first if it has more than a few.
+-- The second buffer is pushed if it has objects, or else the lower part of the first if that has more than four.
 use Rattle.std.proofs.Common.{arith}
 use Rattle.std.proofs.lemmas.Result.{err_from_is_err_and}
 use Rattle.work_pair.specs.PairState.{items_at}

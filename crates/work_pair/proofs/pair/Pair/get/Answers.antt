@@ -1,5 +1,5 @@
--- The last object of the list, or else one of the first buffer, is taken without a trade. If there is none, nothing has
--- changed when the other call begins. Its effect on the buffers is one on the pair.
+-- The last object of the list, or else one of the first buffer, is taken without a trade. If neither has one, nothing
+-- has changed when `get_elsewhere` begins. The effect of `get_elsewhere` on the buffers is one on the pair.
 use Rattle.std.proofs.Common.{◌∙◌, [], ◌∷◌, Err, Ok, Some, length, ap, refl, sym, arith}
 use Rattle.std.proofs.lemmas.List.{append-nil}
 use Rattle.work_pair.specs.PairState.{PairState}

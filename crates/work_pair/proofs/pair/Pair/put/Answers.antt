@@ -1,6 +1,6 @@
--- The first buffer takes the object if it has room. If not, nothing has changed when the other call begins. Its effect
--- on the buffers is one on the pair. If it finds no buffer for the object, the object goes to the list, or back to the
--- caller if an allocation fails.
+-- The first buffer takes the object if it has room. If not, nothing has changed when `put_elsewhere` begins. The effect
+-- of `put_elsewhere` on the buffers is one on the pair. If it finds no buffer for the object, the object goes to the
+-- list, or back to the caller if an allocation fails.
 use Rattle.std.proofs.Common.{◌≡◌, ℕ, true, [], ◌∷◌, ◌++◌, Err, Ok, ap, inl, refl}
 use Rattle.mark_core.specs.declared.which.Which.TheVariants.{Empty}
 use Rattle.work_pair.specs.CallEffects.{CallEffect, PopsNoneFromFull, Puts}
