@@ -56,7 +56,8 @@ fn labelled(value: TypedValue<'_>) -> Option<(u64, u8, u8)> {
     Some((value.label, value.type_code, *last))
 }
 
-/// Returns what `labelled` returns of the two values, or `None` if `values` does not have exactly two.
+/// Returns what `labelled` returns of the two values, or `None` if `values` does not have exactly two or one of them
+/// has no byte.
 fn two_values(values: Values<'_>) -> Option<[(u64, u8, u8); 2]> {
     let mut values = values;
     if values.len() != 2 {

@@ -38,7 +38,7 @@ const TYPES: [(u8, usize); 9] = [
 ];
 
 /// Tags of records with empty bodies, and the code and the offset of the fault of a file with these records, or `None`
-/// if it is a dump.
+/// if that file is a dump.
 const ORDERS: [(&[u8], Option<(u8, u64)>); 14] = [
     (&[], Some((8, 31))),
     (&[0x0c], None),

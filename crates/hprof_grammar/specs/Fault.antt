@@ -38,7 +38,7 @@ pub record LongestRecords (s : ℕ) (body : List ℕ) (records : List Record) (r
       → body ≡ spellings s others ++ left → AllByRecursion (IsRecord s) others → CanGoOn (map tag_of others)
       → length others ≤ length records
 
--- less than a whole record: the record runs past the end
+-- `rest` is less than a whole record: the record runs past the end
 pub record RunsPastEnd (rest : List ℕ) : Type 0 where
   pub tag : ℕ
   pub time : ℕ

@@ -54,8 +54,9 @@ fn header_id_size(bytes: &[u8]) -> Result<u8, ReadRefusal>
 /// `Err(ReadRefusal::Fault(..))` has the first fault if `bytes` spell no dump, `Err(ReadRefusal::OutOfMemory)` means
 /// that an allocation failed.
 ///
-/// If `team` shares work of this size, its threads read the dump in parts. If the bytes have a fault or an allocation
-/// fails, the calling thread reads the whole dump again, and only that second result counts.
+/// If `team` shares work of this size and the records make two parts or more, its threads read the dump in parts. If
+/// the bytes have a fault or an allocation fails, the calling thread reads the whole dump again, and only that second
+/// result counts.
 pub fn read<T: Threads + Sync, A: Allocator + Copy + Send + Sync>(
     team: &Team<'_, T>,
     alloc: A,

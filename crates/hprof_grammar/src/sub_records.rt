@@ -163,7 +163,7 @@ fn primitive_array(reader: &mut Reader<'_>, id_size: u8) -> Result<(), Flaw>
     Ok(())
 }
 
-/// Reads the fields of a root after its tag: the object, and then the fields that only a root of `kind` has.
+/// Reads the fields of a root after its tag: the object, and then the further fields of a root of `kind`.
 fn root(reader: &mut Reader<'_>, id_size: u8, kind: RootKind) -> Result<(), Flaw>
     requires low { 1 ≤ id_size }
     requires high { id_size ≤ 8 }

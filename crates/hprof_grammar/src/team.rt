@@ -6,8 +6,8 @@ use std::thread::{Threads, available_parallelism};
 /// The fewest objects that a team of `Team::new` or `Team::at_most` shares: fewer are not worth the start of a thread.
 const FEWEST_IN_PARTS: u32 = 65_536;
 
-/// A runtime that can start threads, for work that is done in parts. At most `threads` threads work at once, or one if
-/// `threads` is 0, including the calling thread. No result depends on `threads`.
+/// A runtime that can start threads, for work that is done in parts. At most `threads` threads, including the calling
+/// thread, work at once; 0 counts as one. No result depends on `threads`.
 #[derive(Drop)]
 pub struct Team<'r, T> {
     /// Never read: a value of a type that implements `Threads` is the permission to start threads.

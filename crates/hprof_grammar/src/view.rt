@@ -1,7 +1,7 @@
 //! Reads the fields of a dump's header, records and sub-records.
 //!
-//! A method that reads a field of a record or sub-record takes its place, and requires that a record or sub-record of
-//! the right kind is there. `dump_is_placed` says that all places of a `Dump` have the right one. Only
+//! A method that reads a field of a record or sub-record takes the place `at`, and requires that a record or sub-record
+//! of the right kind is there. `dump_is_placed` says that this holds for all places of a `Dump`. Only
 //! `View::identifier_at` and `number_at` read from bytes that the caller passes, and require that the identifier ends
 //! within the bytes. Nothing here allocates.
 

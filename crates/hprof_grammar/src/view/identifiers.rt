@@ -11,8 +11,8 @@ use byteorder::{BigEndian, ByteOrder};
 
 /// Returns the big-endian number of `width` bytes at the offset `at`: the identifier there, if `width` is the size of
 /// identifiers.
-// The widths of a dump's fields (2, 4 and 8) have arms of their own, so that the compiler knows the width. Inlined,
-// because this function reads every reference that is followed.
+// The widths of a dump's fields (2, 4 and 8) have arms of their own, so that the compiler knows the width.
+// Inlined, because this function reads every reference that is followed.
 #[inline(always)]
 pub fn number_at(bytes: &[u8], at: usize, width: usize) -> u64
     requires low { 1 ≤ width }
