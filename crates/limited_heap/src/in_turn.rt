@@ -34,11 +34,11 @@ fn requests_with<F: Fn(&LimitedHeap<Global>) -> bool>(
     None
 }
 
-/// Tests a call on heaps that refuse each of its requests in turn: first together with all later requests, then alone.
-/// `is_right` makes the call on a heap and tests its result. It must accept the complete result, and it must accept out
-/// of memory only if the heap refused a request. Each of the two rounds ends with a heap that refuses nothing. Returns
-/// the number of requests if `is_right` accepts every result and both rounds count the same number. Returns `None`
-/// otherwise, and if the call makes 4,096 requests or more.
+/// Tests a call on heaps that refuse each of its requests in turn: in a first round together with all later requests,
+/// in a second one alone. `is_right` makes the call on a heap and tests its result. It must accept the complete result,
+/// and it must accept out of memory only if the heap refused a request. Each of the two rounds ends with a heap that
+/// refuses nothing. Returns the number of requests if `is_right` accepts every result and both rounds count the same
+/// number. Returns `None` otherwise, and if the call makes 4,096 requests or more.
 pub fn requests_of<F: Fn(&LimitedHeap<Global>) -> bool>(alloc: Global, is_right: F) -> Option<u64>
     requires { F.IsAlwaysCallable is_right }
     ensures few { IfSome result (λ n. n < 4096) }
