@@ -1,4 +1,5 @@
--- Tests that compute whether literal parts of a dump keep the format, and what a place holds if its test holds.
+-- Tests that compute whether a literal sub-record or record keeps the format. Lemmas: what keeps the format is at a
+-- place if the bytes there begin with its spelling.
 use Rattle.std.proofs.Common.{Bool, List, [], ap, arith, drop, false, length, map, nat_lt, suc, sym, take, true}
 use Rattle.std.proofs.Common.{zero, ℕ, ◌*◌, ◌++◌, ◌<◌, ◌^◌, ◌∙◌, ◌∷◌, ◌≡◌}
 use Rattle.std.specs.List.{AllByRecursion}
@@ -125,7 +126,7 @@ record_is s r e =
 
 -- ---- the part at a place
 
--- the bytes from the place on begin with the given ones
+-- the bytes from `at` on begin with `xs`
 abbrev pub Begin : List ℕ → ℕ → List ℕ → Type 0
 Begin bytes at xs = take (length xs) (drop at bytes) ≡ xs
 
@@ -151,7 +152,7 @@ record_seen {bytes} {s} {at} {r} v b i is e = rw (b, i) (record {
   is = record_is s r is;
 })
 
--- roots, each at its place
+-- each of `roots` keeps the format, and its spelling is in the bytes at its place
 abbrev pub AreThere : ℕ → List ℕ → List (ℕ × Root) → Type 0
 AreThere s bytes roots = AllByRecursion (λ p. (is_sub s (root p.1) ≡ true) × Begin bytes p.0 (spelling_of s (root p.1)))
     roots

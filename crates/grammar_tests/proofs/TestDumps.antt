@@ -1,4 +1,5 @@
--- The parts of both dumps of the tests, with identifiers of s bytes; a root has the numbers of its kind.
+-- The sub-records of the dump in `src/dumps.rt`, with identifiers of s bytes, and lemmas that a root has the numbers of
+-- its kind.
 use Rattle.std.proofs.Common.{Bool, List, Option, Some, [], drop, false, refl, true, ℕ, ◌++◌, ◌<◌, ◌^◌}
 use Rattle.std.proofs.Common.{◌∷◌, ◌≡◌}
 use Rattle.byteorder.specs.Endian.{big_bytes}
@@ -51,7 +52,7 @@ the_shorts = record { object = 0x303; stack = 12; count = 3; type = 9; values = 
 abbrev of_the_instance : RootOrigin → Root
 of_the_instance origin = record { object = 0x301; origin = origin }
 
--- by the places of the dump's roots
+-- the dump's roots, if they are at the places a to i
 abbrev pub the_roots : (a b c d e f g h i : ℕ) → List (ℕ × Root)
 the_roots a b c d e f g h i =
     (a, record { object = 0x100; origin = unknown }) ∷ (b, of_the_instance (jni_global 0x401))

@@ -1,4 +1,5 @@
--- A file of 174 bytes, by computation: a class with one field, two instances that refer to each other, and a root.
+-- Computes that a file of 174 bytes spells a dump: a class with one field, two instances that refer to each other, and
+-- a root.
 use Rattle.std.proofs.Common.{List, [], inl, lit<, lit≤, refl, ℕ, ◌++◌, ◌∷◌, ◌≡◌}
 use Rattle.hprof_grammar.specs.Dump.{header, spellings}
 use Rattle.hprof_grammar.specs.Places.{IsDumpOf, Places, places_of}
@@ -69,7 +70,7 @@ places = record { id_size = 4; strings = 31 ∷ []; loaded = 45 ∷ []; roots = 
 places_are : places ≡ places_of 4 records
 places_are = refl
 
--- the file spells a dump with the given places
+-- the file spells a dump with the places `places`
 file_is_dump : IsDumpOf file places
 unfolding is_id_size is_length_of is_type_at size_of
 file_is_dump = record {

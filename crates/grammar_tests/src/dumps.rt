@@ -1,6 +1,6 @@
-//! A dump with one part of every kind, with identifiers of 4 bytes and of 8.
+//! A dump with a string, a loaded class, and one sub-record of every kind: once with identifiers of 4 bytes, once of 8.
 
-/// Identifiers of 4 bytes.
+/// The dump with identifiers of 4 bytes.
 #[rattlefmt::skip]
 pub const WITH_FOUR: [u8; 310] = [
     0x4a, 0x41, 0x56, 0x41, 0x20, 0x50, 0x52, 0x4f, 0x46, 0x49, 0x4c, 0x45, 0x20, 0x31, 0x2e, 0x30, 0x2e, 0x32, 0,
@@ -30,7 +30,7 @@ pub const WITH_FOUR: [u8; 310] = [
     0x08, 0, 0, 0x03, 0x01, 0, 0, 0, 0x13, 0, 0, 0, 0x14,
 ];
 
-/// Identifiers of 8 bytes.
+/// The dump with identifiers of 8 bytes.
 #[rattlefmt::skip]
 pub const WITH_EIGHT: [u8; 446] = [
     0x4a, 0x41, 0x56, 0x41, 0x20, 0x50, 0x52, 0x4f, 0x46, 0x49, 0x4c, 0x45, 0x20, 0x31, 0x2e, 0x30, 0x2e, 0x32, 0,

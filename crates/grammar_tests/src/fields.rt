@@ -1,4 +1,4 @@
-//! Reads each field of a dump that has one part of every kind.
+//! Reads each field of the dump in `dumps`, which has one sub-record of every kind.
 
 ghost use Rattle.std.specs.Prelude.{List, slice_index, ℕ, ◌<◌};
 ghost use Rattle.hprof_grammar.specs.SubRecord.{Class, Instance, ObjectArray, PrimitiveArray, Root};
@@ -13,7 +13,8 @@ use std::process::Abort;
 use std::test::Fail;
 use std::thread::Threads;
 
-/// Returns the numbers of a header, of a string record and of a loaded class, in the order of the manual.
+/// Returns numbers of the header, of the string record at `string` and of the loaded class at `loaded`, in the order of
+/// the manual.
 fn record_numbers(view: &View<'_>, string: u32, loaded: u32) -> [u64; 8]
     requires header { (time : ℕ) × HeaderStands view.now time }
     requires string { (time id : ℕ) × (text : List ℕ) × StringStands view.now string time id text }
@@ -32,7 +33,7 @@ fn record_numbers(view: &View<'_>, string: u32, loaded: u32) -> [u64; 8]
     ]
 }
 
-/// Returns the numbers of the class dump at `at`, in the order of the manual.
+/// Returns the numbers of the class dump at `at` up to its instance size, in the order of the manual.
 fn class_numbers(view: &View<'_>, at: u32) -> [u64; 9]
     requires { (c : Class) × Stands view.now at (class_dump c) }
 {
@@ -55,7 +56,8 @@ fn labelled(value: TypedValue<'_>) -> Option<(u64, u8, u8)> {
     Some((value.label, value.type_code, *last))
 }
 
-/// Returns the two values, if `values` has exactly two.
+/// Returns what `labelled` returns of the two values, or `None` if `values` does not have exactly two or one of them
+/// has no byte.
 fn two_values(values: Values<'_>) -> Option<[(u64, u8, u8); 2]> {
     let mut values = values;
     if values.len() != 2 {
@@ -66,7 +68,7 @@ fn two_values(values: Values<'_>) -> Option<[(u64, u8, u8); 2]> {
     values.is_empty().then_some([first, second])
 }
 
-/// Returns the two identifiers, if `ids` has exactly two.
+/// Returns the two identifiers, or `None` if `ids` does not have exactly two.
 fn two_ids(ids: Ids<'_>) -> Option<[u64; 2]> {
     let mut ids = ids;
     if ids.len() != 2 {
@@ -75,7 +77,7 @@ fn two_ids(ids: Ids<'_>) -> Option<[u64; 2]> {
     Some([ids.next()?, ids.next()?])
 }
 
-/// Returns the identifiers of a class dump that are followed.
+/// Returns the identifiers that `View::leading_ids` yields for the class dump at `at`, or `None` if they are not four.
 fn followed_ids(view: &View<'_>, at: u32) -> Option<[u64; 4]>
     requires { (c : Class) × Stands view.now at (class_dump c) }
 {
@@ -84,7 +86,7 @@ fn followed_ids(view: &View<'_>, at: u32) -> Option<[u64; 4]>
     ids.is_empty().then_some(followed)
 }
 
-/// Returns the names and type codes of a class's two instance fields.
+/// Returns the names and type codes of a class's two instance fields, or `None` if the class does not have exactly two.
 fn two_members(view: &View<'_>, at: u32) -> Option<[(u64, u8); 2]>
     requires { (c : Class) × Stands view.now at (class_dump c) }
 {
@@ -97,7 +99,7 @@ fn two_members(view: &View<'_>, at: u32) -> Option<[(u64, u8); 2]>
     ])
 }
 
-/// Returns the class of an instance and the bytes of its fields.
+/// Reads the instance dump at `at`: its kind, its class, and the bytes of its field values.
 fn instance_fields<'a>(view: &View<'a>, at: u32) -> (ObjectKind, u64, &'a [u8])
     requires { (i : Instance) × Stands view.now at (instance_dump i) }
 {
@@ -108,7 +110,8 @@ fn instance_fields<'a>(view: &View<'a>, at: u32) -> (ObjectKind, u64, &'a [u8])
     )
 }
 
-/// Returns the class of an object array and its two elements.
+/// Reads the object array dump at `at`: its kind, its class, and its two elements, or `None` if there are not exactly
+/// two.
 fn object_array_fields(view: &View<'_>, at: u32) -> (ObjectKind, u64, Option<[u64; 2]>)
     requires { (a : ObjectArray) × Stands view.now at (object_array_dump a) }
 {
@@ -119,7 +122,7 @@ fn object_array_fields(view: &View<'_>, at: u32) -> (ObjectKind, u64, Option<[u6
     )
 }
 
-/// Returns the identifiers at the offsets 0 and 1 of an instance's values, if these have enough bytes.
+/// Returns the identifiers at the offsets 0 and 1 of an instance's values, or `None` if the values have too few bytes.
 fn first_identifiers(view: &View<'_>, at: u32) -> Option<[u64; 2]>
     requires { (i : Instance) × Stands view.now at (instance_dump i) }
 {
@@ -130,7 +133,7 @@ fn first_identifiers(view: &View<'_>, at: u32) -> Option<[u64; 2]>
     Some([view.identifier_at(values, 0), view.identifier_at(values, 1)])
 }
 
-/// Returns the type code of a primitive array, the number of its elements, and their bytes.
+/// Reads the primitive array dump at `at`: its kind, the type code of its elements, their number, and their bytes.
 fn primitive_array_fields<'a>(view: &View<'a>, at: u32) -> (ObjectKind, u8, u32, &'a [u8])
     requires { (a : PrimitiveArray) × Stands view.now at (primitive_array_dump a) }
 {
@@ -142,8 +145,8 @@ fn primitive_array_fields<'a>(view: &View<'a>, at: u32) -> (ObjectKind, u8, u32,
     )
 }
 
-/// The fields of a root: its kind, its object, and the reference, the thread, the frame and the stack trace, each if
-/// its kind has one.
+/// The fields of a root: its kind, its object, its reference, its thread, its frame and its stack trace. Each of the
+/// last four is `None` if a root of this kind does not have it.
 type RootNumbers = (
     RootKind,
     u64,
@@ -184,7 +187,7 @@ fn root_numbers(view: &View<'_>, at: u32) -> RootNumbers
 /// The places of a dump's parts: strings, loaded classes, objects, roots.
 type PlacesOfParts = [&'static [u32]; 4];
 
-/// A dump with one part of every kind, the size of its identifiers, and the places of its parts.
+/// The dump with each size of identifiers: its bytes, that size, and the places of its parts.
 const PLACES: [(&[u8], u8, PlacesOfParts); 2] = [
     (
         &WITH_FOUR,
@@ -208,7 +211,7 @@ const PLACES: [(&[u8], u8, PlacesOfParts); 2] = [
     ),
 ];
 
-/// Returns the size of a dump's identifiers, and whether `places` are the places of its parts.
+/// Returns the size of identifiers of the dump `bytes`, and whether `places` are the places of its parts.
 fn placed_so<T: Threads + Sync>(
     rt: &T,
     alloc: Global,
@@ -232,7 +235,8 @@ fn places(rt: HostRuntime) -> Result<(), Fail> {
     Ok(())
 }
 
-/// Compares the records with what they should be.
+/// Compares the fields of the header, of the string at `string` and of the loaded class at `loaded` with the expected
+/// ones. `length` is the expected length of the string's body.
 fn has_records<R: Abort>(rt: &R, view: &View<'_>, string: u32, loaded: u32, length: u64)
     requires header { (time : ℕ) × HeaderStands view.now time }
     requires string { (time id : ℕ) × (text : List ℕ) × StringStands view.now string time id text }
@@ -252,7 +256,7 @@ fn records(rt: HostRuntime) {
     has_records(&rt, &View::new(&WITH_EIGHT, 8), 31, 49, 9);
 }
 
-/// Compares the class with what it should be.
+/// Compares the fields of the class dump at `at` with the expected ones.
 fn has_class<R: Abort>(rt: &R, view: &View<'_>, at: u32)
     requires { (c : Class) × Stands view.now at (class_dump c) }
 {
@@ -273,7 +277,8 @@ fn has_class<R: Abort>(rt: &R, view: &View<'_>, at: u32)
     assert_eq!(rt; two_members(view, at), Some([(5, 2), (6, 4)]));
 }
 
-/// Compares the instance and the arrays with what they should be.
+/// Compares the fields of the instance and of both arrays with the expected ones. `instance`, `objects` and `shorts`
+/// are their places, `values` the expected values of the instance.
 fn has_objects<R: Abort>(
     rt: &R,
     view: &View<'_>,
@@ -342,7 +347,7 @@ const ROOTS: [RootNumbers; 9] = [
     ),
 ];
 
-/// Compares the roots with what they should be, in order.
+/// Compares the fields of the roots at `places` with `ROOTS`, in order.
 fn has_roots<R: Abort>(rt: &R, view: &View<'_>, places: &[u32; 9])
     requires { (k : ℕ) → k < 9 → (r : Root) × Stands view.now (slice_index places.now k) (root r) }
 {

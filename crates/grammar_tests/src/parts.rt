@@ -6,8 +6,8 @@ use std::alloc::{Allocator, Global};
 use std::test::Fail;
 use std::thread::Threads;
 
-/// Three segments, with strings, loaded classes and a skipped record before and between them, a HEAP DUMP END, and one
-/// more string: 215 bytes.
+/// A dump of 215 bytes: three segments, with strings, loaded classes and a skipped record before or between them, then
+/// a HEAP DUMP END and one more string.
 #[rattlefmt::skip]
 pub const FILE: [u8; 215] = [
     0x4a, 0x41, 0x56, 0x41, 0x20, 0x50, 0x52, 0x4f, 0x46, 0x49, 0x4c, 0x45, 0x20, 0x31, 0x2e, 0x30, 0x2e, 0x32, 0,
@@ -31,7 +31,8 @@ pub const FILE: [u8; 215] = [
 /// The offsets of the file's records.
 const RECORDS: [usize; 10] = [31, 45, 76, 90, 115, 146, 158, 183, 192, 201];
 
-/// Two changed bytes of the file, each with its offset, and the code and the offset of the first fault.
+/// Two changes of the file, each an offset and the new byte there, and the code and the offset of the first fault that
+/// the file then has.
 const CHANGES: [([(usize, u8); 2], u8, u64); 6] = [
     ([(54, 0x7e), (124, 0x7e)], 5, 54),
     ([(71, 0x7e), (192, 0x0c)], 5, 71),
@@ -66,7 +67,8 @@ fn are_same(one: &Dump<Global>, other: &Dump<Global>) -> bool {
         && one.roots() == other.roots()
 }
 
-/// Returns the refusal if one thread reads `bytes`, and whether four threads have the same result.
+/// Returns the refusal of `bytes` that one thread reports, or `None` if it reads them as a dump. Returns also whether a
+/// team of four threads reads the same places or reports the same refusal.
 fn told_by_four<T: Threads + Sync>(
     rt: &T,
     alloc: Global,
@@ -82,7 +84,7 @@ fn told_by_four<T: Threads + Sync>(
     }
 }
 
-/// Cuts the file at each length, and changes the tag of each record.
+/// Cuts the file at each length, and replaces the tag of each record by each of five tags.
 #[test]
 fn same_answers(rt: HostRuntime) {
     for length in 0..FILE.len() {

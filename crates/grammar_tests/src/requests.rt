@@ -1,4 +1,4 @@
-//! Tests by the number of allocations how a dump is read: in parts, in how many, and not a second time by one thread.
+//! Counts and refuses allocations to test whether a dump is read in parts, in how many, and only once.
 
 use crate::parts::{FILE, is_of_the_file};
 use hprof_grammar::{Team, read};
@@ -10,7 +10,7 @@ use std::thread::Threads;
 /// file counts as three objects. Two threads read it in two parts.
 const IN_PARTS: [(u32, u32); 5] = [(2, 0), (2, 3), (3, 0), (4, 0), (64, 0)];
 
-/// Teams whose calling thread reads the whole file.
+/// Teams whose calling thread reads the whole file: the number of threads, and the fewest objects that they share.
 const IN_ONE: [(u32, u32); 4] = [(0, 0), (1, 0), (2, 4), (64, u32::MAX)];
 
 /// Tests whether `team` reads the file on `heap`.
@@ -28,8 +28,8 @@ fn requests_of<T: Threads + Sync>(team: &Team<'_, T>, alloc: Global) -> u64 {
     u64::MAX.saturating_sub(heap.requests_left())
 }
 
-/// Refuses each request of `team` in turn. Tests whether `team` then always reads the file if `wanted`, and otherwise
-/// never.
+/// Refuses each request of `team` alone, in turn. Tests whether `team` then reads the file each time if `wanted` is
+/// `true`, or never if it is `false`.
 fn reads_without_one<T: Threads + Sync>(team: &Team<'_, T>, alloc: Global, wanted: bool) -> bool {
     for request in 0..requests_of(team, alloc) {
         if reads(team, &LimitedHeap::refusing(alloc, request)) != wanted {
@@ -39,8 +39,9 @@ fn reads_without_one<T: Threads + Sync>(team: &Team<'_, T>, alloc: Global, wante
     true
 }
 
-/// The calling thread reads the file if a request of the parts is refused. So every request here is one of the parts,
-/// and nothing is read twice: a refused request of the calling thread would be a refusal.
+/// If a request is refused while parts are read, the calling thread reads the whole file, and the read succeeds. It
+/// succeeds here whichever request is refused. So all requests are made while parts are read, and none by a second read
+/// of the whole file: if a request of that read were refused, the read would fail.
 #[test]
 fn read_in_parts_alone(rt: HostRuntime) {
     for (threads, fewest) in IN_PARTS {
@@ -51,7 +52,7 @@ fn read_in_parts_alone(rt: HostRuntime) {
     }
 }
 
-/// If the calling thread reads the whole file, a refused request is a refusal.
+/// If the calling thread reads the whole file, the read fails whichever request is refused.
 #[test]
 fn read_in_one_part(rt: HostRuntime) {
     for (threads, fewest) in IN_ONE {

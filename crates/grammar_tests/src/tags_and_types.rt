@@ -1,4 +1,4 @@
-//! Each tag, each type code at each of its places, and each order of the snapshot's records.
+//! Tests each tag, each type code at each place that has one, and orders of the snapshot's records.
 
 use crate::worked_file::fault;
 use hprof_grammar::{Team, read};
@@ -6,7 +6,8 @@ use std::alloc::{AllocError, Global};
 use std::test::Fail;
 use std::thread::Threads;
 
-/// The tag of each sub-record, and its length with identifiers of 4 bytes and no entries.
+/// The tag of each kind of sub-record, and its length with identifiers of 4 bytes and without constants, fields, values
+/// or elements.
 const SUB_RECORDS: [(u8, usize); 13] = [
     (0xff, 5),
     (0x01, 9),
@@ -36,7 +37,8 @@ const TYPES: [(u8, usize); 9] = [
     (11, 8),
 ];
 
-/// Tags of records with empty bodies, and the fault of a file with them, if any.
+/// Tags of records with empty bodies, and the code and the offset of the fault of a file with these records, or `None`
+/// if that file is a dump.
 const ORDERS: [(&[u8], Option<(u8, u64)>); 14] = [
     (&[], Some((8, 31))),
     (&[0x0c], None),
@@ -54,7 +56,7 @@ const ORDERS: [(&[u8], Option<(u8, u64)>); 14] = [
     (&[0x1c, 0x2c, 0x0c], Some((8, 49))),
 ];
 
-/// Returns the entry of `table` for `code`.
+/// Returns the size that `table` has for `code`, or `None` if `code` is not in `table`.
 fn entry(table: &[(u8, usize)], code: u8) -> Option<usize> {
     for (known, size) in table {
         if *known == code {
@@ -64,20 +66,20 @@ fn entry(table: &[(u8, usize)], code: u8) -> Option<usize> {
     None
 }
 
-/// Returns the header, with identifiers of 4 bytes.
+/// Returns the header of a dump with identifiers of 4 bytes.
 fn header(alloc: Global) -> Result<Vec<u8>, AllocError> {
     let mut file = b"JAVA PROFILE 1.0.2\0".to_vec(alloc)?;
     file.extend_from_slice(&[0, 0, 0, 4, 0, 0, 0, 0, 0, 0, 0, 0])?;
     Ok(file)
 }
 
-/// Appends a record whose body has fewer than 256 bytes.
+/// Appends a record with `tag` and `body`, which must have fewer than 256 bytes.
 fn push_record(file: &mut Vec<u8>, tag: u8, body: &[u8]) -> Result<(), AllocError> {
     file.extend_from_slice(&[tag, 0, 0, 0, 0, 0, 0, 0, (body.len() % 256) as u8])?;
     file.extend_from_slice(body)
 }
 
-/// Returns the fault of a file with one heap dump, whose body is `body`; `None` if it has none.
+/// Returns the fault of a file whose only record is a heap dump with the body `body`, or `None` if the file has none.
 fn heap_fault<T: Threads + Sync>(
     rt: &T,
     alloc: Global,
@@ -97,7 +99,7 @@ fn padded(alloc: Global, first: &[u8], zeros: usize) -> Result<Vec<u8>, AllocErr
     Ok(bytes)
 }
 
-/// Returns the fault of a file with an empty record for each of `tags`; `None` if it has none.
+/// Returns the fault of a file with an empty record for each of `tags`, or `None` if the file has none.
 fn order_fault<T: Threads + Sync>(
     rt: &T,
     alloc: Global,
@@ -118,7 +120,8 @@ fn orders_of_the_snapshot(rt: HostRuntime) -> Result<(), Fail> {
     Ok(())
 }
 
-/// Returns the fault of a file with a record of three zeros with `tag`, and an empty heap dump.
+/// Returns the fault, if any, of a file with two records: one with `tag` whose body is three zeros, and an empty heap
+/// dump.
 fn record_fault<T: Threads + Sync>(
     rt: &T,
     alloc: Global,
@@ -143,7 +146,7 @@ fn tags_of_records(rt: HostRuntime) -> Result<(), Fail> {
     Ok(())
 }
 
-/// Returns the fault of a file with one sub-record: `tag`, and `zeros` zeros after it.
+/// Returns the fault, if any, of a file with one sub-record: `tag`, and `zeros` zeros after it.
 fn sub_fault<T: Threads + Sync>(
     rt: &T,
     alloc: Global,
@@ -154,7 +157,7 @@ fn sub_fault<T: Threads + Sync>(
     heap_fault(rt, alloc, &body)
 }
 
-/// Returns the fault of a file with one sub-record: `tag`, `zeros` zeros after it, and `last`.
+/// Returns the fault, if any, of a file with one sub-record: `tag`, `zeros` zeros after it, and `last`.
 fn ended_fault<T: Threads + Sync>(
     rt: &T,
     alloc: Global,
@@ -205,8 +208,8 @@ const CODE_PLACES: [CodePlace; 4] = [
     ("array", 0x23, 8, &[0, 0, 0, 1], true, 0),
 ];
 
-/// Returns the fault of a file with one sub-record that has `code` at `place`, and a value of `size` bytes if `place`
-/// has a value.
+/// Returns the fault, if any, of a file with one sub-record that has `code` at `place`, and a value of `size` bytes
+/// after `code` if `place` has a value.
 fn code_fault<T: Threads + Sync>(
     rt: &T,
     alloc: Global,

@@ -49,7 +49,7 @@ const CHANGES: [(usize, u8, u8, u64); 8] = [
     (140, 1, 6, 127),
 ];
 
-/// Returns the code and the offset of the fault, if `outcome` is one.
+/// Returns the code and the offset of the fault, or `None` if `outcome` is no fault.
 pub fn fault<D>(outcome: Result<D, ReadRefusal>) -> Option<(u8, u64)>
 where
     D: Drop,
@@ -96,7 +96,7 @@ fn first_faults(rt: HostRuntime) -> Result<(), Fail> {
     Ok(())
 }
 
-/// A second snapshot breaks the order, even an empty one.
+/// A second snapshot breaks the order, even if it is empty.
 #[test]
 fn one_snapshot(rt: HostRuntime) -> Result<(), Fail> {
     let mut file = FILE.to_vec(rt.alloc())?;
@@ -123,8 +123,8 @@ fn is_right_or_told<T: Threads + Sync>(team: &Team<'_, T>, heap: &LimitedHeap<Gl
     }
 }
 
-/// Refuses in turn each request that `team` makes to read the file. Returns the number of requests, or 0 if a result is
-/// wrong.
+/// Refuses in turn each request that `team` makes to read the file. Returns the number of requests, or 0 if
+/// `requests_of` returns `None`.
 fn requests_of_the_file<T: Threads + Sync>(team: &Team<'_, T>, alloc: Global) -> u64 {
     requests_of(alloc, |heap| is_right_or_told(team, heap)).unwrap_or(0)
 }
@@ -141,9 +141,9 @@ fn memory_refused_in_turn(rt: HostRuntime) {
     }
 }
 
-/// Reads the file on a heap that grants exactly the requests for that, and then takes the dump's objects. Returns the
-/// number of requests left after the read, whether the dump is right, whether the right objects were taken and none
-/// remains, and the number of refused requests.
+/// Reads the file on a heap that grants exactly as many requests as that takes, and then takes the dump's objects.
+/// Returns the number of requests left after the read, whether the dump is right, whether the right objects were taken
+/// and none is left in the dump, and the number of refused requests.
 fn looked_at<T: Threads + Sync>(
     rt: &T,
     alloc: Global,
@@ -158,8 +158,8 @@ fn looked_at<T: Threads + Sync>(
     Ok((left, right, handed, heap.refusals()))
 }
 
-/// The methods of a dump allocate nothing: they are called while each request would be refused, and none is made. A
-/// `View` has no allocator.
+/// The methods of a dump allocate nothing: they are called on a heap that would refuse any further request, and it
+/// refuses none. A `View` has no allocator.
 #[test]
 fn reading_fields_takes_no_memory(rt: HostRuntime) -> Result<(), Fail> {
     assert_eq!(rt; looked_at(&rt, rt.alloc())?, (0, true, true, 0));

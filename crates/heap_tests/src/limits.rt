@@ -1,4 +1,4 @@
-//! Tests that a limit holds whatever its number, and whatever the size of a block.
+//! Tests that heaps keep their limits, for many limits and many sizes of blocks.
 
 use limited_heap::LimitedHeap;
 use std::alloc::{AllocError, Allocator};
@@ -7,8 +7,8 @@ use std::test::Fail;
 /// Sizes of blocks in bytes, up to a mebibyte.
 const SIZES: [usize; 9] = [1, 8, 63, 64, 65, 1_000, 4_096, 65_536, 1 << 20];
 
-/// Makes `tries` blocks of `size` bytes on `heap`. Returns how many were granted before the first refusal, and how many
-/// were refused.
+/// Requests `tries` blocks of `size` bytes from `heap`. Returns how many were granted before the first refusal, and how
+/// many were refused.
 fn granted_and_refused<A: Allocator + Copy>(heap: A, size: usize, tries: u64) -> (u64, u64) {
     let mut granted = 0u64;
     let mut refused = 0u64;
@@ -22,8 +22,8 @@ fn granted_and_refused<A: Allocator + Copy>(heap: A, size: usize, tries: u64) ->
     (granted, refused)
 }
 
-/// Tests two heaps with blocks of `size` bytes. Both must grant `limit` blocks. Then one must refuse all blocks, the
-/// other only the next block.
+/// Tests two heaps with blocks of `size` bytes. Both must grant `limit` blocks. Then one must refuse all further
+/// blocks, the other only the next one.
 fn limits_blocks<A: Allocator + Copy>(alloc: A, limit: u64, size: usize) -> bool {
     let tries = limit.saturating_add(3);
     let all_later = LimitedHeap::new(alloc, limit);
@@ -51,7 +51,8 @@ fn blocks_of_each_size_are_limited(rt: HostRuntime) {
     }
 }
 
-/// Makes a block of one byte on `heap`. Tests whether it grows by `size` bytes, and whether it then shrinks again.
+/// Makes a block of one byte on `heap`. Returns whether the block can grow by `size` bytes, and whether it can shrink
+/// after that. `Err` if `heap` refuses the block.
 fn grows_and_shrinks<A: Allocator>(heap: A, size: usize) -> Result<(bool, bool), AllocError> {
     let mut list = Vec::with_capacity(heap, 1)?;
     list.push(7u8)?;
@@ -61,7 +62,7 @@ fn grows_and_shrinks<A: Allocator>(heap: A, size: usize) -> Result<(bool, bool),
     Ok((grows, list.capacity() < room))
 }
 
-/// Tests whether the growth of a block by `size` bytes is a second request, and its shrinking a third.
+/// Tests whether a block is the first request, its growth by `size` bytes the second, and its shrinking the third.
 fn limits_growths<A: Allocator + Copy>(alloc: A, size: usize) -> Result<bool, AllocError> {
     let block_only = grows_and_shrinks(&LimitedHeap::new(alloc, 1), size)?;
     let growth_too = grows_and_shrinks(&LimitedHeap::new(alloc, 2), size)?;

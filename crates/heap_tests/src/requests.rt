@@ -1,4 +1,4 @@
-//! Tests which requests are granted. No clause of `LimitedHeap` says that.
+//! Tests which requests a `LimitedHeap` grants, since no clause of it says which.
 
 use limited_heap::LimitedHeap;
 use std::alloc::{AllocError, Allocator};
@@ -30,7 +30,7 @@ fn a_growth_is_a_request(rt: HostRuntime) -> Result<(), Fail> {
     Ok(())
 }
 
-/// Makes `tries` boxes on `heap` and returns how many of them were granted.
+/// Requests `tries` boxes from `heap` and returns how many were granted.
 fn boxes_made<A: Allocator + Copy>(heap: A, tries: u32) -> u32 {
     let mut made = 0u32;
     for number in 0..tries {
@@ -89,7 +89,7 @@ type Lists<'a, A> = (
     Result<Vec<u8, &'a A>, AllocError>,
 );
 
-/// Copies `text` twice, in a thread each.
+/// Copies `text` to `heap` twice, in two threads.
 fn copied_twice<'a, R: Threads, A: Allocator + Sync>(
     rt: &R,
     heap: &'a A,

@@ -115,7 +115,7 @@ first_bytes n front rest e = rw (← e) (take-append_seam front rest)
 pub behind_number : (n x : ℕ) (rest : List ℕ) → drop n (big_bytes n x ++ rest) ≡ rest
 behind_number n x rest = behind_bytes n (big_bytes n x) rest (length-bytes_high_first n x)
 
--- two numbers of n bytes are equal if they begin the same text, and so is what follows them
+-- two numbers of n bytes that begin the same text are equal, and the rests of the text after them are equal
 pub same_number : (n x y : ℕ) (rest more : List ℕ) → x < 256 ^ n → y < 256 ^ n
     → big_bytes n x ++ rest ≡ big_bytes n y ++ more → (x ≡ y) × (rest ≡ more)
 same_number n x y rest more h k e = (
@@ -124,7 +124,7 @@ same_number n x y rest more h k e = (
       ∙ ap (drop n) e ∙ behind_number n y more,
 )
 
--- two lists of n bytes are equal if they begin the same text, and so is what follows them
+-- two lists of n bytes that begin the same text are equal, and the rests of the text after them are equal
 pub same_front : (n : ℕ) (xs ys rest more : List ℕ) → length xs ≡ n → length ys ≡ n → xs ++ rest ≡ ys ++ more
     → (xs ≡ ys) × (rest ≡ more)
 same_front n xs ys rest more h k e = (

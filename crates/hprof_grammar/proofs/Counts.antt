@@ -74,7 +74,7 @@ numbers_pass w (suc n) bytes room =
     number_then w n bytes first ∙ numbers_pass w n (drop w bytes) others
     ∙ ap Ok (drop-drop (n * w) w bytes ∙ ap (λ (k : ℕ). drop k bytes) all)
 
--- if there is no room for them, one of them is cut
+-- if there is no room for n numbers of w bytes, one of them is cut
 numbers_are_cut : (w n : ℕ) (bytes : List ℕ) → length bytes < n * w → behind (list_at (number_at w) n bytes) ≡ Err Short
 numbers_are_cut w zero bytes cut = let no : ⊥ = omega (arith, cut) in absurd no
 numbers_are_cut w (suc n) bytes cut = elim (cases_lt (length bytes) w) [

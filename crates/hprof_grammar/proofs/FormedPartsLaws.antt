@@ -1,4 +1,4 @@
--- A sub-record is formed exactly if it keeps the bounds by the names of its parts. The proof goes through the fields
+-- A sub-record is formed exactly if it keeps the bounds of `specs/FormedParts.antt`. The proof goes through the fields
 -- once, for all others.
 use Rattle.hprof_grammar.proofs.Words.{AllByRecursion, Class, Constant, Field, Fits, HasBounds, HasSizes, IsClass}
 use Rattle.hprof_grammar.proofs.Words.{IsConstant, IsFormed, IsMember, IsOrigin, IsStatic, List, Member, RootOrigin}

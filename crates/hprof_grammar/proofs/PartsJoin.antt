@@ -11,7 +11,7 @@ both_hold true true e = (refl, refl)
 both_hold true false e = absurd (cc)
 both_hold false y e = absurd (cc)
 
--- the test of two seams is false only if they are equal
+-- the test whether two seams differ is false only if the seams are equal
 pub same_seam : (a b : Seam) → not (eqb a.place b.place && sameb the_type a.order b.order) ≡ false → a ≡ b
 same_seam a b e =
     let same = both_hold (eqb a.place b.place) (sameb the_type a.order b.order) e in
@@ -33,7 +33,7 @@ none_joined text s dump e = record {
       (records_begin (drop 31 text) (nothing_of s));
 }
 
--- a part that begins at that seam joins them
+-- a part that begins at that seam joins those records
 pub part_joins : {A : Type 0} {text : List ℕ} {s : ℕ} {seam : Seam} {dump newer : Places} (part : Part A)
     → Reaches text s seam dump → IsReadPart text s part → part.from ≡ seam → newer ≡ with_places dump part.dump
     → length text < 2 ^ 32 → Reaches text s part.to newer
@@ -58,7 +58,7 @@ part_joins {A} {text} {s} {seam} {dump} {newer} part was is begins e room =
           (arith, length-drop 31 text, length-drop from text, here.behind, is.forward, is.within)));
     }
 
--- if they reach the end and the snapshot is complete, they are all records
+-- if the seam is at the end and the snapshot is complete there, all records of the text have joined
 pub all_joined : {text : List ℕ} {s : ℕ} {seam : Seam} {dump : Places} → Reaches text s seam dump
     → seam.place ≡ length text → is_done seam.order ≡ true → AddsAll (drop 31 text) (nothing_of s) dump
 all_joined {text} {s} {seam} {dump} reaches end done = (

@@ -16,7 +16,7 @@ pub record Spell (bytes : List ℕ) (at : ℕ) (xs : List ℕ) : Type 0 where
   pub rest : List ℕ
   pub bytes_are : drop at bytes ≡ xs ++ rest
 
--- the bytes are at least one, so the place is inside
+-- if at least one byte is at the place, the place is inside
 pub some_stand : (bytes : List ℕ) (at x : ℕ) (xs rest : List ℕ) → drop at bytes ≡ x ∷ xs ++ rest
     → Spell bytes at (x ∷ xs)
 some_stand bytes at x xs rest e = record {
@@ -124,7 +124,7 @@ module _ {s at place : ℕ} {bytes : List ℕ} {sub : SubRecord} (front : List F
       subst (λ (n : ℕ). Spell bytes n (spelled more)) there
       (next_stands bytes at (tag ∷ spelled front) (spelled more) parted)
 
-  -- a number among them fits its bytes, as all fields do
+  -- a number among the other fields is at its place
   pub number_in : {w n : ℕ} (more : List Field) → SubRecordStandsAt s bytes at sub
       → fields_of s sub ≡ front ++ number w n ∷ more → place ≡ at + (1 + widths front) → NumberAt bytes place w n
   number_in {w} {n} more h are place_is =

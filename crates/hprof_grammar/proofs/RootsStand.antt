@@ -17,7 +17,7 @@ behind_thread {s} {m = m} {r = r} h e =
     let front = number s r.object ∷ number 4 m ∷ [] in
     number_in front _ h (ap (λ (fields : List Field). number s r.object ∷ fields) e) (omega arith)
 
--- the number that the root says is the first or the second of them
+-- the reference, thread, frame or stack trace of a root is the first or the second number after its object
 reference_first : (s : ℕ) (o : RootOrigin) (n : ℕ) → reference_of o ≡ Some n → origin_fields s o ≡ number s n ∷ []
 reference_first s (jni_global reference) n e = cc
 reference_first s o n e = absurd (cc)

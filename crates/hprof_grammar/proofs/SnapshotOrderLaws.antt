@@ -1,4 +1,4 @@
--- What the order of the snapshot's records says of the tags so far.
+-- What the snapshot state says of the tags of the records so far.
 use Rattle.hprof_grammar.proofs.Words.{Before, Bool, CanGoOn, Ended, IsAt, IsOrderly, IsSnapshot, List, SnapshotState}
 use Rattle.hprof_grammar.proofs.Words.{Segments, Whole, [], add-one, ap, append-nil, append_assoc, arith, cond, false}
 use Rattle.hprof_grammar.proofs.Words.{filter-append, inl, inr, is_done, is_snapshot_tag, refl, replicate}
@@ -121,14 +121,14 @@ no_more order tags tag done is h on = cc
 
 -- ---- the end of the records
 
--- each order can go on to an orderly list
+-- tags that lead to a state can go on to an orderly list
 pub at_goes_on : (order : SnapshotState) (tags : List ℕ) → IsAt order tags → CanGoOn tags
 at_goes_on Before tags h = (0x0C ∷ [], inl (whole_comes tags h))
 at_goes_on Whole tags h = ([], inl (ap snapshot_tags (append-nil tags) ∙ h))
 at_goes_on Segments tags h = (0x2C ∷ [], inr (segments_end tags h))
 at_goes_on Ended tags h = ([], inr (h.0, ap snapshot_tags (append-nil tags) ∙ h.1))
 
--- the list is orderly exactly if the order is done
+-- tags that lead to a state are orderly exactly if the state is done
 pub done_is_orderly : (order : SnapshotState) (tags : List ℕ) → is_done order ≡ true → IsAt order tags → IsOrderly tags
 done_is_orderly Whole tags e h = inl h
 done_is_orderly Ended tags e h = inr h

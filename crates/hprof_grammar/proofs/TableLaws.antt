@@ -55,7 +55,7 @@ pub primitive_array_tag : (tag : ℕ) → kind_of tag ≡ Some (Object Primitive
 unfolding kind_of
 primitive_array_tag tag h = grind (arith, nat_tests, root_is (root_kind tag) (Object PrimitiveArray))
 
--- ---- and so has a kind of root
+-- ---- a kind of root has only one tag
 
 root_found : (r : Option RootKind) (kind : RootKind) → root_of r ≡ Some (Root kind) → r ≡ Some kind
 root_found None kind e = absurd (cc)

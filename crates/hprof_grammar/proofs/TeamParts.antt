@@ -1,4 +1,5 @@
--- `t` parts of the length divided by `t`, rounded up, are together shorter than twice the length.
+-- If `t` is at most `length`, `t` parts of `length` divided by `t`, rounded up, are together shorter than twice
+-- `length`.
 use Rattle.std.proofs.Common.{arith, max, ◌*◌, ◌<◌, ◌≤◌, ℕ}
 use Rattle.std.proofs.lemmas.Grind.{div_ceil_times}
 use Rattle.std.specs.Int.{div_ceil}

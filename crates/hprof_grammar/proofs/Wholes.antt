@@ -26,7 +26,7 @@ tags_of records = map tag_of records
 goes_on_front : (tags more : List ℕ) → CanGoOn (tags ++ more) → CanGoOn tags
 goes_on_front tags more h = (more ++ h.0, subst IsOrderly (append_assoc tags more h.0) h.1)
 
--- no record that is here can continue the list
+-- no record that `rest` begins with can continue `records`
 abbrev IsStuck : ℕ → List Record → List ℕ → Type 0
 IsStuck s records rest = (z : Record) (left : List ℕ) → IsRecord s z → rest ≡ record_spelling s z ++ left
     → CanGoOn (map tag_of records ++ tag_of z ∷ []) → ⊥

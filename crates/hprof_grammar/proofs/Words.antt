@@ -1,4 +1,4 @@
--- The words and the lemmas of libraries that the lemmas of this crate use, in one place.
+-- The definitions and the lemmas of other modules and crates that the lemmas of this crate use, in one place.
 pub use Rattle.std.proofs.Common.{Bool, Err, List, None, Ok, Option, Result, Some, [], add-one, ap, append-nil}
 pub use Rattle.std.proofs.Common.{append_assoc, arith, cond, drop, false, filter, flat_map, if◌then◌else◌, inl, inr}
 pub use Rattle.std.proofs.Common.{length, length-append, map, nat_lt, not, refl, replicate, slice_get, slice_index}

@@ -24,7 +24,7 @@ header s time = magic ++ (big_bytes 4 s ++ big_bytes 8 time)
 abbrev pub spellings : ℕ → List Record → List ℕ
 spellings s records = flat_map (record_spelling s) records
 
--- The text is the header and then the spellings of the records, with IDs of s bytes.
+-- The text, of at most `limit` bytes, is a header and then the spellings of `records`, with IDs of s bytes.
 pub record Spells (text : List ℕ) (s : ℕ) (records : List Record) : Type 0 where
   pub size : length text ≤ limit
   pub id_size : is_id_size s ≡ true

@@ -10,9 +10,9 @@ use Rattle.hprof_grammar.specs.SubRecord.{IsFormed, IsSubRecord, SubRecord, fiel
 use Rattle.hprof_grammar.specs.SubRecord as sub
 use Rattle.hprof_grammar.specs.Spelling.{EndsShort, HasWrongType}
 
--- The code of the fault if no whole sub-record is at a place: 5 if its tag is in no table; 6 at the field in which the
--- bytes end; 7 at a type code that is not allowed. The first of these in the bytes counts. `x` is a formed sub-record
--- that begins with the same fields; its later fields are arbitrary.
+-- The code of the fault if the bytes, at least one, begin with no whole sub-record: 5 if the tag is in no table, 6 if
+-- the bytes end within a field, 7 if a type code is not allowed. The first of these in the bytes counts. `x` is a
+-- formed sub-record that begins with the same fields; its later fields are arbitrary.
 pub data SubFault (s : ℕ) : List ℕ → ℕ → Type 0 where
   unknown_tag : (tag : ℕ) (rest : List ℕ) → is_sub_tag tag ≡ false → SubFault s (tag ∷ rest) 5
   short : (x : SubRecord) (rest : List ℕ) → IsFormed s x
@@ -38,7 +38,7 @@ pub record LongestRecords (s : ℕ) (body : List ℕ) (records : List Record) (r
       → body ≡ spellings s others ++ left → AllByRecursion (IsRecord s) others → CanGoOn (map tag_of others)
       → length others ≤ length records
 
--- less than a whole record: the record runs past the end
+-- `rest` is less than a whole record: the record runs past the end
 pub record RunsPastEnd (rest : List ℕ) : Type 0 where
   pub tag : ℕ
   pub time : ℕ
@@ -48,9 +48,9 @@ pub record RunsPastEnd (rest : List ℕ) : Type 0 where
   pub begins : framed tag time body ≡ rest ++ missing
   pub not_whole : 0 < length missing
 
--- The code and the place of the fault after `records`, which end at the place `at`. 8 at the end of the text if the
--- snapshot is missing or has no end. Otherwise the first fault of the next record: 3 if it runs past the end, 4 for its
--- length, 8 for its order, or else the fault of its sub-records.
+-- The code and the place of the fault after `records`, which end at the place `at`. The code is 8 at the end of the
+-- text if the snapshot is missing or has no end. Otherwise the first fault of the next record: 3 if it runs past the
+-- end, 4 for its length, 8 for its order, or else the fault of its sub-records.
 pub data RecordFault (s : ℕ) (records : List Record) (at : ℕ) : List ℕ → ℕ → ℕ → Type 0 where
   no_snapshot : (IsOrderly (map tag_of records) → ⊥) → RecordFault s records at [] 8 at
   truncated : (rest : List ℕ) → 0 < length rest → RunsPastEnd rest → RecordFault s records at rest 3 at
@@ -68,9 +68,9 @@ pub data RecordFault (s : ℕ) (records : List Record) (at : ℕ) : List ℕ →
 abbrev pub HasMagic : List ℕ → Type 0
 HasMagic text = (rest : List ℕ) × (text ≡ magic ++ rest)
 
--- The first fault of a text: its code and its place. 14 for too many bytes; 1 if the first 19 bytes are not the
--- header's text; 3 for fewer than 31 bytes; 2 for a size of identifiers that is not allowed; else the first fault of
--- its records.
+-- The first fault of a text: its code and its place. The code is 14 for too many bytes; 1 if the first 19 bytes are not
+-- the header's text; 3 for fewer than 31 bytes; 2 for a size of identifiers that is not allowed; else the first fault
+-- of its records.
 pub data FirstFault (text : List ℕ) : ℕ → ℕ → Type 0 where
   too_large : limit < length text → FirstFault text 14 limit
   bad_header : length text ≤ limit → (HasMagic text → ⊥) → FirstFault text 1 0

@@ -1,6 +1,6 @@
--- The bounds of a formed sub-record's numbers and values, by the names of its parts: each number fits its bytes, and
--- each value has the size that its type or its count says. Proofs use the bounds in this form.
--- proofs/FormedPartsLaws.antt proves that a sub-record keeps the bounds exactly if it is formed (`IsFormed`).
+-- The bounds of a formed sub-record's numbers and values, field by field: each number fits its bytes, and each value
+-- has the size that its type or its count says. Proofs use the bounds in this form. proofs/FormedPartsLaws.antt proves
+-- that a sub-record keeps the bounds exactly if it is formed (`IsFormed`).
 use Rattle.std.specs.Prelude.{length, ℕ, ◌*◌, ◌<◌, ◌^◌, ◌≡◌}
 use Rattle.std.specs.List.{AllByRecursion}
 use Rattle.hprof_grammar.specs.TagsAndTypes.{size_of}

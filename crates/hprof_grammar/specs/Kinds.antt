@@ -1,4 +1,4 @@
--- The kinds of sub-records as the code has them, by their tags.
+-- The kinds of sub-records (the code's types `Kind` and `RootKind`), and their tags.
 use Rattle.std.specs.Prelude.{None, Option, Some, if◌then◌else◌, ℕ, ◌==◌}
 use Rattle.hprof_grammar.specs.SubRecord.{RootOrigin, SubRecord}
 use Rattle.hprof_grammar.specs.SubRecord.RootOrigin.{java_frame, jni_global, jni_local, monitor_used, native_stack}
@@ -13,7 +13,7 @@ use Rattle.hprof_grammar.specs.declared.kinds.RootKind.TheVariants.{JavaFrame, J
 use Rattle.hprof_grammar.specs.declared.kinds.RootKind.TheVariants.{NativeStack, StickyClass, ThreadBlock, ThreadObject}
 use Rattle.hprof_grammar.specs.declared.kinds.RootKind.TheVariants.{Unknown}
 
--- the kind of a root, by what makes the object a root
+-- the kind of a root, by its origin: what makes the object a root
 abbrev pub origin_kind : RootOrigin → RootKind
 origin_kind unknown = Unknown
 origin_kind (jni_global reference) = JniGlobal

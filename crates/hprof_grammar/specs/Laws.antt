@@ -1,4 +1,4 @@
--- The words of the laws of a text, its dump and its first fault.
+-- Definitions for the laws of a text, its dump and its first fault (`src/laws.rt`).
 use Rattle.std.specs.Prelude.{List, ℕ, ◌<◌}
 use Rattle.std.specs.List.{AllByRecursion}
 use Rattle.hprof_grammar.specs.Fault.{FirstFault}

@@ -31,7 +31,7 @@ places_of s records = record {
   objects = places_where is_object (heap_list s records);
 }
 
--- The dump is the one that the text spells, with an orderly list of records.
+-- The text spells an orderly list of records, and `dump` has their places.
 pub record IsDumpOf (text : List ℕ) (dump : Places) : Type 0 where
   pub records : List Record
   pub spells : Spells text dump.id_size records

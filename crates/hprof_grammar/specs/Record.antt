@@ -63,7 +63,7 @@ record_spelling s r = framed (tag_of r) (time_of r) (body_of s r)
 abbrev pub IsOther : ℕ → Type 0
 IsOther tag = (tag ≡ 0x01 → ⊥) × (tag ≡ 0x02 → ⊥) × (is_heap_tag tag ≡ false)
 
--- the numbers fit their bytes, and the body of a heap record is sub-records
+-- the numbers fit their bytes, a heap record has a heap tag and sub-records, and an `other` record has another tag
 abbrev pub HasParts : ℕ → Record → Type 0
 HasParts s (string time id text) = id < 256 ^ s
 HasParts s (load_class time serial class stack name) =
@@ -71,7 +71,7 @@ HasParts s (load_class time serial class stack name) =
 HasParts s (heap tag time subs) = (is_heap_tag tag ≡ true) × AllByRecursion (IsSubRecord s) subs
 HasParts s (other tag time body) = IsOther tag
 
--- A record: its parts are right, and its length is one that its tag allows.
+-- A record: its parts are right, its time and its length fit 4 bytes, and its tag allows the length.
 pub record IsRecord (s : ℕ) (r : Record) : Type 0 where
   pub parts : HasParts s r
   pub time : time_of r < 256 ^ 4

@@ -10,7 +10,7 @@ IfFault (Ok x) P = Unit {0}
 IfFault (Err (Fault f)) P = P f
 IfFault (Err OutOfMemory) P = Unit {0}
 
--- the code and the place
+-- the text of a fault: its code and its place
 abbrev pub fault_text : FormatFault → List ℕ
 fault_text fault = codes "fault " ++ (decimal fault.code ++ (codes " at " ++ decimal fault.offset))
 

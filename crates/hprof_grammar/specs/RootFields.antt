@@ -1,4 +1,4 @@
--- The fields of a root after its object; which of them it has depends on its kind.
+-- The fields of a root after its object. The kind of a root says which of them the root has.
 use Rattle.std.specs.Prelude.{None, Option, Some, ℕ, ◌≡◌}
 use Rattle.hprof_grammar.specs.Standing.{Sight, Stands}
 use Rattle.hprof_grammar.specs.SubRecord.{Root, RootOrigin}

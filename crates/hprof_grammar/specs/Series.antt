@@ -1,4 +1,5 @@
--- Parts of one kind that are next to one another in the bytes: those that an iterator has still to return.
+-- Numbers, instance fields and labelled values that are next to one another in the bytes: those that an iterator
+-- (`Ids`, `Members`, `Values`) has still to return.
 use Rattle.std.specs.Prelude.{List, [], drop, length, slice_index, suc, take, zero, ℕ, ◌*◌, ◌+◌, ◌∷◌, ◌≤◌}
 use Rattle.byteorder.specs.Endian.{big_number}
 use Rattle.hprof_grammar.specs.SubRecord.{Constant, Member, Static}

@@ -9,14 +9,14 @@ is_snapshot_tag tag = (tag == 0x0C) || (tag == 0x1C) || (tag == 0x2C)
 abbrev pub IsSnapshot : List ℕ → Type 0
 IsSnapshot tags = (tags ≡ 0x0C ∷ []) ⊎ ((n : ℕ) × (tags ≡ replicate (suc n) 0x1C ++ 0x2C ∷ []))
 
--- The tags that make the snapshot, in their order. The snapshot rule does not limit other tags.
+-- Those of `tags` that make a snapshot, in order. The snapshot rule does not limit other tags.
 abbrev pub snapshot_tags : List ℕ → List ℕ
 snapshot_tags tags = filter is_snapshot_tag tags
 
--- The records keep the snapshot rule.
+-- Records with `tags` keep the snapshot rule.
 abbrev pub IsOrderly : List ℕ → Type 0
 IsOrderly tags = IsSnapshot (snapshot_tags tags)
 
--- the list keeps the snapshot rule if the right records are appended
+-- records with `tags` keep the snapshot rule if the right records are appended to them
 abbrev pub CanGoOn : List ℕ → Type 0
 CanGoOn tags = (more : List ℕ) × IsOrderly (tags ++ more)

@@ -19,7 +19,7 @@ field_spelling (number width value) = big_bytes width value
 field_spelling (type_code place code) = code ∷ []
 field_spelling (raw bytes) = bytes
 
--- the fields, one after another
+-- the spellings of the fields, one after another
 abbrev pub spelled : List Field → List ℕ
 spelled fields = flat_map field_spelling fields
 

@@ -1,4 +1,5 @@
--- What it means that a part is at a place of the bytes, and that each place of a dump has the right part.
+-- What it means that a record or sub-record is at a place of the bytes, and that each place of a dump has the right
+-- one.
 use Rattle.std.specs.Prelude.{List, None, Option, Some, drop, filter, length, slice_get, ℕ, ◌++◌, ◌<◌, ◌^◌, ◌≡◌}
 use Rattle.hprof_grammar.specs.Record.{IsRecord, Record, record_spelling}
 use Rattle.hprof_grammar.specs.SubRecord.{IsSubRecord, SubRecord, spelling_of}

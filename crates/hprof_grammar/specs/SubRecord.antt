@@ -60,8 +60,8 @@ pub record PrimitiveArray : Type 0 where
   pub type : ℕ
   pub values : List ℕ
 
--- The reason why an object is a root, and what the sub-record says about it: a JNI reference by its ID, threads and
--- stack traces by their serial numbers, a frame by its number in the stack trace.
+-- The reason why an object is a root, and what the sub-record says about that reason: a JNI reference by its ID,
+-- threads and stack traces by their serial numbers, a frame by its number in the stack trace.
 pub data RootOrigin : Type 0 where
   unknown : RootOrigin
   jni_global : (reference : ℕ) → RootOrigin
@@ -85,7 +85,7 @@ pub data SubRecord : Type 0 where
   object_array_dump : ObjectArray → SubRecord
   primitive_array_dump : PrimitiveArray → SubRecord
 
--- An ID is a number of s bytes, s being the header's size of identifiers.
+-- An ID is a number of s bytes, where s is the size of identifiers that the header states.
 
 abbrev pub constant_fields : Constant → List Field
 constant_fields c = number 2 c.index ∷ type_code InConstant c.type ∷ raw c.value ∷ []
@@ -170,14 +170,14 @@ HasSizes s (class_dump c) =
 HasSizes s (primitive_array_dump a) = length a.values ≡ a.count * size_of s a.type
 HasSizes s sub = Unit {0}
 
--- a sub-record whose type codes may be any: its tag is in the table, each number fits its bytes, and the values have
--- their sizes
+-- a sub-record with any type codes: its tag is in the table, each number fits its bytes, and the values have their
+-- sizes
 pub record IsFormed (s : ℕ) (sub : SubRecord) : Type 0 where
   pub tag : is_sub_tag (tag_of sub) ≡ true
   pub numbers : AllByRecursion Fits (fields_of s sub)
   pub sizes : HasSizes s sub
 
--- A formed sub-record, of which each type code is allowed at its place.
+-- A formed sub-record whose type codes are all allowed at their places.
 pub record IsSubRecord (s : ℕ) (sub : SubRecord) : Type 0 where
   pub formed : IsFormed s sub
   pub allowed : AreAllowed (fields_of s sub)

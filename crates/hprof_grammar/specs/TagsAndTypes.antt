@@ -8,7 +8,7 @@ use Rattle.hprof_grammar.specs.declared.kinds.TypePlace.TheVariants.{InArray}
 unfoldable pub is_id_size : ℕ → Bool
 is_id_size s = (s == 4) || (s == 8)
 
--- the manual's basic types: 2 object, 4 boolean, 5 char, 6 float, 7 double, 8 byte, 9 short, 10 int, 11 long
+-- the manual's primitive types: 4 boolean, 5 char, 6 float, 7 double, 8 byte, 9 short, 10 int, 11 long; 2 is object
 abbrev pub is_primitive : ℕ → Bool
 is_primitive t = nat_le 4 t && nat_le t 11
 
@@ -27,7 +27,7 @@ size_of s t =
     else if (t == 7) || (t == 11) then 8
     else 0
 
--- the tags of sub-records: 0xFF and 1 to 8 the roots, 0x20 to 0x23 the class, instance, object array and primitive
+-- the tags of sub-records: 0xFF and 1 to 8 for roots, 0x20 to 0x23 for class, instance, object array and primitive
 -- array dumps
 unfoldable pub is_sub_tag : ℕ → Bool
 is_sub_tag t = (t == 0xFF) || (nat_le 1 t && nat_le t 8) || (nat_le 0x20 t && nat_le t 0x23)

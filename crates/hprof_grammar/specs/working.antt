@@ -1,4 +1,4 @@
--- Words that only private clauses use.
+-- Definitions that only private clauses use.
 pub mod Reading
 pub mod SnapshotOrder
 pub mod Joining

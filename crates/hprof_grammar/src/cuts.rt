@@ -9,12 +9,12 @@ use crate::record_list::FIRST_RECORD;
 use crate::snapshot_order::SnapshotState;
 use std::alloc::Allocator;
 
-/// A place between two records, and the snapshot state there.
+/// A place between two records, before the first or after the last, and the snapshot state there.
 #[derive(Clone, Copy, PartialEq, Eq)]
 pub struct Seam {
-    /// The offset of the next record.
+    /// The offset of the next record, or of the end if there is none.
     pub place: u32,
-    /// The snapshot state after the records before the place.
+    /// The snapshot state after all records before `place`.
     pub order: SnapshotState,
 }
 
@@ -33,8 +33,8 @@ pub struct Cut {
     pub to: u32,
 }
 
-/// Returns the tag of the first record of `bytes` and the bytes after that record. Returns `None` if the record runs
-/// past the end.
+/// Returns the tag of the first record of `bytes` and the bytes after that record. Returns `None` if `bytes` do not
+/// begin with a whole record.
 fn behind_record(bytes: &[u8]) -> Option<(u8, &[u8])>
     ensures { IfSome result (λ found. length found.1.now < length bytes.now) }
 {

@@ -9,8 +9,9 @@ use std::alloc::{AllocError, Allocator};
 use std::marker::Model;
 use std::mem::replace;
 
-/// The size of a dump's identifiers and the places of its parts, each list in the order of the file. The place of a
-/// record or a sub-record is the offset of its tag, in bytes from the beginning of the dump.
+/// The size of a dump's identifiers, and the places of its strings, loaded classes, roots and objects, each list in the
+/// order of the file. The place of a record or a sub-record is the offset of its tag, in bytes from the beginning of
+/// the dump.
 #[derive(Debug, Drop)]
 pub struct Dump<A: Allocator> {
     id_size: u8,
@@ -123,7 +124,7 @@ impl<A: Allocator> Dump<A> {
 }
 
 impl<A: Allocator + Copy> Dump<A> {
-    /// Creates a dump without places.
+    /// Creates a dump without places, whose identifiers have `id_size` bytes.
     pub(crate) fn new(alloc: A, id_size: u8) -> Self
         ensures { result ≡ nothing_of id_size }
     {

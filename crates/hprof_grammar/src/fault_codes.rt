@@ -21,7 +21,7 @@ pub const SUB_TRUNCATED: u8 = 6;
 /// A type code is not allowed at its place.
 pub const BAD_TYPE: u8 = 7;
 
-/// The records of the snapshot are in a wrong order, or one is missing.
+/// The records of the snapshot are in a wrong order, or one is missing or too many.
 pub const DUMP_ORDER: u8 = 8;
 
 /// The dump is too long.

@@ -34,9 +34,10 @@ impl Flaw {
 /// The first fault of bytes that are no dump.
 #[derive(Clone, Copy, Debug, PartialEq, Eq, Error)]
 pub struct FormatFault {
-    /// The code: 1 the text of the header, 2 the size of identifiers, 3 the header or a record runs past the end, 4 the
-    /// length of a record, 5 the tag of a sub-record, 6 a sub-record runs past the end, 7 a type code, 8 the order of
-    /// the snapshot's records, 14 too many bytes.
+    /// The code, one of `fault_codes`: 1 for the text of the header, 2 for the size of identifiers, 3 if the header or
+    /// a record runs past the end, 4 for the length of a record, 5 for the tag of a sub-record, 6 if a sub-record runs
+    /// past the end of its heap record, 7 for a type code, 8 for the order of the snapshot's records, 14 for too many
+    /// bytes.
     pub code: u8,
     /// The offset of the fault, in bytes from the beginning of the dump.
     pub offset: u64,

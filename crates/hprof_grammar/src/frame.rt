@@ -13,11 +13,11 @@ pub struct Frame<'a> {
     pub tag: u8,
     /// The time, in microseconds since the time of the header.
     pub time: u32,
-    /// The bytes after the length field. That field has their number.
+    /// The bytes after the length field, which states their number.
     pub body: &'a [u8],
 }
 
-/// Reads the next record. `Err(Flaw::Short)` if it runs past the end.
+/// Reads the next record. `Err(Flaw::Short)` if no byte is left or the record runs past the end.
 #[tactic(auto, unfolding(crate::specs::working::Reading::frame_at))]
 pub fn next_frame<'a>(reader: &mut Reader<'a>) -> Result<Frame<'a>, Flaw>
     ensures { ReadsAs (λ frame. (frame.tag, frame.time, frame.body.now))

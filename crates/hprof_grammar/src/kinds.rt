@@ -11,7 +11,7 @@ pub enum RootKind {
     JniLocal,
     /// A local variable of a Java frame holds the object.
     JavaFrame,
-    /// A native method was passed the object.
+    /// The object was passed to a native method.
     NativeStack,
     /// The object is a system class.
     StickyClass,
@@ -45,7 +45,7 @@ pub enum Kind {
     Object(ObjectKind),
 }
 
-/// Where a type code is: in which part of a sub-record.
+/// The part of a sub-record that a type code is in.
 #[derive(Clone, Copy, Debug, PartialEq, Eq)]
 pub enum TypePlace {
     /// In an entry of a constant pool.

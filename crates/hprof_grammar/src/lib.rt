@@ -1,8 +1,8 @@
 //! Records and sub-records of an HPROF heap dump (JAVA PROFILE 1.0.2), as places in its bytes.
 //!
-//! `read` returns the one dump that the bytes spell, or their first fault with its code and offset. It keeps only
-//! places, 4 bytes for each string, loaded class, root and object; a `View` then reads the fields of the part at a
-//! place.
+//! `read` returns the one dump that the bytes spell, or their first fault by code and offset, or out of memory. The
+//! dump holds only places: 4 bytes for each string, loaded class, root and object. A `View` reads the fields of the
+//! record or sub-record at a place.
 //!
 //! From `crates/grammar_tests/src/worked_file.rt`, which is proved and run:
 //!

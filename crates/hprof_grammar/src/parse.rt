@@ -26,7 +26,7 @@ const MAGIC: &[u8] = b"JAVA PROFILE 1.0.2\0";
 /// The offset of the size of identifiers.
 const ID_SIZE_AT: u32 = 19;
 
-/// Returns the size of identifiers, as the header says. `Err` has the first fault if the bytes are too many or the
+/// Returns the size of identifiers that the header states. `Err` has the first fault if the bytes are too many or the
 /// header is wrong.
 fn header_id_size(bytes: &[u8]) -> Result<u8, ReadRefusal>
     ensures ok { IfOk result (λ id_size. HasHeader id_size bytes.now) }
@@ -54,8 +54,9 @@ fn header_id_size(bytes: &[u8]) -> Result<u8, ReadRefusal>
 /// `Err(ReadRefusal::Fault(..))` has the first fault if `bytes` spell no dump, `Err(ReadRefusal::OutOfMemory)` means
 /// that an allocation failed.
 ///
-/// If `team` shares work of this size, its threads read the dump in parts. If a part has a fault or an allocation
-/// fails, the calling thread reads the dump again, and its result is returned.
+/// If `team` shares work of this size and the records make two parts or more, its threads read the dump in parts. If
+/// the bytes have a fault or an allocation fails, the calling thread reads the whole dump again, and only that second
+/// result counts.
 pub fn read<T: Threads + Sync, A: Allocator + Copy + Send + Sync>(
     team: &Team<'_, T>,
     alloc: A,

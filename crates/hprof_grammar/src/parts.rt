@@ -1,5 +1,6 @@
-//! Reads a dump in parts, each by a thread. Each part is tested before it is joined to those before it. On any fault of
-//! the bytes and on any failed allocation the result is `None`, and the caller reads the whole dump with one thread.
+//! Reads a dump in parts, each by a thread, and joins the parts in order. Each must begin where the part before it
+//! ends. If the bytes have a fault or an allocation fails, the result is `None`, and the caller reads the whole dump
+//! with one thread.
 
 ghost use Rattle.std.specs.Prelude.{All, IfSome, drop, ◌+◌, ◌<◌, ◌≡◌, ◌≤◌, ◌^◌, length};
 ghost use Rattle.hprof_grammar.specs.working.Joining.{AddsAll, HasHeader, nothing_of};
@@ -13,7 +14,8 @@ use std::alloc::Allocator;
 use std::thread;
 use std::thread::Threads;
 
-/// The number of bytes that a team counts as one object. Most objects of a dump have somewhat fewer.
+/// The number of bytes that count as one object when a team decides whether to share the work. Most objects of a dump
+/// have somewhat fewer.
 const BYTES_OF_AN_OBJECT: usize = 64;
 
 /// The places that the records from one seam to another add to a dump.
@@ -24,7 +26,8 @@ pub struct Part<A: Allocator> {
     dump: Dump<A>,
 }
 
-/// Reads the records of `cut`. Returns `None` if they have a fault or an allocation fails.
+/// Reads the records of `cut`. `bytes` is the whole dump. Returns `None` if `cut` is not within `bytes`, if the records
+/// have a fault, or if an allocation fails.
 fn read_part<A: Allocator + Copy>(alloc: A, bytes: &[u8], id_size: u8, cut: Cut) -> Option<Part<A>>
     requires low { 1 ≤ id_size }
     requires high { id_size ≤ 8 }
@@ -44,9 +47,9 @@ fn read_part<A: Allocator + Copy>(alloc: A, bytes: &[u8], id_size: u8, cut: Cut)
     })
 }
 
-/// Joins `parts` into a dump. Returns `None` if a part is missing or does not begin at the seam where the previous part
-/// ends. Returns `None` too if the last part does not end where `bytes` end, with a complete snapshot, or if an
-/// allocation fails.
+/// Joins `parts` of the dump `bytes`. Returns `None` if one of them is `None`, if the first does not begin at
+/// [`FIRST_SEAM`], or if another does not begin at the seam where the previous one ends. Returns `None` too if the last
+/// does not end where `bytes` end, if the snapshot is not complete there, or if an allocation fails.
 fn join_parts<A: Allocator + Copy>(
     alloc: A,
     bytes: &[u8],
@@ -75,9 +78,9 @@ fn join_parts<A: Allocator + Copy>(
     Some(dump)
 }
 
-/// Reads a dump in parts, at most as many as `team` has threads. The header must be right. Returns `None` if the dump
-/// is too small for `team` to share, if it makes fewer than two parts, if the bytes have a fault, or if an allocation
-/// fails.
+/// Reads the dump `bytes` in parts, at most as many as `team` has threads. The header must be right. Returns `None` if
+/// `team` does not share work of this size, if the records make fewer than two parts, if the bytes have a fault, or if
+/// an allocation fails.
 pub fn read_in_parts<T: Threads + Sync, A: Allocator + Copy + Send + Sync>(
     team: &Team<'_, T>,
     alloc: A,

@@ -8,7 +8,7 @@ use crate::kinds::TypePlace;
 use crate::tags_and_types::is_type_at;
 use byteorder::{BigEndian, ByteOrder};
 
-/// A reader of bytes. `Err(Flaw::Short)` means that too few bytes are left.
+/// A reader of bytes. A method returns `Err(Flaw::Short)` if it needs more bytes than are left.
 #[derive(Clone, Copy)]
 pub struct Reader<'a> {
     /// The bytes that are left to read.
@@ -79,7 +79,7 @@ impl<'a> Reader<'a> {
         Ok(BigEndian::read_u32(bytes))
     }
 
-    /// Reads a type code. `Err(Flaw::WrongType)` if that code is not allowed at `place`.
+    /// Reads a type code. `Err(Flaw::WrongType)` if the code is not allowed at `place`.
     pub fn type_code(&mut self, place: TypePlace) -> Result<u8, Flaw>
         ensures { Reads result self.new.rest.now (type_at place self.old.rest.now) }
     {

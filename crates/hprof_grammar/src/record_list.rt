@@ -1,4 +1,4 @@
-//! The records of a dump, after its header.
+//! Notes the places of a dump's records and sub-records.
 
 ghost use Rattle.std.specs.Prelude.{[], ◌≡◌, ◌+◌, ◌<◌, ◌≤◌, ◌^◌, IfOk, OnOk, ℕ, length};
 ghost use Rattle.hprof_grammar.specs.working.Joining.{AddsAll, AddsRecord, AddsRecordsFrom, FrameFault};
@@ -18,10 +18,12 @@ use std::alloc::Allocator;
 /// The offset of the first record of a dump: the length of its header.
 pub const FIRST_RECORD: u32 = 31;
 
-/// The length of a record's tag, time and length field, which precede its body.
+/// The number of bytes of a record before its body: tag, time and length.
 const FRAME: u32 = 9;
 
-/// Notes the record at the offset `at`. `order` is the snapshot state before it. Returns the state after it.
+/// Notes in `dump` the record at the offset `at`, which has `tag` and `body`: the place of a string or a loaded class,
+/// the places of a heap record's sub-records, and nothing of other records. `order` is the snapshot state before the
+/// record. Returns the state after the record.
 fn note_record<A: Allocator>(
     dump: &mut Dump<A>,
     order: SnapshotState,
@@ -50,8 +52,9 @@ fn note_record<A: Allocator>(
     Ok(next)
 }
 
-/// Notes the records in `bytes`. `at` is the offset of the first, `order` the snapshot state before it. Returns the
-/// state after the last. A returned fault is the dump's first one if `bytes` are all bytes after the header.
+/// Notes in `dump` the records in `bytes`. `at` is the offset at which `bytes` begin, `order` the snapshot state there.
+/// Returns the state after all of the records. A returned fault is the first one of the dump if `bytes` are all bytes
+/// after the header.
 pub fn note_records<A: Allocator>(
     dump: &mut Dump<A>,
     order: SnapshotState,
@@ -77,7 +80,7 @@ pub fn note_records<A: Allocator>(
     Ok(order)
 }
 
-/// Notes all records of a dump. `bytes` are its bytes after the header.
+/// Notes all records of a dump, and tests that its snapshot is complete. `bytes` are all bytes after the header.
 pub fn note_all<A: Allocator>(dump: &mut Dump<A>, bytes: &[u8]) -> Result<(), ReadRefusal>
     requires low { 1 ≤ dump.old.id_size }
     requires high { dump.old.id_size ≤ 8 }

@@ -12,7 +12,7 @@ pub enum SnapshotState {
     Before,
     /// The whole snapshot has come, in one HEAP DUMP.
     Whole,
-    /// One HEAP DUMP SEGMENT or more, without the end.
+    /// One HEAP DUMP SEGMENT or more, but no HEAP DUMP END.
     Segments,
     /// One HEAP DUMP SEGMENT or more, and the HEAP DUMP END.
     Ended,

@@ -10,7 +10,7 @@ use crate::reader::Reader;
 use crate::sub_records::sub_record;
 use std::alloc::Allocator;
 
-/// Notes the sub-records of a heap record. `body` is its body, `at` the offset of the body in the dump.
+/// Notes the sub-records of a heap record. `body` is the record's body, `at` the offset of that body in the dump.
 pub fn note_subs<A: Allocator>(dump: &mut Dump<A>, body: &[u8], at: u32) -> Result<(), ReadRefusal>
     requires low { 1 ≤ dump.old.id_size }
     requires high { dump.old.id_size ≤ 8 }

@@ -26,7 +26,7 @@ fn typed_value(reader: &mut Reader<'_>, id_size: u8, place: TypePlace) -> Result
     Ok(())
 }
 
-/// Reads an entry of a constant pool: its index and a value.
+/// Reads an entry of a constant pool: its index, its type code and its value.
 fn constant(reader: &mut Reader<'_>, id_size: u8) -> Result<(), Flaw>
     ensures { Passes result reader.new.rest.now (constant_at id_size reader.old.rest.now) }
 {
@@ -34,7 +34,7 @@ fn constant(reader: &mut Reader<'_>, id_size: u8) -> Result<(), Flaw>
     typed_value(reader, id_size, TypePlace::InConstant)
 }
 
-/// Reads a static field: the identifier of its name and a value.
+/// Reads a static field: the identifier of its name, its type code and its value.
 fn static_field(reader: &mut Reader<'_>, id_size: u8) -> Result<(), Flaw>
     requires low { 1 ≤ id_size }
     requires high { id_size ≤ 8 }
@@ -163,7 +163,7 @@ fn primitive_array(reader: &mut Reader<'_>, id_size: u8) -> Result<(), Flaw>
     Ok(())
 }
 
-/// Reads the fields of a root after its tag: its object, and the fields that a root of `kind` has.
+/// Reads the fields of a root after its tag: the object, and then the further fields of a root of `kind`.
 fn root(reader: &mut Reader<'_>, id_size: u8, kind: RootKind) -> Result<(), Flaw>
     requires low { 1 ≤ id_size }
     requires high { id_size ≤ 8 }

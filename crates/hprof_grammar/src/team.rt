@@ -6,8 +6,8 @@ use std::thread::{Threads, available_parallelism};
 /// The fewest objects that a team of `Team::new` or `Team::at_most` shares: fewer are not worth the start of a thread.
 const FEWEST_IN_PARTS: u32 = 65_536;
 
-/// A runtime that can start threads, for work that is done in parts. At most `threads` threads work at once,
-/// including the calling thread. No result depends on their number.
+/// A runtime that can start threads, for work that is done in parts. At most `threads` threads, including the calling
+/// thread, work at once; 0 counts as one. No result depends on `threads`.
 #[derive(Drop)]
 pub struct Team<'r, T> {
     /// Never read: a value of a type that implements `Threads` is the permission to start threads.
@@ -75,9 +75,9 @@ impl<'r, T> Team<'r, T> {
         self.threads > 1 && objects >= self.fewest as usize
     }
 
-    /// Returns the length of each part of a piece of work of `length` items. There are at most as many parts as
-    /// threads, and more than half as many parts as threads if there is an item for each thread. 0 threads count as
-    /// one.
+    /// Returns the number of items in each part of a piece of work of `length` items; the last part may have fewer.
+    /// There are at most as many parts as threads, and more than half as many if there are at least as many items as
+    /// threads. 0 threads count as one.
     #[tactic(auto, using(crate::proofs::TeamParts::rounded))]
     pub fn part_of(&self, length: usize) -> usize
         ensures some { 0 < result }

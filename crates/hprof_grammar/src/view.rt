@@ -1,8 +1,9 @@
-//! Reads the fields of a dump's parts, each at the place of its part.
+//! Reads the fields of a dump's header, records and sub-records.
 //!
-//! Each reader takes a place of a `Dump` and requires that a part of the right kind is at that place. `dump_is_placed`
-//! says this of all places of a dump. Only `View::identifier_at` and `number_at` read from bytes that the caller
-//! passes, and require that the identifier ends within the bytes. No reader allocates.
+//! A method that reads a field of a record or sub-record takes the place `at`, and requires that a record or sub-record
+//! of the right kind is there. `dump_is_placed` says that this holds for all places of a `Dump`. Only
+//! `View::identifier_at` and `number_at` read from bytes that the caller passes, and require that the identifier ends
+//! within the bytes. Nothing here allocates.
 
 mod arrays;
 mod classes;
@@ -35,7 +36,8 @@ const STACK_TRACE: usize = OBJECT;
 
 const BEHIND_STACK_TRACE: usize = STACK_TRACE + 4;
 
-/// The bytes of a dump and the size of its identifiers. Reads the fields of the dump's parts at their places.
+/// The bytes of a dump and the size of its identifiers. Reads the fields of the header, and those of records and
+/// sub-records at their places.
 #[derive(Drop)]
 pub struct View<'a> {
     bytes: &'a [u8],

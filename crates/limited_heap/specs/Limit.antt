@@ -1,4 +1,4 @@
--- What a clause reads of a `LimitedHeap`. The number of requests made is no part of it, since threads count them
+-- What a clause reads of a `LimitedHeap`. No clause can read the number of requests made, since threads count requests
 -- through a `&`.
 use Rattle.std.specs.Prelude.{ℕ, Bool, true, false, Option, Some, None}
 use Rattle.limited_heap.specs.declared.heap.LimitedHeap.{LimitedHeap}
@@ -7,7 +7,7 @@ use Rattle.limited_heap.specs.declared.heap.LimitedHeap.{LimitedHeap}
 abbrev pub request_limit : {A : Type 0} → LimitedHeap A → ℕ
 request_limit h = h.quota.granted
 
--- n if only one request is refused
+-- n if only one request is refused, or else none
 abbrev pub alone_of : Bool → ℕ → Option ℕ
 alone_of true n = Some n
 alone_of false n = None

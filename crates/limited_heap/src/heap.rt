@@ -39,14 +39,15 @@ impl<A: Allocator> LimitedHeap<A> {
         }
     }
 
-    /// Returns the number of requests that will still be granted before one is refused.
+    /// Returns how many more requests the heap grants before it refuses one: 0 after the first refusal.
     pub fn requests_left(&self) -> u64
         ensures within { result ≤ request_limit self.now }
     {
         self.quota.left()
     }
 
-    /// Returns the number of requests that were refused for their number. Those that `inner` refuses are not counted.
+    /// Returns how many requests the heap refused because of their number. It does not count those that it passed to
+    /// `inner` and `inner` refused.
     pub fn refusals(&self) -> u64
         ensures beyond { result + request_limit self.now < 2 ^ 64 }
         ensures one { (n : ℕ) → refused_request self.now ≡ Some n → result ≤ 1 }

@@ -9,7 +9,8 @@
 //!     assert_eq!(rt; (heap.requests_left(), heap.refusals()), (0, 0));
 //!
 //! `requests_of` refuses each request of a call in turn; the crate's README.md shows how a test uses it.
-//! `specs/Limit.antt` defines which requests are granted.
+//! `specs/Limit.antt` defines what a clause can say of a heap: how many requests it grants before it refuses one, and
+//! whether it refuses only that one.
 
 #![tactic(auto)]
 

@@ -43,7 +43,7 @@ impl Quota {
         number < self.granted || self.alone && number > self.granted
     }
 
-    /// Returns the number of requests that will still be granted before one is refused.
+    /// Returns how many more requests are granted before one is refused: 0 after the first refusal.
     pub(crate) fn left(&self) -> u64
         ensures { result ≤ self.now.granted }
     {

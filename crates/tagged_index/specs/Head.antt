@@ -24,6 +24,6 @@ head_of w = record { index = index_of (w % 65536); tag = w / 65536 }
 abbrev pub last_tag : ℕ
 last_tag = 281474976710655
 
--- the head after a change of h: index i and the next tag
+-- the head after a change of h: the index i, if any, and the next tag
 abbrev pub after : Head → Option ℕ → Head
 after h i = record { index = i; tag = h.tag + 1 }

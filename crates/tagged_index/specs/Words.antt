@@ -1,4 +1,4 @@
--- Each word spells one head, and each head is spelled by one word.
+-- Each word spells one head. Each head without an index, or with one of at most 65,534, is spelled by exactly one word.
 use Rattle.std.specs.Prelude.{◌≡◌, ℕ, ◌+◌, ◌*◌, ◌/◌, ◌%◌, ◌<◌, Option, Some, None, refl}
 use Rattle.std.proofs.Common.{zero, suc, ap, ◌∙◌, arith}
 use Rattle.tagged_index.specs.Head.{Head, low_of, index_of, word_of, head_of}
@@ -20,12 +20,12 @@ head_of-spelled t l h =
     let high : (t * 65536 + l) / 65536 ≡ t = omega arith in
     rw (low, high)
 
--- the word of a head with an index of at most 65,534 spells that head
+-- the word of a head without an index, or with one of at most 65,534, spells that head
 pub head_of-word_of : (h : Head) → low_of h.index < 65536 → head_of (word_of h) ≡ h
 head_of-word_of h small = head_of-spelled h.tag (low_of h.index) small
     ∙ ap (λ i. record h { index = i }) (index_of-low_of h.index)
 
--- two different heads with indices of at most 65,534 have different words
+-- two different heads have different words if each has no index or one of at most 65,534
 abbrev pub WordsDetermineHeads : Type 0
 WordsDetermineHeads = (g h : Head) → low_of g.index < 65536 → low_of h.index < 65536 → word_of g ≡ word_of h → g ≡ h
 

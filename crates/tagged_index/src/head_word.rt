@@ -1,4 +1,4 @@
-//! A head in one word: the tag in the upper 48 bits, and the index plus 1, or 0 for no index, in the lower 16.
+//! The head of a stack in one word: the upper 48 bits are the tag, the lower 16 the index plus 1, or 0 for no index.
 
 ghost use Rattle.std.specs.Prelude.{◌≡◌, ◌+◌, ◌<◌, ◌≤◌, MatchOption};
 ghost use Rattle.std.specs.Option.{ForSome};
@@ -6,7 +6,7 @@ ghost use Rattle.tagged_index.specs.Head.{after, head_of, word_of};
 
 use std::marker::Model;
 
-/// The largest tag. A head with this tag is never exchanged again.
+/// The largest tag. [`HeadWord::next`] returns `None` for a head with this tag.
 pub const LAST_TAG: u64 = 281_474_976_710_655;
 
 /// The largest index that a head can hold.
@@ -15,7 +15,7 @@ pub const LAST_INDEX: u32 = 65_534;
 /// The number of values of the lower 16 bits.
 const LOW_VALUES: u64 = 65_536;
 
-/// The head of a stack: the index of its first buffer, if any, and a tag. Contracts see the index and the tag.
+/// The head of a stack: the index of the buffer on top, if any, and a tag. Contracts see the index and the tag.
 /// [`HeadWord::word`] returns the 64 bits.
 #[derive(Clone, Copy, PartialEq, Eq, Debug)]
 pub struct HeadWord {
@@ -82,7 +82,7 @@ impl HeadWord {
         if low == 0 { None } else { Some(low - 1) }
     }
 
-    /// Returns the tag, which each change of the head raises by one.
+    /// Returns the tag, which is one higher in the head that [`HeadWord::next`] returns.
     pub fn tag(self) -> u64
         ensures same { result ≡ self.tag }
         ensures small { result ≤ LAST_TAG }
@@ -90,8 +90,8 @@ impl HeadWord {
         self.word / LOW_VALUES
     }
 
-    /// Returns the head with `index`, at most [`LAST_INDEX`], and the tag one higher. Returns `None` exactly at the
-    /// last tag.
+    /// Returns the head with `index`, which is `None` or at most [`LAST_INDEX`], and a tag one higher. Returns `None`
+    /// exactly if the tag is [`LAST_TAG`].
     pub fn next(self, index: Option<u32>) -> Option<Self>
         requires { ForSome index (λ i. i ≤ LAST_INDEX) }
         ensures { MatchOption result (self.tag ≡ LAST_TAG) (λ h. (self.tag < LAST_TAG) × (h ≡ after self index)) }

@@ -1,8 +1,8 @@
 //! The head word of a stack: the index of the buffer on top, if any, and a tag that counts the changes, in 64 bits.
 //!
-//! An exchange of a head compares the whole word. Each change raises the tag by one. So a head that was changed and
-//! changed back is another word, and an exchange that began before the changes fails. At the last tag `next` returns
-//! `None`: tags never wrap.
+//! A stack changes its head by a compare-and-exchange of the whole word, and each new head comes from `next`, which
+//! raises the tag by one. So a head that was changed and changed back is another word, and an exchange that began
+//! before the changes fails. At the last tag `next` returns `None`: tags never wrap.
 //!
 //! From `crates/core_tests/src/head_example.rt`, which is proved and run as a test:
 //!
@@ -12,7 +12,7 @@
 //!     assert_eq!(rt; popped.map(|head| (head.index(), head.tag())), Some((None, 9)));
 //!     assert!(rt; popped != Some(empty), "the tag tells the two apart");
 //!
-//! `specs/Head.antt` defines what the words mean. `docs/MARKING.md` says how stacks use them.
+//! `specs/Head.antt` defines which head a word spells. `docs/MARKING.md` says how stacks use them.
 
 #![tactic(auto)]
 

@@ -23,7 +23,7 @@ impl Bytes {
         }
     }
 
-    /// Creates a buffer with the header of a dump. Both of its time words are 0.
+    /// Creates a buffer with the header of a dump. The two words of the header's time are 0.
     pub fn header(alloc: Global, id_size: u32) -> Result<Self, AllocError> {
         let mut dump = Bytes::new(alloc, id_size);
         dump.raw(b"JAVA PROFILE 1.0.2\0")?;
@@ -58,7 +58,7 @@ impl Bytes {
         self.raw(&u16::try_from(count).unwrap_or(u16::MAX).to_be_bytes())
     }
 
-    /// Appends the identifier `value`.
+    /// Appends the identifier `value`, or its low 4 bytes if identifiers have 4.
     fn id(&mut self, value: u64) -> Result<(), AllocError> {
         let bytes = value.to_be_bytes();
         let front = if self.id_size == 8 { 0 } else { 4 };
@@ -146,7 +146,8 @@ impl Bytes {
         self.number(0)
     }
 
-    /// Appends a class dump up to and including its instance size, which is 0.
+    /// Appends a class dump up to and including its instance size, which is 0. `others` are the identifiers after the
+    /// stack serial.
     fn class_head(&mut self, id: u64, others: &[u64]) -> Result<(), AllocError> {
         self.head(0x20, id)?;
         for other in others {
@@ -202,7 +203,7 @@ impl Bytes {
         self.raw(&[0, 0])
     }
 
-    /// Appends an object array with `elements`.
+    /// Appends the object array `id` of class `class` with `elements`.
     pub fn objects(&mut self, id: u64, class: u64, elements: &[u64]) -> Result<(), AllocError> {
         self.head(0x22, id)?;
         self.number(u32::try_from(elements.len()).unwrap_or(u32::MAX))?;

@@ -1,13 +1,14 @@
 //! The sub-records of a heap dump.
 
-/// A sub-record of a heap dump. All serials are 0.
+/// A sub-record of a heap dump. All serials are 0, except in `Raw`.
 #[derive(Clone, Copy)]
 pub enum Sub {
     /// A class, its superclass, and the types of its fields. The identifier of each field's name is 2.
     Class(u64, u64, &'static [u8]),
     /// A class, its superclass, and the name and the type of each of its fields.
     Named(u64, u64, &'static [(u64, u8)]),
-    /// A class without fields, and the type and the value of its one static field.
+    /// A class without superclass and instance fields, and the type and the value of its one static field. The
+    /// identifier of the field's name is 2.
     Static(u64, u8, &'static [u8]),
     /// A class given by all of its parts.
     Whole(ClassParts),
@@ -39,7 +40,7 @@ pub struct ClassParts {
 }
 
 impl ClassParts {
-    /// Creates a class with `superclass` and `fields`, and nothing else.
+    /// Creates the class `id` with `superclass` and `fields`, and nothing else.
     pub(crate) fn plain(id: u64, superclass: u64, fields: &'static [u8]) -> ClassParts {
         ClassParts {
             id,

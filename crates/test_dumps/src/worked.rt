@@ -6,8 +6,8 @@ use crate::sub::Sub;
 /// A dump without objects: one empty heap dump.
 pub const NOTHING: &[Record] = &[Record::Heap(&[])];
 
-/// Two instances of a class with one field, which refer to each other. The first is a root. With identifiers of 4 bytes
-/// the dump has 174 bytes.
+/// A class with one field, and two instances of it that refer to each other. The first instance is a root. With
+/// identifiers of 4 bytes the dump has 174 bytes.
 pub const TWO_OBJECTS: &[Record] = &[
     Record::Text(1, b"A"),
     Record::Load(0x100, 1),

@@ -1,5 +1,5 @@
 -- The places that the functions of the parser add to a dump, and the faults that they find. Private contracts cite
--- these words.
+-- these definitions.
 use Rattle.std.specs.Prelude.{List, [], drop, false, flat_map, length, map, true, ℕ, ◌++◌, ◌+◌, ◌<◌, ◌^◌, ◌∷◌, ◌≡◌, ◌≤◌}
 use Rattle.std.specs.List.{AllByRecursion}
 use Rattle.hprof_grammar.specs.Record.{HasParts, IsRecord, Record, body_of, is_heap_tag, is_length_of, subs_of}
@@ -21,7 +21,7 @@ use Rattle.hprof_grammar.specs.declared.flaw.FormatFault.{FormatFault}
 abbrev pub nothing_of : ℕ → Places
 nothing_of s = record { id_size = s; strings = []; loaded = []; roots = []; objects = [] }
 
--- `p` with the place of one more sub-record
+-- `p` with the place of one more sub-record, which has `kind` and is at `at`
 abbrev pub noted : Places → Kind → ℕ → Places
 noted p (kinds.Root kind) at = record p { roots = p.roots ++ at ∷ [] }
 noted p (kinds.Object kind) at = record p { objects = p.objects ++ at ∷ [] }
@@ -32,7 +32,7 @@ with_string p at = record p { strings = p.strings ++ at ∷ [] }
 abbrev pub with_loaded : Places → ℕ → Places
 with_loaded p at = record p { loaded = p.loaded ++ at ∷ [] }
 
--- `p` with the places of the sub-records `subs`
+-- `p` with the places of the sub-records `subs`, if the first is at `at`
 abbrev pub with_subs : Places → ℕ → List SubRecord → Places
 with_subs p at subs = record {
   id_size = p.id_size;
@@ -42,14 +42,14 @@ with_subs p at subs = record {
   objects = p.objects ++ places_where is_object (placed_subs p.id_size at subs);
 }
 
--- the bytes are sub-records and the rest, and the places of the sub-records are added
+-- `body`, at the place `at`, is sub-records and then `rest`, and `new` is `old` with the places of the sub-records
 pub record AddsSubs (at : ℕ) (body rest : List ℕ) (old new : Places) : Type 0 where
   pub subs : List SubRecord
   pub parts : body ≡ flat_map (spelling_of old.id_size) subs ++ rest
   pub each : AllByRecursion (IsSubRecord old.id_size) subs
   pub joined : new ≡ with_subs old at subs
 
--- the body of a heap record, at the place `at`, has the fault
+-- `fault` is the first fault of `body`, the body of a heap record, at the place `at`
 pub record HasSubFault (s at : ℕ) (body : List ℕ) (fault : FormatFault) : Type 0 where
   pub subs : List SubRecord
   pub rest : List ℕ
@@ -57,7 +57,7 @@ pub record HasSubFault (s at : ℕ) (body : List ℕ) (fault : FormatFault) : Ty
   pub wrong : SubFault s rest fault.code
   pub place : fault.offset ≡ at + length (flat_map (spelling_of s) subs)
 
--- `p` with the places of the record `r` and its sub-records
+-- `p` with the places of the record `r`, which is at `at`, and of its sub-records
 abbrev pub with_record : Places → ℕ → Record → Places
 with_record p at r = record {
   id_size = p.id_size;
@@ -67,7 +67,7 @@ with_record p at r = record {
   objects = p.objects ++ places_where is_object (placed_subs p.id_size (at + 9) (subs_of r));
 }
 
--- the frame is a record, and its places are added
+-- `tag`, `time` and `body` make a record, and `new` is `old` with the places of this record
 pub record AddsRecord (at tag time : ℕ) (body : List ℕ) (before after : SnapshotState) (old new : Places) : Type 0 where
   pub is : Record
   pub tag_is : tag_of is ≡ tag
@@ -78,7 +78,7 @@ pub record AddsRecord (at tag time : ℕ) (body : List ℕ) (before after : Snap
   pub order : (tags : List ℕ) → IsAt before tags → IsAt after (tags ++ tag ∷ [])
   pub joined : new ≡ with_record old at is
 
--- the frame is no record that may come here
+-- `tag` and `body` make no record that may come at `at`, and `fault` says why
 pub data FrameFault (s at tag : ℕ) (body : List ℕ) (before : SnapshotState) (fault : FormatFault) : Type 0 where
   wrong_length : fault.code ≡ 4 → fault.offset ≡ at → is_length_of s tag (length body) ≡ false
       → FrameFault s at tag body before fault
@@ -103,7 +103,7 @@ with_records p at records = record {
   objects = p.objects ++ places_where is_object (heap_from p.id_size at records);
 }
 
--- `p` with the places of a part
+-- `p` with the places of `more`, a part that comes next in the file
 abbrev pub with_places : Places → Places → Places
 with_places p more = record {
   id_size = p.id_size;
@@ -113,8 +113,8 @@ with_places p more = record {
   objects = p.objects ++ more.objects;
 }
 
--- the bytes at the place `at` are records and the rest, the places of the records are added, and the snapshot state
--- goes from `before` to `reached`
+-- `bytes`, at the place `at`, are records and then `rest`, `new` is `old` with the places of the records, and the
+-- snapshot state goes from `before` to `reached`
 pub record AddsRecordsFrom (at : ℕ) (before : SnapshotState) (bytes rest : List ℕ) (reached : SnapshotState)
     (old new : Places) : Type 0 where
   pub records : List Record
@@ -127,18 +127,19 @@ pub record AddsRecordsFrom (at : ℕ) (before : SnapshotState) (bytes rest : Lis
 abbrev pub AddsRecords : List ℕ → List ℕ → SnapshotState → Places → Places → Type 0
 AddsRecords = AddsRecordsFrom 31 Before
 
--- the bytes after the header have the fault
+-- `fault` is the first fault in `bytes`, which are the bytes after the header
 pub record HasRecordFault (s : ℕ) (bytes : List ℕ) (fault : FormatFault) : Type 0 where
   pub records : List Record
   pub rest : List ℕ
   pub longest : LongestRecords s bytes records rest
   pub wrong : RecordFault s records (31 + length (spellings s records)) rest fault.code fault.offset
 
--- the bytes are records that make a snapshot, and their places are added
+-- `bytes`, those after the header, are records with one whole snapshot, and `new` is `old` with the places of the
+-- records
 abbrev pub AddsAll : List ℕ → Places → Places → Type 0
 AddsAll bytes old new = (order : SnapshotState) × (is_done order ≡ true) × AddsRecords bytes [] order old new
 
--- the text begins with a header, with identifiers of s bytes
+-- the text has at most `limit` bytes, and begins with a header that states identifiers of s bytes
 pub record HasHeader (s : ℕ) (text : List ℕ) : Type 0 where
   pub size : length text ≤ limit
   pub id_size : is_id_size s ≡ true

@@ -1,4 +1,4 @@
--- The records of a part of a dump, read by a thread.
+-- A part of a dump's records, as one thread reads it.
 use Rattle.std.specs.Prelude.{IfSome, List, Option, [], drop, length, take, ℕ, ◌-◌, ◌≤◌}
 use Rattle.hprof_grammar.specs.working.Joining.{AddsRecordsFrom, nothing_of}
 use Rattle.hprof_grammar.specs.declared.parts.Part.{Part}
@@ -10,6 +10,6 @@ pub record IsReadPart {A : Type 0} (text : List ℕ) (s : ℕ) (part : Part A) :
   pub adds : AddsRecordsFrom part.from.place part.from.order
       (take (part.to.place - part.from.place) (drop part.from.place text)) [] part.to.order (nothing_of s) part.dump
 
--- the result of a thread
+-- the part that a thread read, or none
 abbrev pub MayBePart : {A : Type 0} → List ℕ → ℕ → Option (Part A) → Type 0
 MayBePart text s answer = IfSome answer (λ part. IsReadPart text s part)

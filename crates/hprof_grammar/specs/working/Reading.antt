@@ -1,4 +1,4 @@
--- Reading from left to right, up to the first flaw. The contracts of the parser's functions use these words.
+-- Reading from left to right, up to the first flaw. The contracts of the parser's functions cite these definitions.
 use Rattle.std.specs.Prelude.{Err, List, None, Ok, Option, Result, Some, [], drop, if◌then◌else◌, length, nat_lt, suc}
 use Rattle.std.specs.Prelude.{take, zero, ℕ, ◌*◌, ◌∷◌, ◌≡◌}
 use Rattle.byteorder.specs.Endian.{big_number}
@@ -36,25 +36,25 @@ abbrev pub type_at : TypePlace → List ℕ → Result (ℕ × List ℕ) Flaw
 type_at place [] = Err Short
 type_at place (t ∷ rest) = if is_type_at place t then Ok (t, rest) else Err WrongType
 
--- one after another; the second may depend on the result of the first
+-- `first` and then `second`, which may depend on the result of `first`
 abbrev pub then_at : {A B : Type 0} → (List ℕ → Result (A × List ℕ) Flaw)
     → (A → List ℕ → Result (B × List ℕ) Flaw) → List ℕ → Result ((A × B) × List ℕ) Flaw
 then_at first second bytes = first bytes >>= λ x. second x.0 x.1 >>= λ y. Ok ((x.0, y.0), y.1)
 
--- n times the same
+-- `one`, n times
 abbrev pub list_at : {A : Type 0} → (List ℕ → Result (A × List ℕ) Flaw) → ℕ → List ℕ → Result (List A × List ℕ) Flaw
 list_at one zero bytes = Ok ([], bytes)
 list_at one (suc n) bytes = one bytes >>= λ x. list_at one n x.1 >>= λ xs. Ok (x.0 ∷ xs.0, xs.1)
 
--- the result, mapped by a function
+-- reads as `read` does, and maps the result by `to`
 abbrev pub as_at : {A B : Type 0} → (A → B) → (List ℕ → Result (A × List ℕ) Flaw) → List ℕ → Result (B × List ℕ) Flaw
 as_at to read bytes = read bytes >>= λ x. Ok (to x.0, x.1)
 
--- a count, and as many things
+-- a count of `width` bytes, and then `one`, that many times
 abbrev pub counted_at : {A : Type 0} → ℕ → (List ℕ → Result (A × List ℕ) Flaw) → List ℕ → Result (List A × List ℕ) Flaw
 counted_at width one bytes = as_at (λ p. p.1) (then_at (number_at width) (λ n. list_at one n)) bytes
 
--- only the bytes after the result
+-- drops the result, and keeps the bytes after it
 abbrev pub behind : {A : Type 0} → Result (A × List ℕ) Flaw → Result (List ℕ) Flaw
 behind (Ok x) = Ok x.1
 behind (Err e) = Err e
@@ -148,7 +148,7 @@ unfoldable pub sub_record_at : ℕ → List ℕ → Result (SubRecord × List �
 sub_record_at s [] = Err Short
 sub_record_at s (tag ∷ rest) = body_at s (kind_of tag) rest
 
--- ---- the effect of a parser's function: `rest` are the bytes after what it read, or its error is the flaw
+-- ---- the effect of a parser's function: it leaves `rest`, the bytes after what `read` reads, or returns its flaw
 
 abbrev pub Reads : {X : Type 0} → Result X Flaw → List ℕ → Result (X × List ℕ) Flaw → Type 0
 Reads (Ok x) rest read = read ≡ Ok (x, rest)

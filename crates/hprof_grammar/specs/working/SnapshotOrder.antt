@@ -1,10 +1,10 @@
--- The meaning of a snapshot state.
+-- What the snapshot state after some records means.
 use Rattle.std.specs.Prelude.{Bool, List, None, Option, Some, [], false, replicate, suc, true, ℕ, ◌++◌, ◌∷◌, ◌≡◌}
 use Rattle.hprof_grammar.specs.Snapshot.{CanGoOn, snapshot_tags}
 use Rattle.hprof_grammar.specs.declared.snapshot_order.SnapshotState.{SnapshotState}
 use Rattle.hprof_grammar.specs.declared.snapshot_order.SnapshotState.TheVariants.{Before, Ended, Segments, Whole}
 
--- the tags lead to the state
+-- records with `tags` lead to the state
 abbrev pub IsAt : SnapshotState → List ℕ → Type 0
 IsAt Before tags = snapshot_tags tags ≡ []
 IsAt Whole tags = snapshot_tags tags ≡ 0x0C ∷ []

@@ -42,7 +42,7 @@ const RESERVED: usize = 4;
 
 const RESERVED_TOO: usize = 5;
 
-/// The number of identifiers after the stack trace that are followed. These four come before the two reserved ones.
+/// The number of identifiers after the stack trace that refer to objects. The two reserved ones come after these four.
 const LEADING_IDS: u32 = 4;
 
 impl<'a> View<'a> {
@@ -94,8 +94,8 @@ impl<'a> View<'a> {
         self.class_id(at, RESERVED_TOO)
     }
 
-    /// Returns the four adjacent identifiers of a class dump that are followed: superclass, loader, signers, protection
-    /// domain.
+    /// Returns the first four identifiers after the stack trace of a class dump, which refer to objects: superclass,
+    /// loader, signers, protection domain.
     pub fn leading_ids(&self, at: u32) -> Ids<'a>
         requires { (c : Class) × Stands self.now at (class_dump c) }
         ensures { (c : Class) → Stands self.now at (class_dump c)
@@ -151,7 +151,7 @@ impl<'a> View<'a> {
         number_at(self.bytes, at as usize + FIRST_ID + size + nth * size, size)
     }
 
-    /// Returns the bytes from the count of a class's constants on.
+    /// Returns all bytes from the count of a class's constants on.
     fn constants_from(&self, at: u32) -> &'a [u8]
         requires { (c : Class) × Stands self.now at (class_dump c) }
         ensures { (c : Class) → Stands self.now at (class_dump c)
@@ -161,7 +161,7 @@ impl<'a> View<'a> {
         bytes_from(self.bytes, at as usize + CONSTANTS + IDS * size)
     }
 
-    /// Returns the bytes from the count of a class's static fields on.
+    /// Returns all bytes from the count of a class's static fields on.
     fn statics_from(&self, at: u32) -> &'a [u8]
         requires { (c : Class) × Stands self.now at (class_dump c) }
         ensures { (c : Class) → Stands self.now at (class_dump c)

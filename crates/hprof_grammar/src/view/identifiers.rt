@@ -11,7 +11,7 @@ use byteorder::{BigEndian, ByteOrder};
 
 /// Returns the big-endian number of `width` bytes at the offset `at`: the identifier there, if `width` is the size of
 /// identifiers.
-// Each width of a field has its own arm, so that the compiler knows the width.
+// The widths of a dump's fields (2, 4 and 8) have arms of their own, so that the compiler knows the width.
 // Inlined, because this function reads every reference that is followed.
 #[inline(always)]
 pub fn number_at(bytes: &[u8], at: usize, width: usize) -> u64
@@ -30,7 +30,8 @@ pub fn number_at(bytes: &[u8], at: usize, width: usize) -> u64
 }
 
 impl<'a> View<'a> {
-    /// Returns the first identifier of the sub-record at `at`: the object that a root names or that a dump describes.
+    /// Returns the first identifier of the sub-record at `at`: that of the object that a root names, or that a class,
+    /// instance or array dump describes.
     pub fn object_id(&self, at: u32) -> u64
         requires { (sub : SubRecord) × Stands self.now at sub }
         ensures { (sub : SubRecord) → Stands self.now at sub → result ≡ id_of sub }

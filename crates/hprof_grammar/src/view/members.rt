@@ -10,9 +10,9 @@ use std::marker::Model;
 /// An instance field that a class declares.
 #[derive(Clone, Copy, Debug, PartialEq, Eq)]
 pub struct MemberField {
-    /// The identifier of the string that names it.
+    /// The identifier of the string that names the field.
     pub name: u64,
-    /// The type code of its values: 2, or 4 to 11.
+    /// The type code of the field's values: 2, or 4 to 11.
     pub type_code: u8,
 }
 
@@ -37,7 +37,7 @@ impl<'a> Model for Members<'a> {
 }
 
 impl<'a> Members<'a> {
-    /// Creates an iterator over the instance fields in `bytes`, which begin with their count.
+    /// Creates an iterator over the instance fields in `bytes`, which begin with the number of fields.
     pub(crate) fn new(bytes: &'a [u8], id_size: u8) -> Self
         requires low { 1 ≤ id_size }
         requires high { id_size ≤ 8 }

@@ -13,8 +13,8 @@ use crate::view::identifiers::number_at;
 use crate::view::{OBJECT, View, u32_at};
 
 /// The offset of a root's JNI reference. This and the offsets below are numbers of bytes from the tag, without the
-/// identifier of the object. The kind of a root says which of these fields it has: none, the reference, the thread, or
-/// the thread and then a frame or a stack trace.
+/// identifier of the object. The kind of a root says which of these fields the root has: none, the reference, the
+/// thread, or the thread and then a frame or a stack trace.
 const REFERENCE: usize = OBJECT;
 
 const THREAD: usize = OBJECT;
@@ -44,8 +44,8 @@ impl<'a> View<'a> {
         number_at(self.bytes, at as usize + REFERENCE + size, size)
     }
 
-    /// Returns the serial number of the thread of a root: JNI local, Java frame, native stack, thread block or thread
-    /// object.
+    /// Returns the serial number of the thread of a root whose kind is JNI local, Java frame, native stack, thread
+    /// block or thread object.
     pub fn root_thread(&self, at: u32) -> u32
         requires { (n : ℕ) × RootSays self.now at thread_of n }
         ensures { (n : ℕ) → RootSays self.now at thread_of n → result ≡ n }
@@ -54,7 +54,7 @@ impl<'a> View<'a> {
         u32_at(self.bytes, at as usize + THREAD + size)
     }
 
-    /// Returns the number of the frame of a JNI local or Java frame root, in the stack trace of its thread.
+    /// Returns the number that the frame of a JNI local or Java frame root has in the stack trace of the root's thread.
     pub fn root_frame(&self, at: u32) -> u32
         requires { (n : ℕ) × RootSays self.now at frame_of n }
         ensures { (n : ℕ) → RootSays self.now at frame_of n → result ≡ n }

@@ -42,8 +42,8 @@ impl<'a> Model for Values<'a> {
 }
 
 impl<'a> Values<'a> {
-    /// Creates an iterator over the values in `bytes`, which begin with the count of the values. Each type code follows
-    /// a label of `front` bytes.
+    /// Creates an iterator over the values in `bytes`, which begin with the number of values. Each value follows a
+    /// label of `front` bytes and a type code.
     pub(crate) fn new(bytes: &'a [u8], id_size: u8, front: u8) -> Self
         requires low { 1 ≤ front }
         requires high { front ≤ 8 }
@@ -123,7 +123,8 @@ pub(crate) fn split_count(bytes: &[u8]) -> (u16, &[u8])
     (BigEndian::read_u16(bytes), behind)
 }
 
-/// Returns the type code after the first `front` bytes, the bytes of the value, and all bytes after the value.
+/// Returns the type code after the first `front` bytes, the bytes of the value after that code, and all bytes after the
+/// value.
 fn split_value(bytes: &[u8], id_size: u8, front: u8) -> (u8, &[u8], &[u8])
     requires { value_end id_size front bytes.now ≤ length bytes.now }
     ensures type_code { result.0 ≡ slice_index bytes.now front }

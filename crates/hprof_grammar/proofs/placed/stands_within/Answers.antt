@@ -1,4 +1,4 @@
--- The bytes from its place on begin with its spelling, so they are no fewer.
+-- The bytes from the sub-record's place on begin with its spelling, so they are at least as many.
 use Rattle.hprof_grammar.proofs.Places.{sub_stands}
 use Rattle.hprof_grammar.proofs.placed.stands_within.Goals as goal
 

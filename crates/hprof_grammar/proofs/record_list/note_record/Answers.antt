@@ -1,4 +1,4 @@
--- Length and order allow the record, so what its tag notes is what it adds, and a fault in its body is its fault.
+-- Length and order allow the record, so it adds what the code notes for its tag, and a fault in its body is its fault.
 use Rattle.hprof_grammar.proofs.Words.{FrameFault, HasSubFault, arith, false, inl, inr, is_heap_tag, nat_tests, refl}
 use Rattle.hprof_grammar.proofs.Words.{true, ℕ, ◌+◌, ◌≡◌, ◌⊎◌}
 use Rattle.std.proofs.lemmas.Result.{err_from_is_err_and}

@@ -1,4 +1,5 @@
--- Each turn takes a frame off the rest and joins its record. What stops it comes after the longest list of records.
+-- Each turn takes a frame off the rest and joins its record. A fault that stops the loop comes after the longest list
+-- of records.
 use Rattle.hprof_grammar.proofs.Words.{Before, FrameFault, HasRecordFault, SnapshotState, ap, arith, length, nat_tests}
 use Rattle.hprof_grammar.proofs.Words.{refl, ℕ, ◌+◌, ◌-◌, ◌<◌, ◌≡◌}
 use Rattle.std.proofs.lemmas.Result.{err_from_is_err_and}

@@ -1,4 +1,5 @@
--- Each turn takes a sub-record off the rest and notes its place. A flaw comes after the longest list of whole ones.
+-- Each turn takes a sub-record off the rest and notes its place. A flaw comes after the longest list of whole
+-- sub-records.
 use Rattle.hprof_grammar.proofs.Words.{arith, length, nat_tests, refl, ◌<◌}
 use Rattle.hprof_grammar.proofs.Bytes.{in_bytes}
 use Rattle.hprof_grammar.proofs.Heaps.{sub_shorter, subs_fault, subs_step}

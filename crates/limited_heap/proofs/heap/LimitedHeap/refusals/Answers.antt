@@ -1,4 +1,5 @@
--- At most one request is refused if only one is to be: the quota's own clause, with "only one" read from the number.
+-- At most one request is refused if `refused_request` has a number: the quota's `alone` is true then, so the clause
+-- `one` of `Quota::refused` applies.
 use Rattle.std.proofs.Common.{◌≡◌, ℕ, Bool, true, false, Some, refl}
 use Rattle.std.proofs.lemmas.Option.{none-some}
 use Rattle.limited_heap.specs.Limit.{alone_of}

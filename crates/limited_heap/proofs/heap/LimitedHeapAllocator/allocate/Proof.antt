@@ -1,5 +1,5 @@
--- It counts the request first. It returns what the inner allocator returns if the request is granted, and `Err`
--- otherwise. Assumes `Logic`.
+-- `allocate` counts the request first. If the quota grants the request, `allocate` returns what the inner allocator
+-- returns, and otherwise `Err`. Assumes `Logic`.
 use Rattle.std.proofs.Common.{◌≡◌, ℕ, ◌+◌, ◌^◌, ◌<◌, Bool, true, false, List, [], ◌∷◌, Ok, Err, refl, sym, subst, T}
 use Rattle.std.proofs.Common.{w64, Bor}
 use seplogic.Ra.Ura.{Ura}
