@@ -1,4 +1,4 @@
--- No account has a buffer or an object twice, no two have one in common, and if one has the whole share no other has
+-- No account has a buffer or an object twice, and no two have one in common. If one has the whole share, no other has
 -- anything.
 use Rattle.std.proofs.Common.{◌≡◌, ◌≢◌, ℕ, ◌+◌, ◌*◌, ◌<◌, ◌≤◌, true, false, true≢false, nat_lt, List, [], Option}
 use Rattle.std.proofs.Common.{Some, None, Contains, ap, sym, subst, ◌∙◌, ⊎_elim, arith}

@@ -1,4 +1,4 @@
--- Between a load by a worker and its failed exchange, another worker exchanged the head: otherwise the head is still
+-- Between a worker's load and its failed exchange, another worker exchanged the head. Otherwise the head would still be
 -- the one loaded, or the worker was joined to another.
 use Rattle.std.proofs.Common.{◌≡◌, ◌≢◌, ◌⊎◌, ℕ, suc, List, [], ◌∷◌, ◌++◌, Option, Some, set, ap}
 use Rattle.std.proofs.Common.{sym, refl, subst, ◌∙◌, inl, inr, ⊎_elim, arith}

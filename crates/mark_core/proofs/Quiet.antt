@@ -18,22 +18,22 @@ use Rattle.mark_core.proofs.Sums.{sum_of-set, sum_of-append, term_le}
 use Rattle.mark_core.proofs.Chains.{chain_none}
 use Rattle.mark_core.proofs.Runs.{runs_keep_law}
 
--- an account that was not joined has a share. It is not idle, or it has one unit and an empty charge, and has found the
--- full stack empty
+-- an account that was not joined has a share. It is not idle, or it is idle with one unit and an empty charge, and has
+-- found the full stack empty
 abbrev pub IsResting : Account → Type 0
 IsResting a =
     a.joined ≡ false
     → (0 < a.share) × ((a.idle ≡ 0) ⊎ ((a.idle ≡ 1) × (a.share ≡ 1) × (a.charge ≡ []) × (a.found ≡ true)))
 
--- no account was joined. The first has pushed nothing on full since it first gave units away, and is not the only one.
--- Each other one has found the full stack empty
+-- no account was joined. The first account has pushed nothing on full since it first gave units away. There are other
+-- accounts, and each of them has found the full stack empty
 pub record HaveFound (accounts : List Account) : Type 0 where
   pub apart : (k : ℕ) (a : Account) → StandsAt accounts k a → a.joined ≡ false
   pub opening : (k : ℕ) (a : Account) → StandsAt accounts k a → k ≡ 0 → a.pushed ≡ false
   pub another : 1 < length accounts
   pub others : (k : ℕ) (a : Account) → StandsAt accounts k a → 0 < k → a.found ≡ true
 
--- the first account gave units away if another account exists
+-- the first account gave units away if there is another account and the first was not joined
 abbrev pub HasParted : ℕ → ℕ → Account → Type 0
 HasParted many k a = k ≡ 0 → 1 < many → a.joined ≡ false → a.parted ≡ true
 
@@ -109,7 +109,7 @@ module _ (e : Setup) (m : Marking) (s : Hushed m) (w : ℕ) (a : Account) (there
     more_than_one : 1 < length now → 1 < length m.accounts
     more_than_one more = omega (arith, more, length-set m.accounts w b)
 
-    -- if the accounts have found the full stack empty after the event, they had before, so it is still empty
+    -- if `HaveFound` holds after the event, it held before, so the full stack is still empty
     still_empty : b.pushed ≡ a.pushed → (b.found ≡ true → a.found ≡ true) → HaveFound now → (m.head Full).index ≡ None
     still_empty pushed found h =
         s.emptied (record {
@@ -347,8 +347,8 @@ run_is_hushed e m run =
     let opens = run.2 in
     along e Hushed (happens_hushed e) run.1 run.0 m (subst Hushed (sym opens.2) (opening_hushed e opens.0)) run.3
 
--- accounts of which none was joined have idle numbers up to their shares: if the sums of both are equal, so are the two
--- numbers of each account
+-- if no account was joined, each idle number is at most the account's share. If the sum of the idle numbers is then
+-- that of the shares, the idle number of each account is its share
 abbrev AllApart : List Account → Type 0
 AllApart cs = (k : ℕ) (a : Account) → StandsAt cs k a → (a.joined ≡ false) × IsResting a
 
