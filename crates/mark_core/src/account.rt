@@ -87,7 +87,7 @@ impl<A: Allocator + Copy> Account<A> {
         }
     }
 
-    /// Creates what is left of an account that was joined to another: an account without a unit, noted as joined.
+    /// Creates what is left of an account that was joined to another: an account that has nothing, noted as joined.
     pub fn gone(alloc: A) -> Self
         ensures { result ≡ no_share }
     {
@@ -98,7 +98,7 @@ impl<A: Allocator + Copy> Account<A> {
 }
 
 impl<A: Allocator> Account<A> {
-    /// Tests whether the account exists, that is, has a unit. It has none after it was joined to another.
+    /// Tests whether the account exists, that is, has a unit. An account that was joined to another has no units.
     pub fn is_there(&self) -> bool
         ensures { IsTrue result ↔ (0 < self.now.share) }
     {
@@ -168,8 +168,8 @@ impl<A: Allocator> Account<A> {
         self.reaches(setup, object) && self.is_busy()
     }
 
-    /// Tests whether the account may finish `object`: `object` is in the account's charge, and the account has seen all
-    /// successors of `object` marked.
+    /// Tests whether the account may finish `object`: `object` is in the account's charge, and the account has seen
+    /// that all successors of `object` are marked.
     pub fn may_finish(&self, setup: &Setup<A>, object: u32) -> bool
         ensures { IsTrue result ↔ CanFinish setup.now object self.now }
     {

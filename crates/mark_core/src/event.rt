@@ -9,7 +9,7 @@ use std::alloc::{Allocator, Global};
 pub enum Kind<A: Allocator = Global> {
     /// Claims an object: a root, or a successor of an object in the account's charge.
     Claim(u32),
-    /// Finishes an object of the account's charge. The account has seen all successors of the object marked.
+    /// Finishes an object of the account's charge. The account has seen that all successors of the object are marked.
     Finish(u32),
     /// Gives a number of units, at least one and not all, to a new account.
     Split(u32),
@@ -26,7 +26,7 @@ pub enum Kind<A: Allocator = Global> {
     /// Exchanges the head of a stack for a buffer that the account holds. The buffer takes items of the account's
     /// charge with it, but none to the empty stack.
     Push(Which, u32, Vec<u32, A>),
-    /// Tries to exchange the head of a stack, and finds another head than the account loaded last.
+    /// Tries to exchange the head of a stack, and finds another head than the one that the account loaded last.
     Fail(Which),
     /// Goes idle: adds one to the idle word. The account is not idle yet, has one unit and nothing in its charge, and
     /// has found the full stack empty and not pushed there since.

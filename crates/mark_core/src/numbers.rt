@@ -92,7 +92,7 @@ impl<A: Allocator> Numbers<A> {
         self.items.iter().position(|item| *item == number)
     }
 
-    /// Removes the first `number`, if the list contains any, and returns whether it did.
+    /// Removes the first `number` and returns `true`, or returns `false` if the list does not contain `number`.
     pub fn take_one(&mut self, number: u32) -> bool
         ensures there { IsTrue result ↔ Contains self.old number }
         ensures left { self.new ≡ remove_one number self.old }
@@ -106,8 +106,8 @@ impl<A: Allocator> Numbers<A> {
         }
     }
 
-    /// Removes each of `numbers`, as often as `numbers` has it. Returns whether the list had each number that often. If
-    /// the list had not, its state afterwards is not specified.
+    /// Removes each of `numbers`, as often as `numbers` has it. Returns whether the list had each number at least that
+    /// often. If it had not, the list afterwards is not specified.
     pub fn take_all(&mut self, numbers: &[u32]) -> bool
         ensures part { IsTrue result ↔ IsPart numbers.now self.old }
         ensures left { OnTrue result (self.new ≡ without numbers.now self.old) }
