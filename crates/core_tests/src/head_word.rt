@@ -15,7 +15,7 @@ const WORDS: [(Option<u32>, u64, u64, Option<u64>); 6] = [
     (Some(65_534), LAST, 18_446_744_073_709_551_615, None),
 ];
 
-/// Returns the word of the head with `index` and `tag`, or `None` if no head can have one of them.
+/// Returns the word of the head with `index` and `tag`, or `None` if one of the two is too large for a head.
 fn word_of(index: Option<u32>, tag: u64) -> Option<u64> {
     if tag > LAST_TAG {
         return None;

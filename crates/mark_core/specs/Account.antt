@@ -86,8 +86,8 @@ after_finish o a = record a { charge = remove_one o a.charge; finished = a.finis
 abbrev pub after_split : ℕ → Account → Account
 after_split units a = record a { share = a.share - units; parted = true }
 
--- the account b was joined to a: lists are appended, shares and idle numbers added, and an open push of either stays
--- open. What a last loaded, `found`, `parted` and `pushed` stay those of a
+-- the account b was joined to a: lists are appended, shares and idle numbers added, an open push of either stays open,
+-- and the join is noted. What a last loaded stays, and so do its notes `found`, `parted` and `pushed`
 abbrev pub after_join : Account → Account → Account
 after_join a b =
     record {

@@ -22,7 +22,7 @@ abbrev pub HadHead : Marking → List Event → Which → Head → Type 0
 HadHead m [] q h = m.head q ≡ h
 HadHead m (event ∷ events) q h = (m.head q ≡ h) ⊎ HadHead (happens m event) events q h
 
--- the head of a stack that an account loaded last is one that the stack had in the run
+-- the head that an account last loaded of a stack is one that the stack had in the run
 abbrev pub LoadedHeadsWere : Type 0
 LoadedHeadsWere =
     (e : Setup) (events : List Event) (m : Marking) → Run e (opening e e.first_tag) events m

@@ -30,7 +30,7 @@ abbrev pub remove_one : ℕ → List ℕ → List ℕ
 remove_one x [] = []
 remove_one x (y ∷ ys) = if y == x then ys else y ∷ remove_one x ys
 
--- the second list after each number of the first, in turn, removed the first number equal to it, if any
+-- what is left of the second list: for each number of the first, in turn, the first equal number is removed, if any
 abbrev pub without : List ℕ → List ℕ → List ℕ
 without [] ys = ys
 without (x ∷ xs) ys = without xs (remove_one x ys)

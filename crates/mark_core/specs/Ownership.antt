@@ -7,8 +7,8 @@ use Rattle.mark_core.specs.declared.which.Which.TheVariants.{Full, Empty}
 use Rattle.mark_core.specs.Lists.{StandsAt, sum_of, times, one_where}
 use Rattle.mark_core.specs.Account.{Account, Look, look_of}
 
--- the list begins with the buffer `index`, and each later buffer is the link of the one before, up to the last; the
--- list is empty if `index` is None
+-- the list begins with the buffer `index`, each later buffer is the link of the one before, and the last has no link;
+-- the list is empty if `index` is None
 abbrev pub Chain : (ℕ → Option ℕ) → Option ℕ → List ℕ → Type 0
 Chain link index [] = index ≡ None
 Chain link index (i ∷ is) = (index ≡ Some i) × Chain link (link i) is

@@ -118,7 +118,7 @@ LiesIn m list o = (b : ℕ) × (items : List ℕ) × Contains list b × StandsAt
 
 -- what holds of the account w, which is a, at the close
 pub record IsClosed (e : Setup) (m : Marking) (w : ℕ) (a : Account) : Type 0 where
-  -- the finished objects are those in its finished list, where each is once
+  -- the finished objects are those in the finished list of a, which has each once
   pub finished : (o : ℕ) → (m.mark o ≡ 2) ↔ Contains a.finished o
   pub once : (o : ℕ) → times o a.finished ≤ 1
   -- the claimed objects are the items of the buffers on the full stack
