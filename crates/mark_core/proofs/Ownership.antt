@@ -135,7 +135,7 @@ module _ {buffers : ℕ} {head : Which → Head} {link : ℕ → Option ℕ} {ac
         → (q : Which) (v : ℕ) (x : Account) → StandsAt (set accounts w b) v x → IsRecent link (head q) (look_of x q)
     recent_set b new q = set_all (λ x. IsRecent link (head q) (look_of x q)) accounts w b (o.recent q) (new q)
 
-    -- the loads of an account are still recent if it keeps them
+    -- what an account loaded is still recent if the account keeps it
     keeps_looks : (b : Account) → b.full ≡ a.full → b.empty ≡ a.empty → (q : Which)
         → IsRecent link (head q) (look_of b q)
     keeps_looks b f g q = subst (λ l. IsRecent link (head q) l) (sym (same_looks a b f g q)) (o.recent q w a is)

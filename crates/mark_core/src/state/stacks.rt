@@ -27,8 +27,8 @@ impl<A: Allocator> State<A> {
         true
     }
 
-    /// Lets the account `w` exchange the head of the stack `which` for the link that it loaded, if it may, and returns
-    /// whether it did.
+    /// Lets the account `w` pop: exchange the head of the stack `which` for the link that the account loaded, if it
+    /// may. Returns whether it did.
     pub fn pop(&mut self, w: usize, which: Which) -> Result<bool, OutOfMemory>
         requires there { w < length self.old.accounts }
         requires lawful { IsLawful self.old }
@@ -59,7 +59,7 @@ impl<A: Allocator> State<A> {
         Ok(self.exchange(which, link))
     }
 
-    /// Lets the account `w` exchange the head of the stack `which` for `buffer` with `items`, if it may, and returns
+    /// Lets the account `w` push: exchange the head of the stack `which` for `buffer` with `items`, if it may. Returns
     /// whether it did.
     pub fn push(&mut self, w: usize, which: Which, buffer: u32, items: Numbers<A>) -> bool
         requires there { w < length self.old.accounts }
