@@ -2,7 +2,7 @@
 
 use tagged_index::HeadWord;
 
-/// Pushes a buffer on an empty stack and pops it again.
+/// Follows the head of an empty stack while buffer 3 is pushed and popped again.
 #[test]
 fn changed_and_changed_back(rt: HostRuntime) {
     let empty = HeadWord::none(7);

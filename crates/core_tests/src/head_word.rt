@@ -1,11 +1,11 @@
-//! Tests of the words of heads, against words and tags worked out by hand.
+//! Tests of the words into which heads are packed, against words and tags worked out by hand.
 
 use tagged_index::{HeadWord, LAST_INDEX, LAST_TAG};
 
 /// The last tag.
 const LAST: u64 = 281_474_976_710_655;
 
-/// An index, a tag, the word of the head with both, and the tag of the next head.
+/// An index, a tag, the word of the head with both, and the tag of the next head, if there is one.
 const WORDS: [(Option<u32>, u64, u64, Option<u64>); 6] = [
     (None, 0, 0, Some(1)),
     (Some(0), 0, 1, Some(1)),
@@ -15,7 +15,7 @@ const WORDS: [(Option<u32>, u64, u64, Option<u64>); 6] = [
     (Some(65_534), LAST, 18_446_744_073_709_551_615, None),
 ];
 
-/// Returns the word of the head with `index` and `tag`, or `None` if no head may have them.
+/// Returns the word of the head with `index` and `tag`, or `None` if one of the two is too large for a head.
 fn word_of(index: Option<u32>, tag: u64) -> Option<u64> {
     if tag > LAST_TAG {
         return None;
@@ -27,7 +27,7 @@ fn word_of(index: Option<u32>, tag: u64) -> Option<u64> {
     }
 }
 
-/// Returns the index and the tag of the head that `word` spells, and the tag of the next head.
+/// Returns the index and the tag of the head that `word` spells, and the tag of the next head, if there is one.
 fn spelled_by(word: u64) -> (Option<u32>, u64, Option<u64>) {
     let head = HeadWord::from_word(word);
     let next = head.next(None);

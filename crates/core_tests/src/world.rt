@@ -14,7 +14,7 @@ use mark_core::{Event, OutOfMemory, Which, World, step};
 use std::alloc::Allocator;
 use tagged_index::HeadWord;
 
-/// Returns the world after `turn`, or `None` if an event of it is not possible.
+/// Returns the world after the events of `turn`, or `None` if one of them is not possible.
 fn turned<A: Allocator + Copy>(
     alloc: A,
     world: World<A>,
@@ -32,7 +32,7 @@ fn turned<A: Allocator + Copy>(
     Ok(Some(world))
 }
 
-/// Returns the world after `list`, or `None` if one of its events is not possible.
+/// Returns the world after the events of `list`, or `None` if one of them is not possible.
 fn replayed<A: Allocator + Copy>(alloc: A, list: &List) -> Result<Option<World<A>>, OutOfMemory> {
     let (opening, turns) = *list;
     let mut world = opening.world(alloc)?;
@@ -45,7 +45,7 @@ fn replayed<A: Allocator + Copy>(alloc: A, list: &List) -> Result<Option<World<A
     Ok(Some(world))
 }
 
-/// What a row tests, a possible list, a turn after it, and whether the whole turn is possible too.
+/// What the row tests, a list that is possible, a turn after this list, and whether the whole turn is possible too.
 static NEXT: [(&str, List, Turn, bool); 15] = [
     (
         "an object that nothing leads to yet",
@@ -114,7 +114,7 @@ static NEXT: [(&str, List, Turn, bool); 15] = [
     ("it looked again", ONE_LOOKED_AGAIN, (1, &[IdleUp]), true),
 ];
 
-/// Tests whether `turn` is possible after `list`. Returns `None` if the list itself is not possible.
+/// Returns whether `turn` is possible after `list`, or `None` if `list` itself is not possible.
 fn may<A: Allocator + Copy>(
     alloc: A,
     list: &List,
@@ -144,7 +144,8 @@ enum End {
     Overtaken,
 }
 
-/// Tests whether account 0 has the root in its charge, account 1 has nothing, and there is no other account.
+/// Tests whether only object 1, the root, is claimed and in the charge of account 0, the charge of account 1 is empty,
+/// and there is no account 2.
 fn is_claimed<A: Allocator>(world: &World<A>) -> bool {
     world.marks() == &[0, 1, 0][..]
         && world.charge(0) == Some(&[1][..])
@@ -152,7 +153,7 @@ fn is_claimed<A: Allocator>(world: &World<A>) -> bool {
         && world.charge(2).is_none()
 }
 
-/// Tests whether all objects are finished, account 0 has none in its charge, and there is no account 2.
+/// Tests whether all objects are finished, the charge of account 0 is empty, and there is no account 2.
 fn is_finished<A: Allocator>(world: &World<A>) -> bool {
     world.marks() == &[2, 2, 2][..] && world.charge(0) == Some(&[][..]) && world.charge(2).is_none()
 }
@@ -193,7 +194,7 @@ static ENDS: [(List, End); 5] = [
     (FAILED, End::Overtaken),
 ];
 
-/// Tests whether `list` is possible, and ends as `end`.
+/// Tests whether `list` is possible, and ends in the world `end`.
 fn ends<A: Allocator + Copy>(alloc: A, list: &List, end: End) -> Result<bool, OutOfMemory> {
     match replayed(alloc, list)? {
         Some(world) => Ok(end.is_of(&world)),

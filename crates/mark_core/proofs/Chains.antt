@@ -48,7 +48,7 @@ module _ (link : ℕ → Option ℕ) where
   recent_blank : (now : Head) → IsRecent link now blank
   recent_blank now h e = let f : ⊥ = cc in absurd f
 
-  -- so are both looks of an account that loaded nothing
+  -- both looks of an account that loaded nothing are recent
   pub recent_bare : (head : Which → Head) (x : Account) → x.full ≡ blank → x.empty ≡ blank
       → (q : Which) → IsRecent link (head q) (look_of x q)
   recent_bare head x full empty Full = rw full (recent_blank (head Full))
@@ -58,7 +58,7 @@ module _ (link : ℕ → Option ℕ) where
   pub recent_loaded : (now : Head) → IsRecent link now (record { head = Some now; link = None })
   recent_loaded now h e = inr ((let s : now ≡ h = cc in s), (λ i l n k. let f : ⊥ = cc in absurd f))
 
-  -- it stays recent when it loads the link of its head's buffer
+  -- a look stays recent when the link of its head's buffer is loaded
   pub recent_linked : (now g : Head) (i : ℕ) (old : Option (Option ℕ)) → g.index ≡ Some i
       → IsRecent link now (record { head = Some g; link = old })
       → IsRecent link now (record { head = Some g; link = Some (link i) })
@@ -69,7 +69,7 @@ module _ (link : ℕ → Option ℕ) where
             in let u : i ≡ j = cc in let v : link i ≡ l = cc in sym (ap link u) ∙ v),
       )) (r h e)
 
-  -- after the head changed, the tag shows that whatever was loaded is outdated
+  -- after an exchange of the head, the tag shows that whatever was loaded is outdated
   pub recent_after : (now : Head) (look : Look) (i : Option ℕ) → IsRecent link now look
       → IsRecent link (after now i) look
   recent_after now look i r h e =

@@ -1,4 +1,5 @@
--- A list without repeats has the same sums as those numbers below a bound that are in it.
+-- A list without repeats, of numbers below a bound, has the same sums as the list of all numbers below the bound that
+-- are in it.
 use Rattle.std.proofs.Common.{◌≡◌, ◌⊎◌, ◌↔◌, ℕ, zero, suc, ◌+◌, ◌<◌, ◌≤◌, Bool, true, false, cond, nat_lt, arith}
 use Rattle.std.proofs.Common.{List, [], ◌∷◌, Contains, filter, length, sum_by, ap, sym, refl, ◌∙◌, ⊎_elim}
 use Rattle.std.proofs.Common.{lt-ltb, le-ltb}
@@ -22,7 +23,7 @@ chosen p n = filter p (range_with_len 0 n)
 abbrev pub AreThose : (ℕ → Bool) → ℕ → List ℕ → Type 0
 AreThose p n objects = (o : ℕ) → ((p o ≡ true) × (o < n)) ↔ Contains objects o
 
--- a number is among those that pass as often as in the list if it passes, and not at all otherwise
+-- a number that passes is in the filtered list as often as in the list; one that does not pass is not in it
 times-passing : (p : ℕ → Bool) (o : ℕ) (xs : List ℕ) → times o (filter p xs) ≡ cond (p o) (times o xs) 0
 times-passing p o xs = go xs
   where
@@ -42,7 +43,7 @@ times-passing p o xs = go xs
     go [] = none (p o)
     go (y ∷ ys) = more (p o) (p y) y ys (filter p ys) (ap p) (go ys)
 
--- o is below a + 1 if it is a or below a
+-- o is below a + 1 exactly if it is a or below a
 one_more : (o a : ℕ) → only o a + one_where (nat_lt o a) ≡ one_where (nat_lt o (a + 1))
 one_more o a = ⊎_elim
     (λ same. omega (arith, only-same o a (sym same), past a (omega (arith, same)), below (omega (arith, same))))

@@ -1,4 +1,4 @@
--- No account has a buffer or an object twice, no two have one in common, and if one has the whole share no other has
+-- No account has a buffer or an object twice, and no two have one in common. If one has the whole share, no other has
 -- anything.
 use Rattle.std.proofs.Common.{◌≡◌, ◌≢◌, ℕ, ◌+◌, ◌*◌, ◌<◌, ◌≤◌, true, false, true≢false, nat_lt, List, [], Option}
 use Rattle.std.proofs.Common.{Some, None, Contains, ap, sym, subst, ◌∙◌, ⊎_elim, arith}
@@ -70,7 +70,7 @@ module _ (e : Setup) (m : Marking) (law : Law e m) where
     alone_finished o = sum_of-alone (λ (x : Account). times o x.finished) m.accounts w a is
         (λ v b n at. ap (times o) (others_nothing v b n at).finished)
 
-    -- an open push is the account's own
+    -- if some account has an open push, it is the one with the whole share
     pub alone_open : HasOpenPush m.accounts → a.open_push ≡ true
     alone_open o = go (ℕ_discrete o.0 w)
       where
@@ -103,7 +103,7 @@ module _ (e : Setup) (m : Marking) (law : Law e m) where
         is_finished : (o : ℕ) → Contains a.finished o → m.mark o ≡ 2
         is_finished o k = omega (arith, sums o, stands_times a.finished o k)
 
-        -- a buffer with items is on the full stack
+        -- a stacked buffer with items is on the full stack
         on_full : (b : ℕ) (items : List ℕ) (o : ℕ) → StandsAt m.slots b (Some items) → 0 < times o items
             → 0 < times b (law.stack Full)
         on_full b items o at some = go (dec_le 1 (times b (law.stack Full))) (dec_le 1 (times b (law.stack Empty)))

@@ -1,4 +1,4 @@
--- Between a load by a worker and its failed exchange, another worker exchanged the head: otherwise the head is still
+-- Between a worker's load and its failed exchange, another worker exchanged the head. Otherwise the head would still be
 -- the one loaded, or the worker was joined to another.
 use Rattle.std.proofs.Common.{◌≡◌, ◌≢◌, ◌⊎◌, ℕ, suc, List, [], ◌∷◌, ◌++◌, Option, Some, set, ap}
 use Rattle.std.proofs.Common.{sym, refl, subst, ◌∙◌, inl, inr, ⊎_elim, arith}
@@ -108,13 +108,13 @@ dec_exchanges q (Pop p) = dec_which p q
 dec_exchanges q (Push p i items) = dec_which p q
 dec_exchanges q _ = no (λ h. h)
 
--- another worker exchanged the head in one of these events
+-- a worker other than w exchanged the head of the stack q in one of the events `between`
 abbrev IsContested : Which → ℕ → List Event → Type 0
 IsContested q w between =
     (k : ℕ) × (event : Event) × StandsAt between k event × (event.worker ≢ w) × Exchanges q event.kind
 
 module _ (e : Setup) (q : Which) where
-  -- the worker still knows the head after its own event, if that exchanges no head of this stack and does not load it
+  -- `Knows` still holds of the worker after its own event, if this neither exchanges nor loads the head of the stack
   own_knows :
       (m : Marking) (event : Event) → IsPossible e m event → (Exchanges q event.kind → ⊥) → (event.kind ≡ Load q → ⊥)
       → Knows q event.worker m → Knows q event.worker (happens m event)

@@ -34,8 +34,8 @@ and_some x n i e t = cc
 
 module _ (e : Setup) (m : Marking) (law : Law e m) (w : ℕ) (a : Account) (is : StandsAt m.accounts w a)
     (there : 0 < a.share) where
-  -- the law holds if what the account loaded is still recent and it keeps its share, its buffers and its objects; the
-  -- law does not read the idle word
+  -- the law holds after the account changed, if what it loaded is recent, if it keeps its share, its buffers and its
+  -- objects, and if it keeps an open push while the full stack has a buffer. The law does not read the idle word
   looks_keep :
       (b : Account) (word : ℕ) → IsRecent m.link (m.head Full) b.full → IsRecent m.link (m.head Empty) b.empty
       → b.share ≡ a.share → b.held ≡ a.held → b.charge ≡ a.charge → b.seen ≡ a.seen → b.finished ≡ a.finished
@@ -54,7 +54,7 @@ module _ (e : Setup) (m : Marking) (law : Law e m) (w : ℕ) (a : Account) (is :
       recent Full = full
       recent Empty = empty
 
-  -- in particular if the account keeps what it loaded
+  -- in particular, the law holds if the account keeps what it loaded and its open push too
   notes_keep :
       (b : Account) (word : ℕ) → b.full ≡ a.full → b.empty ≡ a.empty → b.share ≡ a.share → b.held ≡ a.held
       → b.charge ≡ a.charge → b.seen ≡ a.seen → b.finished ≡ a.finished → b.open_push ≡ a.open_push
@@ -74,7 +74,7 @@ module _ (e : Setup) (m : Marking) (law : Law e m) (w : ℕ) (a : Account) (is :
   load_keeps Empty = looks_keep _ m.idle (law.owned.recent Full w a is) (recent_loaded m.link (m.head Empty))
       refl refl refl refl refl inr
 
-  -- the loaded link is recent if it is the link of the buffer on top of the last loaded head
+  -- a look is recent after the link of the buffer that its head names was loaded
   link_recent : (q : Which) (h : Head) (i : ℕ) → (look_of a q).head ≡ Some h → h.index ≡ Some i
       → IsRecent m.link (m.head q) (record { head = (look_of a q).head; link = Some (m.link i) })
   link_recent q h i last top =

@@ -1,5 +1,5 @@
--- The number of objects that an account finished: at most that of all objects, and at the close that of the objects
--- with the mark 2. A finished list has no object twice.
+-- The number of objects that an account finished is at most that of all objects, and at the close it is the number of
+-- marks 2. A finished list has no object twice.
 use Rattle.std.proofs.Common.{◌≡◌, ◌↔◌, ℕ, ◌<◌, ◌≤◌, ◌==◌, Bool, cond, List, [], ◌∷◌, Contains, arith}
 use Rattle.std.proofs.Common.{count_by, eq-eqb, eqb-true, length, map, slice_index, ap, refl, ◌∙◌, ⊎_elim}
 use Rattle.std.specs.List.{range_with_len}

@@ -15,14 +15,14 @@ use Rattle.mark_core.proofs.Places.{OfEach, set_all, push_all, one_all}
 use Rattle.mark_core.proofs.Happens.{happens_as, tried}
 use Rattle.mark_core.proofs.Changes.{tags_rise}
 
--- an element or the default satisfies P if each element and the default do
+-- what is read from a list at any place satisfies P, if each element and the default do
 module _ {X : Type 0} (P : X → Type 0) where
   or_default : (xs : List X) (k : ℕ) (d : X) → OfEach P xs → P d → P (slice_index_or xs k d)
   or_default [] k d all none = none
   or_default (x ∷ xs) zero d all none = all 0 x refl
   or_default (x ∷ xs) (suc k) d all none = or_default xs k d (λ j y at. all (suc j) y at) none
 
--- the heads that the account loaded last satisfy S
+-- the heads of both stacks that an account loaded last, if any, satisfy S
 module _ (S : Which → Head → Type 0) where
   abbrev Knows : Account → Type 0
   Knows a = ((h : Head) → a.full.head ≡ Some h → S Full h) × ((h : Head) → a.empty.head ≡ Some h → S Empty h)
@@ -82,7 +82,7 @@ loaded_heads_were e events m run w a q h at last =
     let S : Which → Head → Type 0 = HadHead (opening e e.first_tag) events in
     knows_look S a q h (run_knows S e events (opening e e.first_tag) m (λ p g k. k) run (opening_knows S e) w a at) last
 
--- a counted failure implies C: an event keeps this if C holds when it is a failed exchange
+-- if a failed exchange is counted, C holds. An event keeps this if C holds whenever the event is a failed exchange
 module _ (C : Type 0) where
   abbrev Failed : Counts → Type 0
   Failed c = 0 < c.failures → C
@@ -116,7 +116,7 @@ module _ (C : Type 0) where
   counted_fails m counts w LoadIdle all fail = set_all Failed counts w _ all (at_fails counts w all)
   counted_fails m counts w _ all fail = all
 
-  -- an open push implies C: an event keeps this if C holds when it is a push on full
+  -- if an account has an open push, C holds. An event keeps this if C holds whenever the event is a push on full
   abbrev Pushed : Account → Type 0
   Pushed a = a.open_push ≡ true → C
 
@@ -149,7 +149,7 @@ module _ (C : Type 0) where
 abbrev IsFirstOr : Setup → Which → Head → Type 0
 IsFirstOr e q h = (e.first_tag ≤ h.tag) × (h.tag ≡ e.first_tag → h ≡ first_heads e.first_tag q)
 
--- in addition, its tag is at most the current one
+-- `IsFirstOr` holds of the head, and its tag is at most that of the stack's current head
 abbrev WasSeen : Setup → Marking → Which → Head → Type 0
 WasSeen e m q h = IsFirstOr e q h × (h.tag ≤ (m.head q).tag)
 

@@ -27,7 +27,7 @@ along e P keep [] first last here run = subst P (sym run) here
 along e P keep (event ∷ events) first last here run =
     along e P keep events (happens first event) last (keep first event here run.0) run.1
 
--- P holds after a tried pop if it holds before and after a pop
+-- P holds after a pop, possible or not, if it holds before the pop and after each pop of a buffer with a loaded link
 pub tried :
     (P : Marking → Type 0) (m : Marking) (w : ℕ) (a : Account) (q : Which)
     → P m → ((i : ℕ) (l : Option ℕ) → P (stack_popped m w a q (Some i) (Some l))) → P (effect m w a (Pop q))

@@ -13,7 +13,7 @@ use Rattle.mark_core.proofs.Chains.{recent_bare}
 use Rattle.mark_core.proofs.Ownership.{counted_below}
 use Rattle.mark_core.proofs.Chosen.{times-range}
 
--- the number k, while it is below the buffers
+-- the number k if it is below `buffers`, and None otherwise
 abbrev below : ℕ → ℕ → Option ℕ
 below buffers k = if nat_lt k buffers then Some k else None
 

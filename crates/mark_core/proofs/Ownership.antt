@@ -26,7 +26,7 @@ pub same_looks : (a b : Account) → b.full ≡ a.full → b.empty ≡ a.empty �
 same_looks a b f g Full = f
 same_looks a b f g Empty = g
 
--- an open push is that of the changed account, or remains
+-- if some account has an open push, it is the account a itself, or some account has one after a was replaced by b
 open_else : (accounts : List Account) (w : ℕ) (a b : Account) → StandsAt accounts w a → HasOpenPush accounts
     → (a.open_push ≡ true) ⊎ HasOpenPush (set accounts w b)
 open_else accounts w a b is o = go (ℕ_discrete o.0 w)
@@ -37,13 +37,13 @@ open_else accounts w a b is o = go (ℕ_discrete o.0 w)
         inl (sym (ap (λ (x : Account). x.open_push) s) ∙ o.3)
     go (no n) = inr (o.0, o.1, set_else accounts w o.0 b n ∙ o.2, o.3)
 
--- an open push remains if the changed account keeps its own
+-- some account still has an open push after a was replaced by b, if b has one whenever a has
 pub open_set : (accounts : List Account) (w : ℕ) (a b : Account) → StandsAt accounts w a
     → (a.open_push ≡ true → b.open_push ≡ true) → HasOpenPush accounts → HasOpenPush (set accounts w b)
 open_set accounts w a b is keep o =
     ⊎_elim (λ t. (w, b, set_here accounts w b a is, keep t)) (λ p. p) (open_else accounts w a b is o)
 
--- after a pop its buffer is stacked once less often, and after a push once more often
+-- after a pop the popped buffer is stacked once less often; after a push the pushed one is stacked once more often
 pub popped_sum : (q : Which) (i : ℕ) (rest : List ℕ) (stack : Which → List ℕ) → stack q ≡ i ∷ rest → (b : ℕ)
     → times b (put_which q rest stack Full) + times b (put_which q rest stack Empty) + only b i
     ≡ times b (stack Full) + times b (stack Empty)
@@ -74,7 +74,7 @@ module _ (buffers : ℕ) (head : Which → Head) (link : ℕ → Option ℕ) (ac
   pub place_below : (b : ℕ) → 0 < times b (stack Full) + times b (stack Empty) + held_times b accounts → b < buffers
   place_below b h = counted_below b buffers (omega (arith, o.once b))
 
-  -- the first buffer of a stack
+  -- the buffer that a head names is in the list of its stack
   pub top_stands : (q : Which) (i : ℕ) → (head q).index ≡ Some i → 0 < times i (stack q)
   top_stands q i e = chain_top link (head q).index (stack q) i (o.chain q) e
 
@@ -90,7 +90,7 @@ module _ (buffers : ℕ) (head : Which → Head) (link : ℕ → Option ℕ) (ac
       let p = place_one i in
       (place_below i (omega arith), omega arith, omega arith)
 
-  -- so no stacked buffer is the held one
+  -- no stacked buffer is a held one
   pub held_else : (w : ℕ) (a : Account) → StandsAt accounts w a → (i : ℕ) → 0 < times i a.held
       → (q : Which) (b : ℕ) → 0 < times b (stack q) → b ≢ i
   held_else w a is i h q b stands same = absurd (omega (arith, off q, ap (λ j. times j (stack q)) same))
@@ -135,12 +135,13 @@ module _ {buffers : ℕ} {head : Which → Head} {link : ℕ → Option ℕ} {ac
         → (q : Which) (v : ℕ) (x : Account) → StandsAt (set accounts w b) v x → IsRecent link (head q) (look_of x q)
     recent_set b new q = set_all (λ x. IsRecent link (head q) (look_of x q)) accounts w b (o.recent q) (new q)
 
-    -- the loads of an account are still recent if it keeps them
+    -- what an account loaded is still recent if the account keeps it
     keeps_looks : (b : Account) → b.full ≡ a.full → b.empty ≡ a.empty → (q : Which)
         → IsRecent link (head q) (look_of b q)
     keeps_looks b f g q = subst (λ l. IsRecent link (head q) l) (sym (same_looks a b f g q)) (o.recent q w a is)
 
-    -- once the head of a stack changed, all loads of it are outdated
+    -- after an exchange of a head, what accounts loaded of its stack is outdated, and what they loaded of the other
+    -- stack is as recent as before
     recent_turned :
         (b : Account) → b.full ≡ a.full → b.empty ≡ a.empty → (q : Which) (l : Option ℕ) (p : Which)
         → OfEach (λ x. IsRecent link (put_which q (after (head q) l) head p) (look_of x p)) (set accounts w b)

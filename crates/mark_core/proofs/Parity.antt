@@ -20,7 +20,7 @@ pop_parity head Full Full l old new c = let taken = c.0 refl in omega (arith, ap
 pop_parity head Empty Empty l old new c = let taken = c.0 refl in omega (arith, ap length taken.1)
 pop_parity head _ _ l old new c = omega (arith, ap length (c.1 (λ e. cc)))
 
--- a push raises this sum of its stack by two
+-- a push raises the sum of its stack's tag and length by two, and keeps that of the other stack
 push_parity :
     (head : Which → Head) (p q : Which) (i : ℕ) (old new : List ℕ) → (p ≡ q → new ≡ i ∷ old) × (p ≢ q → new ≡ old)
     → (put_which p (after (head p) (Some i)) head q).tag + length new ≡ (head q).tag + length old + 2 * one_stack p q

@@ -62,21 +62,21 @@ module _ {X : Type 0} where
       go (yes e) = subst (C j) (sym (put_here i j x f e)) (subst (λ k. C k x) (sym e) here)
       go (no n) = subst (C j) (sym (put_else i j x f n)) (others j n)
 
-  -- the same for a function of the two stacks
+  -- C holds of both values of a function of the two stacks after one was replaced
   pub put_one : (C : Which → X → Type 0) (q : Which) (x : X) (f : Which → X) → C q x → ((p : Which) → C p (f p))
       → (p : Which) → C p (put_which q x f p)
   put_one C Full x f here each Full = here
   put_one C Empty x f here each Empty = here
   put_one C _ x f here each p = each p
 
-  -- and for two such functions
+  -- C holds of the values of two such functions at each stack, after both were replaced at one stack
   pub put_two : {Y : Type 0} (C : X → Y → Type 0) (q : Which) (x : X) (y : Y) (f : Which → X) (g : Which → Y) → C x y
       → ((p : Which) → C (f p) (g p)) → (p : Which) → C (put_which q x f p) (put_which q y g p)
   put_two C Full x y f g here each Full = here
   put_two C Empty x y f g here each Empty = here
   put_two C _ x y f g here each p = each p
 
--- P holds of each element with its place after one was written, or put at the end
+-- P holds of each element with its place after one element was written or appended
 pub set_at :
     {X : Type 0} (P : ℕ → X → Type 0) (xs : List X) (w : ℕ) (y : X)
     → ((k : ℕ) (x : X) → k ≢ w → StandsAt xs k x → P k x) → P w y → (k : ℕ) (x : X) → StandsAt (set xs w y) k x → P k x

@@ -18,22 +18,22 @@ use Rattle.mark_core.proofs.Sums.{sum_of-set, sum_of-append, term_le}
 use Rattle.mark_core.proofs.Chains.{chain_none}
 use Rattle.mark_core.proofs.Runs.{runs_keep_law}
 
--- an account that was not joined has a share. It is not idle, or it has one unit and an empty charge, and has found the
--- full stack empty
+-- an account that was not joined has a share. It is not idle, or it is idle with one unit and an empty charge, and has
+-- found the full stack empty
 abbrev pub IsResting : Account → Type 0
 IsResting a =
     a.joined ≡ false
     → (0 < a.share) × ((a.idle ≡ 0) ⊎ ((a.idle ≡ 1) × (a.share ≡ 1) × (a.charge ≡ []) × (a.found ≡ true)))
 
--- no account was joined. The first has pushed nothing on full since it first gave units away, and is not the only one.
--- Each other one has found the full stack empty
+-- no account was joined. The first account has pushed nothing on full since it first gave units away. There are other
+-- accounts, and each of them has found the full stack empty
 pub record HaveFound (accounts : List Account) : Type 0 where
   pub apart : (k : ℕ) (a : Account) → StandsAt accounts k a → a.joined ≡ false
   pub opening : (k : ℕ) (a : Account) → StandsAt accounts k a → k ≡ 0 → a.pushed ≡ false
   pub another : 1 < length accounts
   pub others : (k : ℕ) (a : Account) → StandsAt accounts k a → 0 < k → a.found ≡ true
 
--- the first account gave units away if another account exists
+-- the first account gave units away if there is another account and the first was not joined
 abbrev pub HasParted : ℕ → ℕ → Account → Type 0
 HasParted many k a = k ≡ 0 → 1 < many → a.joined ≡ false → a.parted ≡ true
 
@@ -55,11 +55,12 @@ or_none : (x : Bool) (n : Option ℕ) (i : ℕ) → n ≡ Some i → x || is_non
 or_none true n i some t = refl
 or_none false n i some t = let f : false ≡ true = sym (ap is_none some) ∙ t in absurd (false≢true f)
 
--- the account that acts still rests after an event that keeps its share and its idle number, in each of these cases
+-- `IsResting` still holds of the account that acts after an event that keeps its share and its idle number, in each of
+-- the cases below
 module _
     (a b : Account) (rest : IsResting a)
     (share : b.share ≡ a.share) (idle : b.idle ≡ a.idle) (joined : b.joined ≡ a.joined) where
-  -- its charge is the same, and it still has found what it found
+  -- the charge is the same, and `found` stays true if it was true
   same_rest : b.charge ≡ a.charge → (a.found ≡ true → b.found ≡ true) → IsResting b
   same_rest charge found alone =
       let r = rest (sym joined ∙ alone) in (
@@ -67,7 +68,7 @@ module _
         ⊎_elim (λ z. inl (idle ∙ z)) (λ o. inr (idle ∙ o.0, share ∙ o.1, charge ∙ o.2, found o.3)) r.1,
       )
 
-  -- it is not idle
+  -- the account is not idle
   busy_rest : IsBusy a → IsResting b
   busy_rest busy alone =
       let r = rest (sym joined ∙ alone) in (
@@ -75,7 +76,7 @@ module _
         ⊎_elim (λ z. inl (idle ∙ z)) (λ o. ⊎_elim (λ n. absurd (n o.1)) (λ z. inl (idle ∙ z)) busy) r.1,
       )
 
-  -- its charge is not empty
+  -- the charge is not empty
   charged_rest : (x : ℕ) → Contains a.charge x → IsResting b
   charged_rest x here alone =
       let r = rest (sym joined ∙ alone) in
@@ -87,7 +88,7 @@ module _
 abbrev pub Hushed : Marking → Type 0
 Hushed m = IsHushed m.idle (m.head Full).index m.accounts
 
--- the idle word counts up and down with the sum
+-- the idle word is still the sum modulo 2 ^ 64 after both were raised or lowered by one
 up_counted : (idle n k : ℕ) → idle ≡ n % 2 ^ 64 → k ≡ n + 1 → (idle + 1) % 2 ^ 64 ≡ k % 2 ^ 64
 up_counted idle n k counted more = omega (arith, counted, more)
 
@@ -109,7 +110,7 @@ module _ (e : Setup) (m : Marking) (s : Hushed m) (w : ℕ) (a : Account) (there
     more_than_one : 1 < length now → 1 < length m.accounts
     more_than_one more = omega (arith, more, length-set m.accounts w b)
 
-    -- if the accounts have found the full stack empty after the event, they had before, so it is still empty
+    -- if `HaveFound` holds after the event, it held before, so the full stack is still empty
     still_empty : b.pushed ≡ a.pushed → (b.found ≡ true → a.found ≡ true) → HaveFound now → (m.head Full).index ≡ None
     still_empty pushed found h =
         s.emptied (record {
@@ -123,7 +124,7 @@ module _ (e : Setup) (m : Marking) (s : Hushed m) (w : ℕ) (a : Account) (there
               (λ was later. found (was later));
         })
 
-    -- its idle number or the full head changes, and whether it gave units away does not
+    -- `IsHushed` holds after the account's idle number or the head of the full stack changed, if `parted` is as before
     change :
         (idle : ℕ) (top : Option ℕ) → idle ≡ idle_sum now % 2 ^ 64 → IsResting b → b.parted ≡ a.parted
         → (HaveFound now → top ≡ None) → IsHushed idle top now
@@ -144,14 +145,14 @@ module _ (e : Setup) (m : Marking) (s : Hushed m) (w : ℕ) (a : Account) (there
         omega (arith, same, sum_of-set (λ (x : Account). x.idle) m.accounts w a b there.0) in
         s.counted ∙ ap (λ n. n % 2 ^ 64) sums
 
-    -- it changes in nothing that others may find
+    -- `IsHushed` still holds if the account keeps its idle number, `parted`, `pushed` and `found`
     keep :
         b.idle ≡ a.idle → IsResting b → b.parted ≡ a.parted → b.pushed ≡ a.pushed → b.found ≡ a.found
         → IsHushed m.idle (m.head Full).index now
     keep same rests parted pushed found =
         change m.idle (m.head Full).index (same_count same) rests parted (still_empty pushed (λ p. sym found ∙ p))
 
-    -- a push on full withdraws what was found
+    -- after a push on full `HaveFound` does not hold
     push_full :
         (top : Option ℕ) → b.idle ≡ a.idle → IsResting b → b.parted ≡ a.parted → b.pushed ≡ (a.pushed || a.parted)
         → b.found ≡ false → IsHushed m.idle top now
@@ -165,7 +166,7 @@ module _ (e : Setup) (m : Marking) (s : Hushed m) (w : ℕ) (a : Account) (there
             false≢true (sym (or_parts a.pushed a.parted (sym pushed ∙ h.opening w b here (sym e))).1 ∙ gave)
         not_found h (no n) = false≢true (sym found ∙ h.others w b here (omega (arith, n)))
 
-  -- it changes in nothing that is read here
+  -- `IsHushed` still holds if the account changes in nothing that `IsHushed` reads
   keep_all :
       (b : Account) → b.share ≡ a.share → b.idle ≡ a.idle → b.joined ≡ a.joined → b.charge ≡ a.charge
       → b.found ≡ a.found → b.parted ≡ a.parted → b.pushed ≡ a.pushed
@@ -173,7 +174,7 @@ module _ (e : Setup) (m : Marking) (s : Hushed m) (w : ℕ) (a : Account) (there
   keep_all b share idle joined charge found parted pushed =
       keep b joined idle (same_rest a b rest share idle joined charge (λ h. found ∙ h)) parted pushed found
 
-  -- it is not idle, and changes in nothing that others may find
+  -- `IsHushed` still holds if the account is not idle, and changes only in its charge among what `IsHushed` reads
   keep_busy :
       (b : Account) → IsBusy a → b.share ≡ a.share → b.idle ≡ a.idle → b.joined ≡ a.joined → b.parted ≡ a.parted
       → b.pushed ≡ a.pushed → b.found ≡ a.found → IsHushed m.idle (m.head Full).index (set m.accounts w b)
@@ -347,8 +348,8 @@ run_is_hushed e m run =
     let opens = run.2 in
     along e Hushed (happens_hushed e) run.1 run.0 m (subst Hushed (sym opens.2) (opening_hushed e opens.0)) run.3
 
--- accounts of which none was joined have idle numbers up to their shares: if the sums of both are equal, so are the two
--- numbers of each account
+-- if no account was joined, each idle number is at most the account's share. If the sum of the idle numbers is then
+-- that of the shares, the idle number of each account is its share
 abbrev AllApart : List Account → Type 0
 AllApart cs = (k : ℕ) (a : Account) → StandsAt cs k a → (a.joined ≡ false) × IsResting a
 

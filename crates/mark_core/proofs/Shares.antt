@@ -15,7 +15,7 @@ HasNoMore a = a.share ≡ 0 → HasNothing a
 
 module _ (accounts : List Account) (s : IsShared accounts) (w : ℕ) (a : Account) (is : StandsAt accounts w a)
     (there : 0 < a.share) where
-  -- the shares still hold if an account changes but not its share
+  -- the shares still add up if an account changes but keeps its share
   pub shared_set : (b : Account) → b.share ≡ a.share → IsShared (set accounts w b)
   shared_set b same = record {
     sum = omega (arith, s.sum, sum_of-set (λ (x : Account). x.share) accounts w a b is);

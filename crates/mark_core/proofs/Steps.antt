@@ -42,7 +42,7 @@ steps_of old new w kind false there number may_not =
     λ can. may_not (subst (λ (x : Account). Allows old.setup (marking_of old) w x kind)
     (sym (at_get_or old.accounts w can.0.0 no_share can.0.1.0)) can.0.2)
 
--- the same for a result that may be an error
+-- `steps_of` for a result that may be an error
 pub steps_ok :
     {E : Type 0} (old new : Listing) (w : ℕ) (kind : Kind) (answer : Result Bool E) → HasAccount old w
     → HasNumber kind old.accounts

@@ -37,7 +37,7 @@ pub marking_headed : (l : Listing) (q : Which) (h : Head)
 marking_headed l Full h = ap (λ f. record (marking_of l) { head = f }) (heads_turned l Full h)
 marking_headed l Empty h = ap (λ f. record (marking_of l) { head = f }) (heads_turned l Empty h)
 
--- the other tables are as they were
+-- the setup is the same, and the tables are as long as before
 record SameTables (new old : Listing) : Type 0 where
   setup : new.setup ≡ old.setup
   links : length new.links ≡ length old.links
@@ -219,7 +219,7 @@ module _ (s : Listing) (w : ℕ) (a : Account) (inside : w < length s.accounts) 
         busy = rw (← here) busy;
       }
 
--- a buffer that may be pushed fits into a head
+-- a buffer that may be pushed is one of the setup's
 pub push_within : (s : Listing) (w : ℕ) → IsLawful s → w < length s.accounts → (q : Which) (i : ℕ) (items : List ℕ)
     → IsReadyToPush s w q i items → i < s.setup.buffers
 push_within s w lawful there q i items may =

@@ -15,7 +15,7 @@ pub record AreNumbered (accounts : List Account) : Type 0 where
   pub weights : sum_of weight accounts ≤ length accounts
 
 module _ (accounts : List Account) (n : AreNumbered accounts) (w : ℕ) (a : Account) (is : StandsAt accounts w a) where
-  -- an account changes, and keeps its weight
+  -- `AreNumbered` holds after an account changed and kept its weight
   numbered_set : (b : Account) → weight b ≡ weight a → AreNumbered (set accounts w b)
   numbered_set b same =
       let long = length-set accounts w b in

@@ -1,4 +1,4 @@
--- Collects the words of the definitions that the lemmas use, so that a file names one module for them.
+-- Passes on the names of the definitions that the lemmas use, so that a file imports them from one module.
 pub use Rattle.mark_core.specs.Account.{Account, Look, look_of, no_share, after_claim, after_finish, after_join}
 pub use Rattle.mark_core.specs.Account.{after_pop, after_push, part, after_split, after_load, after_idle_up}
 pub use Rattle.mark_core.specs.Account.{after_idle_down, blank, after_load_link}

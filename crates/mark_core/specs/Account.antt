@@ -6,14 +6,14 @@ use Rattle.mark_core.specs.declared.which.Which.{Which}
 use Rattle.mark_core.specs.declared.which.Which.TheVariants.{Full, Empty}
 use Rattle.mark_core.specs.Lists.{remove_one, without}
 
--- what an account last loaded of a stack: its head, and after that the link of the buffer on top, which is None if that
--- buffer is the last
+-- what an account last loaded of a stack: the head, if any, and the link of the buffer that the head names, if loaded
+-- after the head. The link is Some None if that buffer is the last
 pub record Look : Type 0 where
   pub head : Option Head
   pub link : Option (Option ℕ)
 
 pub record Account : Type 0 where
-  -- its units: an account exists while it has one
+  -- its units: an account exists while it has at least one
   pub share : ℕ
   -- the buffers that it holds
   pub held : List ℕ
@@ -26,15 +26,15 @@ pub record Account : Type 0 where
   -- what it last loaded of the full stack and of the empty one
   pub full : Look
   pub empty : Look
-  -- it pushed on full, and has not loaded a full head without a buffer since
+  -- it pushed on full, or took over an open push in a join, and has not found the full stack empty since
   pub open_push : Bool
   -- its idle number: 1 while it is idle and 0 while it is not; after a join, the sum of the two accounts' numbers
   pub idle : ℕ
   -- the idle word that it last loaded
   pub last_idle : Option ℕ
-  -- it loaded a full head without a buffer since it was split off and since its own last push on full
+  -- it has found the full stack empty (loaded a head without a buffer), and has not pushed there since
   pub found : Bool
-  -- it gave units to another
+  -- it gave units to another account
   pub parted : Bool
   -- it pushed on full since it first gave units away
   pub pushed : Bool
@@ -82,12 +82,12 @@ after_claim o found a =
 abbrev pub after_finish : ℕ → Account → Account
 after_finish o a = record a { charge = remove_one o a.charge; finished = a.finished ++ o ∷ [] }
 
--- units go to another account
+-- some units went to another account
 abbrev pub after_split : ℕ → Account → Account
 after_split units a = record a { share = a.share - units; parted = true }
 
--- two accounts joined: lists, shares and idle numbers are added. The first account keeps what it loaded and its notes.
--- An open push of either stays open
+-- the account b was joined to a: lists are appended, shares and idle numbers added, an open push of either stays open,
+-- and the join is noted. What a last loaded stays, and so do its notes `found`, `parted` and `pushed`
 abbrev pub after_join : Account → Account → Account
 after_join a b =
     record {
@@ -107,8 +107,8 @@ after_join a b =
       joined = true;
     }
 
--- the head of a stack was loaded: the link loaded before is forgotten. A full head without a buffer is noted as found,
--- and ends an open push
+-- the head h of a stack was loaded: the link loaded before is forgotten. A head of the full stack without a buffer is
+-- noted in `found`, and ends an open push
 abbrev pub after_load : Which → Head → Account → Account
 after_load Full h a =
     record a {
@@ -118,7 +118,7 @@ after_load Full h a =
     }
 after_load Empty h a = record a { empty = record { head = Some h; link = None } }
 
--- the link of the last head's buffer was loaded
+-- the link of the buffer that the last loaded head names was loaded as l
 abbrev pub after_load_link : Which → Option ℕ → Account → Account
 after_load_link Full l a = record a { full = record { head = a.full.head; link = Some l } }
 after_load_link Empty l a = record a { empty = record { head = a.empty.head; link = Some l } }
@@ -127,7 +127,7 @@ after_load_link Empty l a = record a { empty = record { head = a.empty.head; lin
 abbrev pub after_pop : ℕ → List ℕ → Account → Account
 after_pop i items a = record a { held = a.held ++ i ∷ []; charge = a.charge ++ items }
 
--- a note after a push on a stack: `set` if that is the full stack, and `was`, as before, if it is the empty one
+-- a note after a push: `set` if the push was on the full stack, and `was`, the old note, if it was on the empty one
 abbrev pub on_full : Which → Bool → Bool → Bool
 on_full Full set was = set
 on_full Empty set was = was

@@ -5,18 +5,20 @@ use Rattle.mark_core.specs.Lists.{StandsAt, sum_of, times}
 use Rattle.mark_core.specs.Account.{Account}
 use Rattle.mark_core.specs.World.{Setup, items_of}
 
--- how often the object is in stacked buffers, in charges, and in finished lists
+-- how often the object o is in stacked buffers
 abbrev pub stacked_times : ℕ → List (Option (List ℕ)) → ℕ
 stacked_times o slots = sum_of (λ slot. times o (items_of slot)) slots
 
+-- how often o is in charges
 abbrev pub charged_times : ℕ → List Account → ℕ
 charged_times o accounts = sum_of (λ a. times o a.charge) accounts
 
+-- how often o is in finished lists
 abbrev pub finished_times : ℕ → List Account → ℕ
 finished_times o accounts = sum_of (λ a. times o a.finished) accounts
 
--- a path leads to the object: it begins at a root, and each later object is a successor of the one before it. The list
--- has the objects before the last, in reverse order: the root is at its end
+-- a path leads to the object o: it begins at a root, each later object is a successor of the one before, and o is the
+-- last. The list has the objects before o, in reverse order; it is empty if o is the root
 abbrev pub IsPathTo : Setup → List ℕ → ℕ → Type 0
 IsPathTo e [] o = Contains e.roots o
 IsPathTo e (p ∷ back) o = Contains e.pairs (p, o) × IsPathTo e back p
@@ -24,7 +26,8 @@ IsPathTo e (p ∷ back) o = Contains e.pairs (p, o) × IsPathTo e back p
 abbrev pub IsReachableIn : Setup → ℕ → Type 0
 IsReachableIn e o = (back : List ℕ) × IsPathTo e back o
 
--- white: the object is nowhere
+-- an object has the mark `mark`, is `working` times in stacked buffers and charges together, and `done` times in
+-- finished lists. White: it is in none of them
 abbrev pub IsWhite : ℕ → ℕ → ℕ → Type 0
 IsWhite mark working done = (mark ≡ 0) × (working ≡ 0) × (done ≡ 0)
 

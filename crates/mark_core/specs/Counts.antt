@@ -10,7 +10,7 @@ use Rattle.mark_core.specs.Runs.{opening, Run}
 pub record Counts : Type 0 where
   -- loads of a head, and of the idle word
   pub loads : ℕ
-  -- loads of the full head, and of the empty one, that found no buffer
+  -- loads of the head of the full stack, and of the empty stack, that found no buffer
   pub full_empties : ℕ
   pub empty_empties : ℕ
   -- exchanges of a head that failed
@@ -50,7 +50,7 @@ add_counts a b =
 abbrev pub counts_at : List Counts → ℕ → Counts
 counts_at counts w = slice_index_or counts w no_counts
 
--- the counts of all accounts after a step of the account w
+-- the counts of all accounts after a step of the account w. The marking before the step is m
 abbrev pub counted : Marking → List Counts → ℕ → Kind → List Counts
 counted m counts w (Load q) = slice_set counts w (count_load q (m.head q) (counts_at counts w))
 counted m counts w (Fail q) = slice_set counts w (count_failure (counts_at counts w))
@@ -65,7 +65,7 @@ abbrev pub all_counted : Marking → List Counts → List Event → List Counts
 all_counted m counts [] = counts
 all_counted m counts (event ∷ events) = all_counted (happens m event) (counted m counts event.worker event.kind) events
 
--- the events lead from the opening to the marking m, and to the counts of all accounts
+-- the events lead from the opening to the marking m, and `each` has the counts of all accounts after them
 pub record LeadTo (e : Setup) (events : List Event) (m : Marking) (each : List Counts) : Type 0 where
   pub run : Run e (opening e e.first_tag) events m
   pub counts : each ≡ all_counted (opening e e.first_tag) (no_counts ∷ []) events

@@ -22,7 +22,7 @@ pub data Kind : Type 0 where
   Join : ℕ → Kind
   -- load the head of a stack
   Load : Which → Kind
-  -- load the link of the buffer that the last loaded head names
+  -- load the link of the buffer that the last loaded head of a stack names
   LoadLink : Which → Kind
   -- store the link of a buffer
   StoreLink : ℕ → Option ℕ → Kind
@@ -30,7 +30,7 @@ pub data Kind : Type 0 where
   Pop : Which → Kind
   -- exchange the head of a stack for a buffer with items
   Push : Which → ℕ → List ℕ → Kind
-  -- fail to exchange the head of a stack, which is no longer the one that was loaded
+  -- fail to exchange the head of a stack: the head is no longer the one that was loaded
   Fail : Which → Kind
   -- go idle: add one to the idle word
   IdleUp : Kind
@@ -39,7 +39,7 @@ pub data Kind : Type 0 where
   -- load the idle word
   LoadIdle : Kind
 
--- what the account of a worker does
+-- one step: the number of the worker's account, and what this account does
 pub record Event : Type 0 where
   pub worker : ℕ
   pub kind : Kind
@@ -60,11 +60,11 @@ CanFinish e o a = Contains a.charge o × ((s : ℕ) → Contains e.pairs (o, s) 
 abbrev pub CanSplit : ℕ → Account → Type 0
 CanSplit units a = (0 < units) × (units < a.share)
 
--- the last loaded head is the stack's, and its tag is not the last tag
+-- the last loaded head is the stack's current one, `now`, and its tag is not the last tag
 abbrev pub CanExchange : Head → Look → Type 0
 CanExchange now look = (look.head ≡ Some now) × (now.tag < last_tag)
 
--- the head may be exchanged, it names a buffer, and the link of that buffer was loaded
+-- the head `now` may be exchanged, it names a buffer, and the link of that buffer was loaded
 abbrev pub CanPop : Head → Look → Type 0
 CanPop now look = CanExchange now look × ((i : ℕ) × (now.index ≡ Some i)) × ((l : Option ℕ) × (look.link ≡ Some l))
 
@@ -74,7 +74,7 @@ abbrev pub CanGive : Setup → Which → ℕ → List ℕ → Account → Type 0
 CanGive e q i items a = Contains a.held i × IsPart items a.charge × (length items ≤ e.size) × (q ≡ Empty → items ≡ [])
 
 -- an account may go idle if it has one unit, idle number 0 and no object in its charge, and has found the full stack
--- empty after it was split off and after its own last push there
+-- empty and not pushed there since
 abbrev pub CanIdle : Account → Type 0
 CanIdle a = (a.share ≡ 1) × (a.idle ≡ 0) × (a.charge ≡ []) × (a.found ≡ true)
 
@@ -107,17 +107,18 @@ word_up n = (n + 1) % 2 ^ 64
 abbrev pub word_down : ℕ → ℕ
 word_down n = (n + (2 ^ 64 - 1)) % 2 ^ 64
 
--- the link of the buffer with this index; none if there is no index
+-- the link of the buffer with this index; None if there is no index
 abbrev pub link_from : (ℕ → Option ℕ) → Option ℕ → Option ℕ
 link_from link None = None
 link_from link (Some i) = link i
 
--- the link of the buffer that the last loaded head names
+-- the link of the buffer that the last loaded head names; None if there is no such head or buffer
 abbrev pub last_link : (ℕ → Option ℕ) → Option Head → Option ℕ
 last_link link None = None
 last_link link (Some h) = link_from link h.index
 
--- the account pops the buffer `i`, the first of a stack, whose link was loaded as `l`
+-- the marking after the account `a`, which has the number `w`, popped the buffer `i`, the first of the stack `q`. The
+-- account loaded the link of `i` as `l`. Without a buffer or a link nothing changes
 abbrev pub stack_popped : Marking → ℕ → Account → Which → Option ℕ → Option (Option ℕ) → Marking
 stack_popped m w a q (Some i) (Some l) =
     record m {

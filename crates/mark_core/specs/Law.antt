@@ -1,4 +1,4 @@
--- The law that holds after each event.
+-- The law, which holds at the opening and after each event.
 use Rattle.std.specs.Prelude.{ℕ, List}
 use Rattle.mark_core.specs.declared.which.Which.{Which}
 use Rattle.mark_core.specs.World.{Setup, Marking}

@@ -3,11 +3,11 @@ use Rattle.std.specs.Prelude.{◌≡◌, ℕ, ◌+◌, ◌≤◌, ◌==◌, if�
 use mathlib.Core.Option.{some}
 use lib.ListN.{get_elem?}
 
--- x is in the list at this position
+-- x is at position i of the list
 abbrev pub StandsAt : {X : Type 0} → List X → ℕ → X → Type 0
 StandsAt xs i x = get_elem? xs i ≡ some x
 
--- the sum of the weights of the elements
+-- the sum of the weights f x of the elements x
 abbrev pub sum_of : {X : Type 0} → (X → ℕ) → List X → ℕ
 sum_of f [] = 0
 sum_of f (x ∷ xs) = f x + sum_of f xs
@@ -30,7 +30,7 @@ abbrev pub remove_one : ℕ → List ℕ → List ℕ
 remove_one x [] = []
 remove_one x (y ∷ ys) = if y == x then ys else y ∷ remove_one x ys
 
--- the second list without the numbers of the first, each removed once
+-- what is left of the second list: for each number of the first, in turn, the first equal number is removed, if any
 abbrev pub without : List ℕ → List ℕ → List ℕ
 without [] ys = ys
 without (x ∷ xs) ys = without xs (remove_one x ys)

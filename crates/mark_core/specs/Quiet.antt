@@ -1,5 +1,5 @@
--- Quiet: as many units as the opening account gave away are idle, and it has pushed nothing on the full stack since.
--- Then nothing is left for the other accounts to do. Account 0 is the opening one.
+-- Quiet: the idle word is the number of units that account 0, the opening one, gave away, and account 0 has pushed
+-- nothing on the full stack since it first gave any. Then nothing is left for the other accounts to do.
 use Rattle.std.specs.Prelude.{◌≡◌, ℕ, ◌+◌, ◌<◌, false, List, []}
 use Rattle.mark_core.specs.declared.which.Which.TheVariants.{Full}
 use Rattle.mark_core.specs.Lists.{StandsAt}
@@ -9,14 +9,14 @@ use Rattle.mark_core.specs.Events.{IsBusy}
 use Rattle.mark_core.specs.Shares.{whole}
 use Rattle.mark_core.specs.Runs.{IsListOf, IsRun}
 
--- the opening account is not idle, gave n units away, and has pushed nothing on full since it first gave any
+-- the opening account a is not idle, gave n units away, and has pushed nothing on full since it first gave any
 pub record HasGivenUnits (n : ℕ) (a : Account) : Type 0 where
   pub busy : IsBusy a
   pub units : a.share + n ≡ whole
   pub pushed : a.pushed ≡ false
 
--- the marking is quiet for n, which is at least 1: the idle word is n, no account was joined, and the opening one gave
--- exactly n units away
+-- the marking is quiet for n, which is at least 1: the idle word is n, no account was joined, and the opening account
+-- meets `HasGivenUnits`
 pub record IsQuiet (m : Marking) (n : ℕ) : Type 0 where
   pub least : 0 < n
   pub word : m.idle ≡ n

@@ -33,24 +33,24 @@ opening e tag =
       accounts = part whole ∷ [];
     }
 
--- the marking is the opening one, and there is a buffer
+-- the marking is the opening with some first tag, and there is a buffer
 abbrev pub IsOpening : Setup → Marking → Type 0
 IsOpening e m = (tag : ℕ) × (0 < e.buffers) × (m ≡ opening e tag)
 
--- the events may happen in their order from the first marking on, and lead to the last one
+-- the events are possible in their order from the marking `first` on, and lead to the marking `last`
 abbrev pub Run : Setup → Marking → List Event → Marking → Type 0
 Run e first [] last = last ≡ first
 Run e first (event ∷ events) last = IsPossible e first event × Run e (happens first event) events last
 
--- a run from an opening marking leads to this one
+-- a run from an opening marking leads to the marking `last`
 abbrev pub IsRun : Setup → Marking → Type 0
 IsRun e last = (first : Marking) × (events : List Event) × IsOpening e first × Run e first events last
 
--- the law holds after every list of events
+-- the law holds after every list of possible events from an opening on
 abbrev pub RunsKeepLaw : Type 0
 RunsKeepLaw = (e : Setup) (m : Marking) → IsRun e m → Law e m
 
--- each event keeps the law. The facts from here on hold of every marking under the law, and so of every run
+-- each possible event keeps the law. The facts below hold of every marking under the law, and so of every run
 abbrev pub EventsKeepLaw : Type 0
 EventsKeepLaw = (e : Setup) (m : Marking) (event : Event) → Law e m → IsPossible e m event → Law e (happens m event)
 
@@ -65,14 +65,14 @@ Changes q (Pop p) old new = (p ≡ q → (i : ℕ) × (old ≡ i ∷ new)) × (p
 Changes q (Push p i items) old new = (p ≡ q → new ≡ i ∷ old) × (p ≢ q → new ≡ old)
 Changes q kind old new = new ≡ old
 
--- each event changes the stacks as one thread would
+-- each possible event changes the list of each stack as `Changes` says
 abbrev pub StacksChange : Type 0
 StacksChange =
     (e : Setup) (m : Marking) (event : Event) → Law e m → IsPossible e m event
     → (q : Which) (old new : List ℕ)
     → IsListOf m q old → IsListOf (happens m event) q new → Changes q event.kind old new
 
--- a head stays as it is, or its tag rises by one
+-- at each event, each head stays as it is or its tag rises by one
 abbrev pub TagsRise : Type 0
 TagsRise =
     (m : Marking) (event : Event) (q : Which)
@@ -91,17 +91,17 @@ MarksRise =
     (e : Setup) (m : Marking) (event : Event) → Law e m → IsPossible e m event
     → (o : ℕ) → m.mark o ≤ (happens m event).mark o
 
--- it holds no buffer twice, and no object is twice in its charge and its finished list together
+-- the account a holds no buffer twice, and no object is twice in its charge and its finished list together
 pub record HasEachOnce (a : Account) : Type 0 where
   pub held : (i : ℕ) → times i a.held ≤ 1
   pub objects : (o : ℕ) → times o a.charge + times o a.finished ≤ 1
 
--- each account has a buffer or an object at most once
+-- no account has a buffer or an object twice
 abbrev pub AccountsHaveEachOnce : Type 0
 AccountsHaveEachOnce =
     (e : Setup) (m : Marking) → Law e m → (w : ℕ) (a : Account) → StandsAt m.accounts w a → HasEachOnce a
 
--- no buffer is held by both, and no object is in the charge or the finished list of both
+-- no buffer is held by both accounts, and no object is in a charge or finished list of both
 pub record AreApart (a b : Account) : Type 0 where
   pub held : (i : ℕ) → times i a.held + times i b.held ≤ 1
   pub objects : (o : ℕ) → (times o a.charge + times o a.finished) + (times o b.charge + times o b.finished) ≤ 1
@@ -118,21 +118,21 @@ LiesIn m list o = (b : ℕ) × (items : List ℕ) × Contains list b × StandsAt
 
 -- what holds of the account w, which is a, at the close
 pub record IsClosed (e : Setup) (m : Marking) (w : ℕ) (a : Account) : Type 0 where
-  -- the finished objects are its own, each once
+  -- the finished objects are those in the finished list of a, which has each once
   pub finished : (o : ℕ) → (m.mark o ≡ 2) ↔ Contains a.finished o
   pub once : (o : ℕ) → times o a.finished ≤ 1
-  -- the claimed objects are the items on the full stack
+  -- the claimed objects are the items of the buffers on the full stack
   pub claimed : (full : List ℕ) → IsListOf m Full full → (o : ℕ) → (m.mark o ≡ 1) ↔ LiesIn m full o
-  -- with no open push the full stack has no buffer
+  -- the full stack has no buffer if a has no open push
   pub emptied : a.open_push ≡ false → (full : List ℕ) → IsListOf m Full full → full ≡ []
-  -- each buffer that it does not hold is on one of the stacks
+  -- each buffer is on one of the stacks, or a holds it
   pub buffers :
       (full empty : List ℕ) → IsListOf m Full full → IsListOf m Empty empty
       → (b : ℕ) → times b full + times b empty + times b a.held ≡ one_where (nat_lt b e.buffers)
   pub others : (v : ℕ) (b : Account) → v ≢ w → StandsAt m.accounts v b → HasNothing b
 
--- if one account has the whole share and nothing in its charge, its finished list and the full stack determine the
--- marks
+-- if one account has the whole share and an empty charge, the marks are determined: by its finished list and by the
+-- full stack
 abbrev pub ClosedIsDetermined : Type 0
 ClosedIsDetermined =
     (e : Setup) (m : Marking) → Law e m

@@ -10,7 +10,7 @@ whole = 65536
 abbrev pub shares : List Account → ℕ
 shares accounts = sum_of (λ a. a.share) accounts
 
--- it holds nothing, has nothing in its charge, finished nothing, and has no open push
+-- the account a holds no buffer, has no object in its charge, finished none, and has no open push
 pub record HasNothing (a : Account) : Type 0 where
   pub held : a.held ≡ []
   pub charge : a.charge ≡ []

@@ -40,7 +40,7 @@ marking_of l =
       accounts = l.accounts;
     }
 
--- the event that a caller means
+-- the kind of event that a caller's value means
 abbrev pub meant_kind : {A : Type 0} → given.Kind A → Kind
 meant_kind (given.TheVariants.Claim o) = Claim o
 meant_kind (given.TheVariants.Finish o) = Finish o
@@ -59,12 +59,12 @@ meant_kind given.TheVariants.LoadIdle = LoadIdle
 abbrev pub event_of : {A : Type 0} → given_event.Event A → Event
 event_of event = record { worker = event.worker; kind = meant_kind event.kind }
 
--- the lists with another head for one of the stacks
+-- the lists with the head h for one of the stacks
 abbrev pub with_head : Listing → Which → Head → Listing
 with_head l Full h = record l { full = h }
 with_head l Empty h = record l { empty = h }
 
--- the lists after an exchange of the head of a stack
+-- the lists after an exchange of the head of the stack q for `index` and the next tag
 abbrev pub exchanged : Listing → Which → Option ℕ → Listing
 exchanged l q index = with_head l q (after (heads_of l q) index)
 
@@ -84,7 +84,7 @@ pub record IsLawful (l : Listing) : Type 0 where
   pub weights : sum_of weight l.accounts ≤ length l.accounts
   -- each buffer is an index that a head can hold
   pub few : l.setup.buffers ≤ 65534
-  -- roots and pairs are of objects
+  -- roots and pairs name only objects
   pub rooted : All (λ o. o < l.setup.objects) l.setup.roots
   pub paired : All (λ p. (p.0 < l.setup.objects) × (p.1 < l.setup.objects)) l.setup.pairs
 
@@ -105,11 +105,11 @@ pub record Does (old : Listing) (w : ℕ) (kind : Kind) (new : Listing) : Type 0
 abbrev pub MayDo : Listing → ℕ → Kind → Type 0
 MayDo l w kind = Allows l.setup (marking_of l) w (account_at l.accounts w) kind
 
--- the account w takes this step, or it may not
+-- the account w takes this step if `done` is true, and may not take it otherwise
 abbrev pub Tries : Listing → ℕ → Kind → Bool → Listing → Type 0
 Tries old w kind done new = MatchBool done (Does old w kind new) (¬ MayDo old w kind)
 
--- what a push requires, except that the items are part of the charge and that the tag is not the last
+-- what a push on the stack q requires, except that the items are part of the charge and that the tag is not the last
 pub record IsReadyToPush (l : Listing) (w : ℕ) (q : Which) (i : ℕ) (items : List ℕ) : Type 0 where
   pub head : (look_of (account_at l.accounts w) q).head ≡ Some (heads_of l q)
   pub held : Contains (account_at l.accounts w).held i
@@ -123,7 +123,7 @@ abbrev pub HasNumber : Kind → List Account → Type 0
 HasNumber (Split units) accounts = length accounts < 4294967295
 HasNumber kind accounts = Unit {0}
 
--- the event is possible, and there is a number for the account that it makes
+-- the event is possible, and there is a number for the account that it makes, if it makes one
 abbrev pub CanStep : Listing → Event → Type 0
 CanStep l event = IsPossible l.setup (marking_of l) event × HasNumber event.kind l.accounts
 
@@ -136,11 +136,11 @@ pub record Follows (old : Listing) (event : Event) (new : Listing) : Type 0 wher
   pub slots : length new.slots ≡ length old.slots
   pub marks : length new.marks ≡ length old.marks
 
--- the step is taken, or it is not possible
+-- the step is taken if `done` is true, and cannot be taken otherwise
 abbrev pub Steps : Listing → Event → Bool → Listing → Type 0
 Steps old event done new = MatchBool done (Follows old event new) (¬ CanStep old event)
 
--- the lists after the event, with the same setup; or None, exactly if there is no step
+-- the lists after the event, with the same setup; or None, exactly if the step cannot be taken
 abbrev pub Answers : Option Listing → Listing → Event → Type 0
 Answers None old event = ¬ CanStep old event
 Answers (Some new) old event =

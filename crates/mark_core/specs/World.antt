@@ -1,4 +1,4 @@
--- The world of a marking: two stacks of buffers, a mark for each object, and an account for each worker.
+-- The world of a marking: two stacks of buffers, a mark for each object, the idle word, and an account for each worker.
 use Rattle.std.specs.Prelude.{ℕ, ◌==◌, ◌<◌, if◌then◌else◌, List, [], Option, unwrap_or, slice_index_or}
 use Rattle.tagged_index.specs.Head.{Head}
 use Rattle.mark_core.specs.declared.which.Which.{Which}
@@ -34,7 +34,7 @@ pub record Marking : Type 0 where
 abbrev pub items_of : Option (List ℕ) → List ℕ
 items_of slot = unwrap_or slot []
 
--- the account w; one without a share if there is none
+-- the account w; an account without a share if w is no account's number
 abbrev pub account_at : List Account → ℕ → Account
 account_at accounts w = slice_index_or accounts w no_share
 
@@ -42,11 +42,11 @@ account_at accounts w = slice_index_or accounts w no_share
 abbrev pub IsThere : List Account → ℕ → Account → Type 0
 IsThere accounts w a = StandsAt accounts w a × (0 < a.share)
 
--- the function with x at i
+-- the function f, but x at i
 abbrev pub put : {X : Type 0} → ℕ → X → (ℕ → X) → ℕ → X
 put i x f j = if j == i then x else f j
 
--- the heads with another one for one of the stacks
+-- the function f of the two stacks, but x at one of them
 abbrev pub put_which : {X : Type 0} → Which → X → (Which → X) → Which → X
 put_which Full x f Full = x
 put_which Full x f Empty = f Empty

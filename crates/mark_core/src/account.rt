@@ -20,8 +20,9 @@ use std::alloc::Allocator;
 use std::marker::Model;
 use tagged_index::HeadWord;
 
-/// The account of a worker: its units and its buffers, the objects in its charge, those it saw marked and those it
-/// finished, what it last loaded, its idle number, and notes of what it did. `specs/Account.antt` explains each field.
+/// The account of a worker: its units, the buffers that it holds, the objects in its charge, those that it saw marked,
+/// those that it finished, what it last loaded, its idle number, and notes of what it did. `specs/Account.antt`
+/// explains each field.
 #[derive(Drop)]
 pub struct Account<A: Allocator> {
     share: u32,
@@ -86,7 +87,7 @@ impl<A: Allocator + Copy> Account<A> {
         }
     }
 
-    /// Creates what is left of an account that was joined to another: an account that has nothing.
+    /// Creates what is left of an account that was joined to another: an account that has nothing, noted as joined.
     pub fn gone(alloc: A) -> Self
         ensures { result ≡ no_share }
     {
@@ -97,7 +98,7 @@ impl<A: Allocator + Copy> Account<A> {
 }
 
 impl<A: Allocator> Account<A> {
-    /// Tests whether the account exists: one that was joined to another has no unit left.
+    /// Tests whether the account exists, that is, has a unit. An account that was joined to another has no units.
     pub fn is_there(&self) -> bool
         ensures { IsTrue result ↔ (0 < self.now.share) }
     {
@@ -142,7 +143,7 @@ impl<A: Allocator> Account<A> {
         self.share != 1 || self.idle == 0
     }
 
-    /// Tests whether the account may push on the stack `which`. It may push on full only if it is not idle.
+    /// Tests whether `which` is the empty stack or the account is not idle: an idle account pushes nothing on full.
     pub fn may_push_on(&self, which: Which) -> bool
         ensures { IsTrue result ↔ (which ≡ Full → IsBusy self.now) }
     {
@@ -159,14 +160,16 @@ impl<A: Allocator> Account<A> {
         setup.is_root(object) || setup.has_pair_from(self.charge.as_slice(), object)
     }
 
-    /// Tests whether the account may claim `object`: it is not idle, and reaches it.
+    /// Tests whether the account may claim `object`: the account is not idle, and `object` is a root or a successor of
+    /// an object in the account's charge.
     pub fn may_claim(&self, setup: &Setup<A>, object: u32) -> bool
         ensures { IsTrue result ↔ (CanClaim setup.now object self.now × IsBusy self.now) }
     {
         self.reaches(setup, object) && self.is_busy()
     }
 
-    /// Tests whether the account may finish `object`: the object is in its charge, and it saw each successor marked.
+    /// Tests whether the account may finish `object`: `object` is in the account's charge, and the account has seen
+    /// that all successors of `object` are marked.
     pub fn may_finish(&self, setup: &Setup<A>, object: u32) -> bool
         ensures { IsTrue result ↔ CanFinish setup.now object self.now }
     {
@@ -180,8 +183,8 @@ impl<A: Allocator> Account<A> {
         0 < units && units < self.share
     }
 
-    /// Tests whether the account may go idle: it has one unit, is not idle, has nothing in its charge and found the
-    /// full stack empty.
+    /// Tests whether the account may go idle: it has one unit, is not idle, has nothing in its charge, and has found
+    /// the full stack empty and not pushed there since.
     pub fn may_idle(&self) -> bool
         ensures { IsTrue result ↔ CanIdle self.now }
     {
@@ -195,7 +198,7 @@ impl<A: Allocator> Account<A> {
         self.share == 1 && self.idle == 1
     }
 
-    /// Notes that `object` is marked, and adds it to the charge if `found`, its mark before the claim, was white.
+    /// Notes that `object` is marked. Adds `object` to the charge if `found`, its mark before the claim, is 0 (white).
     pub fn claim(&mut self, object: u32, found: u8) -> Result<(), OutOfMemory>
         ensures { OnOk result (self.new ≡ after_claim object found self.old) }
     {
@@ -224,7 +227,7 @@ impl<A: Allocator> Account<A> {
         self.parted = true;
     }
 
-    /// Adds the units, buffers and objects of `other`.
+    /// Adds the units, buffers, objects and idle number of `other`. Takes over its open push, if any. Notes the join.
     pub fn join(&mut self, other: &Account<A>) -> Result<(), OutOfMemory>
         requires shares { self.old.share + other.now.share < 2 ^ 32 }
         requires idles { self.old.idle + other.now.idle < 2 ^ 32 }
@@ -265,7 +268,7 @@ impl<A: Allocator> Account<A> {
         }
     }
 
-    /// Adds `buffer` to the held buffers, and the items in `slot` to the charge.
+    /// Adds `buffer` to the held buffers, and the items in `slot`, if any, to the charge.
     pub fn pop(&mut self, buffer: u32, slot: Option<Numbers<A>>) -> Result<(), OutOfMemory>
         ensures { OnOk result (self.new ≡ after_pop buffer (items_of slot) self.old) }
     {
@@ -276,8 +279,8 @@ impl<A: Allocator> Account<A> {
         Ok(())
     }
 
-    /// Gives up `buffer` with `items`, and returns whether the items are part of the charge. If they are not, the
-    /// account afterwards is not specified.
+    /// Gives up `buffer` and `items` for a push on the stack `which`. Returns whether `items` are part of the charge.
+    /// If they are not, the account afterwards is not specified.
     pub fn push(&mut self, which: Which, buffer: u32, items: &[u32]) -> bool
         ensures part { IsTrue result ↔ IsPart items.now self.old.charge }
         ensures pushed { OnTrue result (self.new ≡ after_push which buffer items.now self.old) }

@@ -4,8 +4,8 @@ ghost use Rattle.std.specs.Prelude.{◌≡◌, ℕ, ◌<◌, List, All};
 
 /// The objects of a heap, as a marking sees them.
 ///
-/// Objects are numbered from 0. The roots are the objects at which reachability begins. The pairs are each object with
-/// each of its successors.
+/// Objects are numbered from 0. The roots are the objects at which reachability begins. The pairs are all pairs of an
+/// object and a successor of it. Only contracts see roots and pairs.
 pub trait Edges {
     ghost count: { Self → ℕ };
 

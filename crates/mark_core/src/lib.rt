@@ -1,10 +1,10 @@
 //! The world of a marking with many workers, its events, and the law that they keep.
 //!
 //! Everything here is pure: no thread, no atomic word. A `World` is what all workers share (two stacks of buffers, the
-//! marks) and the account of each worker, with the objects in its charge. An `Event` is one atomic step of one worker.
-//! `step` makes an event if it is possible. `all_runs_keep_law` is the theorem on which the rest of the program rests:
-//! after every list of possible events, in whatever order threads made them, each claimed object is in exactly one
-//! place and each finished object has its successors marked.
+//! marks, the idle word) and the account of each worker, with the objects in its charge. An `Event` is one atomic step
+//! of one worker. `step` makes an event if it is possible. The proofs of the marking rest on the theorem
+//! `all_runs_keep_law`: after every list of possible events, in whatever order threads made them, each claimed object
+//! is in exactly one place, and all successors of each finished object are marked.
 //!
 //! From `crates/core_tests/src/world_example.rt`, which is proved and run as a test:
 //!
@@ -17,7 +17,7 @@
 //!     }
 //!     assert_eq!(rt; world.marks(), &[2, 2][..]);
 //!
-//! `specs/Law.antt` defines the law's parts, `specs/Events.antt` the events. `docs/MARKING.md` has both in words.
+//! `specs/Law.antt` defines the law, `specs/Events.antt` the events. `docs/MARKING.md` has the law in words.
 
 #![tactic(auto)]
 

@@ -7,7 +7,8 @@ ghost use Rattle.tagged_index.specs.Head.{Head};
 use std::marker::Model;
 use tagged_index::HeadWord;
 
-/// The last loaded head of a stack, and the link of its first buffer, if the link was loaded after the head.
+/// What an account last loaded of a stack: the head, if any, and the link of the buffer that the head names, if the
+/// account loaded this link after the head.
 #[derive(Clone, Copy)]
 pub struct Look {
     head: Option<HeadWord>,
@@ -25,7 +26,7 @@ impl Model for Look {
 }
 
 impl Look {
-    /// Creates the look of an account that has loaded nothing.
+    /// Creates the look of an account that has loaded nothing of the stack.
     pub fn blank() -> Self
         ensures { result ≡ blank }
     {
@@ -55,7 +56,7 @@ impl Look {
         }
     }
 
-    /// Returns the link, or `None` if none was loaded.
+    /// Returns the link, or `None` if no link was loaded after the head. The link of the last buffer is itself `None`.
     pub fn link(self) -> Option<Option<u32>>
         ensures { result ≡ self.link }
     {
@@ -78,7 +79,7 @@ impl Look {
         self.head == Some(now)
     }
 
-    /// Tests whether a head was loaded, and it is not `now`.
+    /// Tests whether a head was loaded that differs from `now`.
     pub fn shows_another(self, now: HeadWord) -> bool
         ensures { IsTrue result ↔ ((h : Head) × (self.head ≡ Some h) × (now ≢ h)) }
     {

@@ -9,7 +9,7 @@ use crate::out_of_memory::OutOfMemory;
 use std::alloc::Allocator;
 use std::marker::Model;
 
-/// A list of numbers in the order in which they were added, with repeats.
+/// A list of numbers in the order in which they were added. A number may be in it more than once.
 #[derive(Drop)]
 pub struct Numbers<A: Allocator> {
     items: Vec<u32, A>,
@@ -84,7 +84,7 @@ impl<A: Allocator> Numbers<A> {
         Ok(())
     }
 
-    /// Returns the position of the first `number`.
+    /// Returns the position of the first `number`, or `None` if the list does not contain `number`.
     fn place_of(&self, number: u32) -> Option<usize>
         ensures there { IsSome result ↔ Contains self.now number }
         ensures first { result ≡ position (λ item. item == number) self.now }
@@ -92,7 +92,7 @@ impl<A: Allocator> Numbers<A> {
         self.items.iter().position(|item| *item == number)
     }
 
-    /// Removes the first `number`, and returns whether the list had one.
+    /// Removes the first `number` and returns `true`, or returns `false` if the list does not contain `number`.
     pub fn take_one(&mut self, number: u32) -> bool
         ensures there { IsTrue result ↔ Contains self.old number }
         ensures left { self.new ≡ remove_one number self.old }
@@ -106,8 +106,8 @@ impl<A: Allocator> Numbers<A> {
         }
     }
 
-    /// Removes each of `numbers`, and returns whether the list had each number at least as often as `numbers` has it.
-    /// If it had not, the list afterwards is not specified.
+    /// Removes each of `numbers`, as often as `numbers` has it. Returns whether the list had each number at least that
+    /// often. If it had not, the list afterwards is not specified.
     pub fn take_all(&mut self, numbers: &[u32]) -> bool
         ensures part { IsTrue result ↔ IsPart numbers.now self.old }
         ensures left { OnTrue result (self.new ≡ without numbers.now self.old) }

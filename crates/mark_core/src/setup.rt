@@ -8,7 +8,7 @@ use crate::which::Which;
 use std::alloc::Allocator;
 use std::marker::Model;
 
-/// The part of a marking that is fixed when it opens, and that no event changes.
+/// The part of a marking that is fixed when the marking opens.
 #[derive(Drop)]
 pub struct Setup<A: Allocator> {
     /// The number of objects, which are numbered from 0.
@@ -17,11 +17,11 @@ pub struct Setup<A: Allocator> {
     pub buffers: u32,
     /// The most objects that a buffer takes.
     pub size: u32,
-    /// The tag that both heads begin with.
+    /// The tag of both heads at the opening.
     pub first_tag: u64,
     /// The objects at which reachability begins.
     pub roots: Vec<u32, A>,
-    /// Each object with each of its successors.
+    /// All pairs of an object and a successor of it.
     pub pairs: Vec<(u32, u32), A>,
 }
 
@@ -78,8 +78,8 @@ impl<A: Allocator> Setup<A> {
         true
     }
 
-    /// Tests whether a buffer with `items` may go on the stack `which`: there are at most `size` items, and none for
-    /// the empty stack.
+    /// Tests whether a buffer with `items` may go on the stack `which`: the full stack takes up to `size` items, the
+    /// empty stack none.
     pub fn takes(&self, which: Which, items: &Numbers<A>) -> bool
         ensures { IsTrue result
             ↔ ((length items.now ≤ self.now.size) × (which ≡ Which.Empty → items.now ≡ [])) }

@@ -21,7 +21,8 @@ use std::alloc::Allocator;
 use std::marker::Model;
 use tagged_index::HeadWord;
 
-/// The setup of a world and its tables. This type has no invariant; that of [`World`](crate::World) is the law.
+/// The setup and the tables of a world. This type has no invariant: [`World`](crate::World) has one, which includes the
+/// law.
 #[derive(Drop)]
 pub struct State<A: Allocator> {
     setup: Setup<A>,

@@ -17,7 +17,7 @@ use tagged_index::{HeadWord, LAST_TAG};
 
 /// The shared part of a marking, and the account of each worker.
 ///
-/// A world keeps the law of ownership, colours and shares. Tests replay lists of events with it.
+/// A world keeps the law of ownership, colours and shares. Tests replay lists of events on worlds.
 #[derive(Drop)]
 pub struct World<A: Allocator> {
     state: State<A>,
@@ -34,10 +34,10 @@ impl<A: Allocator> Model for World<A> {
 }
 
 impl<A: Allocator + Copy> World<A> {
-    /// Creates the opening world of a heap with `objects` objects, at most 16,777,216, with `roots`, and with `pairs`
-    /// of an object and a successor. It has `buffers` buffers, 4 to 65,534, each for `size` objects, 2 to 4,096. All
-    /// objects are white, all buffers are on the empty stack with 0 on top and rising numbers below, both heads have
-    /// the tag `first_tag`, and account 0 has the whole share of 65,536 units.
+    /// Creates the opening world of a heap. The heap has `objects` objects (at most 16,777,216), `roots`, and `pairs`
+    /// of an object and a successor. The world has `buffers` buffers (4 to 65,534), each for up to `size` objects (2 to
+    /// 4,096). All objects are white. All buffers are on the empty stack, with 0 on top and rising numbers below. Both
+    /// heads have the tag `first_tag`, and account 0 has the whole share of 65,536 units.
     pub fn new(
         alloc: A,
         objects: u32,
@@ -104,7 +104,7 @@ impl<A: Allocator> World<A> {
         Some(account.held())
     }
 
-    /// Returns the head of the stack `which`: its first buffer, if any, and its tag.
+    /// Returns the head of the stack `which`: the first buffer, if any, and the tag.
     pub fn head(&self, which: Which) -> HeadWord
         ensures { result ≡ (marking_of self.now).head which }
     {
@@ -120,8 +120,8 @@ impl<A: Allocator> World<A> {
 }
 
 /// Returns the world after `event`. Returns `None` exactly if the event is not possible, or is a split after
-/// 4,294,967,295 accounts were made. Allocates only if the event is possible. At `None`, and if an allocation fails,
-/// the world is dropped.
+/// 4,294,967,295 accounts were made. Allocates only if the event is possible. Drops `world` if it returns `None` or an
+/// allocation fails.
 pub fn step<A: Allocator + Copy>(
     alloc: A,
     world: World<A>,

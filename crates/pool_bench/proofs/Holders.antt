@@ -50,7 +50,7 @@ one_more_seen from o found old new is seen x low high =
     last : Now o
     last l = Contains-append_right old.book.account.seen (o ∷ []) o (0, omega arith, refl)
 
--- pops from the empty stack and pushes on it keep the idle number
+-- lost pops from the empty stack and lost pushes on it keep the idle number
 lost_pops : (old new : Book) → LostPops Empty old new → new.account.idle ≡ old.account.idle
 lost_pops old new (no_pop b) = refl
 lost_pops old new (more_pops a mid b before last) =
@@ -79,7 +79,7 @@ after_pushes h old new (try_push.Lost back) p awake =
 after_pushes h old new (try_push.Spent back) p awake =
     ap (λ (c : Book). c.account.idle) p.2.3 ∙ lost_pushes h old p.0 p.1 ∙ awake
 
--- so does a turn
+-- the idle number is 0 after a turn, if it was 0 before
 pub after_turn :
     (old new : Book) (moved : Bool) → PopsAndPushes old new moved → old.account.idle ≡ 0 → new.account.idle ≡ 0
 after_turn old new true p awake =

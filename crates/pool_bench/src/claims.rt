@@ -1,5 +1,5 @@
-//! Claims of objects. A row is a number of neighbouring objects. The threads have the rows in turn, and each thread
-//! claims the objects of its own rows.
+//! Claims of objects. A row is a number of neighbouring objects; the last row may be shorter. The rows are dealt to the
+//! threads in turn, and each thread claims the objects of its own rows.
 
 ghost use Rattle.std.specs.Prelude.{◌≡◌, All};
 ghost use Rattle.pool_bench.specs.Holders.{AreRoots, HasSeen, SamePool};
@@ -28,7 +28,7 @@ fn claim_part<A: Allocator>(pool: &Pool<A>, worker: &mut Worker<A>, from: u32, t
     white
 }
 
-/// Claims each object of the rows of worker `number` once, and returns how many were white.
+/// Claims each object of the rows of thread `number` once, and returns how many were white.
 fn claim_rows(pool: &Pool<Global>, worker: &mut Worker<Global>, number: u32, sizes: Sizes) -> u32
     requires pool { worker.old.pool ≡ pool.now }
     requires roots { AreRoots sizes.objects worker.old }
@@ -46,7 +46,7 @@ fn claim_rows(pool: &Pool<Global>, worker: &mut Worker<Global>, number: u32, siz
     white
 }
 
-/// Claims each object of a worker's rows in each pass, and returns how many were white.
+/// Claims each object of the rows of `numbered` in each pass, and returns how many claims found a white object.
 fn claim_passes(pool: &Pool<Global>, numbered: NumberedWorker, sizes: Sizes) -> u64
     requires pool { numbered.worker.pool ≡ pool.now }
     requires roots { AreRoots sizes.objects numbered.worker }
@@ -60,7 +60,8 @@ fn claim_passes(pool: &Pool<Global>, numbered: NumberedWorker, sizes: Sizes) -> 
     white
 }
 
-/// Claims all objects in each pass, on all threads, and returns how many were white.
+/// Claims all objects in each pass: each worker, on a thread of its own, claims those of its rows. Returns how many
+/// claims found a white object.
 pub(crate) fn claim_all<R: Threads + Sync>(
     rt: &R,
     pool: &Pool<Global>,

@@ -28,7 +28,7 @@ impl Edges for Roots {
     }
 }
 
-/// Creates a pool for `objects` objects, which are all roots. Returns it with its worker.
+/// Creates a pool for `objects` objects, which are all roots. Returns the pool and its only worker.
 pub(crate) fn pool_of_roots(
     alloc: Global,
     objects: u32,

@@ -1,4 +1,4 @@
-//! The two runs. Each prints its count to standard output, and its time to standard error.
+//! The two runs. Each prints its counts to standard output, and its time to standard error.
 
 use crate::claims::claim_all;
 use crate::roots::pool_of_roots;
@@ -12,7 +12,7 @@ use std::sync::Wait;
 use std::thread::Threads;
 use std::time::Instant;
 
-/// Claims each object of a pool in each pass, and prints how many were white.
+/// Claims each object of a pool in each pass. Prints the number of claims, and how many of them found a white object.
 pub(crate) fn run_claims<R: Threads + Clock + Print + Eprint + Sync>(
     rt: &R,
     alloc: Global,
@@ -30,7 +30,7 @@ pub(crate) fn run_claims<R: Threads + Clock + Print + Eprint + Sync>(
 }
 
 /// Takes `sizes.turns` turns on each thread. Each turn pops from the empty stack of a pool and pushes there. Prints how
-/// many turns popped and pushed a buffer.
+/// many turns popped and pushed a buffer, as the number of pops and as that of pushes.
 pub(crate) fn run_turns<R: Threads + Wait + Clock + Print + Eprint + Sync>(
     rt: &R,
     alloc: Global,

@@ -10,7 +10,8 @@ use std::sync::Wait;
 use std::thread;
 use std::thread::Threads;
 
-/// Pops a buffer and pushes it. Returns `false` if there was none, or if the last tag is reached.
+/// Pops a buffer from the empty stack and pushes it there. Returns `false` if there was none, or if the last tag was
+/// reached.
 fn turn<R: Wait, A: Allocator>(rt: &R, pool: &Pool<A>, worker: &mut Worker<A>) -> bool
     requires pool { worker.old.pool ≡ pool.now }
     requires awake { worker.old.book.account.idle ≡ 0 }
@@ -42,7 +43,8 @@ fn take_turns<R: Wait>(rt: &R, pool: &Pool<Global>, numbered: NumberedWorker, tu
     moved
 }
 
-/// Takes `turns` turns on each thread, and returns the number of those that popped and pushed a buffer.
+/// Takes `turns` turns with each worker, on a thread of its own. Returns the number of all turns that popped and pushed
+/// a buffer.
 pub(crate) fn turn_all<R: Threads + Wait + Sync>(
     rt: &R,
     pool: &Pool<Global>,

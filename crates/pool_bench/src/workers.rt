@@ -6,16 +6,16 @@ ghost use Rattle.pool_bench.specs.Holders.{SamePool};
 use buffer_pool::{Pool, Worker};
 use std::alloc::{AllocError, Global};
 
-/// A worker with its number, from 0 on.
+/// A worker and its number. The workers of a run are numbered from 0.
 #[derive(Drop)]
 pub(crate) struct NumberedWorker {
     /// The worker of one thread.
     pub(crate) worker: Worker<Global>,
-    /// The number of that thread.
+    /// The number of the worker and its thread.
     pub(crate) number: u32,
 }
 
-/// Splits a worker into `threads` workers, each with a number of its own.
+/// Splits `worker` into `threads` workers, each with a number of its own from 0 on.
 pub(crate) fn split_among(
     alloc: Global,
     pool: &Pool<Global>,
@@ -46,7 +46,7 @@ pub(crate) fn split_among(
     Ok(workers)
 }
 
-/// Returns the sum of `counts`, or the largest number if the sum is more.
+/// Returns the sum of `counts`, or the largest `u64` if the sum is larger.
 pub(crate) fn sum_of(counts: &[u64]) -> u64 {
     counts
         .iter()

@@ -50,9 +50,9 @@ impl Does {
 /// The opening worlds of the lists.
 #[derive(Clone, Copy, Drop)]
 pub enum Opening {
-    /// Object 1 is a root. It leads to 0 and 2, and 2 leads to 0 and 1.
+    /// Object 1 is the root and refers to 0 and 2. Object 2 refers to 0 and 1.
     ThreeObjects,
-    /// Four empty buffers, and 5 as the first tag.
+    /// No objects. Both heads have the tag 5, and the four buffers are on the empty stack.
     NoObjects,
 }
 
@@ -110,7 +110,7 @@ pub const ALL_FINISHED: List = (
     ],
 );
 
-/// Pops the buffers 0, 1 and 2, pushes 2 and then 1, and splits off account 1.
+/// Pops the buffers 0, 1 and 2, pushes 2 and then 1 on the full stack, and splits off account 1.
 const STACK_TWO: &[Does] = &[
     Load(Empty),
     LoadLink(Empty),
@@ -132,8 +132,8 @@ const STACK_TWO: &[Does] = &[
 
 pub const TWO_STACKED: List = (NoObjects, &[(0, STACK_TWO)]);
 
-/// Account 0 loads the full head and its link, and before its exchange account 1 pops both buffers and pushes buffer 1
-/// again.
+/// Account 0 loads the head of the full stack, and the link of its first buffer. Before account 0 exchanges the head,
+/// account 1 pops both buffers and pushes buffer 1 again.
 pub const OVERTAKEN: List = (
     NoObjects,
     &[
@@ -158,7 +158,7 @@ pub const FAILED: List = (
     ],
 );
 
-/// Account 1 has one unit, and has not loaded the full head.
+/// Account 1 has one unit, and has not loaded the head of the full stack.
 pub const ONE_APART: List = (ThreeObjects, &[(0, &[Split(1)])]);
 
 /// Account 0 has the whole share, and has found the full stack empty.

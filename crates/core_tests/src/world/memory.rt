@@ -9,8 +9,8 @@ use std::alloc::Global;
 /// Lists that allocate, and how they end.
 static TAKING: [(List, End); 2] = [(OVERTAKEN, End::Overtaken), (ALL_FINISHED, End::Finished)];
 
-/// Returns whether the result of `list` on `heap` is right, and whether `heap` refused no request. The result is right
-/// if the list ends as `end`, or if the replay is out of memory and `heap` refused a request.
+/// Returns whether the result of a replay of `list` on `heap` is right, and whether `heap` refused no request. The
+/// result is right if the list ends as `end`, or if the replay is out of memory and `heap` refused a request.
 fn is_right_or_told(heap: &LimitedHeap<Global>, list: &List, end: End) -> (bool, bool) {
     let right = match ends(heap, list, end) {
         Ok(right) => right,
@@ -19,7 +19,7 @@ fn is_right_or_told(heap: &LimitedHeap<Global>, list: &List, end: End) -> (bool,
     (right, heap.refusals() == 0)
 }
 
-/// Returns how many requests `list` makes if none is refused.
+/// Returns how many requests a replay of `list` makes if none is refused.
 fn requests_of(alloc: Global, list: &List, end: End) -> u64 {
     let heap = LimitedHeap::new(alloc, u64::MAX);
     let _right = is_right_or_told(&heap, list, end);
@@ -32,14 +32,15 @@ fn where_the_rest_is_refused(alloc: Global, requests: u64, list: &List, end: End
     is_right_or_told(&heap, list, end)
 }
 
-/// Like [`is_right_or_told`], on a heap that refuses request number `request` only.
+/// Like [`is_right_or_told`], on a heap that refuses only request number `request`, counted from 0.
 fn where_one_is_refused(alloc: Global, request: u64, list: &List, end: End) -> (bool, bool) {
     let heap = LimitedHeap::refusing(alloc, request);
     is_right_or_told(&heap, list, end)
 }
 
-/// Refuses each request of a replay in turn: first with all later requests, then that request only. One heap serves the
-/// whole replay, so the allocations of the steps are refused as well as those of the world.
+/// Refuses each request of a replay in turn: first with all later requests, then only that request. The last round
+/// refuses none. One heap serves the whole replay, so the allocations of the steps are refused as well as those of the
+/// world.
 #[test]
 fn each_request_may_be_refused(rt: HostRuntime) {
     let alloc = rt.alloc();
@@ -56,7 +57,8 @@ fn each_request_may_be_refused(rt: HostRuntime) {
     }
 }
 
-/// Returns how many requests `heap` has left after `list`, and whether the world is right.
+/// Returns how many requests `heap` still grants after a replay of `list`, and whether the world is right. Returns
+/// `(0, false)` if `list` is not possible.
 fn left_behind(
     heap: &LimitedHeap<Global>,
     list: &List,
@@ -68,8 +70,9 @@ fn left_behind(
     }
 }
 
-/// Replays `list` on a heap that grants exactly the requests that `list` makes. Returns how many requests are left
-/// after the replay, whether the world is right, and how many requests were refused until the world was read.
+/// Replays `list` on a heap that grants exactly the requests that `list` makes. Returns how many requests the heap
+/// still grants after the replay, whether the world is right, and how many requests were refused until the world was
+/// read.
 fn looked_at(alloc: Global, list: &List, end: End) -> Result<(u64, bool, u64), OutOfMemory> {
     let heap = LimitedHeap::new(alloc, requests_of(alloc, list, end));
     let (left, right) = left_behind(&heap, list, end)?;

@@ -10,7 +10,8 @@ use crate::state::State;
 use std::alloc::Allocator;
 
 impl<A: Allocator + Copy> State<A> {
-    /// Makes `event` if it is possible, and returns whether it was.
+    /// Makes `event` and returns `true`, or returns `false` if `event` is not possible, or is a split and no number is
+    /// left for the new account.
     pub fn act(&mut self, alloc: A, event: Event<A>) -> Result<bool, OutOfMemory>
         requires { IsLawful self.old }
         ensures done { IfOk result (λ done. Steps self.old (event_of event) done self.new) }

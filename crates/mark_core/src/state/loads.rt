@@ -18,8 +18,8 @@ impl<A: Allocator> State<A> {
         self.accounts[w].load(which, head);
     }
 
-    /// Lets the account `w` load the link of the buffer that its last loaded head of the stack `which` names, if it
-    /// may, and returns whether it did.
+    /// Lets the account `w` load the link of the buffer that its last loaded head of the stack `which` names. Returns
+    /// `false` if the account has loaded no head of the stack, or the head names no buffer.
     pub fn load_link(&mut self, w: usize, which: Which) -> bool
         requires { w < length self.old.accounts }
         ensures { Tries self.old w (LoadLink which) result self.new }
@@ -32,7 +32,8 @@ impl<A: Allocator> State<A> {
         true
     }
 
-    /// Tests whether an exchange of the head of the stack `which` by the account `w` may fail. Changes nothing.
+    /// Tests whether an exchange of the head of the stack `which` by the account `w` may fail: the account last loaded
+    /// another head than the current one. Changes nothing.
     pub fn fail(&mut self, w: usize, which: Which) -> bool
         requires { w < length self.old.accounts }
         ensures { Tries self.old w (Fail which) result self.new }

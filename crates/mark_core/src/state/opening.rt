@@ -46,7 +46,7 @@ impl<A: Allocator + Copy> State<A> {
     }
 }
 
-/// Returns the links of all buffers at the opening.
+/// Returns the links of `buffers` buffers at the opening.
 fn links_of<A: Allocator>(alloc: A, buffers: u32) -> Result<Vec<Option<u32>, A>, OutOfMemory>
     ensures len { IfOk result (λ links. length links.items ≡ buffers) }
     ensures links { IfOk result (λ links. (i : ℕ) → slice_index_or links.items i None ≡ first_link buffers i) }
@@ -58,7 +58,7 @@ fn links_of<A: Allocator>(alloc: A, buffers: u32) -> Result<Vec<Option<u32>, A>,
     Ok(links)
 }
 
-/// Returns the link of `buffer` at the opening: the next number, or `None` for the last buffer.
+/// Returns the link of `buffer` at the opening: the next number, or `None` for the last of `buffers` buffers.
 fn link_of(buffer: u32, buffers: u32) -> Option<u32>
     requires { buffer < buffers }
     ensures { result ≡ first_link buffers buffer }
@@ -67,7 +67,7 @@ fn link_of(buffer: u32, buffers: u32) -> Option<u32>
     if next < buffers { Some(next) } else { None }
 }
 
-/// Returns the slots of all buffers at the opening: each has its buffer, without items.
+/// Returns the slots of `buffers` buffers at the opening: each buffer is stacked, and has no items.
 fn slots_of<A: Allocator + Copy>(
     alloc: A,
     buffers: u32,

@@ -10,7 +10,7 @@ use crate::state::State;
 use std::alloc::Allocator;
 use std::mem;
 
-/// The most accounts that can have a number.
+/// The most accounts that can be made, including those joined later: each has a number of its own.
 const MOST_ACCOUNTS: usize = 4_294_967_295;
 
 impl<A: Allocator> State<A> {
@@ -37,7 +37,7 @@ impl<A: Allocator + Copy> State<A> {
         Ok(true)
     }
 
-    /// Joins the account `other` to the account `w` if it may, and returns whether it did.
+    /// Joins the account `other` to the account `w` if `other` exists and is not `w`, and returns whether it did.
     pub fn join(&mut self, alloc: A, w: usize, other: u32) -> Result<bool, OutOfMemory>
         requires there { w < length self.old.accounts }
         requires lawful { IsLawful self.old }

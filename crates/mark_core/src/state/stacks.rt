@@ -1,4 +1,4 @@
-//! Stores of links, pops and pushes.
+//! Pops, pushes, and stores of links.
 
 ghost use Rattle.std.specs.Prelude.{◌≡◌, ◌<◌, ◌≤◌, ◌↔◌, IfErr, IfOk, IsTrue, length, slice_index_or};
 ghost use Rattle.std.specs.Bool.{OnTrue};
@@ -14,7 +14,7 @@ use std::alloc::Allocator;
 use tagged_index::{LAST_INDEX, LAST_TAG};
 
 impl<A: Allocator> State<A> {
-    /// Lets the account `w` store `link` at `buffer` if it may, and returns whether it did.
+    /// Lets the account `w` store `link` as the link of `buffer` if it may, and returns whether it did.
     pub fn store_link(&mut self, w: usize, buffer: u32, link: Option<u32>) -> bool
         requires there { w < length self.old.accounts }
         requires lawful { IsLawful self.old }
@@ -27,8 +27,8 @@ impl<A: Allocator> State<A> {
         true
     }
 
-    /// Lets the account `w` exchange the head of the stack `which` for the link that it loaded, if it may, and returns
-    /// whether it did.
+    /// Lets the account `w` pop: exchange the head of the stack `which` for the link that the account loaded, if it
+    /// may. Returns whether it did.
     pub fn pop(&mut self, w: usize, which: Which) -> Result<bool, OutOfMemory>
         requires there { w < length self.old.accounts }
         requires lawful { IsLawful self.old }
@@ -50,7 +50,7 @@ impl<A: Allocator> State<A> {
         let Some(link) = look.link() else {
             return Ok(false);
         };
-        // Before any allocation, so that only a possible pop can run out of memory.
+        // Tested before any allocation, so that only a possible pop can run out of memory.
         if now.tag() == LAST_TAG {
             return Ok(false);
         }
@@ -59,7 +59,7 @@ impl<A: Allocator> State<A> {
         Ok(self.exchange(which, link))
     }
 
-    /// Lets the account `w` exchange the head of the stack `which` for `buffer` with `items`, if it may, and returns
+    /// Lets the account `w` push: exchange the head of the stack `which` for `buffer` with `items`, if it may. Returns
     /// whether it did.
     pub fn push(&mut self, w: usize, which: Which, buffer: u32, items: Numbers<A>) -> bool
         requires there { w < length self.old.accounts }
@@ -76,7 +76,7 @@ impl<A: Allocator> State<A> {
         self.exchange(which, Some(buffer))
     }
 
-    /// Exchanges the head of the stack `which` for `index` with the next tag, and returns whether there is a next tag.
+    /// Exchanges the head of the stack `which` for `index` and the next tag. Returns `false` if there is no next tag.
     fn exchange(&mut self, which: Which, index: Option<u32>) -> bool
         requires { ForSome index (λ i. i ≤ LAST_INDEX) }
         ensures low { IsTrue result ↔ ((heads_of self.old which).tag < LAST_TAG) }
@@ -91,8 +91,8 @@ impl<A: Allocator> State<A> {
         }
     }
 
-    /// Tests whether the account `w` may push `buffer` with `items`, but for two conditions: that the items are part of
-    /// its charge, and that the tag is not the last.
+    /// Tests whether the account `w` may push `buffer` with `items` on the stack `which`. Does not test whether `items`
+    /// are part of the account's charge, nor whether the head has the last tag.
     fn may_push(&self, w: usize, which: Which, buffer: u32, items: &Numbers<A>) -> bool
         requires { w < length self.now.accounts }
         ensures { IsTrue result ↔ IsReadyToPush self.now w which buffer items.now }

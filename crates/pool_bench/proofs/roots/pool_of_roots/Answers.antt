@@ -1,4 +1,4 @@
--- The roots are all numbers of objects.
+-- The roots are all numbers below `objects`.
 use Rattle.std.proofs.Common.{Contains, sym, subst}
 use Rattle.std.proofs.lemmas.Result.{MatchResult-weaker}
 use Rattle.buffer_pool.specs.Book.{Book}

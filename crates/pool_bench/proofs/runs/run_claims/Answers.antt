@@ -1,4 +1,4 @@
--- Each worker is of the pool of the first one, whose objects are roots.
+-- Each worker is of the pool of the first one, whose objects are all roots, and has its idle number, 0.
 use Rattle.std.proofs.Common.{get_or, ◌∙◌}
 use Rattle.pool_bench.proofs.Holders.{same_roots}
 use Rattle.pool_bench.proofs.runs.run_claims.Goals as goal

@@ -1,4 +1,4 @@
--- Each worker is of the pool of the first one, and no more idle than it.
+-- Each worker has the idle number of the pool's first worker, 0.
 use Rattle.std.proofs.Common.{◌∙◌}
 use Rattle.pool_bench.proofs.runs.run_turns.Goals as goal
 

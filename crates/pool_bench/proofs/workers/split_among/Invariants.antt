@@ -1,4 +1,4 @@
--- There are as many workers so far as units given away, each of the pool of the first one.
+-- So far there is a worker for each unit that the first worker gave away. All are of the first worker's pool.
 use Rattle.std.proofs.Common.{◌≡◌, ◌+◌, All, vec_len}
 use Rattle.pool_bench.specs.Holders.{SamePool}
 use Rattle.pool_bench.proofs.workers.split_among.Given as goal

@@ -1,4 +1,4 @@
--- The position found is the first, and that one is removed. If none is found the list stays as it is.
+-- The number at the first position is removed. If no position is found the list stays as it is.
 use Rattle.std.proofs.Common.{sym, ◌∙◌}
 use Rattle.mark_core.proofs.Taking.{remove-position, remove_one-none, none_is_not_some}
 use Rattle.mark_core.proofs.numbers.Numbers.take_one.Goals as goal

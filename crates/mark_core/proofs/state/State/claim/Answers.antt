@@ -1,4 +1,5 @@
--- An object that may be claimed has a mark, since the state is lawful. The mark found says which claim it is.
+-- An object that may be claimed has a mark, since the state is lawful. `fetch_max` returns this mark as it was before
+-- the claim.
 use Rattle.std.proofs.Common.{sym, subst, refl}
 use Rattle.mark_core.proofs.Words.{Account, CanClaim, IsBusy, IsLawful}
 use Rattle.mark_core.proofs.Steps.{always}

@@ -1,4 +1,4 @@
--- An object of the charge has a mark, since the state is lawful. Memory runs out only if it may be finished.
+-- An object of the charge has a mark, since the state is lawful. Memory runs out only if the object may be finished.
 use Rattle.std.proofs.Common.{sym, subst, refl, arith}
 use Rattle.mark_core.proofs.Words.{CanFinish, IsLawful}
 use Rattle.mark_core.proofs.Steps.{always}

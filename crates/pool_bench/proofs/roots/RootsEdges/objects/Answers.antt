@@ -1,4 +1,4 @@
--- The roots are the objects.
+-- The roots are the numbers below `objects`.
 use Rattle.pool_bench.proofs.Holders.{roots_below}
 use Rattle.pool_bench.proofs.roots.RootsEdges.objects.Goals as goal
 
