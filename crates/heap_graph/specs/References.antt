@@ -40,7 +40,7 @@ pub record AreIdLists (skips : Class → Member → Bool) (s : ℕ) (heap : List
   pub each : (n : ℕ) (o : SubRecord) (ids : List ℕ) → slice_get (objects heap) n ≡ Some o
       → slice_get lists n ≡ Some ids → AreIdsIn skips s heap o ids
 
--- 0 is null, and an identifier that names no object is not followed
+-- the object that `id` names: `None` for 0, and for an identifier that names no object
 abbrev pub target_of : List SubRecord → ℕ → Option ℕ
 target_of heap id = if id == 0 then None else number_named heap id
 

@@ -21,7 +21,7 @@ pub record Step : Type 0 where
 abbrev pub step_in : List ℕ → ℕ → Step
 step_in all id = record { id = id; names = target_in all id }
 
--- the identifiers of some steps, and the objects that these name
+-- the identifiers of `steps`, and the objects that the identifiers name
 abbrev pub ids_in : List Step → List ℕ
 ids_in steps = map (λ s. s.id) steps
 

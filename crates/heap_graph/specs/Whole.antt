@@ -30,7 +30,7 @@ IsRowIn g (keys.Primitive t) = (4 ≤ t) × (t ≤ 11)
 IsRowIn g keys.ClassObject = Unit {0}
 
 -- Each object has one list of identifiers, one row and one number of bytes. Roots, references and rows name only
--- objects and classes of the graph. All numbers have bounds.
+-- objects and classes of the graph. The numbers of objects, classes, bytes and unresolved identifiers have bounds.
 pub record IsWhole (g : ObjectGraph) : Type 0 where
   pub held_each : length g.held ≡ object_count g
   pub row_each : length g.rows ≡ object_count g

@@ -3,7 +3,7 @@ use Rattle.std.specs.Prelude.{Bool, List, None, Option, Some, [], count_by, filt
 use Rattle.std.specs.Prelude.{◌++◌, ◌∷◌, ◌≡◌}
 pub use Rattle.heap_graph.specs.Walks.{is_unresolved_in, step_in, target_in}
 
--- the identifier of an object, if it is known
+-- the identifier of the object, or no identifier if there is no object
 abbrev pub known_ids : List ℕ → Option ℕ → List ℕ
 known_ids all None = []
 known_ids all (Some o) = slice_index all o ∷ []

@@ -8,7 +8,7 @@ use Rattle.heap_graph.specs.declared.rule.LinkRule.TheVariants.{UnknownClass, Ze
 use Rattle.heap_graph.specs.LinkFault.{IsFirstFault, IsLeastFault, code_of}
 use Rattle.heap_graph.specs.LinkRules.{Fails, HasBadChain, HasWrongSize, LacksClass}
 
--- the rules on classes, superclasses and sizes
+-- object `o` breaks the rule, which is one of those on classes, superclasses and sizes
 abbrev pub BreaksLate : ℕ → List SubRecord → SubRecord → LinkRule → Type 0
 BreaksLate s heap o ZeroObject = ⊥
 BreaksLate s heap o DuplicateObject = ⊥

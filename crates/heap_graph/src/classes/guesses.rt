@@ -60,7 +60,7 @@ impl<A: Allocator> Guesses<A> {
         (id.wrapping_mul(SPREAD) >> 32) as usize & self.mask
     }
 
-    /// Notes `number` as that of the class with the identifier `id`.
+    /// Notes `number` as the number of the class with the identifier `id`.
     pub(crate) fn note(&mut self, id: u64, number: usize) {
         let place = self.place_of(id);
         if let Ok(number) = u32::try_from(number) {
