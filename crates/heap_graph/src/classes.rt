@@ -14,7 +14,7 @@ use hprof_grammar::View;
 use std::alloc::Allocator;
 use table::ClassTable;
 
-/// The place of a class's class dump, and the size in bytes of the values of all fields that the class declares.
+/// The place of the class dump of a class, and the size in bytes of the values of all fields that the class declares.
 #[derive(Clone, Copy)]
 pub(crate) struct ClassPlace {
     pub(crate) place: u32,

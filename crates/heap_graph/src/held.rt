@@ -11,7 +11,7 @@ use std::marker::Model;
 use std::mem;
 
 /// The source of the remaining identifiers, by the kind of the object. An instance or array whose class remains has
-/// variants of its own, instead of a further field for the class, so that a walk fits into 128 bytes.
+/// a variant of its own, instead of a further field for the class, so that a walk fits into 128 bytes.
 #[derive(Drop)]
 pub(crate) enum Rest<'g, A: Allocator> {
     /// No identifiers: the object is a primitive array.

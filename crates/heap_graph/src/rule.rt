@@ -1,4 +1,4 @@
-//! The rules that the objects of a dump follow.
+//! The rules that the objects of a dump must follow.
 
 /// The rules that each object is tested by, in this order.
 #[derive(Clone, Copy, Debug, PartialEq, Eq)]

@@ -120,7 +120,7 @@ impl<'g, A: Allocator> Visit<'g, A> {
         }
     }
 
-    /// Splits the visit into the class and an iterator for the other identifiers, by where these are: see [`ByKind`].
+    /// Splits the visit into the class and an iterator for the other identifiers. The variant says where these are.
     // Inlined, so that the loop over each variant has the parts of the walk in place.
     #[inline(always)]
     pub fn by_kind(self) -> ByKind<'g, A>

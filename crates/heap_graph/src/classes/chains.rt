@@ -68,7 +68,8 @@ impl<'d, A: Allocator> Classes<'d, A> {
         }
     }
 
-    /// Returns how a climb continues above class `at`, which is on the path.
+    /// Returns how a climb continues above class `at`, which is on the path. `known` are the fates of all classes so
+    /// far.
     fn next_step(&self, at: u32, known: &[Fate]) -> Step
         requires below { at < length self.now.table.entries }
         requires few { length self.now.table.entries < 2 ^ 32 }
@@ -90,7 +91,8 @@ impl<'d, A: Allocator> Classes<'d, A> {
     }
 
     /// Follows the superclasses from class `first`, whose fate is unknown, until the fate of what is above is known.
-    /// Appends to `path` the classes on the way, from `first` on, and returns the fate of what is above the last.
+    /// Appends to `path` the classes on the way, from `first` on, and marks them in `known` as [`Fate::OnPath`].
+    /// Returns the fate of what is above the last.
     fn climb<B: Allocator>(
         &self,
         first: u32,

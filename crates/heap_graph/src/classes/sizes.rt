@@ -29,7 +29,8 @@ impl<'d, A: Allocator> Classes<'d, A> {
         Some(number)
     }
 
-    /// Returns the layout of class `number`. `above` is the layout of its superclass, or an empty layout without one.
+    /// Returns the layout of class `number`. `above` is the layout of its superclass, or an empty layout if it has no
+    /// superclass.
     fn layout_below(&self, number: u32, above: Layout) -> Layout
         requires below { number < length self.now.table.entries }
         requires heap { (heap : List SubRecord) × (c : Class) × (rest : List Class) × AreClassesOf self.now heap

@@ -59,8 +59,7 @@ fn look_up_names<'a, A: Allocator + Copy>(
     Ok(PlannedClasses { plan, classes })
 }
 
-/// Like [`look_up_names`], with an index of `names` by their identifiers. The index is built here, and dropped at the
-/// end.
+/// Like [`look_up_names`], but first indexes `names` by identifiers. This index is dropped at the end.
 fn name_classes<'a, A: Allocator + Copy>(
     alloc: A,
     objects: &Objects<'a, A>,

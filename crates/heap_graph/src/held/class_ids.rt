@@ -11,7 +11,7 @@ use std::marker::Model;
 /// The remaining identifiers of those that a class holds.
 #[derive(Drop)]
 pub(crate) struct ClassIds<'g> {
-    /// The remaining ones of the first four: superclass, loader, signers and protection domain.
+    /// The remaining identifiers of the first four: superclass, loader, signers and protection domain.
     leading: Ids<'g>,
     constants: Values<'g>,
     statics: Values<'g>,

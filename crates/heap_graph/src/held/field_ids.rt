@@ -12,7 +12,8 @@ use std::marker::Model;
 /// declares, then those in fields that the classes above it declare.
 // The order of the fields is for the compiler. Other variants of the walk that contains this type have fields of one
 // byte and of four bytes at the offsets of `next` and `own`, so the compiler keeps `next` and `own` in pieces of these
-// sizes. If `places` were at these offsets, the compiler would join the pieces of its length at each identifier.
+// sizes. If `places` were at these offsets, the compiler would join the length of `places` from pieces at each
+// identifier.
 #[derive(Drop)]
 pub struct FieldIds<'g, A: Allocator> {
     objects: &'g Objects<'g, A>,

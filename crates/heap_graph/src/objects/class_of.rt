@@ -15,7 +15,7 @@ impl<'d, A: Allocator> Objects<'d, A> {
     ghost use Rattle.heap_graph.specs.working.FieldsUp.{next_above};
     ghost use Rattle.heap_graph.specs.working.HeldIds.{AreLinkedOf, IsFirstOfInstance, IsObjectAt};
 
-    /// Returns the number of the class that `id` names. There must be such a class.
+    /// Returns the number of the class that `id` names. `id` must name a class.
     // Inlined, like everything that makes up a visit, so that a visit is built in place.
     #[inline(always)]
     pub(crate) fn class_numbered(&self, id: u64) -> u32

@@ -28,7 +28,7 @@ fn hash_of(view: &View<'_>, places: &[u32], class_dumps: &[u32]) -> ClassHash
 }
 
 /// Adds to `classes` the class that object `number`, a class dump, describes. Adds nothing if the identifier of the
-/// class is 0, or if an earlier object bears it.
+/// class is 0, or if an earlier object has the same identifier.
 fn add_class<A: Allocator, B: Allocator>(
     classes: &mut Classes<'_, A>,
     places: &[u32],

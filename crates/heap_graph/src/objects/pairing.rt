@@ -2,7 +2,8 @@
 //!
 //! ZGC and Shenandoah write objects in the order of a walk over references. In that order nearly each object would be a
 //! run of its own, so the index is made of pairs. The identifiers are read once to note the places that they take, and
-//! once more to place the pairs. So nothing is gathered beside the index.
+//! once more to place the pairs. So nothing is gathered beside the index. Both are done again if the ends of a sample do
+//! not serve.
 
 ghost use Rattle.hprof_grammar.specs.Standing.{StandInTurn, Stands};
 ghost use Rattle.hprof_grammar.specs.SubRecord.{SubRecord};
@@ -22,7 +23,7 @@ use std::thread::Threads;
 /// The number of stretches of objects in a sample.
 const STRETCHES: usize = 64;
 
-/// The largest number of objects in a stretch. They have consecutive numbers.
+/// The largest number of objects in a stretch. The objects of a stretch have consecutive numbers.
 const NEIGHBOURS: usize = 1024;
 
 /// The number of places on a page of the index.
@@ -234,9 +235,8 @@ fn placed<B: Allocator + Copy>(
 }
 
 /// Indexes the objects at `places` by pairs, if all their identifiers are between `ends` or not far outside. Returns
-/// `None` if an identifier is farther outside, if the two ends are too far apart for pairs (`are_close`), or if two
-/// objects have the same identifier or an identifier has other lowest bits than `bits`. `AllocError` if an allocation
-/// fails.
+/// `None` if an identifier is farther outside or has other lowest bits than `bits`, if two objects have the same
+/// identifier, or if the ends are too far apart for pairs (`are_close`). `AllocError` if an allocation fails.
 fn paired_between<T: Threads + Sync, B: Allocator + Copy>(
     team: &Team<'_, T>,
     alloc: B,

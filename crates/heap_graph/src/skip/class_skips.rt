@@ -78,7 +78,8 @@ impl<'s, 'a, A: Allocator> ClassSkips<'s, 'a, A> {
         }
     }
 
-    /// Tests whether `entry` names the class, and the field whose name is the string with the identifier `name`.
+    /// Tests whether `entry` names the class and a certain field. `name` is the identifier of the string that is the
+    /// field's name.
     fn is_named(&self, entry: &SkipEntry<'_>, name: u64) -> bool
         requires { (records : List Record) × AreNamesByIdOf self.now.names.now records }
         ensures { (records : List Record) → AreNamesByIdOf self.now.names.now records
@@ -87,7 +88,8 @@ impl<'s, 'a, A: Allocator> ClassSkips<'s, 'a, A> {
         is_text(self.class, entry.class()) && is_text(self.names.string_named(name), entry.field())
     }
 
-    /// Tests whether the list has the field of the class whose name is the string with the identifier `name`.
+    /// Tests whether a certain field of the class is on the list. `name` is the identifier of the string that is the
+    /// field's name.
     fn has(&self, name: u64) -> bool
         requires { (test : Member → Bool) × IsSkipTest self.now test }
         ensures { (test : Member → Bool) (m : Member) → IsSkipTest self.now test → m.name ≡ name → result ≡ test m }
