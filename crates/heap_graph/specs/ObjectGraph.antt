@@ -1,4 +1,4 @@
--- The graph of a heap list: what remains of a dump when its objects are numbers.
+-- The graph of a heap list: objects as numbers, with their identifiers, references, rows and bytes.
 use Rattle.std.specs.Prelude.{List, None, Option, [], count_by, length, map, slice_index, slice_index_or, ℕ, ◌++◌, ◌≡◌}
 use Rattle.std.specs.List.{concat}
 use Rattle.heap_graph.specs.ClassNames.{class_text}

@@ -2,8 +2,7 @@
 use Rattle.std.specs.Prelude.{Bool, Contains, List, [], false, length, slice_index_or, true, ℕ, ◌↔◌, ◌∷◌, ◌≡◌}
 use Rattle.heap_graph.specs.ObjectGraph.{ObjectGraph, object_count, references_of}
 
--- a path from `a` to `b`, each step of which is a reference. `path` has the objects after `a`; if it is empty, `a` is
--- `b`
+-- each step from `a` along `path` is a reference, and the last object reached is `b`
 abbrev pub LeadsTo : (ℕ → ℕ → Type 0) → ℕ → List ℕ → ℕ → Type 0
 LeadsTo refers a [] b = a ≡ b
 LeadsTo refers a (c ∷ path) b = refers a c × LeadsTo refers c path b

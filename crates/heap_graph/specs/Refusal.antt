@@ -4,7 +4,7 @@ use Rattle.heap_graph.specs.declared.refusal.LinkFault.{LinkFault}
 use Rattle.heap_graph.specs.declared.refusal.LinkRefusal.{LinkRefusal}
 use Rattle.heap_graph.specs.declared.refusal.LinkRefusal.TheVariants as refusals
 
--- if the result is a fault, `P` holds of it; nothing is said of `Ok`, nor of `OutOfMemory`
+-- if the result is a fault `f`, then `P f`; nothing is said of `Ok`, nor of `OutOfMemory`
 abbrev pub IfLinkFault : {X : Type 0} → Result X LinkRefusal → (LinkFault → Type 0) → Type 0
 IfLinkFault (Ok x) P = Unit {0}
 IfLinkFault (Err (refusals.Fault f)) P = P f

@@ -19,7 +19,7 @@ unresolved_at g o = count_by (is_unresolved_in g.ids) (held_by g o)
 abbrev pub unresolved_roots : ObjectGraph → ℕ
 unresolved_roots g = count_by (is_unresolved_in g.ids) g.root_names
 
--- the number of unresolved identifiers that the objects with these numbers hold together
+-- the number of unresolved identifiers that the objects with the numbers `numbers` hold together
 abbrev pub unresolved_among : ObjectGraph → List ℕ → ℕ
 unresolved_among g numbers = sum_by (unresolved_at g) numbers
 

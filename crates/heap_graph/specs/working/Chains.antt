@@ -117,11 +117,11 @@ pub record IsClimb (s : ℕ) (heap : List SubRecord) (ids : List ℕ) (first : �
   pub unknown : slice_get known at ≡ Some fates.Unknown
   pub from : Contains (path ++ at ∷ []) first
 
--- what is known of a class stays known
+-- each class with a known fate in `old` has a known fate in `new`
 abbrev pub DoesStay : List Fate → List Fate → Type 0
 DoesStay old new = (k : ℕ) → IsKnown old k → IsKnown new k
 
--- all fates are known
+-- the fates of all classes are known
 pub record AreSettled (s : ℕ) (heap : List SubRecord) (ids : List ℕ) (known : List Fate) : Type 0 where
   pub fates_are : AreFates s heap ids [] known
   pub each_known : (k : ℕ) → k < length ids → IsKnown known k

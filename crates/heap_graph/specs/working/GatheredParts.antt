@@ -15,7 +15,7 @@ pub record MayIndex (v : Sight) (places : List ℕ) : Type 0 where
   pub few : length places < 2 ^ 32
   pub stand : (heap : List SubRecord) × StandInTurn (Stands v) places (objects heap)
 
--- like `MayIndex`, `part` has no more places than there are objects from number `start` on, and `bits` are lowest bits
+-- like `MayIndex`; `part` has no more places than there are objects from number `start` on; `bits` are at most 63 bits
 pub record MayGather (v : Sight) (places : List ℕ) (bits : LowBits) (start : ℕ) (part : List ℕ) : Type 0 where
   pub may : MayIndex v places
   pub within : start + length part ≤ length places

@@ -1,9 +1,9 @@
 //! Indexes objects in no order by their identifiers: pairs are placed straight from the bytes.
 //!
-//! ZGC and Shenandoah write objects in the order of a walk over references. In that order nearly each object would be a
-//! run of its own, so the index is made of pairs. The identifiers are read once to note the places that they take, and
-//! once more to place the pairs. So nothing is gathered beside the index. Both are done again if the ends of a sample do
-//! not serve.
+//! ZGC and Shenandoah write objects in the order of a walk over references. In that order nearly each object would be
+//! a run of its own, so the index is made of pairs. The identifiers are read once to note the places that they take,
+//! and once more to place the pairs (more often if the ends of a sample do not serve). So nothing is gathered beside
+//! the index.
 
 ghost use Rattle.hprof_grammar.specs.Standing.{StandInTurn, Stands};
 ghost use Rattle.hprof_grammar.specs.SubRecord.{SubRecord};
