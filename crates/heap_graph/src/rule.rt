@@ -9,7 +9,7 @@ pub enum LinkRule {
     DuplicateObject,
     /// The class of an instance or an object array exists.
     UnknownClass,
-    /// The superclasses of a class exist, and following them ends.
+    /// The superclass of a class exists, unless its identifier is 0, and following superclasses ends.
     SuperChain,
     /// The values of an instance have the size of the layout of its class.
     InstanceSize,

@@ -86,7 +86,7 @@ impl<'a> DescribedClass<'a> {
     }
 }
 
-/// Returns the classes whose dumps are among the objects at `places`.
+/// Returns the classes whose class dumps are among the objects at `places`.
 fn described_classes<'a, A: Allocator, B: Allocator>(
     alloc: B,
     view: &View<'a>,
