@@ -4,15 +4,15 @@ use Rattle.byteorder.specs.Endian.{big_number}
 use Rattle.hprof_grammar.specs.SubRecord.{Class, Member}
 use Rattle.hprof_grammar.specs.TagsAndTypes.{size_of}
 
--- the fields that a class declares, each paired with the class, and those of a layout
+-- the fields that a class declares, each paired with the class, and those that the classes of `chain` declare
 abbrev pub own_fields : Class → List (Class × Member)
 own_fields c = map (λ m. (c, m)) c.members
 
 abbrev pub declared_fields : List Class → List (Class × Member)
 declared_fields chain = flat_map own_fields chain
 
--- The identifiers in the fields of type 2 that are not skipped. A field's place is the sum of the sizes before it, of
--- skipped ones too.
+-- The identifiers in the fields of type 2 that are not skipped. `values` has the values of all fields, one after the
+-- other, of skipped fields too.
 abbrev pub field_ids : (Class → Member → Bool) → ℕ → List (Class × Member) → List ℕ → List ℕ
 field_ids skips s [] values = []
 field_ids skips s (f ∷ fs) values =

@@ -11,7 +11,7 @@ pub use Rattle.hprof_grammar.specs.Dump.{heap_of, id_of}
 abbrev pub objects : List SubRecord → List SubRecord
 objects heap = filter is_object heap
 
--- The number of the object that an identifier names: the first one that bears it, of whatever kind.
+-- The number of the object that an identifier names: the first object that bears it, of whatever kind.
 abbrev pub number_named : List SubRecord → ℕ → Option ℕ
 number_named heap id = position (λ o. id_of o == id) (objects heap)
 
@@ -30,6 +30,6 @@ class_named heap id = if id == 0 then None else option_and_then as_class (object
 abbrev pub class_dumps : List SubRecord → List Class
 class_dumps heap = filter_map as_class heap
 
--- the number of the class with that identifier
+-- the number of the first class dump with the identifier `id`, or the number of class dumps if there is none
 abbrev pub class_number : List SubRecord → ℕ → ℕ
 class_number heap id = position_or_len (λ c. c.object == id) (class_dumps heap)

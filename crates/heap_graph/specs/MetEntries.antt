@@ -7,7 +7,7 @@ use Rattle.heap_graph.specs.Skips.{SkipEntry, is_text}
 use Rattle.hprof_grammar.specs.Record.{Record}
 use Rattle.hprof_grammar.specs.SubRecord.{Class, Member}
 
--- the string of the field's name is the text
+-- the name of the field `m` is the text `name`
 abbrev pub is_called : List Record → List ℕ → Member → Bool
 is_called records name m = is_text (string_named records m.name) name
 

@@ -1,4 +1,4 @@
--- The graph of a heap list: what remains of a dump when its objects are numbers.
+-- The graph of a heap list: objects as numbers, with their identifiers, references, rows and bytes.
 use Rattle.std.specs.Prelude.{List, None, Option, [], count_by, length, map, slice_index, slice_index_or, ℕ, ◌++◌, ◌≡◌}
 use Rattle.std.specs.List.{concat}
 use Rattle.heap_graph.specs.ClassNames.{class_text}
@@ -51,7 +51,7 @@ row_at g o = slice_index_or g.rows o keys.ClassObject
 abbrev pub bytes_at : ObjectGraph → ℕ → ℕ
 bytes_at g o = slice_index g.bytes o
 
--- the class with that number
+-- the class with the number `n`
 abbrev pub class_at : ObjectGraph → ℕ → NamedClass
 class_at g n = slice_index_or g.classes n (record { id = 0; text = None })
 
@@ -62,7 +62,7 @@ named_in records c = record { id = c.object; text = class_text records c.object 
 abbrev pub named_classes : List Record → List NamedClass
 named_classes records = map (named_in records) (class_dumps (heap_of records))
 
--- the number of unresolved identifiers in `lists` and in roots. Each occurrence counts, in unreachable objects too
+-- the number of unresolved identifiers in `lists` and in roots. Each occurrence counts, also in unreachable objects
 abbrev pub unresolved_in : List SubRecord → List (List ℕ) → ℕ
 unresolved_in heap lists = count_by (is_unresolved heap) (concat lists ++ root_ids heap)
 

@@ -20,7 +20,7 @@ static_ids s statics = map (λ f. big_number s f.value) (filter (λ f. f.type ==
 abbrev pub class_ids : ℕ → Class → List ℕ
 class_ids s c = c.super ∷ c.loader ∷ c.signers ∷ c.domain ∷ constant_ids s c.constants ++ static_ids s c.statics
 
--- The class, then the fields of type 2 that are not skipped, in the order of the layout.
+-- The identifier of the class, then those in the fields of type 2 that are not skipped, in the order of the layout.
 abbrev pub instance_ids : (Class → Member → Bool) → ℕ → Instance → List Class → List ℕ
 instance_ids skips s i chain = i.class ∷ field_ids skips s (declared_fields chain) i.values
 
@@ -40,7 +40,7 @@ pub record AreIdLists (skips : Class → Member → Bool) (s : ℕ) (heap : List
   pub each : (n : ℕ) (o : SubRecord) (ids : List ℕ) → slice_get (objects heap) n ≡ Some o
       → slice_get lists n ≡ Some ids → AreIdsIn skips s heap o ids
 
--- 0 is null, and an identifier that names no object is not followed
+-- the object that `id` names: `None` for 0, and for an identifier that names no object
 abbrev pub target_of : List SubRecord → ℕ → Option ℕ
 target_of heap id = if id == 0 then None else number_named heap id
 

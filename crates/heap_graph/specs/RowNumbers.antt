@@ -10,7 +10,7 @@ row_number (keys.Primitive t) = t - 4
 row_number keys.ClassObject = 8
 row_number (keys.Class n) = 9 + n
 
--- the row with that number
+-- the row with the number `n`
 abbrev pub numbered_row : ℕ → RowKey
 numbered_row n =
     if nat_lt n 8 then keys.Primitive (4 + n) else (

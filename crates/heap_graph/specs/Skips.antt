@@ -6,12 +6,12 @@ use Rattle.heap_graph.specs.ClassNames.{class_text, string_named}
 use Rattle.hprof_grammar.specs.Record.{Record}
 use Rattle.hprof_grammar.specs.SubRecord.{Class, Member}
 
--- the bytes of the two names
+-- an entry: the bytes of the class's name and of the field's name
 pub record SkipEntry : Type 0 where
   pub class : List ℕ
   pub field : List ℕ
 
--- a missing text equals no name
+-- whether the text is `name`; a missing text equals no name
 abbrev pub is_text : Option (List ℕ) → List ℕ → Bool
 is_text None name = false
 is_text (Some text) name = bytes_eq text name

@@ -1,4 +1,4 @@
--- The rule for superclasses: each exists, and following them ends.
+-- The rule for superclasses: the superclass of a class exists, and following superclasses ends.
 use Rattle.std.specs.Prelude.{List, None, ℕ, ◌≡◌, ◌≢◌, ◌⊎◌}
 use Rattle.heap_graph.specs.Heap.{class_named}
 use Rattle.heap_graph.specs.Layout.{NeverEnds}

@@ -3,8 +3,8 @@ use Rattle.std.specs.Prelude.{Bool, List, None, Option, Some, [], count_by, fals
 use Rattle.std.specs.Prelude.{map, position, ℕ, ◌+◌, ◌++◌, ◌==◌, ◌∷◌, ◌≡◌}
 use Rattle.heap_graph.specs.declared.row.RowKey.{RowKey}
 
--- the object that an identifier names, among objects with the identifiers `all`: none for 0, otherwise the first that
--- bears it
+-- the object that `id` names among objects with the identifiers `all`: the first that bears `id`, or `None` if none
+-- bears it, or if `id` is 0
 abbrev pub target_in : List ℕ → ℕ → Option ℕ
 target_in all id = if id == 0 then None else position (λ x. x == id) all
 
@@ -21,7 +21,7 @@ pub record Step : Type 0 where
 abbrev pub step_in : List ℕ → ℕ → Step
 step_in all id = record { id = id; names = target_in all id }
 
--- the identifiers of some steps, and the objects that these name
+-- the identifiers of `steps`, and the objects that the identifiers name
 abbrev pub ids_in : List Step → List ℕ
 ids_in steps = map (λ s. s.id) steps
 

@@ -19,7 +19,7 @@ unresolved_at g o = count_by (is_unresolved_in g.ids) (held_by g o)
 abbrev pub unresolved_roots : ObjectGraph → ℕ
 unresolved_roots g = count_by (is_unresolved_in g.ids) g.root_names
 
--- the number of unresolved identifiers that the objects with these numbers hold together
+-- the number of unresolved identifiers that the objects with the numbers `numbers` hold together
 abbrev pub unresolved_among : ObjectGraph → List ℕ → ℕ
 unresolved_among g numbers = sum_by (unresolved_at g) numbers
 
@@ -30,7 +30,7 @@ IsRowIn g (keys.Primitive t) = (4 ≤ t) × (t ≤ 11)
 IsRowIn g keys.ClassObject = Unit {0}
 
 -- Each object has one list of identifiers, one row and one number of bytes. Roots, references and rows name only
--- objects and classes of the graph. All numbers have bounds.
+-- objects and classes of the graph. The numbers of objects, classes, bytes and unresolved identifiers have bounds.
 pub record IsWhole (g : ObjectGraph) : Type 0 where
   pub held_each : length g.held ≡ object_count g
   pub row_each : length g.rows ≡ object_count g

@@ -1,6 +1,6 @@
 //! A class as a graph keeps it.
 
-/// A class's identifier, and the text that names it.
+/// The identifier of a class, and the text that names the class, or `None` if the dump has none.
 #[derive(Clone, Copy)]
 pub(crate) struct ClassEntry<'a> {
     pub(crate) id: u64,

@@ -23,7 +23,7 @@ use std::marker::Model;
 use std::snapshot::Snapshot;
 
 /// The objects of a linked dump, numbered from 0 in the order of their sub-records. A graph keeps the place of each
-/// object in the bytes, and finds its number by its identifier.
+/// object in the bytes, and an index that finds the number of an object by the object's identifier.
 #[derive(Drop)]
 pub struct Graph<'a, A: Allocator> {
     objects: Objects<'a, A>,
@@ -34,7 +34,7 @@ pub struct Graph<'a, A: Allocator> {
     unresolved: u64,
     /// The fields that are not followed, as clauses see them.
     skip: Snapshot<&'a [SkipEntry<'a>]>,
-    /// The graph of the bytes and of the list. There is at most one.
+    /// The `ObjectGraph` of the bytes and of the list `skip`. There is at most one.
     ghost graph: { GraphOf objects.view.bytes skip.value.now } by { GraphOf-prop objects.view.bytes skip.value.now },
 }
 
@@ -67,8 +67,8 @@ impl<'a, A: Allocator> Graph<'a, A> {
         &self.roots
     }
 
-    /// Returns an iterator over the objects that `object` refers to, in order, with repeats. It finds them one at a
-    /// time.
+    /// Returns an iterator over the objects that `object` refers to, in order, with repeats. The iterator finds these
+    /// objects one at a time.
     pub fn successors(&self, object: u32) -> Successors<'_, A>
         requires { object < object_count self.now }
         ensures value { references_in result ≡ references_of self.now object }
@@ -79,10 +79,11 @@ impl<'a, A: Allocator> Graph<'a, A> {
         Successors::of(self.visit(object))
     }
 
-    /// Returns the row and the bytes of `object`, with an iterator over the objects that it refers to, in order, with
-    /// repeats. It finds them one at a time, and counts the identifiers that name no object on the way. Marking and
-    /// reports use only this call; the calls for a single property of an object are built on it.
-    // Inlined into the loop of a worker, where its parts stay in registers.
+    /// Returns the row and the bytes of `object`, with an iterator over the objects that `object` refers to, in order,
+    /// with repeats. The iterator finds these objects one at a time. On the way it counts the identifiers that are not
+    /// 0 and name no object. Marking and reports read objects only by this call; the calls for a single property of an
+    /// object are built on it.
+    // Inlined into the loop of a worker, where the parts of the visit stay in registers.
     #[inline(always)]
     pub fn visit(&self, object: u32) -> Visit<'_, A>
         requires { object < object_count self.now }
@@ -123,7 +124,7 @@ impl<'a, A: Allocator> Graph<'a, A> {
         ensures value { result ≡ unresolved_at self.now object }
         ensures within { result ≤ 2 ^ 33 }
     {
-        // Called for its clause `whole`: few identifiers of an object name none.
+        // Called for its clause `whole`, which bounds the number of unresolved identifiers of an object.
         let _objects = self.len();
         let mut visit = self.visit(object);
         while visit.next().is_some() {}
@@ -138,7 +139,7 @@ impl<'a, A: Allocator> Graph<'a, A> {
         self.unresolved
     }
 
-    /// Returns the number of classes. They are numbered from 0 in the order of their dumps.
+    /// Returns the number of classes. Classes are numbered from 0 in the order of their class dumps.
     pub fn classes(&self) -> u32
         ensures value { result ≡ class_count self.now }
         ensures within { result ≤ object_count self.now }
@@ -146,7 +147,8 @@ impl<'a, A: Allocator> Graph<'a, A> {
         self.classes.len() as u32
     }
 
-    /// Returns the number of rows that a histogram of the graph may have: those of every graph, and one for each class.
+    /// Returns the number of rows that a histogram of the graph may have: the nine of every graph, and one for each
+    /// class.
     pub fn row_count(&self) -> usize
         ensures value { result ≡ row_count self.now }
         ensures within { result < 9 + 2 ^ 32 }
@@ -170,7 +172,7 @@ impl<'a, A: Allocator> Graph<'a, A> {
         self.objects.classes.is_guessed(self.class_id(class))
     }
 
-    /// Returns the text that names `class`, if the dump has one.
+    /// Returns the text that names `class`, or `None` if the dump has none.
     pub fn class_text(&self, class: u32) -> Option<&[u8]>
         requires { class < class_count self.now }
         ensures { option_copied result ≡ (class_at self.now class).text }

@@ -10,13 +10,13 @@ use std::alloc::Allocator;
 use std::marker::Model;
 use std::mem;
 
-/// The source of the remaining identifiers, by the kind of the object. The class at the beginning of an instance or an
-/// array is in variants of its own, and not in a further field, so that a walk fits into 128 bytes.
+/// The source of the remaining identifiers, by the kind of the object. An instance or array whose class remains has
+/// a variant of its own, instead of a further field for the class, so that a walk fits into 128 bytes.
 #[derive(Drop)]
 pub(crate) enum Rest<'g, A: Allocator> {
     /// No identifiers: the object is a primitive array.
     Nothing,
-    /// The object is a class.
+    /// The identifiers of a class.
     OfClass(ClassIds<'g>),
     /// The class of an instance, followed by its fields.
     InstanceWithClass(u64, FieldIds<'g, A>),
@@ -72,8 +72,9 @@ impl<'g, A: Allocator> Iterator for HeldIds<'g, A> {
 
     ghost remaining = { item_count (λ h. h) };
 
-    // Inlined into the loop of a worker, where nearly all objects have fields, elements or nothing. With more kinds
-    // here, one indirect jump would choose among them, and its target is mispredicted when kinds alternate.
+    // Inlined into the loop of a worker, where nearly all objects have fields, elements or nothing. With more variants
+    // here, one indirect jump would choose among them, and this jump is mispredicted when objects of several kinds
+    // alternate.
     #[inline(always)]
     fn next(&mut self) -> Option<u64> {
         match &mut self.rest {

@@ -1,5 +1,5 @@
-//! Laws about a text, its graph and the first fault of its links: functions whose bodies are empty, or call the laws
-//! that they rest on.
+//! Laws about a text, its graph, the first fault of its links, and lists of skipped fields. A law is a function whose
+//! body is empty, or calls the laws that it rests on.
 
 ghost use Rattle.std.specs.Prelude.{List, [], map, ℕ, ◌∷◌, ◌≡◌, ◌⊎◌};
 ghost use Rattle.hprof_grammar.specs.Dump.{Spells};

@@ -18,8 +18,8 @@ pub(crate) struct Names<'a, 'd> {
     pub(crate) loaded: &'d [u32],
 }
 
-/// The strings and the loaded classes of a dump, by their identifiers. If several have the same identifier, the first
-/// one counts.
+/// The strings and the loaded classes of a dump, by their identifiers. If several strings or several loaded classes
+/// have the same identifier, the first one counts.
 #[derive(Drop)]
 pub(crate) struct NamesById<'n, 'a, A: Allocator> {
     pub(crate) names: &'n Names<'a, 'n>,
@@ -72,7 +72,8 @@ impl<'n, 'a, A: Allocator + Copy> NamesById<'n, 'a, A> {
 }
 
 impl<'n, 'a, A: Allocator> NamesById<'n, 'a, A> {
-    /// Returns the identifier of the string that names the first loaded class with the identifier `class`.
+    /// Returns the identifier of the string that names the first loaded class with the identifier `class`, or `None` if
+    /// no loaded class has this identifier.
     fn name_of(&self, class: u64) -> Option<u64>
         requires { (records : List Record) × AreNamesByIdOf self.now records }
         ensures { (records : List Record) → AreNamesByIdOf self.now records → result ≡ named.name_of records class }
@@ -86,7 +87,7 @@ impl<'n, 'a, A: Allocator> NamesById<'n, 'a, A> {
         }
     }
 
-    /// Returns the text of the first string with the identifier `id`.
+    /// Returns the text of the first string with the identifier `id`, or `None` if no string has this identifier.
     pub(crate) fn string_named(&self, id: u64) -> Option<&'a [u8]>
         requires { (records : List Record) × AreNamesByIdOf self.now records }
         ensures { (records : List Record) → AreNamesByIdOf self.now records
@@ -101,7 +102,7 @@ impl<'n, 'a, A: Allocator> NamesById<'n, 'a, A> {
         }
     }
 
-    /// Returns the text that names `class`, if the dump has one.
+    /// Returns the text that names the class with the identifier `class`, or `None` if the dump has none.
     pub(crate) fn class_text(&self, class: u64) -> Option<&'a [u8]>
         requires { (records : List Record) × AreNamesByIdOf self.now records }
         ensures { (records : List Record) → AreNamesByIdOf self.now records

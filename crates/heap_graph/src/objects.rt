@@ -23,14 +23,14 @@ use hprof_grammar::View;
 use id_index::IdIndex;
 use std::alloc::{AllocError, Allocator};
 
-/// The places of the objects of a dump in the order of the file, their identifiers, and their classes.
+/// The objects of a dump: their places in the order of the file, their identifiers, and the classes among them.
 #[derive(Drop)]
 pub(crate) struct Objects<'d, A: Allocator> {
     pub(crate) view: View<'d>,
     pub(crate) places: Vec<u32, A>,
     pub(crate) index: IdIndex<A>,
     pub(crate) classes: Classes<'d, A>,
-    /// The fate of each class's chain of superclasses.
+    /// The fate of each class's chain of superclasses, by the number of the class.
     pub(crate) fates: Vec<Fate, A>,
 }
 

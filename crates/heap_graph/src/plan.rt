@@ -10,10 +10,10 @@ use crate::skip::ClassSkips;
 use hprof_grammar::{Members, View};
 use std::alloc::{AllocError, Allocator};
 
-/// The plan of a class. `start` and `end` bound the places of its followed fields among those of all classes, `size` is
-/// the size in bytes of the values of all fields that it declares, and `object` is the object that its identifier
-/// names: the class itself. `ClassPlace` has the size too, for the tests of layouts. The plan has it for a step up a
-/// chain, which then finds it beside the places.
+/// The plan of a class. The places of its followed fields are those from `start` up to `end` in `Plan::places`. `size`
+/// is the size in bytes of the values of all fields that the class declares. `object` is the object that the identifier
+/// of the class names: the class itself. `ClassPlace` has the size too, for the tests of layouts. It is also here, so
+/// that a step up a chain finds the size beside the places.
 #[derive(Clone, Copy)]
 pub(crate) struct ClassPlan {
     pub(crate) start: usize,
@@ -29,7 +29,7 @@ pub(crate) struct ClassPlan {
 pub(crate) struct Plan<A: Allocator> {
     pub(crate) classes: Vec<ClassPlan, A>,
     /// The places of the followed fields, one class after the other. A field's place is the size in bytes of the values
-    /// of the class's fields before it.
+    /// of the fields that its class declares before it.
     pub(crate) places: Vec<u32, A>,
 }
 

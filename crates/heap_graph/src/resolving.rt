@@ -1,4 +1,4 @@
-//! What identifiers name: 0 is null, and any other names the first object that bears it.
+//! What identifiers name: 0 names nothing, any other identifier names the first object that bears it, if there is one.
 
 ghost use Rattle.std.specs.Prelude.{IfOk, ◌≡◌};
 ghost use Rattle.heap_graph.specs.working.Resolving.{Resolves, ResolvesOne, target_in};
@@ -6,7 +6,7 @@ ghost use Rattle.heap_graph.specs.working.Resolving.{Resolves, ResolvesOne, targ
 use id_index::IdIndex;
 use std::alloc::{AllocError, Allocator};
 
-/// Returns the number of the object that `id` names, or `None` if it is 0 or names no object.
+/// Returns the number of the object that `id` names, or `None` if `id` is 0 or names no object.
 // Inlined, as the look-up that it calls is.
 #[inline(always)]
 pub(crate) fn target<A: Allocator>(index: &IdIndex<A>, id: u64) -> Option<u32>
@@ -18,7 +18,7 @@ pub(crate) fn target<A: Allocator>(index: &IdIndex<A>, id: u64) -> Option<u32>
     index.find(id)
 }
 
-/// Appends the object that `id` names to `targets`. Returns whether `id` is not 0 and names no object.
+/// Appends to `targets` the object that `id` names, if there is one. Returns whether `id` is not 0 and names no object.
 fn push_target<A: Allocator, B: Allocator>(
     index: &IdIndex<A>,
     id: u64,
@@ -35,7 +35,8 @@ fn push_target<A: Allocator, B: Allocator>(
     }
 }
 
-/// Appends the objects that `ids` name to `targets`. Returns the number of `ids` that are not 0 and name no object.
+/// Appends to `targets` the objects that `ids` name, in order. Returns the number of `ids` that are not 0 and name no
+/// object.
 pub(crate) fn resolve<A: Allocator, B: Allocator>(
     index: &IdIndex<A>,
     ids: &[u64],

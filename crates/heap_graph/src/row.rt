@@ -10,8 +10,8 @@ pub(crate) const FIXED_ROWS: usize = 9;
 /// The row of the histogram that an object belongs to.
 #[derive(Clone, Copy, Debug, PartialEq, Eq)]
 pub enum RowKey {
-    /// The row of a class, by its number among the class dumps: the row of its instances and arrays. In a linked heap
-    /// the number identifies the class as its identifier does, and needs no look-up.
+    /// The row of the instances and object arrays of a class, by the number of the class among the class dumps. In a
+    /// linked heap this number identifies the class as its identifier does, and needs no look-up.
     Class(u32),
     /// The row of the primitive arrays of a type, by its code, 4 to 11.
     Primitive(u8),

@@ -19,7 +19,8 @@ use std::marker::Model;
 /// The largest number of entries in a list.
 const MOST_ENTRIES: usize = 64;
 
-/// Fields that are not followed, each by the text that names its declaring class and the string of its own name.
+/// A list of fields that are not followed. An entry has the name of the class that declares the field, and the field's
+/// own name.
 #[derive(Drop)]
 pub struct Skip<'t, A: Allocator> {
     entries: Vec<SkipEntry<'t>, A>,
@@ -53,8 +54,8 @@ impl<'t, A: Allocator> Skip<'t, A> {
     }
 
     /// Reads the list of fields from `text`: 1 to 64 entries `Class.field`, separated by commas. The last dot of an
-    /// entry separates the class from the field, and neither is empty. `Err(SkipRefusal::BadOptions)` if `text` is not
-    /// such a list.
+    /// entry separates the class from the field, and neither is empty. `Err(SkipRefusal::BadOptions)` if `text` is no
+    /// list of this form, `Err(SkipRefusal::OutOfMemory)` if an allocation fails.
     pub fn new(alloc: A, text: &'t str) -> Result<Self, SkipRefusal>
         ensures list { IfOk result (λ skip. SpellsSkips text.now skip) }
         ensures bad { result ≡ Err SkipRefusal.BadOptions → (list : List SkipEntry) → SpellsSkips text.now list → ⊥ }

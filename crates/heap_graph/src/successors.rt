@@ -7,7 +7,7 @@ use std::alloc::Allocator;
 use std::marker::Model;
 
 /// An iterator over the numbers of the objects that an object refers to: a visit without the row and the bytes. Reads
-/// the identifiers that the object holds and looks up each one, except the identifier of a class that is already known.
+/// the identifiers that the object holds, and looks up each of them except 0 and that of a class that is already known.
 #[derive(Drop)]
 pub struct Successors<'g, A: Allocator> {
     visit: Visit<'g, A>,

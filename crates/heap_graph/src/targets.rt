@@ -16,7 +16,7 @@ pub trait IdSource: Drop {
     /// The remaining identifiers.
     ghost ids: { Self → List ℕ };
 
-    /// Returns the next identifier.
+    /// Returns the next identifier, or `None` after the last.
     fn next_id(&mut self) -> Option<u64>
         ensures { YieldsFirst ids self.old result self.new };
 }
@@ -67,7 +67,7 @@ impl<'g, A: Allocator> IdSource for HeldIds<'g, A> {
     }
 }
 
-/// An iterator over the numbers of the objects that identifiers name. The identifiers belong to an object with the row
+/// An iterator over the numbers of the objects that identifiers name. The object that holds the identifiers has the row
 /// `row` and `bytes` bytes. Counts the identifiers other than 0 that name no object.
 #[derive(Drop)]
 pub struct Targets<'g, A: Allocator, I: IdSource> {
@@ -99,7 +99,7 @@ impl<'g, A: Allocator, I: IdSource> Targets<'g, A, I> {
     ghost use Rattle.heap_graph.specs.Walks.{step_in};
 
     /// Creates the iterator over the objects that `ids` name. `row` and `bytes` are those of the object that holds
-    /// them. `unresolved` counts the identifiers passed before `ids` that name no object.
+    /// `ids`. `unresolved` is the number of identifiers passed before `ids` that are not 0 and name no object.
     // Inlined, like everything that makes up a visit.
     #[inline(always)]
     pub(crate) fn new(

@@ -10,19 +10,20 @@ use std::alloc::Allocator;
 use std::marker::Model;
 
 /// An iterator over the numbers of the objects that an object refers to. It has the object's row and bytes, and counts
-/// the identifiers other than 0 that name no object. An instance or an object array begins with its class, which is
-/// known without a look-up. The identifiers after it are read from the bytes, and each is looked up.
+/// the identifiers other than 0 that name no object. An instance or an object array refers first to its class, which
+/// is returned without a look-up if it is known. The other identifiers are read from the bytes and looked up.
 #[derive(Drop)]
 pub struct Visit<'g, A: Allocator> {
     index: &'g IdIndex<A>,
     /// The class, if it is known without a look-up and was not returned yet.
     class: Option<u32>,
-    /// The objects that the identifiers after it name.
+    /// The objects that the other identifiers name.
     rest: HeldTargets<'g, A>,
 }
 
-/// The class of an object, if it is known without a look-up, and the objects that the identifiers after it name, by
-/// where these identifiers are. A loop over one of them makes this choice once, before it begins.
+/// The remaining references of an object, by where its identifiers are. The first three variants have the class, if it
+/// is known without a look-up and was not returned yet, and an iterator over the objects that the other identifiers
+/// name. A caller chooses among the variants once, and then runs a loop that is made for one of them.
 #[derive(Drop)]
 pub enum ByKind<'g, A: Allocator> {
     /// There are no identifiers.
@@ -31,7 +32,8 @@ pub enum ByKind<'g, A: Allocator> {
     Fields(Option<u32>, FieldTargets<'g, A>),
     /// The identifiers are the elements of an array.
     Elements(Option<u32>, ElementTargets<'g, A>),
-    /// Any other object. This has none of its references: a new visit yields them.
+    /// Any other object: a class, or an instance or array whose class is not known without a look-up. Its references
+    /// are not here: a new visit yields them.
     Any,
 }
 
@@ -99,7 +101,7 @@ impl<'g, A: Allocator> Visit<'g, A> {
     }
 
     /// Returns the number of identifiers passed so far that are not 0 and name no object. After `next` has returned
-    /// `None`, these are all such identifiers that the object holds.
+    /// `None`, all such identifiers of the object have been counted.
     pub fn unresolved(&self) -> u64
         ensures { result ≡ self.now.unresolved }
     {
@@ -118,9 +120,8 @@ impl<'g, A: Allocator> Visit<'g, A> {
         }
     }
 
-    /// Splits the visit into the class and the objects that the identifiers after it name, by where these identifiers
-    /// are.
-    // Inlined, so that each kind's loop has the parts of its walk in place.
+    /// Splits the visit into the class and an iterator for the other identifiers. The variant says where these are.
+    // Inlined, so that the loop over each variant has the parts of the walk in place.
     #[inline(always)]
     pub fn by_kind(self) -> ByKind<'g, A>
         ensures { AreByKind self.entry result }
@@ -161,7 +162,7 @@ impl<'g, A: Allocator> Iterator for Visit<'g, A> {
 
     ghost remaining = { item_count references_left };
 
-    // Inlined, as the walk over the identifiers after the class.
+    // Inlined, as the walk over the identifiers after the class is.
     #[inline(always)]
     fn next(&mut self) -> Option<u32> {
         if let Some(class) = self.class {

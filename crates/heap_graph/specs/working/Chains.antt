@@ -23,23 +23,23 @@ pub record IsUnder (heap : List SubRecord) (ids : List ℕ) (k super : ℕ) : Ty
   pub named : class_named heap (slice_index ids k) ≡ Some class
   pub super_is : class.super ≡ super
 
--- what is above a class, from its superclass identifier
+-- `above` is what is above a class with the superclass identifier `super`
 abbrev pub IsAbove : List SubRecord → List ℕ → ℕ → Above → Type 0
 IsAbove heap ids super aboves.Nothing = super ≡ 0
 IsAbove heap ids super aboves.Missing = (super ≢ 0) × (class_named heap super ≡ None)
 IsAbove heap ids super (aboves.Class k) = (k < length ids) × (slice_index ids k ≡ super)
 
--- the classes from that identifier up, to a superclass that is missing
+-- the list has the class that `id` names, then its superclass, and so on up, to a superclass that is missing
 abbrev pub IsCut : List SubRecord → ℕ → List Class → Type 0
 IsCut heap id [] = (id ≢ 0) × (class_named heap id ≡ None)
 IsCut heap id (c ∷ cs) = (class_named heap id ≡ Some c) × IsCut heap c.super cs
 
--- larger sizes are stored as this one
+-- the largest size that a layout stores; a larger size is stored as this
 abbrev pub most_size : ℕ
 most_size = 4294967296
 
--- The layout begins with the fields of class `k`, and continues with those of its superclass. Each field is paired with
--- the class that declares it.
+-- `fields` are those that class `k` declares, at least one, then those that all classes above it declare. Each field is
+-- paired with the class that declares it.
 pub record BeginsAt (heap : List SubRecord) (ids : List ℕ) (fields : List (Class × Member)) (k : ℕ) : Type 0 where
   pub class : Class
   pub rest : List Class
@@ -77,7 +77,7 @@ IsSettled (fates.Whole l) = Unit {0}
 IsSettled fates.Broken = Unit {0}
 IsSettled fates.Endless = Unit {0}
 
--- the fates of all classes, while those of a path are being followed
+-- the fates of all classes, while the classes of `path` are being followed
 pub record AreFates (s : ℕ) (heap : List SubRecord) (ids path : List ℕ) (known : List Fate) : Type 0 where
   pub one_each : length known ≡ length ids
   pub each : (k : ℕ) (f : Fate) → slice_get known k ≡ Some f → IsFate s heap ids (slice_index ids k) f
@@ -95,7 +95,7 @@ IsPath heap ids [] super = Unit {0}
 IsPath heap ids (k ∷ []) super = IsUnder heap ids k super
 IsPath heap ids (k ∷ m ∷ path) super = IsUnder heap ids k (slice_index ids m) × IsPath heap ids (m ∷ path) super
 
--- a climb has ended above the path: the superclass identifier at its end has the fate `fate`
+-- a climb has ended: what is above the last class of `path` has the fate `fate`
 pub record IsTop (s : ℕ) (heap : List SubRecord) (ids path : List ℕ) (fate : Fate) : Type 0 where
   pub super : ℕ
   pub path_is : IsPath heap ids path super
@@ -117,11 +117,11 @@ pub record IsClimb (s : ℕ) (heap : List SubRecord) (ids : List ℕ) (first : �
   pub unknown : slice_get known at ≡ Some fates.Unknown
   pub from : Contains (path ++ at ∷ []) first
 
--- what is known of a class stays known
+-- each class with a known fate in `old` has a known fate in `new`
 abbrev pub DoesStay : List Fate → List Fate → Type 0
 DoesStay old new = (k : ℕ) → IsKnown old k → IsKnown new k
 
--- all fates are known
+-- the fates of all classes are known
 pub record AreSettled (s : ℕ) (heap : List SubRecord) (ids : List ℕ) (known : List Fate) : Type 0 where
   pub fates_are : AreFates s heap ids [] known
   pub each_known : (k : ℕ) → k < length ids → IsKnown known k
@@ -133,7 +133,7 @@ is_unknown (fates.Whole l) = false
 is_unknown fates.Broken = false
 is_unknown fates.Endless = false
 
--- class `k` is `c`, and `rest` are those above it
+-- class `k` is `c`, and `rest` are all classes above it
 pub record IsChainAt (heap : List SubRecord) (ids : List ℕ) (k : ℕ) (c : Class) (rest : List Class) : Type 0 where
   pub below : k < length ids
   pub named : class_named heap (slice_index ids k) ≡ Some c

@@ -1,4 +1,4 @@
--- The plans of the classes of a dump, by their numbers: where the identifiers are in the fields that they declare.
+-- The plans of the classes of a dump, by their numbers: where the identifiers are among the fields of a class.
 use Rattle.std.specs.Prelude.{Bool, List, None, Option, Some, [], length, slice_get, slice_index, slice_index_or}
 use Rattle.std.specs.Prelude.{slice_range}
 use Rattle.std.specs.Prelude.{ℕ, ◌++◌, ◌∷◌}
@@ -22,7 +22,7 @@ plan_at plans k = slice_index_or plans k (record { start = 0; end = 0; size = 0;
 abbrev pub id_places_of : List ClassPlan → List ℕ → ℕ → List ℕ
 id_places_of plans places k = slice_range places (plan_at plans k).start (plan_at plans k).end
 
--- the object that is the class of the objects in a row; and for the row of a class, that this class has a plan
+-- the object that is the class of the objects in a row; and that a row of a class has a plan for this class
 abbrev pub object_of_row : List ClassPlan → RowKey → Option ℕ
 object_of_row plans (keys.Class k) = (plan_at plans k).object
 object_of_row plans (keys.Primitive t) = None

@@ -12,7 +12,7 @@ use Rattle.heap_graph.specs.declared.skip.class_skips.ClassSkips.{ClassSkips}
 abbrev pub names_class : Option (List ℕ) → SkipEntry → Bool
 names_class class e = is_text class e.class
 
--- the entry has the text `class` for its class, and the string `name` for its field
+-- the entry has the text `class` for its class, and the string with the identifier `name` for its field
 abbrev pub names_field : List Record → Option (List ℕ) → ℕ → SkipEntry → Bool
 names_field records class name e = is_text class e.class && is_text (string_named records name) e.field
 

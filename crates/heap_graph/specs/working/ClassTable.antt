@@ -24,13 +24,13 @@ pub record AreClasses (v : Sight) (heap : List SubRecord) (entries : List TableE
   pub low : 1 ≤ v.id_size
   pub each : (k : ℕ) (e : TableEntry) → slice_get entries k ≡ Some e → IsTableEntry v heap e
   pub complete : (id : ℕ) (c : Class) → class_named heap id ≡ Some c → Contains (ids_of entries) id
-  -- in a linked heap list they are in the order of the class dumps
+  -- in a linked heap list the entries are in the order of the class dumps
   pub in_order : IsLinked v.id_size heap → ids_of entries ≡ map (λ c. c.object) (class_dumps heap)
 
 abbrev pub AreClassesOf : {A : Type 0} → Classes A → List SubRecord → Type 0
 AreClassesOf o heap = AreClasses o.view heap o.table.entries
 
--- the classes among the first n objects
+-- the entries are the classes among the first `n` objects
 pub record AreClassesAmong (v : Sight) (heap : List SubRecord) (n : ℕ) (entries : List TableEntry) : Type 0 where
   pub each : (k : ℕ) (e : TableEntry) → slice_get entries k ≡ Some e → IsTableEntry v heap e
   pub complete : (id number : ℕ) (c : Class) → class_named heap id ≡ Some c → number_named heap id ≡ Some number
@@ -41,7 +41,7 @@ pub record AreClassesAmong (v : Sight) (heap : List SubRecord) (n : ℕ) (entrie
       → ids_of entries ≡ map (λ c. c.object) (filter_map as_class (take n (objects heap)))
   pub few : length entries ≤ n
 
--- the class was added after the others
+-- class `c` was added after the others, with the identifier `id` and the place `place`
 pub record AddsEntry (s : ℕ) (c : Class) (id place : ℕ) (old new : List TableEntry) : Type 0 where
   pub entry : ClassPlace
   pub place_is : entry.place ≡ place

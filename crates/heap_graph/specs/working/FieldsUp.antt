@@ -22,7 +22,7 @@ next_in fates.Endless = None
 abbrev pub next_above : List Fate → ℕ → Option ℕ
 next_above known k = next_in (slice_index_or known k fates.Unknown)
 
--- the classes are `first`, the first above it that declares fields, and so on up
+-- the classes are `first`, the first class above `first` that declares fields, and so on up
 abbrev pub AreUp : List Fate → Option ℕ → List ℕ → Type 0
 AreUp known first [] = first ≡ None
 AreUp known first (k ∷ ks) = (first ≡ Some k) × AreUp known (next_above known k) ks
@@ -37,7 +37,7 @@ AreUp-prop : (known : List Fate) (first : Option ℕ) (classes : List ℕ) → I
 AreUp-prop known first [] = option_set first None
 AreUp-prop known first (k ∷ ks) = ×_prop (option_set first (Some k)) (AreUp-prop known (next_above known k) ks)
 
--- there is only one such list of classes
+-- there is only one list of the classes from `first` up
 one_up : (known : List Fate) (first : Option ℕ) (ks ms : List ℕ) → AreUp known first ks → AreUp known first ms → ks ≡ ms
 one_up known first [] [] h e = refl
 one_up known first [] (m ∷ ms) h e = let wrong : None ≡ Some m = sym h ∙ e.0 in absurd cc
@@ -54,7 +54,7 @@ Up-prop known first = λ x y.
     let same : x.0 ≡ y.0 = one_up known first x.0 y.0 x.1 y.1 in
     Σ_path same (to_path_p (λ i. AreUp known first (same i)) (AreUp-prop known first y.0 _ y.1))
 
--- the identifiers in the fields that these classes declare. The values follow each other class by class
+-- the identifiers in the followed fields of the classes; `values` has the values of their fields, class by class
 abbrev pub ids_up : ℕ → List ClassPlan → List ℕ → List ℕ → List ℕ → List ℕ
 ids_up s plans places [] values = []
 ids_up s plans places (k ∷ ks) values =
@@ -76,7 +76,7 @@ pub record HasFields (s : ℕ) (plans : List ClassPlan) (places : List ℕ) (kno
   pub has : HasIdPlaces plans places k
   pub stand : StandInside s (id_places_of plans places k) (plan_at plans k).size values
 
--- `HasFields` for each class of the list. The values follow each other class by class
+-- `HasFields` for each class of the list; `values` has the values of their fields, class by class
 abbrev pub HaveFields : ℕ → List ClassPlan → List ℕ → List Fate → List ℕ → List ℕ → Type 0
 HaveFields s plans places known [] values = Unit {0}
 HaveFields s plans places known (k ∷ ks) values = HasFields s plans places known values k

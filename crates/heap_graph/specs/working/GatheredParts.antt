@@ -10,12 +10,12 @@ use Rattle.heap_graph.specs.Heap.{objects}
 use Rattle.heap_graph.specs.declared.objects.gathering.Gathered.{Gathered}
 use Rattle.heap_graph.specs.working.ClassNumbers.{AreClassNumbers}
 
--- the objects of a heap list are at `places`
+-- the objects of a heap list are at `places`, and are fewer than 2^32
 pub record MayIndex (v : Sight) (places : List ℕ) : Type 0 where
   pub few : length places < 2 ^ 32
   pub stand : (heap : List SubRecord) × StandInTurn (Stands v) places (objects heap)
 
--- like `MayIndex`, and `part` has no more places than there are objects from number `start` on
+-- like `MayIndex`; `part` has no more places than there are objects from number `start` on; `bits` are at most 63 bits
 pub record MayGather (v : Sight) (places : List ℕ) (bits : LowBits) (start : ℕ) (part : List ℕ) : Type 0 where
   pub may : MayIndex v places
   pub within : start + length part ≤ length places
@@ -38,7 +38,7 @@ pub record HasGathered {A : Type 0} (v : Sight) (places : List ℕ) (bits : LowB
       → AreOfFirst (objects heap) start ids numbers
       → AreOfFirst (objects heap) end (ids ++ g.ids.ids) (numbers ++ g.class_dumps.items)
 
--- the result of a part: `None` only if identifiers can have other lowest bits
+-- the result of a part: `None` only if lowest bits are omitted at all
 abbrev pub IsGathering : {A : Type 0} → Sight → List ℕ → LowBits → ℕ → List ℕ
     → Result (Option (Gathered A)) AllocError → Type 0
 IsGathering v places bits start part result =

@@ -26,12 +26,12 @@ pub record AreNamedOf {A : Type 0} (records : List Record) (skip : List SkipEntr
   pub planned : IsPlanOf (is_skipped records skip) o (heap_of records) plan
   pub classes_are : map named_class classes ≡ named_classes records
 
--- the roots that name an object, and the number of those that are not 0 and name none
+-- the objects that roots name, and the number of root identifiers that are not 0 and name no object
 pub record AreRootsOf (heap : List SubRecord) (roots : List ℕ) (unresolved : ℕ) : Type 0 where
   pub roots_are : roots ≡ targets heap (root_ids heap)
   pub unresolved_is : unresolved ≡ count_by (is_unresolved heap) (root_ids heap)
 
--- the objects are linked, and they, `names` and the roots at `root_places` are of the same records
+-- the objects are linked; the objects, `names` and the roots at `root_places` are those of `records`
 pub record MayHaveParts {A : Type 0} (records : List Record) (o : Objects A) (names : Names)
     (root_places : List ℕ) : Type 0 where
   pub linked : AreLinkedOf o (heap_of records)

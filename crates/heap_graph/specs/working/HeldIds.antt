@@ -14,7 +14,7 @@ use Rattle.heap_graph.specs.working.Chains.{IsFirst}
 use Rattle.heap_graph.specs.working.ClassTable.{ids_of}
 use Rattle.heap_graph.specs.working.IdPlaces.{size_of_fields}
 
--- the objects are at their places and are linked, and their identifiers have 1 to 8 bytes
+-- the objects are at `places` and are linked, identifiers have 1 to 8 bytes, and the dump has at most `limit` bytes
 pub record AreLinked (v : Sight) (places ids : List ℕ) (heap : List SubRecord) : Type 0 where
   pub are : AreObjects v places ids heap
   pub low : 1 ≤ v.id_size
@@ -30,7 +30,7 @@ pub record IsObjectAt (v : Sight) (heap : List SubRecord) (n at : ℕ) (o : SubR
   pub is : slice_get (objects heap) n ≡ Some o
   pub stands : Stands v at o
 
--- the identifiers are those that the object holds
+-- the identifiers are those that object `o` holds, at most 2^33
 pub record AreIdsOf (skips : Class → Member → Bool) (s : ℕ) (heap : List SubRecord) (o : SubRecord)
     (ids : List ℕ) : Type 0 where
   pub are : AreIdsIn skips s heap o ids
@@ -40,7 +40,7 @@ pub record AreIdsOf (skips : Class → Member → Bool) (s : ℕ) (heap : List S
 abbrev pub with_class : Bool → ℕ → List ℕ → List ℕ
 with_class behind class ids = if behind then class ∷ ids else ids
 
--- the layout of the instance begins at class `first`
+-- the first class that declares fields in the layout of the instance is `first`, and its values have the layout's size
 pub record IsFirstOfInstance (s : ℕ) (heap : List SubRecord) (ids : List ℕ) (i : Instance)
     (first : Option ℕ) : Type 0 where
   pub chain : List Class
@@ -48,7 +48,7 @@ pub record IsFirstOfInstance (s : ℕ) (heap : List SubRecord) (ids : List ℕ) 
   pub begins : IsFirst heap ids (declared_fields chain) first
   pub size_is : length i.values ≡ layout_size s chain
 
--- the layout of the fields begins at class `first`, and the values have at least as many bytes as the fields
+-- `fields` are those from class `first` up, and the values have at least as many bytes as the fields
 pub record IsLayoutFrom {A : Type 0} (o : Objects A) (heap : List SubRecord) (fields : List (Class × Member))
     (first : Option ℕ) (values : List ℕ) : Type 0 where
   pub begins : IsFirst heap (ids_of o.classes.table.entries) fields first

@@ -7,7 +7,7 @@ use Rattle.hprof_grammar.specs.Standing.{RecordStands, Sight, StandInTurn}
 use Rattle.heap_graph.specs.declared.names.Names.{Names}
 use Rattle.heap_graph.specs.declared.names.NamesById.{NamesById}
 
--- the strings and the loaded classes are at these places, fewer than 2^32 of each
+-- the strings are at the places `strings`, the loaded classes at the places `loaded`, fewer than 2^32 of each
 pub record AreNames (v : Sight) (strings loaded : List ℕ) (records : List Record) : Type 0 where
   pub few_strings : length strings < 2 ^ 32
   pub few_loaded : length loaded < 2 ^ 32
@@ -27,7 +27,7 @@ abbrev pub loaded_id : Record → ℕ
 loaded_id (load_class time serial class stack name) = class
 loaded_id r = 0
 
--- the strings and the loaded classes are at these places, and have these identifiers
+-- like `AreNames`, and the strings and the loaded classes have the identifiers `string_ids` and `loaded_ids`
 pub record AreNamesById (v : Sight) (strings loaded string_ids loaded_ids : List ℕ)
     (records : List Record) : Type 0 where
   pub names : AreNames v strings loaded records

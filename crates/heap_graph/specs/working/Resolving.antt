@@ -3,7 +3,7 @@ use Rattle.std.specs.Prelude.{Bool, List, None, Option, Some, [], count_by, filt
 use Rattle.std.specs.Prelude.{◌++◌, ◌∷◌, ◌≡◌}
 pub use Rattle.heap_graph.specs.Walks.{is_unresolved_in, step_in, target_in}
 
--- the identifier of an object, if it is known
+-- the identifier of the object, or no identifier if there is no object
 abbrev pub known_ids : List ℕ → Option ℕ → List ℕ
 known_ids all None = []
 known_ids all (Some o) = slice_index all o ∷ []
@@ -12,7 +12,7 @@ known_ids all (Some o) = slice_index all o ∷ []
 abbrev pub IsNamed : List ℕ → ℕ → Type 0
 IsNamed all o = target_in all (slice_index all o) ≡ Some o
 
--- the object that `id` names was appended, if it names one; `unresolved` says whether it is not 0 and names none
+-- the object that `id` names was appended, if there is one; `unresolved` says whether `id` is not 0 and names none
 pub record ResolvesOne (all : List ℕ) (id : ℕ) (old new : List ℕ) (unresolved : Bool) : Type 0 where
   pub appended : new ≡ old ++ option_to_list (target_in all id)
   pub unresolved_is : unresolved ≡ is_unresolved_in all id

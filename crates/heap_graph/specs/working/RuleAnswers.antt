@@ -8,7 +8,7 @@ use Rattle.heap_graph.specs.declared.rule.LinkRule.TheVariants.{UnknownClass, Ze
 use Rattle.heap_graph.specs.LinkFault.{IsFirstFault, IsLeastFault, code_of}
 use Rattle.heap_graph.specs.LinkRules.{Fails, HasBadChain, HasWrongSize, LacksClass}
 
--- the rules on classes, superclasses and sizes
+-- object `o` breaks the rule, which is one of those on classes, superclasses and sizes
 abbrev pub BreaksLate : ℕ → List SubRecord → SubRecord → LinkRule → Type 0
 BreaksLate s heap o ZeroObject = ⊥
 BreaksLate s heap o DuplicateObject = ⊥
@@ -17,13 +17,13 @@ BreaksLate s heap o SuperChain = HasBadChain heap o
 BreaksLate s heap o InstanceSize = HasWrongSize s heap o
 BreaksLate s heap o TooLarge = ⊥
 
--- the first of these rules that the object breaks
+-- the first of these rules that the object breaks, or `None` if it breaks none
 abbrev pub IsLateRule : ℕ → List SubRecord → SubRecord → Option LinkRule → Type 0
 IsLateRule s heap o None = (rule : LinkRule) → BreaksLate s heap o rule → ⊥
 IsLateRule s heap o (Some rule) = BreaksLate s heap o rule × ((other : LinkRule) → BreaksLate s heap o other
     → code_of rule ≤ code_of other)
 
--- the first of all rules that object `n` breaks
+-- the first of all rules that object `n` breaks, or `None` if it breaks none
 abbrev pub IsLeastRule : ℕ → List SubRecord → ℕ → Option LinkRule → Type 0
 IsLeastRule s heap n None = (rule : LinkRule) → Fails s heap n rule → ⊥
 IsLeastRule s heap n (Some rule) = IsLeastFault s heap n rule

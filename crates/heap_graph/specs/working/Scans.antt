@@ -8,8 +8,8 @@ use Rattle.heap_graph.specs.declared.row.RowKey.{RowKey}
 use Rattle.heap_graph.specs.working.HeldIds.{AreIdsOf}
 use Rattle.heap_graph.specs.working.Resolving.{IsNamed, known_ids}
 
--- the row and the bytes of object `n`, the object that is its class, if that is known, and the identifiers that it
--- holds, without that of a known class
+-- the row and the bytes of object `n`, the number of the object that is its class, if this is known, and the
+-- identifiers that object `n` holds, without that of a known class
 pub record IsScanOf {A : Type 0} (skips : Class → Member → Bool) (o : Objects A) (heap : List SubRecord) (n : ℕ)
     (row : RowKey) (bytes : ℕ) (class : Option ℕ) (ids : List ℕ) : Type 0 where
   pub object : SubRecord

@@ -22,7 +22,7 @@ pub(crate) enum Above {
 pub(crate) enum Step {
     /// At the class with that number, whose fate is unknown.
     Up(u32),
-    /// It ends: what is above the class has this fate.
+    /// The climb ends: what is above the class has this fate.
     End(Fate),
 }
 
@@ -68,7 +68,8 @@ impl<'d, A: Allocator> Classes<'d, A> {
         }
     }
 
-    /// Returns how a climb continues above class `at`, which is on the path.
+    /// Returns how a climb continues above class `at`, which is on the path. `known` are the fates of all classes so
+    /// far.
     fn next_step(&self, at: u32, known: &[Fate]) -> Step
         requires below { at < length self.now.table.entries }
         requires few { length self.now.table.entries < 2 ^ 32 }
@@ -90,7 +91,8 @@ impl<'d, A: Allocator> Classes<'d, A> {
     }
 
     /// Follows the superclasses from class `first`, whose fate is unknown, until the fate of what is above is known.
-    /// Appends the classes on the way to `path`, and returns that fate.
+    /// Appends to `path` the classes on the way, from `first` on, and marks them in `known` as [`Fate::OnPath`].
+    /// Returns the fate of what is above the last.
     fn climb<B: Allocator>(
         &self,
         first: u32,
@@ -118,8 +120,8 @@ impl<'d, A: Allocator> Classes<'d, A> {
         }
     }
 
-    /// Settles the classes of `path` from its end to its start, and empties it. `above` is the fate of what is above
-    /// its last class.
+    /// Settles the classes of `path` from the last to the first, and empties `path`. `above` is the fate of what is
+    /// above the last class.
     fn unwind<B: Allocator>(&self, above: Fate, known: &mut [Fate], path: &mut Vec<u32, B>)
         requires heap { (heap : List SubRecord) × AreClassesOf self.now heap
             × AreFatesOf self.now heap path.old.items known.old × IsTopOf self.now heap path.old.items above }
@@ -137,7 +139,8 @@ impl<'d, A: Allocator> Classes<'d, A> {
         }
     }
 
-    /// Settles class `first` and those above it. `path` is empty before and after.
+    /// Settles class `first` and the classes above it, unless `first` is settled already. `path` must be empty, and is
+    /// empty again afterwards, unless an allocation failed.
     fn settle<B: Allocator>(
         &self,
         first: u32,

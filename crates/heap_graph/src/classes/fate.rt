@@ -3,12 +3,12 @@
 /// The layout of the instances of a class.
 #[derive(Clone, Copy)]
 pub(crate) struct Layout {
-    /// Its size in bytes. A size above 2^32 is stored as 2^32: no instance is that large.
+    /// The size in bytes of the values. A size above 2^32 is stored as 2^32: no instance is that large.
     pub(crate) size: u64,
-    /// The first class that declares fields, from the class up. A walk over an instance's fields begins there, so that
-    /// a long chain of classes without fields costs it nothing.
+    /// The first class that declares fields, from the class itself up, or `None` if none does. A walk over an
+    /// instance's fields begins there, so that a long chain of classes without fields costs the walk nothing.
     pub(crate) first: Option<u32>,
-    /// The first class above the class itself that declares fields.
+    /// The first class above the class itself that declares fields, or `None` if none does.
     pub(crate) next: Option<u32>,
 }
 

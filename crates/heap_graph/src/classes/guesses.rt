@@ -1,10 +1,10 @@
 //! Guesses at the numbers of classes.
 //!
 //! Each instance and object array names its class, and a look-up in the map of classes reads a hash, a group of its
-//! table and a key. So an array of places comes before the map. It has at least four places for each class, and each
-//! identifier selects one of them. A look-up first tests the class at that place, and searches the map only if that is
-//! another class. No contract mentions a guess: only time depends on it. A file whose classes all share one place makes
-//! nearly each look-up one test longer.
+//! table and a key. So an array of places comes before the map. The array has at least four places for each class, and
+//! an identifier selects one of these places. A look-up first tests the class that was noted there, and searches the
+//! map only if that is another class. No contract mentions a guess: only time depends on it. A file whose classes all
+//! share one place makes nearly each look-up one test longer.
 
 ghost use Rattle.std.specs.Prelude.{length, ◌<◌};
 
@@ -60,7 +60,7 @@ impl<A: Allocator> Guesses<A> {
         (id.wrapping_mul(SPREAD) >> 32) as usize & self.mask
     }
 
-    /// Notes `number` as that of the class with the identifier `id`.
+    /// Notes `number` as the number of the class with the identifier `id`.
     pub(crate) fn note(&mut self, id: u64, number: usize) {
         let place = self.place_of(id);
         if let Ok(number) = u32::try_from(number) {

@@ -1,8 +1,8 @@
 //! The hash of the identifiers of classes.
 //!
 //! If the seed were fixed, a file could have class identifiers that all lead to one place of the table: each look-up
-//! would pass half of the classes. So the seed is computed from all class identifiers of the dump: a change of one
-//! identifier changes the hashes of all. The hash is the same in each run.
+//! would pass half of the classes on average. So the seed is computed from all class identifiers of the dump: a change
+//! of one identifier changes the hashes of all. For one dump, the hash is the same in each run.
 //!
 //! The hash function is known, so a file could still be made against it, with identifiers that collide under the seed
 //! that they themselves yield. That costs only time, since no contract mentions the hash: a look-up passes at most all

@@ -6,7 +6,7 @@ ghost use Rattle.hprof_grammar.specs.SubRecord.{Class, SubRecord};
 use crate::classes::{Classes, Fate, Layout};
 use std::alloc::Allocator;
 
-/// The largest size of a layout: a larger one is stored as this.
+/// The largest size that a layout stores: a larger size is stored as this.
 const MOST_SIZE: u64 = 4_294_967_296;
 
 impl<'d, A: Allocator> Classes<'d, A> {
@@ -14,8 +14,8 @@ impl<'d, A: Allocator> Classes<'d, A> {
     ghost use Rattle.heap_graph.specs.working.Chains.{IsChainAtOf, IsFateOf, IsFirstOf, IsLayoutAtOf, IsSettled};
     ghost use Rattle.heap_graph.specs.working.Chains.{IsUnderOf};
 
-    /// Returns the first class that declares fields, from class `number` up. `above` is the first of those above class
-    /// `number`.
+    /// Returns the first class that declares fields, from class `number` up, or `None` if none does. `above` is the
+    /// first class above class `number` that declares fields.
     fn first_of(&self, number: u32, above: Option<u32>) -> Option<u32>
         requires below { number < length self.now.table.entries }
         requires heap { (heap : List SubRecord) × AreClassesOf self.now heap }
@@ -29,7 +29,8 @@ impl<'d, A: Allocator> Classes<'d, A> {
         Some(number)
     }
 
-    /// Returns the layout of class `number`. `above` is that of its superclass.
+    /// Returns the layout of class `number`. `above` is the layout of its superclass, or an empty layout if it has no
+    /// superclass.
     fn layout_below(&self, number: u32, above: Layout) -> Layout
         requires below { number < length self.now.table.entries }
         requires heap { (heap : List SubRecord) × (c : Class) × (rest : List Class) × AreClassesOf self.now heap
@@ -46,7 +47,7 @@ impl<'d, A: Allocator> Classes<'d, A> {
         }
     }
 
-    /// Returns the fate of class `number`. `above` is that of its superclass.
+    /// Returns the fate of class `number`. `above` is the fate of what is above the class.
     pub(crate) fn fate_below(&self, number: u32, above: Fate) -> Fate
         requires below { number < length self.now.table.entries }
         requires heap { (heap : List SubRecord) × (super : ℕ) × AreClassesOf self.now heap

@@ -77,7 +77,7 @@ impl<A: Allocator> ClassTable<A> {
         }
     }
 
-    /// Finds the number of the class `id` in the map.
+    /// Searches the map for the class `id`. Returns its number, or `None` if the table does not contain `id`.
     // Not inlined, so that a look-up whose guess is right needs no locals for the search.
     #[inline(never)]
     fn find_in_map(&self, id: u64) -> Option<u32>
@@ -104,7 +104,7 @@ impl<A: Allocator> ClassTable<A> {
         self.find_in_map(id)
     }
 
-    /// Tests whether `find` needs no search of the map for `id`, because the guessed class bears it.
+    /// Tests whether `find` needs no search of the map for `id`, because the guessed class bears `id`.
     fn is_guessed(&self, id: u64) -> bool {
         self.bears(self.guesses.guess(id), id)
     }
@@ -132,7 +132,7 @@ impl<'d, A: Allocator> Classes<'d, A> {
         self.table.find(id)
     }
 
-    /// Tests whether the class that bears `id` is found by a guess.
+    /// Tests whether a class bears `id` and is found by a guess, without a search of the map.
     pub(crate) fn is_guessed(&self, id: u64) -> bool {
         self.table.is_guessed(id)
     }
@@ -145,7 +145,8 @@ impl<'d, A: Allocator> Classes<'d, A> {
         self.table.get(number).0
     }
 
-    /// Returns where the dump of class `number` is, and its size.
+    /// Returns the place of the class dump of class `number`, and the size in bytes of the values of all fields that
+    /// the class declares.
     pub(crate) fn class_place(&self, number: u32) -> ClassPlace
         requires { number < length self.now.table.entries }
         ensures { (e : TableEntry) → slice_get self.now.table.entries number ≡ Some e → result ≡ e.1 }

@@ -52,7 +52,7 @@ fn settled_classes<'d, A: Allocator + Copy>(
     Ok(Settled { classes, fates })
 }
 
-/// Indexes the objects at `places` by their identifiers, and reads their classes.
+/// Indexes the objects at `places` by their identifiers, and reads the classes among them.
 fn read_objects<'a, T: Threads + Sync, A: Allocator + Copy + Send + Sync>(
     team: &Team<'_, T>,
     alloc: A,
@@ -79,7 +79,7 @@ fn read_objects<'a, T: Threads + Sync, A: Allocator + Copy + Send + Sync>(
     })
 }
 
-/// Reads the objects of `dump`. Their places move out of `dump`, so that they are kept only once.
+/// Reads the objects of `dump`. The places of the objects move out of `dump`, so that they are kept only once.
 fn take_objects<'a, T: Threads + Sync, A: Allocator + Copy + Send + Sync>(
     team: &Team<'_, T>,
     alloc: A,
@@ -96,7 +96,7 @@ fn take_objects<'a, T: Threads + Sync, A: Allocator + Copy + Send + Sync>(
 }
 
 impl<'a, A: Allocator + Copy> Graph<'a, A> {
-    /// Puts together the graph of linked objects from its parts.
+    /// Puts together the graph of the linked `objects`, with the classes and roots in `parts`.
     fn of(objects: Objects<'a, A>, parts: Parts<'a, A>, skip: &'a [SkipEntry<'a>]) -> Graph<'a, A>
         requires { (text : List ℕ) × (dump : Places) × (is : IsDumpOf text dump) × IsReadOf text dump is objects
             × ArePartsOf is.records skip.now objects parts }
@@ -132,8 +132,8 @@ impl<'a, A: Allocator + Copy> Graph<'a, A> {
 }
 
 impl<'a, A: Allocator + Copy + Send + Sync> Graph<'a, A> {
-    /// Reads the objects of `dump`, whose places move out of it, and tests the rules of their links.
-    /// `Err(LinkRefusal::Fault)` has the first fault of the links; the only other error is out of memory.
+    /// Moves the places of the objects out of `dump`, reads the objects, and tests the rules of their links.
+    /// `Err(LinkRefusal::Fault)` has the first fault of the links; the only other error is `LinkRefusal::OutOfMemory`.
     fn linked_objects<T: Threads + Sync>(
         team: &Team<'_, T>,
         alloc: A,
@@ -157,8 +157,8 @@ impl<'a, A: Allocator + Copy + Send + Sync> Graph<'a, A> {
 
     /// Builds the graph of `dump`, which was read from `bytes`. The fields that `skip` lists are not followed; pass
     /// `Skip::none` to follow all. `Err(LinkRefusal::Fault)` has the first fault of the links; the only other error is
-    /// out of memory. If there are many objects, the threads of the team gather their identifiers and test the rules of
-    /// the links in parts.
+    /// `LinkRefusal::OutOfMemory`. If there are many objects (`Team::splits`), the threads of `team` share the work of
+    /// gathering identifiers and testing links.
     pub fn build<T: Threads + Sync, B: Allocator>(
         team: &Team<'_, T>,
         alloc: A,

@@ -40,7 +40,8 @@ pub(crate) struct Parts<'a, A: Allocator> {
     pub(crate) rooted: ResolvedRoots<A>,
 }
 
-/// Looks up the texts that name the classes of `objects` in `by_id`, and plans the classes.
+/// Looks up in `by_id` the texts that name the classes of `objects`, and plans the classes. The fields that `skip`
+/// lists are not followed.
 fn look_up_names<'a, A: Allocator + Copy>(
     alloc: A,
     objects: &Objects<'a, A>,
@@ -58,7 +59,7 @@ fn look_up_names<'a, A: Allocator + Copy>(
     Ok(PlannedClasses { plan, classes })
 }
 
-/// Reads the names and the plans of the classes of `objects`. The index of the names is dropped at the end.
+/// Like [`look_up_names`], but first indexes `names` by identifiers. This index is dropped at the end.
 fn name_classes<'a, A: Allocator + Copy>(
     alloc: A,
     objects: &Objects<'a, A>,
@@ -75,7 +76,8 @@ fn name_classes<'a, A: Allocator + Copy>(
     look_up_names(alloc, objects, &by_id, skip)
 }
 
-/// Finds the objects that the roots at `places` name.
+/// Finds the objects that the roots at `places` name, and counts the root identifiers that are not 0 and name no
+/// object.
 fn find_roots<A: Allocator + Copy>(
     alloc: A,
     objects: &Objects<'_, A>,
@@ -92,8 +94,8 @@ fn find_roots<A: Allocator + Copy>(
     Ok(ResolvedRoots { roots, unresolved })
 }
 
-/// Reads the parts of the graph of `objects`: its classes, with the texts that name them in `names`, and its roots,
-/// which are at `root_places`.
+/// Reads the classes and the roots of the graph of `objects`. `names` has the texts that name classes, and the roots
+/// are at `root_places`. The fields that `skip` lists are not followed.
 pub(crate) fn read_parts<'a, A: Allocator + Copy>(
     alloc: A,
     objects: &Objects<'a, A>,

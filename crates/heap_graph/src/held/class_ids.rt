@@ -11,7 +11,7 @@ use std::marker::Model;
 /// The remaining identifiers of those that a class holds.
 #[derive(Drop)]
 pub(crate) struct ClassIds<'g> {
-    /// The identifiers of its superclass, loader, signers and protection domain.
+    /// The remaining identifiers of the first four: superclass, loader, signers and protection domain.
     leading: Ids<'g>,
     constants: Values<'g>,
     statics: Values<'g>,
@@ -32,7 +32,7 @@ impl<'g> Model for ClassIds<'g> {
     } };
 }
 
-/// Returns the next identifier among `values`: the next value of type 2.
+/// Returns the next identifier among `values`: the next value of type 2, or `None` if there is none.
 fn next_id(values: &mut Values<'_>) -> Option<u64>
     requires { AreClassValues values.old }
     ensures ids { YieldsFirst values_ids values.old result values.new }

@@ -8,24 +8,25 @@ use crate::plan::Plan;
 use std::alloc::Allocator;
 use std::marker::Model;
 
-/// The remaining identifiers in the fields of an instance: those in the fields of one class, and then those of the
-/// classes above it that declare fields.
+/// The remaining identifiers in the followed fields of an instance: first those in fields that the current class
+/// declares, then those in fields that the classes above it declare.
 // The order of the fields is for the compiler. Other variants of the walk that contains this type have fields of one
 // byte and of four bytes at the offsets of `next` and `own`, so the compiler keeps `next` and `own` in pieces of these
-// sizes. With `places` at these offsets, the compiler would join the pieces of its length for each identifier.
+// sizes. If `places` were at these offsets, the compiler would join the length of `places` from pieces at each
+// identifier.
 #[derive(Drop)]
 pub struct FieldIds<'g, A: Allocator> {
     objects: &'g Objects<'g, A>,
     plan: &'g Plan<A>,
-    /// The first class above the current one that declares fields.
+    /// The next class that declares fields, or `None` after the last.
     next: Option<u32>,
-    /// The size in bytes of the values of the current class's own fields.
+    /// The size in bytes of the values of the current class's own fields, 0 before the first class.
     own: usize,
     /// The remaining places of identifiers among the values of the current class.
     places: &'g [u32],
-    /// The values of the fields of the current class, and of those of the classes above it.
+    /// The values of the fields of the current class, then those of the classes above it.
     values: &'g [u8],
-    /// The class `next`, the first above it that declares fields, and so on up.
+    /// The class `next`, the first class above `next` that declares fields, and so on up.
     ghost up: { Up objects.now.fates.items next } by { Up-prop objects.now.fates.items next },
 }
 
@@ -47,8 +48,8 @@ impl<'g, A: Allocator> Model for FieldIds<'g, A> {
     } };
 }
 
-/// Splits `values` into the values of a class's own fields, the first `own` bytes, and those of the classes above it,
-/// which follow.
+/// Splits `values` after the first `own` bytes: into the values of a class's own fields, and those of the classes above
+/// it.
 // Inlined, as `next` is.
 #[inline(always)]
 fn by_class(values: &[u8], own: usize) -> (&[u8], &[u8])
@@ -67,8 +68,8 @@ impl<'g, A: Allocator> FieldIds<'g, A> {
     ghost use Rattle.heap_graph.specs.working.HeldIds.{IsLayoutFrom};
     ghost use Rattle.heap_graph.specs.working.ClassFates.{HaveFatesOf};
 
-    /// Returns the identifiers in the fields of an instance with the values `values`. `first` is the first class of its
-    /// layout that declares fields.
+    /// Returns the identifiers in the followed fields of an instance with the values `values`. `first` is the first
+    /// class of its layout that declares fields.
     // Inlined, like everything that makes up a visit.
     #[inline(always)]
     pub(crate) fn new(

@@ -12,7 +12,7 @@ use crate::rule::LinkRule;
 use hprof_grammar::ObjectKind;
 use std::alloc::Allocator;
 
-/// The largest number of objects.
+/// The largest number of objects of a linked dump.
 const MOST_OBJECTS: usize = 16_777_216;
 
 /// Tests whether `values` have the size of `layout`.
@@ -29,7 +29,7 @@ impl<'d, A: Allocator> Objects<'d, A> {
     ghost use Rattle.heap_graph.specs.working.ClassFates.{HaveFatesOf};
     ghost use Rattle.heap_graph.specs.working.RuleAnswers.{IsLateRule, IsLeastRule};
 
-    /// Returns the rule on superclasses, if the class dump at `at` breaks it.
+    /// Returns `LinkRule::SuperChain` if the class dump at `at` breaks this rule, otherwise `None`.
     fn class_rule(&self, at: u32) -> Option<LinkRule>
         requires object { (c : Class) × Stands self.now.view at (class_dump c) }
         requires heap { (heap : List SubRecord) × HaveFatesOf self.now heap }
@@ -50,7 +50,7 @@ impl<'d, A: Allocator> Objects<'d, A> {
         }
     }
 
-    /// Returns the first of the rules on class and size that the instance at `at` breaks.
+    /// Returns the first of the rules on class and size that the instance at `at` breaks, or `None` if it breaks none.
     fn instance_rule(&self, at: u32) -> Option<LinkRule>
         requires object { (i : Instance) × Stands self.now.view at (instance_dump i) }
         requires heap { (heap : List SubRecord) × HaveFatesOf self.now heap }
@@ -73,7 +73,7 @@ impl<'d, A: Allocator> Objects<'d, A> {
         }
     }
 
-    /// Returns the rule on the class of an object array, if the one at `at` breaks it.
+    /// Returns `LinkRule::UnknownClass` if the object array at `at` breaks this rule, otherwise `None`.
     fn array_rule(&self, at: u32) -> Option<LinkRule>
         requires object { (a : ObjectArray) × Stands self.now.view at (object_array_dump a) }
         requires heap { (heap : List SubRecord) × HaveFatesOf self.now heap }
@@ -87,7 +87,8 @@ impl<'d, A: Allocator> Objects<'d, A> {
         }
     }
 
-    /// Returns the first of the rules on classes, superclasses and sizes that the object at `at` breaks.
+    /// Returns the first of the rules on classes, superclasses and sizes that the object at `at` breaks, or `None` if
+    /// it breaks none.
     fn late_rule(&self, at: u32) -> Option<LinkRule>
         requires object { (o : SubRecord) × Stands self.now.view at o × (is_object o ≡ true) }
         requires heap { (heap : List SubRecord) × HaveFatesOf self.now heap }
@@ -102,8 +103,9 @@ impl<'d, A: Allocator> Objects<'d, A> {
         }
     }
 
-    /// Returns the first rule that object `number` breaks. `repeat` is the number of the first object whose identifier
-    /// an earlier one has; `number` is at most `repeat`.
+    /// Returns the first rule that object `number` breaks, or `None` if it breaks none. `repeat` is the number of the
+    /// first object whose identifier an earlier one has, or the number of objects if no identifier repeats. `number` is
+    /// at most `repeat`.
     pub(super) fn broken_rule(&self, number: usize, repeat: usize) -> Option<LinkRule>
         requires below { number < length self.now.places.items }
         requires repeat { IsFirstRepeat self.now.index repeat }

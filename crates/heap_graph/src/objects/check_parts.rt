@@ -14,7 +14,8 @@ use std::thread::Threads;
 impl<'d, A: Allocator> Objects<'d, A> {
     /// Tests the objects of `part` in turn, up to the first fault. `part` holds the places of the objects from number
     /// `start` on. The result is meaningful only if no object before `start` breaks a rule. `repeat` is the number of
-    /// the first object whose identifier an earlier one has; if it is less than `start`, nothing is tested.
+    /// the first object whose identifier an earlier one has, or the number of objects if no identifier repeats. Nothing
+    /// is tested if `repeat` is less than `start`.
     fn check_part(&self, start: usize, part: &[u32], repeat: usize) -> Result<(), LinkFault>
         requires { MayTest self.now repeat start part.now }
         ensures { HasTested self.now repeat start part.now result }
@@ -40,8 +41,9 @@ impl<'d, A: Allocator + Copy + Send + Sync> Objects<'d, A> {
     ghost use Rattle.heap_graph.specs.working.ClassFates.{HaveFatesOf};
     ghost use Rattle.heap_graph.specs.working.RuleAnswers.{IsFaultOf};
 
-    /// Tests each object, and returns the first fault in the order of the file. Many objects are tested in as many
-    /// parts as the team has threads, or in one part if there is no memory for the results of several.
+    /// Tests the objects, and returns the first fault in the order of the file. If there are many objects
+    /// (`Team::splits`), they are tested in parts, at most one for each thread of `team`. If there are few, or if the
+    /// allocation for the results of the parts fails, they are tested in one part.
     pub(crate) fn check<T: Threads + Sync>(
         &self,
         team: &Team<'_, T>,

@@ -18,7 +18,7 @@ impl<'d, A: Allocator> Objects<'d, A> {
     ghost use Rattle.heap_graph.specs.working.Refinement.{named_class};
     ghost use Rattle.heap_graph.specs.working.ClassFates.{HaveFatesOf};
 
-    /// Returns class `number`, with the text that names it in `names`.
+    /// Returns the identifier of class `number`, and the text that `names` has for the class, if any.
     fn class_entry<'a, B: Allocator>(
         &self,
         names: &NamesById<'_, 'a, B>,
@@ -35,7 +35,7 @@ impl<'d, A: Allocator> Objects<'d, A> {
         ClassEntry { id, text }
     }
 
-    /// Returns the classes in the order of their dumps, with the texts that name them in `names`.
+    /// Returns the identifiers of all classes, by class number, and the text that `names` has for each class, if any.
     pub(crate) fn classes<'a, B: Allocator + Copy>(
         &self,
         alloc: B,

@@ -15,7 +15,7 @@ impl<'d, A: Allocator> Objects<'d, A> {
     ghost use Rattle.heap_graph.specs.working.FieldsUp.{next_above};
     ghost use Rattle.heap_graph.specs.working.HeldIds.{AreLinkedOf, IsFirstOfInstance, IsObjectAt};
 
-    /// Returns the number of the class with the identifier `id`, which exists.
+    /// Returns the number of the class that `id` names. `id` must name a class.
     // Inlined, like everything that makes up a visit, so that a visit is built in place.
     #[inline(always)]
     pub(crate) fn class_numbered(&self, id: u64) -> u32
@@ -31,8 +31,8 @@ impl<'d, A: Allocator> Objects<'d, A> {
         }
     }
 
-    /// Returns the identifier and the number of the class of the instance at `at`, and the number of the first class
-    /// that declares fields, from that class up.
+    /// Returns the identifier and the number of the class of the instance at `at`. The third result is the number of
+    /// the first class that declares fields, from the instance's class up, or `None` if none of them does.
     // Inlined, like everything that makes up a visit.
     #[inline(always)]
     pub(crate) fn class_of(&self, at: u32) -> (u64, u32, Option<u32>)
@@ -55,7 +55,8 @@ impl<'d, A: Allocator> Objects<'d, A> {
         }
     }
 
-    /// Returns the first class above class `number` that declares fields.
+    /// Returns the first class above class `number` that declares fields. Returns `None` if there is none, or if the
+    /// chain of class `number` does not end at 0 ([`Fate::Whole`]).
     pub(crate) fn next_of(&self, number: u32) -> Option<u32>
         requires { number < length self.now.fates.items }
         ensures { result ≡ next_above self.now.fates.items number }

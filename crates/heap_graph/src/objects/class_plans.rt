@@ -18,7 +18,8 @@ impl<'d, A: Allocator> Objects<'d, A> {
     ghost use Rattle.heap_graph.specs.working.ClassPlans.{IsPlanOf};
     ghost use Rattle.heap_graph.specs.working.ClassFates.{HaveFatesOf};
 
-    /// Returns the plan of the classes, whose fields are followed unless `skip` lists them.
+    /// Returns the plan of all classes, in which the fields that `skip` lists are not followed. `names` has the texts
+    /// that name classes and fields.
     pub(crate) fn plan<B: Allocator + Copy>(
         &self,
         alloc: B,

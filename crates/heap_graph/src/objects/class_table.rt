@@ -14,8 +14,8 @@ use hprof_grammar::View;
 use id_index::IdIndex;
 use std::alloc::{AllocError, Allocator};
 
-/// Returns the hash for the classes that the objects with the numbers `class_dumps` describe. `places` are those of all
-/// objects.
+/// Returns the hash for the classes that the objects with the numbers `class_dumps` describe. All objects are at
+/// `places`.
 fn hash_of(view: &View<'_>, places: &[u32], class_dumps: &[u32]) -> ClassHash
     requires { (heap : List SubRecord) × StandInTurn (Stands view.now) places.now (objects heap)
         × AreClassNumbers (objects heap) (length places.now) class_dumps.now }
@@ -27,7 +27,8 @@ fn hash_of(view: &View<'_>, places: &[u32], class_dumps: &[u32]) -> ClassHash
     seed.finish()
 }
 
-/// Adds the class that object `number`, a class dump, describes, if its identifier names this object.
+/// Adds to `classes` the class that object `number`, a class dump, describes. Adds nothing if the identifier of the
+/// class is 0, or if an earlier object has the same identifier.
 fn add_class<A: Allocator, B: Allocator>(
     classes: &mut Classes<'_, A>,
     places: &[u32],

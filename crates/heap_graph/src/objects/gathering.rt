@@ -75,7 +75,7 @@ pub(super) fn note_class<B: Allocator>(
 }
 
 /// Gathers the objects of `part`, of which the first has the number `start`. Returns `None` if an identifier has other
-/// lowest bits than `bits`.
+/// lowest bits than `bits`. `AllocError` if an allocation fails.
 fn gather_part<B: Allocator + Copy>(
     alloc: B,
     view: &View<'_>,
@@ -99,8 +99,8 @@ fn gather_part<B: Allocator + Copy>(
     Ok(Some(gathered))
 }
 
-/// Joins `parts`, the results of the parts of all places, in order. Returns `None` if an identifier of a part has other
-/// lowest bits than `bits`.
+/// Joins `parts`, the results of the parts of all places, in order. Returns the first `None` or `AllocError` among
+/// `parts`, if there is one. `AllocError` also if an allocation fails.
 fn join_parts<B: Allocator + Copy>(
     alloc: B,
     bits: LowBits,
@@ -120,8 +120,8 @@ fn join_parts<B: Allocator + Copy>(
     Ok(Some(all))
 }
 
-/// Gathers the objects at `places` in as many parts as the team has threads, and joins the parts in order. Returns
-/// `None` if an identifier has other lowest bits than `bits`.
+/// Gathers the objects at `places` in parts, at most one for each thread of `team`, and joins the parts in order.
+/// Returns `None` if an identifier has other lowest bits than `bits`. `AllocError` if an allocation fails.
 fn gather_in_parts<T: Threads + Sync, B: Allocator + Copy + Send + Sync>(
     team: &Team<'_, T>,
     alloc: B,
@@ -141,8 +141,9 @@ fn gather_in_parts<T: Threads + Sync, B: Allocator + Copy + Send + Sync>(
     join_parts(alloc, bits, parts)
 }
 
-/// Gathers the objects at `places`: in parts if there are many objects, but in one part if there is no memory for
-/// several. Returns `None` if an identifier has other lowest bits than `bits`.
+/// Gathers the objects at `places`: in parts if there are many (`Team::splits`), and in one part if there are few, or
+/// if an allocation for several parts fails. Returns `None` if an identifier has other lowest bits than `bits`.
+/// `AllocError` if an allocation for one part fails.
 pub(crate) fn gather<T: Threads + Sync, B: Allocator + Copy + Send + Sync>(
     team: &Team<'_, T>,
     alloc: B,

@@ -17,7 +17,7 @@ impl<'d, A: Allocator> Objects<'d, A> {
     ghost use Rattle.heap_graph.specs.working.HeldIds.{AreIdsOf, AreLinkedOf, IsFirstOfInstance, IsObjectAt};
     ghost use Rattle.heap_graph.specs.working.HeldIds.{with_class};
 
-    /// Returns the identifiers that the class dump at `at` holds. The two reserved ones are not followed.
+    /// Returns the identifiers that the class dump at `at` holds, except the two reserved ones.
     // Inlined, like everything that makes up a visit.
     #[inline(always)]
     pub(crate) fn ids_of_class(&self, at: u32) -> HeldIds<'_, A>
@@ -33,8 +33,8 @@ impl<'d, A: Allocator> Objects<'d, A> {
         }
     }
 
-    /// Returns the identifiers that the instance at `at` holds: its class `class`, unless `behind` is set, and then
-    /// those in its fields. Its layout begins at the class `first`.
+    /// Returns the identifiers that the instance at `at` holds: `class`, the identifier of its class, unless `behind`
+    /// is set, and then those in its followed fields. `first` is the first class of its layout that declares fields.
     // Inlined, like everything that makes up a visit.
     #[inline(always)]
     pub(crate) fn ids_of_instance<'g>(
@@ -66,8 +66,8 @@ impl<'d, A: Allocator> Objects<'d, A> {
         }
     }
 
-    /// Returns the identifiers that the object array at `at` holds: its class `class`, unless `behind` is set, and then
-    /// its elements.
+    /// Returns the identifiers that the object array at `at` holds: `class`, the identifier of its class, unless
+    /// `behind` is set, and then its elements.
     // Inlined, like everything that makes up a visit.
     #[inline(always)]
     pub(crate) fn ids_of_array(&self, at: u32, class: u64, behind: bool) -> HeldIds<'_, A>

@@ -2,8 +2,9 @@
 //!
 //! In most dumps the identifiers are the addresses of objects, and all have the same lowest three bits. The index omits
 //! these bits, so that neighbours share a run. If an identifier has other lowest bits, all identifiers are gathered
-//! again and indexed with all their bits. Both times the numbers of the class dumps are noted on the way, so that only
-//! class dumps are read for the class table.
+//! again and indexed with all their bits. Objects in no order are indexed by pairs instead of runs, if [`paired`] can
+//! make the pairs. In each case the numbers of the class dumps are noted on the way, so that only class dumps are read
+//! for the class table.
 
 ghost use Rattle.hprof_grammar.specs.Standing.{StandInTurn, Stands};
 ghost use Rattle.hprof_grammar.specs.SubRecord.{SubRecord};
@@ -42,7 +43,7 @@ fn first_bits(view: &View<'_>, places: &[u32]) -> LowBits
     }
 }
 
-/// Identifiers are indexed with all their bits.
+/// No lowest bits: identifiers are indexed with all their bits.
 const ALL_BITS: LowBits = LowBits { shift: 0, low: 0 };
 
 impl<A: Allocator> Indexed<A> {

@@ -1,8 +1,9 @@
-//! The objects of a dump in no order, by their identifiers: pairs are placed straight from the bytes.
+//! Indexes objects in no order by their identifiers: pairs are placed straight from the bytes.
 //!
-//! ZGC and Shenandoah write objects in the order of a walk over references, in which nearly each would be a run of its
-//! own. Their identifiers are read twice instead: for the places that they take, and for the pairs. So nothing is
-//! gathered beside the index.
+//! ZGC and Shenandoah write objects in the order of a walk over references. In that order nearly each object would be
+//! a run of its own, so the index is made of pairs. The identifiers are read once to note the places that they take,
+//! and once more to place the pairs (more often if the ends of a sample do not serve). So nothing is gathered beside
+//! the index.
 
 ghost use Rattle.hprof_grammar.specs.Standing.{StandInTurn, Stands};
 ghost use Rattle.hprof_grammar.specs.SubRecord.{SubRecord};
@@ -19,12 +20,13 @@ use std::alloc::{AllocError, Allocator};
 use std::thread;
 use std::thread::Threads;
 
-/// The number of stretches that are sampled, and of neighbouring objects in each.
+/// The number of stretches of objects in a sample.
 const STRETCHES: usize = 64;
 
+/// The largest number of objects in a stretch. The objects of a stretch have consecutive numbers.
 const NEIGHBOURS: usize = 1024;
 
-/// The identifiers of a page: 64 places.
+/// The number of places on a page of the index.
 const PLACES: u64 = 64;
 
 /// The least and the greatest of some identifiers.
@@ -35,13 +37,13 @@ struct Ends {
 }
 
 impl Ends {
-    /// Those of no identifier.
+    /// The ends of no identifiers.
     const NONE: Ends = Ends {
         least: u64::MAX,
         greatest: 0,
     };
 
-    /// Returns the ends of these identifiers and of `id`.
+    /// Returns the ends of the identifiers of `self`, and of `id`.
     fn with(self, id: u64) -> Ends {
         self.joined(Ends {
             least: id,
@@ -49,7 +51,7 @@ impl Ends {
         })
     }
 
-    /// Returns the ends of these identifiers and of those of `other`.
+    /// Returns the ends of the identifiers of `self` and of `other`.
     fn joined(self, other: Ends) -> Ends {
         Ends {
             least: self.least.min(other.least),
@@ -62,9 +64,9 @@ impl Ends {
 #[derive(Clone, Copy)]
 struct Sample {
     objects: usize,
-    /// The number of these objects that begin a run.
+    /// The number of objects of the sample that begin a run.
     runs: usize,
-    /// The ends of their identifiers.
+    /// The ends of the objects' identifiers.
     ends: Ends,
 }
 
@@ -103,14 +105,14 @@ impl Sample {
         sample
     }
 
-    /// Tests whether the objects are in no order: whether more than half of them begin a run.
+    /// Tests whether the objects are in no order: whether more than half of the sampled objects begin a run.
     fn is_scattered(self) -> bool {
         self.runs > self.objects / 2
     }
 }
 
-/// Returns the ends of the identifiers of a part, which begins with object number `start`, if all have the lowest bits
-/// `bits`.
+/// Returns the ends of the identifiers of `part`, which begins with object number `start`. Returns `None` if an
+/// identifier has other lowest bits than `bits`.
 fn ends_of_part(
     view: &View<'_>,
     places: &[u32],
@@ -131,7 +133,8 @@ fn ends_of_part(
     Some(ends)
 }
 
-/// Like [`ends_of`], in as many parts as the team has threads. `AllocError` if an allocation for their results fails.
+/// Like [`ends_of`], in parts, at most one for each thread of `team`. `AllocError` if the allocation for the results of
+/// the parts fails.
 fn ends_in_parts<T: Threads + Sync, B: Allocator + Copy + Send + Sync>(
     team: &Team<'_, T>,
     alloc: B,
@@ -155,8 +158,9 @@ fn ends_in_parts<T: Threads + Sync, B: Allocator + Copy + Send + Sync>(
     Ok(Some(all))
 }
 
-/// Returns the ends of the identifiers of the objects at `places`, if all have the lowest bits `bits`. They are read in
-/// parts if there are many, and in one part also if an allocation for several fails.
+/// Returns the ends of the identifiers of the objects at `places`. Returns `None` if an identifier has other lowest
+/// bits than `bits`. The identifiers are read in parts if there are many objects (`Team::splits`), and in one part if
+/// there are few, or if the allocation for several parts fails.
 fn ends_of<T: Threads + Sync, B: Allocator + Copy + Send + Sync>(
     team: &Team<'_, T>,
     alloc: B,
@@ -174,8 +178,9 @@ fn ends_of<T: Threads + Sync, B: Allocator + Copy + Send + Sync>(
     ends_of_part(view, places, 0, places, bits)
 }
 
-/// Returns the places of the identifiers of the objects at `places`, as far as they are between `ends` or not far
-/// outside. They are noted in parts if there are many. `AllocError` if the allocation fails.
+/// Notes which places of the index the identifiers of the objects at `places` take. Notes only identifiers between
+/// `ends` or not far outside. If there are many objects (`Team::splits`), the threads of `team` share the work.
+/// `AllocError` if the allocation fails.
 fn noted_places<T: Threads + Sync, B: Allocator>(
     team: &Team<'_, T>,
     alloc: B,
@@ -200,8 +205,9 @@ fn noted_places<T: Threads + Sync, B: Allocator>(
     Ok(noted)
 }
 
-/// Returns the objects at `places` by pairs, whose places are `noted`. Returns `None` if a place was not noted, or two
-/// objects have one identifier. `AllocError` if an allocation fails.
+/// Indexes the objects at `places` by pairs. `noted` has the places that their identifiers take. Returns `None` if an
+/// identifier was not noted, has other lowest bits than `bits`, or belongs to two objects. `AllocError` if an
+/// allocation fails.
 fn placed<B: Allocator + Copy>(
     alloc: B,
     view: &View<'_>,
@@ -228,8 +234,9 @@ fn placed<B: Allocator + Copy>(
     }
 }
 
-/// Returns the objects at `places` by pairs, if pairs serve and all identifiers are between `ends` or not far outside.
-/// `AllocError` if an allocation fails.
+/// Indexes the objects at `places` by pairs, if all their identifiers are between `ends` or not far outside. Returns
+/// `None` if an identifier is farther outside or has other lowest bits than `bits`, if two objects have the same
+/// identifier, or if the ends are too far apart for pairs (`are_close`). `AllocError` if an allocation fails.
 fn paired_between<T: Threads + Sync, B: Allocator + Copy>(
     team: &Team<'_, T>,
     alloc: B,
@@ -249,8 +256,9 @@ fn paired_between<T: Threads + Sync, B: Allocator + Copy>(
     placed(alloc, view, places, bits, noted)
 }
 
-/// Returns the objects at `places` by pairs, if they are in no order and pairs serve. `AllocError` if an allocation for
-/// pairs fails.
+/// Indexes the objects at `places` by pairs, if a sample shows that they are in no order. Returns `None` if the sample
+/// shows an order, or if [`paired_between`] returns `None` for the ends of all identifiers. `AllocError` if an
+/// allocation for pairs fails.
 pub(super) fn paired<T: Threads + Sync, B: Allocator + Copy + Send + Sync>(
     team: &Team<'_, T>,
     alloc: B,
@@ -266,7 +274,7 @@ pub(super) fn paired<T: Threads + Sync, B: Allocator + Copy + Send + Sync>(
     if !sample.is_scattered() {
         return Ok(None);
     }
-    // The ends of a sample nearly always serve. Then the identifiers are read once less.
+    // The ends of a sample nearly always serve, and save the pass over all identifiers that finds their ends.
     if let Some(indexed) = paired_between(team, alloc, view, places, bits, sample.ends)? {
         return Ok(Some(indexed));
     }

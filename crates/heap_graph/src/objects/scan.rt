@@ -17,9 +17,10 @@ impl<'d, A: Allocator> Objects<'d, A> {
     ghost use Rattle.heap_graph.specs.working.HeldIds.{AreLinkedOf};
     ghost use Rattle.heap_graph.specs.working.Scans.{IsScanOf};
 
-    /// Returns the row and the bytes of object `number`, the object that is its class, if that is known, and the
-    /// identifiers that it holds, without that of a known class. Reads the kind of the object once, and looks up its
-    /// class once.
+    /// Returns four things of object `number`: its row, its bytes, the number of the object that is its class, and the
+    /// identifiers that it holds. The third is `None` for a class and for a primitive array. If the third is a number,
+    /// the fourth begins after the identifier of the class. Reads the kind of the object once, and looks up its class
+    /// at most once.
     // Inlined, so that a visit is built in place.
     #[inline(always)]
     pub(crate) fn scan<'g>(

@@ -15,8 +15,9 @@ use crate::types::OBJECT_TYPE;
 use hprof_grammar::MemberField;
 use std::alloc::Allocator;
 
-/// The entries that may name fields of one class. `class` is the text that names the class. It is `None` if the dump
-/// has no such text, or if the list is empty.
+/// A test of which fields of one class are on the list. `entries` is the whole list if an entry names the class,
+/// otherwise it is empty. `class` is the text that names the class, or `None` if the dump has none or if the list is
+/// empty.
 #[derive(Drop)]
 pub(crate) struct ClassSkips<'s, 'a, A: Allocator> {
     names: &'s NamesById<'s, 'a, A>,
@@ -49,8 +50,8 @@ fn any_names(entries: &[SkipEntry<'_>], class: Option<&[u8]>) -> bool
 impl<'s, 'a, A: Allocator> ClassSkips<'s, 'a, A> {
     ghost use Rattle.heap_graph.specs.working.ClassSkips.{IsSkipTest, is_skipped_in, names_field};
 
-    /// Selects the entries that may name fields of `class`. If no entry names the class, there are none, so that its
-    /// fields need no comparison.
+    /// Creates the test for the fields of `class`, from the list `entries`. If no entry names the class, the test has
+    /// no entries, so that no name of a field is compared.
     pub(crate) fn of(
         names: &'s NamesById<'s, 'a, A>,
         entries: &'s [SkipEntry<'s>],
@@ -77,7 +78,8 @@ impl<'s, 'a, A: Allocator> ClassSkips<'s, 'a, A> {
         }
     }
 
-    /// Tests whether `entry` names the class, and the field whose name is the string `name`.
+    /// Tests whether `entry` names the class and a certain field. `name` is the identifier of the string that is the
+    /// field's name.
     fn is_named(&self, entry: &SkipEntry<'_>, name: u64) -> bool
         requires { (records : List Record) × AreNamesByIdOf self.now.names.now records }
         ensures { (records : List Record) → AreNamesByIdOf self.now.names.now records
@@ -86,7 +88,8 @@ impl<'s, 'a, A: Allocator> ClassSkips<'s, 'a, A> {
         is_text(self.class, entry.class()) && is_text(self.names.string_named(name), entry.field())
     }
 
-    /// Tests whether the field whose name is the string `name` is on the list.
+    /// Tests whether a certain field of the class is on the list. `name` is the identifier of the string that is the
+    /// field's name.
     fn has(&self, name: u64) -> bool
         requires { (test : Member → Bool) × IsSkipTest self.now test }
         ensures { (test : Member → Bool) (m : Member) → IsSkipTest self.now test → m.name ≡ name → result ≡ test m }

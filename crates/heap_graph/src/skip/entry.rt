@@ -37,7 +37,8 @@ impl<'t> SkipEntry<'t> {
     }
 }
 
-/// Splits `text` at its first comma into the part before it and the part after it, if there is a comma.
+/// Returns the part of `text` before its first comma, and the part after this comma. Returns `text` and `None` if
+/// `text` has no comma.
 pub(super) fn first_piece(text: &str) -> (&str, Option<&str>)
     ensures no_comma { Contains result.0.now 44 → ⊥ }
     ensures whole { MatchOption result.1 (text.now ≡ result.0.now) (λ more. text.now ≡ result.0.now ++ 44 ∷ more.now) }
@@ -48,8 +49,8 @@ pub(super) fn first_piece(text: &str) -> (&str, Option<&str>)
     }
 }
 
-/// Reads the entry that `piece` spells, which has no comma. Its last dot separates the class from the field. Returns
-/// `None` if there is no dot, or if the class or the field is empty.
+/// Reads the entry that `piece` spells. `piece` must have no comma. The last dot separates the class from the field.
+/// Returns `None` if there is no dot, or if the class or the field is empty.
 pub(super) fn entry_of(piece: &str) -> Option<SkipEntry<'_>>
     requires { Contains piece.now 44 → ⊥ }
     ensures entry { IfSome result (λ e. IsEntry e × (entry_text e ≡ piece.now)) }

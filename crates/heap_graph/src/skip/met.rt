@@ -69,7 +69,7 @@ impl<'a> DescribedClass<'a> {
         Ok(false)
     }
 
-    /// Tests whether `entry` names the class and a field that it declares.
+    /// Tests whether `entry` names the class and a field that the class declares.
     fn declares<A: Allocator>(
         &self,
         names: &NamesById<'_, '_, A>,
@@ -86,7 +86,7 @@ impl<'a> DescribedClass<'a> {
     }
 }
 
-/// Returns the classes whose dumps are among the objects at `places`.
+/// Returns the classes whose class dumps are among the objects at `places`.
 fn described_classes<'a, A: Allocator, B: Allocator>(
     alloc: B,
     view: &View<'a>,
@@ -109,7 +109,7 @@ fn described_classes<'a, A: Allocator, B: Allocator>(
     Ok(classes)
 }
 
-/// Tests whether one of `classes` is named by `entry` and declares its field.
+/// Tests whether `entry` names one of `classes` and a field that this class declares.
 fn is_met<A: Allocator>(
     names: &NamesById<'_, '_, A>,
     classes: &[DescribedClass<'_>],
@@ -127,7 +127,8 @@ fn is_met<A: Allocator>(
     Ok(false)
 }
 
-/// Returns for each of `entries` whether one of `classes`, those that the dump describes, declares its field.
+/// Returns for each of `entries` whether it names one of `classes` and a field that this class declares. `classes` are
+/// those of the dump.
 fn met_by<A: Allocator, B: Allocator>(
     alloc: B,
     entries: &[SkipEntry<'_>],
@@ -146,7 +147,8 @@ fn met_by<A: Allocator, B: Allocator>(
     Ok(met)
 }
 
-/// Returns for each of `entries` whether a class among the objects at `places` declares its field.
+/// Returns for each of `entries` whether it names a class among the objects at `places` and a field that this class
+/// declares.
 fn met_among<B: Allocator + Copy>(
     alloc: B,
     entries: &[SkipEntry<'_>],
@@ -167,7 +169,8 @@ fn met_among<B: Allocator + Copy>(
 impl<'t, A: Allocator> Skip<'t, A> {
     /// Returns for each entry, in the order of the list, whether it names a field of `dump`, which was read from
     /// `bytes`. An entry names a field if a class of `dump` has the entry's class name and declares a field with the
-    /// entry's field name, of whatever type. The class needs a class dump. Static fields do not count.
+    /// entry's field name, of whatever type. The class needs a class dump. Static fields do not count. `AllocError` if
+    /// an allocation fails.
     pub fn met<B: Allocator + Copy, C: Allocator>(
         &self,
         alloc: B,
