@@ -6,11 +6,11 @@ use super::runs::PLACES;
 /// The most pages that pairs may span: their places are 2^32.
 const MOST_PAGES: u64 = 1 << 26;
 
-/// The number of stretches that are sampled, and of neighbours in each.
+/// The number of stretches of objects that are sampled, and of neighbouring objects in each.
 const STRETCHES: usize = 64;
 const NEIGHBOURS: usize = 1024;
 
-/// An object's number, and its ID without the low bits and less the first one of the least page.
+/// An object's number, and its ID with the low bits shifted out, minus the first place of the least page.
 #[derive(Clone, Copy, Default)]
 struct Pair {
     at: u32,
@@ -39,8 +39,9 @@ pub struct Pairs {
 }
 
 impl Pairs {
-    /// Returns the pairs of `count` objects with these low bits, if the objects are in no order, their pages are close
-    /// together and all IDs differ. `id` reads the ID of a number. `ids` reads all once more, in order, if pairs are made.
+    /// Returns the pairs of `count` objects, if the objects are in no order, their pages are close together, and their
+    /// IDs all differ and have the low bits `low`. `id` reads the ID of the object with a number. `ids` yields all IDs
+    /// once more, in order, if pairs are made.
     pub fn of(
         count: usize,
         id: impl Fn(usize) -> u64,
@@ -101,7 +102,7 @@ fn are_scattered(count: usize, id: impl Fn(usize) -> u64, low: LowBits) -> bool 
     runs > seen / 2
 }
 
-/// Returns the least and the greatest page of the objects, if all have these low bits.
+/// Returns the least and the greatest page of the objects, if all their IDs have the low bits `low`.
 fn ends(count: usize, id: impl Fn(usize) -> u64, low: LowBits) -> Option<(u64, u64)> {
     (0..count).try_fold((u64::MAX, 0), |(least, greatest), number| {
         let (page, _) = low.page_and_place(id(number))?;
@@ -109,7 +110,8 @@ fn ends(count: usize, id: impl Fn(usize) -> u64, low: LowBits) -> Option<(u64, u
     })
 }
 
-/// Returns a pair for each of the `count` objects with the IDs `ids`, where `pages` guess it.
+/// Returns the pairs of the `count` objects, each at the index that `pages` guess for it. `ids` are their IDs, in
+/// order.
 fn placed(least: u64, pages: &[Page], count: usize, ids: impl Iterator<Item = u64>, low: LowBits) -> Vec<Pair> {
     let mut pairs = vec![Pair::default(); count];
     for (number, id) in (0..).zip(ids) {
