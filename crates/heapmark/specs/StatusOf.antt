@@ -19,7 +19,7 @@ pub record IsStatusOf {W : Type 0} (words : List (List ℕ)) (status : ℕ) (byt
   pub reported : status ≡ 0 → (AsksAboutProgram words → ⊥)
       → WritesReportFor (text_given (codes "skip") words) (bytes_of (inner_of old)) (bytes_of (inner_of new))
   pub flushed : status ≡ 0 → (AsksAboutProgram words → ⊥) → is_flushed new ≡ true
-  -- Too few buffers for the workers are refused, and so is a `--skip` that lists no fields. Nothing is written then.
+  -- Too few buffers for the workers are refused, and so is a `--skip` that is no list. Nothing is written then.
   pub too_few : (workers buffers : ℕ) → GivesNumber (codes "workers") words workers
       → GivesNumber (codes "buffers") words buffers → buffers < 2 * workers + 2 → (AsksAboutProgram words → ⊥)
       → (status ≢ 0) × Keeps (bytes_of (inner_of old)) (bytes_of (inner_of new))

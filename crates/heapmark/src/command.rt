@@ -229,7 +229,7 @@ fn options_of(arguments: &Arguments<'_>) -> Result<Options, BadOptions>
 }
 
 /// Returns the fields that `arguments` list, or none if there is no list. The error is `BadOptions` if the text is no
-/// list, or out of memory.
+/// list, and `OutOfMemory` if an allocation fails.
 fn skip_of<'a>(alloc: Global, arguments: &Arguments<'a>) -> Result<Skip<'a, Global>, SkipRefusal>
     ensures list { IfOk result (IsSkipListOf (list_of arguments.now)) }
     ensures bad { result ≡ Err SkipRefusal.BadOptions → HasBadList (list_of arguments.now) }

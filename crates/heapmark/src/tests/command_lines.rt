@@ -74,7 +74,7 @@ const TAGS_OF_NOTHING: &[Line] = &[
     ),
 ];
 
-/// The last tag as the first one: the first exchange needs one more.
+/// The first tag is the last one: the first exchange needs one more.
 const LAST_TAG: &[Line] = &[("FILE --first-tag 281474976710655", 1, TAG_SPENT)];
 
 /// The least buffers for one worker.

@@ -65,7 +65,7 @@ pub const NINE_ROOTS_REPORT: &str = "         9               0  A
          0               0  (unresolved)
 ";
 
-/// Returns a dump of an array of 64 instances, which is the root.
+/// Returns a dump of an array of 64 instances. The array is the root.
 pub fn wide_array(alloc: Global) -> Result<Bytes, AllocError> {
     let elements: Vec<u64> = (0x301..0x341u64).collect(alloc)?;
     let mut heap = Bytes::new(alloc, 4);

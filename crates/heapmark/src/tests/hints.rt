@@ -123,8 +123,8 @@ fn each_hint_says_what_to_do(rt: HostRuntime) {
     }
 }
 
-/// Tests whether the program refuses a file of `bytes` by the line `refusal`. At a terminal, a line must follow that
-/// ends with `want`, or no line if `want` is empty.
+/// Tests whether the program refuses a file of `bytes` by the line `refusal`. At a terminal, a line that ends with
+/// `want` must follow, or no line if `want` is empty.
 fn is_told<T: AllocGlobal + Env + Files + Threads + Wait + Sync>(
     rt: &T,
     bytes: &[u8],

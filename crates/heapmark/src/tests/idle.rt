@@ -22,7 +22,7 @@ const TURNS: u32 = 500;
 /// The number of runs on each dump.
 const RUNS_OF_MANY: u32 = 200;
 
-/// A gate that holds the worker which takes the root for 5 ms, so that the other worker finds nothing to do. Then the
+/// A gate. It holds the worker that takes the root, for 5 ms, so that the other worker finds nothing to do. Then the
 /// worker shares what the root refers to. At its next scan the gate holds it until the other has come, for half a
 /// second at most.
 #[derive(Drop)]

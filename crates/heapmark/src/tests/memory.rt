@@ -118,7 +118,7 @@ fn run_refusing<T: Threads + Wait + Sync>(
     )
 }
 
-/// Fails each allocation in turn, until a run makes fewer allocations than that. Returns the number of the first
+/// Fails each allocation in turn, in a run of its own, until none fails in a run. Returns the number of the first
 /// allocation whose run has a wrong result, or `None` if there is none. Fewer than nine allocations in all, or 4,096
 /// and more, count as a wrong result, too.
 fn first_other<T: Threads + Wait + Sync>(

@@ -1,4 +1,4 @@
-//! The process: its exit status and what it prints for the words of a command line, which may be no text.
+//! The process: its exit status and what it prints for the words of a command line, which need not be text.
 
 use super::dumps::{Sample, TWO_OBJECTS_REPORT};
 use super::program::{Asked, answered_on};

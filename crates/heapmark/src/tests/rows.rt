@@ -174,7 +174,7 @@ fn faults_are_refused(rt: HostRuntime) {
     faults_are_found(&rt, rt.alloc(), Reading::Whole);
 }
 
-/// Returns a header, and the beginning of a string record whose body should have 2 ^ 32 - 1 bytes.
+/// Returns a header, and the head of a string record with a body of 2 ^ 32 - 1 bytes, which is missing.
 fn long_string(alloc: Global) -> Result<Bytes, AllocError> {
     let mut dump = Bytes::header(alloc, 4)?;
     dump.raw(&[0x01, 0, 0, 0, 0, 0xff, 0xff, 0xff, 0xff])?;
@@ -190,7 +190,7 @@ fn long_string_is_refused<T: Threads + Wait + Sync>(rt: &T, alloc: Global) -> bo
     }
 }
 
-/// A file that ends where the body of a string record begins, which should have 2 ^ 32 - 1 bytes.
+/// A file that ends after the head of a string record. By its head, the record has a body of 2 ^ 32 - 1 bytes.
 #[test]
 fn a_long_string_is_refused(rt: HostRuntime) {
     assert!(rt; long_string_is_refused(&rt, rt.alloc()));
