@@ -4,7 +4,7 @@
 # usage: bench/compare.sh DUMP HISTOGRAM REPORTER..
 #
 # REPORTER..: a command that prints the report of the dump that is its last argument, such as
-# crates/heapmark/out/heapmark. The plain marker counts all objects of the dump.
+# crates/heapmark/out/heapmark. To count all objects of the dump, the plain marker is built and run.
 #
 # For each class whose counts differ, prints the number of its objects in the histogram, in the dump and in the report.
 # After these lines come the totals, the number of classes with equal counts, and the report's last line. A class object

@@ -1,8 +1,9 @@
 //! Looks for a dump on which two markers differ: `differ ONE OTHER SEED COUNT`.
 //!
-//! Makes `COUNT` small dumps at random from `SEED`, about half of them damaged. In a quarter each, IDs follow one
-//! another, rise in steps of eight, fall, or come in no order. Runs both programs on each, and compares status, report
-//! and refusal. Keeps the first dump on which they differ, and prints where. Build it by `rustc --edition 2024 -O`.
+//! Makes `COUNT` small dumps at random from `SEED`, about half of them damaged. IDs follow one another in a quarter of
+//! the dumps; in the other quarters they rise in steps of eight, fall, or come in no order. Runs both programs on each
+//! dump, and compares status, report and refusal. Keeps the first dump on which they differ, and prints where. Build it
+//! by `rustc --edition 2024 -O`.
 
 #[path = "plain/rows/file.rs"]
 #[allow(dead_code)]
@@ -64,7 +65,7 @@ impl Maker {
         }
     }
 
-    /// The number of an ID that most likely names an object, or of null.
+    /// Returns a number whose ID most likely names an object, or 0 for null.
     fn reference(&mut self) -> u64 {
         match self.chance.below(20) {
             0 => 0,

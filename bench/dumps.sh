@@ -82,7 +82,7 @@ garbage() {
     ended
 }
 
-# shaped NAME PROGRAM WORD..
+# shaped NAME WORD..: starts the Java program WORD.. with G1, and makes the histogram and the dump NAME of it.
 shaped() {
     local name=$1
     shift

@@ -4,13 +4,13 @@
 usage: bench/every_byte.py [--jobs N] PLAIN [DUMP]
 
 PLAIN is the plain marker of bench/plain, built; DUMP the dump of two objects, crates/heapmark/data/two_objects.hprof.
-Prints crates/heapmark/src/tests/damage/answers.rt: a row for each range of values of one place with the same answer,
+Prints crates/heapmark/src/tests/damage/answers.rt: a row for each range of values of one place with the same result,
 
     (place, first value, last value, code, at, mix)
 
-which is a refusal's code and place, or for reports 0, the bytes of each, and a number that their bytes are mixed to in
-the order of the values (`mixed`). The value that stands in the dump is in a range, too: it is not tried. On standard
-error: for each code the number of files, and the sum of `at`.
+For a refusal, `code` and `at` are its code and place, and `mix` is 0. For reports, `code` is 0, `at` the length of each
+report, and `mix` a number mixed from the bytes of all in the order of the values (`mixed`). A range may contain the
+dump's own value, which is not tried. Prints on standard error, for each code, the number of files and the sum of `at`.
 """
 
 import argparse

@@ -53,7 +53,7 @@ const KINDS: [(&str, Build); 31] = [
     ("roots", roots),
 ];
 
-/// For `dumps.sh`: its time depends on the caches, so twice the size may take more than twice the time.
+/// For `dumps.sh`. The time to read it depends on the caches, so twice the size may take more than twice the time.
 const RANDOM_IDS: (&str, Build) = ("random_ids", random_ids);
 
 fn classes_in_a_chain(heap: File, count: u64) -> File {
@@ -121,8 +121,8 @@ fn skip_list() -> String {
     entries.join(",")
 }
 
-/// `count` fields in classes that are all called `C`, each class with as many fields as possible and no name twice in a
-/// class; and an instance of the first.
+/// `count` fields in classes that are all called `C`, and an instance of the first class. Each class but the last has
+/// as many fields as possible, and none has two fields of one name.
 fn named_fields(file: File, count: u64) -> File {
     const MOST: u64 = 65_535;
     let fields: Vec<u64> = (0..count).step_by(MOST as usize).map(|before| MOST.min(count - before)).collect();
@@ -156,8 +156,8 @@ fn hash(id: u64) -> u64 {
     folded ^ folded >> 32
 }
 
-/// `count` classes whose hashes all lead to the first thousandth of the groups of such a map. A look-up begins there
-/// and tries one group after another.
+/// `count` classes whose hashes ([`hash`]) all lead to the first thousandth of the groups of an `indexmap`. A look-up
+/// begins there and tries one group after another.
 fn colliding_classes(file: File, count: u64) -> File {
     let groups = count.div_ceil(9).next_power_of_two();
     let first = (groups / 1024).max(1);
@@ -237,8 +237,8 @@ fn crowded_pages(_: File, count: u64) -> File {
     File::header(8).heap(|heap| in_turn(heap.primitives(u64::MAX - 7, 8, 0, &[]), count))
 }
 
-/// A class with the first of `ids`, and an array with each of the others, all of eight bytes. Each array refers to the
-/// next one, and the last to the class.
+/// A class with the first of `ids`, and an array with each of the other IDs. The IDs have eight bytes. Each array
+/// refers to the next one, and the last array to the class.
 fn arrays(mut ids: impl Iterator<Item = u64>) -> File {
     let class = ids.next().unwrap_or(CLASS);
     let mut ids = ids.peekable();
@@ -251,8 +251,8 @@ fn arrays(mut ids: impl Iterator<Item = u64>) -> File {
     })
 }
 
-/// `count` IDs on `pages` pages. Each is on the page below that of the ID before it, or on the highest page if that was
-/// the lowest. The places of each page are taken from the first on.
+/// `count` IDs on `pages` pages. Each is on the page below that of the ID before it, or on the highest page if the ID
+/// before it is on the lowest. The places of each page are taken from the first on.
 fn falling(pages: u64, count: u64) -> impl Iterator<Item = u64> {
     (0..count).map(move |number| on_page(pages - 1 - number % pages, number / pages))
 }
@@ -324,15 +324,16 @@ fn names(file: File, count: u64) -> File {
     })
 }
 
-/// `count` strings, all with one ID, and `count` loaded classes, all with another.
+/// `count` strings, all with one ID, and `count` loaded classes, all with another ID.
 fn one_name(file: File, count: u64) -> File {
     let strings = (0..count).fold(file, |file, _| file.string(1, b"A"));
     let loaded = (0..count).fold(strings, |file, _| file.load(CLASS, 1));
     loaded.heap(|heap| heap.class(CLASS, 0, &[]).instance(OBJECT, CLASS, &[]).root(OBJECT))
 }
 
-/// `count` strings and `count` loaded classes with IDs of eight bytes that follow one another, and one of each that is
-/// far away. Each loaded class has a name; each but the far one has a class dump and an instance.
+/// `count` strings and `count` loaded classes, with IDs of eight bytes that follow one another, and one more string and
+/// loaded class with an ID far away. Each loaded class has a name; each but the far one has a class dump and an
+/// instance.
 fn crowded_names(_: File, count: u64) -> File {
     let far = File::header(8).string(u64::MAX, b"far").load(u64::MAX, u64::MAX);
     let strings = (0..count).fold(far, |file, number| file.string(number + 1, format!("C{number}").as_bytes()));

@@ -1,12 +1,12 @@
-/* Notes when a run of heapmark read, built, marked and reported, from inside its process.
+/* Notes how long a run of heapmark reads, builds, marks and reports, from inside its process.
  *
- * Build it by `cc -O2 -shared -fPIC -o moments.so bench/moments.c`, and preload it: MOMENTS is the file to which a line
- * "READ BUILD MARK REPORT" is added, in seconds, WORKERS the number of workers. `strace` would stop at each of the
- * 2,000 reads of a large dump: the stops took a fifth of the reading time.
+ * Build it by `cc -O2 -shared -fPIC -o moments.so bench/moments.c`, and preload it. The variable MOMENTS names the file
+ * to which it adds a line "READ BUILD MARK REPORT", in seconds; WORKERS is the number of workers. `strace` would stop
+ * at each of the 2,000 reads of a large dump: the stops took a fifth of the reading time.
  *
- * Threads that live at the same time are a group. The last group of as many threads as there are workers marks, or the
- * last group if none has that size. The groups before parse, gather and link. Reading ends when a read of the dump
- * returns 0.
+ * Threads that live at the same time are a group. The last group with as many threads as there are workers does the
+ * marking; if no group has that size, the last group does it. The groups before it parse, gather and link. Reading ends
+ * when a read of the dump returns 0.
  */
 #define _GNU_SOURCE
 #include <dlfcn.h>

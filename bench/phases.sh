@@ -11,11 +11,11 @@
 #   mark     until the last worker's thread ends
 #   report   until the program ends, with what the leader drains after the workers
 #
-# Marking is known by its threads: it is the last time that exactly as many live at once as there are workers. Parsing,
-# linking and reporting start fewer. A second table has the least, median and largest time of marking; the largest
-# divided by the least; the median time with one worker divided by the row's median; and the processor time (user and
-# system) of the whole program, the median of RUNS further runs without moments.c. heapmark and STARTER are as in
-# bench/run.sh. The words of the variable OPTIONS go to heapmark, as in OPTIONS='--buffer 64'.
+# Marking is known by its threads: it is the last time that as many threads live at once as there are workers. Parsing,
+# linking and reporting start fewer threads. A second table has the least, median and largest time of marking;
+# the largest divided by the least; the median time with one worker divided by the row's median; and the processor time
+# (user and system) of the whole program, the median of RUNS further runs without moments.c. heapmark and STARTER are as
+# in bench/run.sh. The words of the variable OPTIONS go to heapmark, as in OPTIONS='--buffer 64'.
 runs=3
 # shellcheck source=bench/head.sh
 . "$(dirname "$0")/head.sh"

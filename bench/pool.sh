@@ -40,7 +40,8 @@ nth() {
     sed -n "s/^$2 took \([0-9]*\) ns\$/\1/p" "$room/$1.times" | sort -n | sed -n "$3p"
 }
 
-# row NAME THREADS COUNT POOL STD POOL STD: prints a row for COUNT steps from the best times, then the median times.
+# row NAME THREADS COUNT POOL STD POOL STD: prints a row for COUNT steps. The first POOL and STD are the best times, the
+# second are the median times.
 row() {
     awk -v name="$1" -v threads="$2" -v count="$3" -v pool="$4" -v std="$5" -v pool2="$6" -v std2="$7" 'BEGIN {
         printf "| %s | %d | %.1f | %.1f | %.1f | %.1f | ", name, threads, pool / count, std / count, 1000 * count / pool, 1000 * count / std

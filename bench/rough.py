@@ -61,8 +61,7 @@ def answer(program, words, **how):
 
 
 def heed_interrupts():
-    """A program that a shell starts in the background ignores interrupts, and so would heapmark, started by it. This
-    makes heapmark heed them."""
+    """Makes heapmark heed interrupts. It would ignore them if a shell had started this program in the background."""
     signal.signal(signal.SIGINT, signal.SIG_DFL)
 
 
@@ -134,7 +133,7 @@ class Rough:
 
     def starved(self, group, limits, words, limit, loader=0):
         """Runs heapmark under growing limits, up to the first one at which it writes the whole report. Up to the limit
-        `loader` the system may fail to load it."""
+        `loader` the system may fail to load heapmark."""
         path, ends = self.copied(), collections.Counter()
         for number in limits:
             ours = answer(HEAPMARK, [path, *words], preexec_fn=functools.partial(limit, number))

@@ -3,7 +3,7 @@
 //!
 //! It takes the same arguments as `pool_bench`, and writes the same to standard output. The times go to standard error.
 //! The third time is for pops and pushes that also take a vector out of the number's slot and put it back. `pool_bench`
-//! has no such time: `pool.sh` compares both times of pops and pushes here with the one of the pool.
+//! has no such time: `pool.sh` compares both times of pops and pushes here with the pool's one time of them.
 
 use std::cell::UnsafeCell;
 use std::hint::black_box;
@@ -17,8 +17,8 @@ const BUFFERS: u64 = 64;
 const SIZE: usize = 256;
 const TAG: u64 = 65_536;
 
-/// A stack of numbers. The head is tag × 65,536 + link. A link is 0 for none, otherwise a number plus 1; the head's is
-/// that of the number on top.
+/// A stack of numbers. The head is tag × 65,536 + link. A link is 0 for none, otherwise a number plus 1. The
+/// head's link is for the number on top.
 struct Stack {
     head: AtomicU64,
     links: Vec<AtomicU64>,

@@ -65,7 +65,7 @@ measure() {
     done
 }
 
-# row NAME WAY
+# row NAME WAY: prints the row of WAY for the dump NAME.
 row() {
     if [ -e "$room/$2.failed" ]; then
         echo "| $1 | $2 | failed | | |"

@@ -5,7 +5,7 @@ import sys
 from array import array
 from collections import defaultdict
 
-#: The identifier of object 0, and what a permutation of 2^21 numbers multiplies by.
+#: The identifier of object 0, and the factor of the permutation of 2^21 numbers that scatters identifiers.
 FIRST_ID, FACTOR = 1 << 20, 1_234_567
 #: Tags and type codes of the format.
 STRING, LOAD_CLASS, HEAP_DUMP, SEGMENT, END = 0x01, 0x02, 0x0C, 0x1C, 0x2C
@@ -89,7 +89,8 @@ class Format:
         return head + b"".join(counted)
 
     def instances(self, first, count, class_number, references, size):
-        """Returns the dumps of `count` instances with `size` bytes of values, first one of each of `references`."""
+        """Returns the dumps of `count` instances with `size` bytes of values. The values of an instance begin with one
+        reference of each series in `references`."""
         head = struct.pack(">B", INSTANCE) + bytes(self.width + 4) + self.spell([self.id(class_number)])
         template = head + struct.pack(">I", size) + bytes(size)
         columns = [(1, self.spell(map(self.id, range(first, first + count))))]

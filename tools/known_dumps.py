@@ -75,7 +75,8 @@ class Mixed:
         return self.form.instances(self.chain_at, self.CHAIN, self.NODE, [after], size)
 
     def tree(self):
-        """Returns the tree: branch n refers to 2n + 1 and 2n + 2, if they exist; every fifth end names no object."""
+        """Returns the tree: branch n refers to the branches 2n + 1 and 2n + 2. Where such a branch does not exist, n
+        has null, or in every fifth case an identifier that names no object."""
         form, end = self.form, self.TREE
 
         def child(number):

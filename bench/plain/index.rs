@@ -33,7 +33,7 @@ impl LowBits {
     }
 }
 
-/// Objects by their IDs. If several objects have one ID, it names the first.
+/// Finds objects by their IDs. If several objects have one ID, finds the first.
 pub struct Index {
     low: LowBits,
     /// In place of the runs, for objects in no order.

@@ -3,11 +3,11 @@
 //! usage: `plain FILE [--threads N] [--atomic] [--references table|bytes] [--count reachable|all] [--skip LIST]`
 //!
 //! Written to be measured beside `heapmark`, and to agree with it to the byte. Without `--threads` one thread marks and
-//! no step is atomic; with `--atomic` one thread claims and finishes each object by an atomic step. Each object is
-//! visited once, to follow its references and to count it: in the dump's bytes with `--references bytes`, otherwise in
-//! a table that is made from the bytes beforehand, in the phase `references`. `--count all` reports each object of the
-//! dump as if it were reachable. `--skip Class.field,..` does not follow these fields. The time of each phase, what was
-//! read, and the peak of memory go to standard error.
+//! no step is atomic; with `--atomic` one thread claims each object by one atomic step, and finishes it by another.
+//! Each object is visited once, to follow its references and to count it: in the dump's bytes with
+//! `--references bytes`, otherwise in a table that is made from the bytes beforehand, in the phase `references`.
+//! `--count all` reports each object of the dump as if it were reachable. `--skip Class.field,..` does not follow these
+//! fields. The time of each phase, what was read, and the peak of memory go to standard error.
 
 mod by_id;
 mod dump;
@@ -67,7 +67,7 @@ impl Clock {
     }
 }
 
-/// The file, the options, and the text of the list of fields, if it is given.
+/// The file, the options, and the text of the list of fields, if it is given. None if the words are wrong.
 fn arguments() -> Option<(String, Options, Option<String>)> {
     let mut options = Options { threads: None, atomic: false, table: true, all: false };
     let mut skip = None;
@@ -120,7 +120,7 @@ fn run<const ID: usize>(bytes: &[u8], skip: &Skip, options: Options, clock: &mut
     Ok(histogram(&graph, &table, &roots, unresolved + missing, options, clock))
 }
 
-/// Marks the objects of the graph and returns the report. `unresolved` IDs are already known to name no object.
+/// Marks the objects of the graph and returns the report. `unresolved` is the number of IDs already known to name none.
 fn histogram<const ID: usize>(
     graph: &Graph<ID>,
     heap: &impl Heap,

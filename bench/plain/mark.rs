@@ -31,7 +31,8 @@ impl<const ID: usize> Heap for Graph<'_, ID> {
     }
 }
 
-/// What visits yielded beforehand: one flat list of references, and for each object where its own begin, row and bytes.
+/// What visits yielded beforehand: one list of all references, and for each object its row, its bytes, and where in the
+/// list its references begin.
 pub struct Table {
     rows: Rows,
     entries: Vec<Entry>,

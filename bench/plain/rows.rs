@@ -1,5 +1,5 @@
 //! Small files, and the report or refusal that each has to give, with `--references table` and with `bytes`, each
-//! without `--threads` and with 1, 2 and 64. No test marks with `--atomic`.
+//! without `--threads` and with 1, 2 and 64 threads. No test marks with `--atomic`.
 
 mod file;
 

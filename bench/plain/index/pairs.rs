@@ -6,14 +6,14 @@ use super::runs::PLACES;
 /// The most pages that pairs may span: their places are 2^32.
 const MOST_PAGES: u64 = 1 << 26;
 
-/// The number of stretches that are sampled, and of neighbours in each.
+/// The number of stretches of objects that are sampled, and of neighbouring objects in each.
 const STRETCHES: usize = 64;
 const NEIGHBOURS: usize = 1024;
 
 /// The part of a sample's pages that is added on either side, so that its ends serve for most heaps.
 const MARGIN: u64 = 16;
 
-/// An object's number, and its ID without the low bits and less the first one of the least page.
+/// An object's number, and its ID with the low bits shifted out, minus the first place of the least page.
 #[derive(Clone, Copy, Default)]
 struct Pair {
     at: u32,
@@ -42,8 +42,9 @@ pub struct Pairs {
 }
 
 impl Pairs {
-    /// Returns the pairs of `count` objects with these low bits, if the objects are in no order, their pages are close
-    /// together and all IDs differ. `id` reads the ID of a number. `ids` reads all once more, in order, if pairs are made.
+    /// Returns the pairs of `count` objects, if the objects are in no order, their pages are close together, and their
+    /// IDs all differ and have the low bits `low`. `id` reads the ID of the object with a number. `ids` yields all IDs
+    /// once more, in order, if pairs are made.
     pub fn of(
         count: usize,
         id: impl Fn(usize) -> u64,
@@ -96,7 +97,7 @@ fn ends_if_scattered(count: usize, id: impl Fn(usize) -> u64, low: LowBits) -> O
     (runs > seen / 2).then_some((least, greatest))
 }
 
-/// Returns the least and the greatest page of the objects, if all have these low bits.
+/// Returns the least and the greatest page of the objects, if all their IDs have the low bits `low`.
 fn ends(count: usize, id: impl Fn(usize) -> u64, low: LowBits) -> Option<(u64, u64)> {
     (0..count).try_fold((u64::MAX, 0), |(least, greatest), number| {
         let (page, _) = low.page_and_place(id(number))?;
@@ -132,7 +133,8 @@ fn noted(
     (before as usize == count).then_some((least + begin as u64, pages))
 }
 
-/// Returns a pair for each of the `count` objects with the IDs `ids`, where `pages` guess it.
+/// Returns the pairs of the `count` objects, each at the index that `pages` guess for it. `ids` are their IDs, in
+/// order.
 fn placed(least: u64, pages: &[Page], count: usize, ids: impl Iterator<Item = u64>, low: LowBits) -> Vec<Pair> {
     let mut pairs = vec![Pair::default(); count];
     for (number, id) in (0..).zip(ids) {

@@ -3,7 +3,8 @@
 /// How many places a page has.
 pub const PLACES: u64 = 64;
 
-/// The page of its objects; a bit for each place of the page, set if it has an object; the number of the first object.
+/// The page of the run's objects; a bit for each place of the page, set if the run has an object there; and the number
+/// of the first object.
 #[derive(Clone, Copy, Default)]
 pub struct Run {
     pub page: u64,
@@ -16,7 +17,7 @@ impl Run {
         self.places >> place & 1 != 0
     }
 
-    /// The number of the object on this place of the run.
+    /// The number of the object at `place`, if the run has an object there.
     pub fn number_at(&self, place: u32) -> u32 {
         self.first + (self.places & ((1 << place) - 1)).count_ones()
     }
@@ -41,8 +42,8 @@ pub fn gather(objects: impl Iterator<Item = Option<(u64, u32)>>) -> Option<Vec<R
     Some(runs)
 }
 
-/// If more than one run in `FEW_DESCENTS` has a lower page than the run before, no long stretches are in order, as the
-/// stable sort needs them.
+/// If more than one run in `FEW_DESCENTS` has a lower page than the run before, there are no long stretches in order:
+/// with such stretches the stable sort is fast.
 const FEW_DESCENTS: usize = 16;
 
 /// Whether many runs have a lower page than the run before. The numbers of gathered runs never descend.

@@ -34,7 +34,7 @@ fn falling(first: u64, count: u64) -> Vec<u64> {
     neighbours(first, count).into_iter().rev().collect()
 }
 
-/// `count` IDs, each on the page below the one before, and after the lowest of `pages` pages on the highest.
+/// `count` IDs on `pages` pages, each on the page below that of the ID before. The highest page follows the lowest.
 fn in_falling_pages(pages: u64, count: u64) -> Vec<u64> {
     (0..count).map(|number| 0x1000 + (pages - 1 - number % pages) * 512 + number / pages * 8).collect()
 }

@@ -56,7 +56,7 @@ negates_of_line : heapmark_line.top.subcommand_negates_reqs ≡ false
 unfolding heapmark_line
 negates_of_line = refl
 
--- no other rule has the name of rule k
+-- no rule but rule `k` has the name `name`
 abbrev IsOnly : Text → ℕ → Type 0
 IsOnly name k = (j : ℕ) (r : Rule) → j < 6 → bytes_eq (slice_index_or rules j r).id name ≡ true → j ≡ k
 

@@ -1,4 +1,4 @@
--- The command line of heapmark in clap's words, and what its words give.
+-- The command line of heapmark by clap's definitions, and the arguments that the words of a line give.
 use Rattle.std.specs.Prelude.{List, Option, Some, [], codes, map, option_map, true, ℕ, ◌∷◌, ◌≡◌, ◌≢◌, ◌≤◌, ◌⊎◌}
 use Rattle.std.specs.Borrow.{Bor}
 use Rattle.std.specs.Str.Parse.{IsNumeral, digits_value, without_leading_plus}
@@ -56,7 +56,7 @@ heapmark_line =
     (number_rule (codes "first-tag") 0 281474976710655 (codes "0")))
     skip_rule
 
--- the texts of these words
+-- the texts of words
 abbrev pub texts_of : List (Bor Text) → List Text
 texts_of = map (λ word. word.now)
 
@@ -68,7 +68,7 @@ text_given name words = first_of name (matches_of heapmark_line words)
 abbrev pub faults_of : List Text → Kinds
 faults_of words = fault_of heapmark_line words
 
--- nothing is wrong with the words
+-- nothing is wrong with the words, and they ask for neither help nor version
 abbrev pub IsTaken : List Text → Type 0
 IsTaken words = faults_of words ≡ []
 
@@ -77,7 +77,7 @@ abbrev pub AsksAboutProgram : List Text → Type 0
 AsksAboutProgram words =
     IsAmong variant.DisplayHelp (faults_of words) ⊎ IsAmong variant.DisplayVersion (faults_of words)
 
--- something else is wrong with the words
+-- something is wrong with the words: a fault that is no request for the help or the version
 abbrev pub IsWrong : List Text → Type 0
 IsWrong words = (kind : ErrorKind) × IsAmong kind (faults_of words)
     × (kind ≢ variant.DisplayHelp) × (kind ≢ variant.DisplayVersion)

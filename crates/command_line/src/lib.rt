@@ -1,4 +1,4 @@
-//! The command line of `heapmark`: its definition, its help, and what its words give.
+//! The command line of `heapmark`: its definition, its help, and the arguments that its words give.
 //!
 //! `arguments` passes the words to clap. It returns the file and the options, each in its range, with defaults for
 //! those that are not given; or clap's error, whose text is for the user. The list of `--skip` is not read.
@@ -16,7 +16,7 @@
 //!     };
 //!     assert_eq!(rt; given, want);
 //!
-//! The command is defined in clap's words in `specs/Line.antt`; `help.rt` has the texts of the help.
+//! `specs/Line.antt` defines the command by clap's own definitions; `help.rt` has the texts of the help.
 #![tactic(auto)]
 
 mod help;

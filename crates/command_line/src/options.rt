@@ -1,4 +1,4 @@
-//! The file and the options, with their ranges and defaults, in clap's words.
+//! The command as clap builds it: the file and the options, with their ranges and defaults.
 ghost use Rattle.std.specs.Prelude.{◌≡◌, IfOk, codes, false};
 ghost use Rattle.clap.specs.Words.{app_of, rule_of};
 ghost use Rattle.command_line.specs.Line.{file_rule, heapmark_line, number_rule, option_rule, skip_rule};
@@ -86,8 +86,8 @@ fn skip<'a>(alloc: Global) -> Arg<'a>
         .help(help::SKIP)
 }
 
-/// Builds the option `name` with the values `values` and a `default`. The values are of type `u64`: clap reads them as
-/// decimal numerals, so the text of an option spells its number.
+/// Builds the option `name` with the values `values` and a `default`. All callers pass values of type `u64`, which clap
+/// reads as decimal numerals. So the text of an option spells its number.
 fn option<'a>(alloc: Global, name: &'a str, values: ValueParser<'a>, default: &'a str) -> Arg<'a>
     ensures rule { rule_of result ≡ option_rule name.entry.now values.entry default.entry.now }
     ensures local { result.global ≡ false }

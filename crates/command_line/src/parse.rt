@@ -58,7 +58,7 @@ fn values<'a>(matches: &ArgMatches<'a>) -> Arguments<'a>
     }
 }
 
-/// Returns the number of the option `name`.
+/// Returns the number that `matches` hold for the option `name`.
 fn number(matches: &ArgMatches<'_>, name: &str) -> u64
     requires { (least : ℕ) × (most : ℕ) × HoldsNumber (found_of matches.now) name.now least most }
     ensures value { ReadsNumber (found_of matches.now) name.now result }

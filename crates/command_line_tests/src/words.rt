@@ -1,11 +1,11 @@
-//! What no clause says: that the words of a user are taken, and the messages about those that are not.
+//! What no clause says: that right words are taken, and by which kinds of error others are refused.
 
 use clap::error::ErrorKind;
 use command_line::{Arguments, arguments};
 use std::alloc::Global;
 use std::test::Fail;
 
-/// The message about a list that is given twice.
+/// The message about a list of `--skip` that is given twice.
 const LIST_TWICE: &str = "\
 error: the argument '--skip <LIST>' cannot be used multiple times
 

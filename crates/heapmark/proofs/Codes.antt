@@ -1,4 +1,4 @@
--- The codes of first faults are 1 to 14, so no other refusal is one.
+-- The codes of first faults are 1 to 14, and those of all other refusals are higher.
 use Rattle.std.proofs.Common.{IsSome, List, None, inl, inr, arith, refl, subst, sym, ℕ, ⊎_elim, ◌≡◌, ◌≢◌, ◌≤◌, ◌⊎◌}
 use Rattle.heap_graph.specs.LinkFault.{HasLinkFault, code_of}
 use Rattle.heap_graph.specs.declared.rule.LinkRule.{LinkRule}
@@ -66,7 +66,7 @@ known_unplaced code least most in_use = (
   most,
 )
 
--- a first fault, or out of memory
+-- a first fault is such a refusal, and so is out of memory
 pub known_of : (text : List ℕ) (refusal : Refusal) → RefusesFirstFault text refusal ⊎ (refusal ≡ out_of_memory)
     → IsRunRefusal refusal × (refusal.code ≤ 18)
 known_of text refusal (inl tells) =

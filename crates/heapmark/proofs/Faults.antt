@@ -33,14 +33,14 @@ dump_of : (text : List ℕ) (id_size : ℕ) (records : List Record) → Spells t
 dump_of text id_size records spells orderly =
     record { records = records; spells = spells; orderly = orderly; places = refl }
 
--- a text with a fault of its links has none of its form
+-- a text with a fault of its links has no fault of its form
 no_form_fault : NoFault → (text : List ℕ) (code place other_code other_place : ℕ) → HasLinkFault text code place
     → FirstFault text other_code other_place → ⊥
 no_form_fault none text code place other_code other_place link form =
     none text (places_of link.id_size link.records) other_code other_place
     (dump_of text link.id_size link.records link.spells link.orderly) form
 
--- a heap list has one first object that breaks a rule, and one least rule that it breaks
+-- a heap list has at most one first object that breaks a rule; with `one_code`, that object has one least rule
 one_number : (s : ℕ) (heap : List SubRecord) (n m : ℕ) (rule other : LinkRule) → IsFirstFault s heap n rule
     → IsFirstFault s heap m other → n ≡ m
 one_number s heap n m rule other one two = ⊎_elim
@@ -54,7 +54,7 @@ one_code : (s : ℕ) (heap : List SubRecord) (n : ℕ) (rule other : LinkRule) �
 one_code s heap n rule other one two =
     le_antisymm (one.here.least other two.here.fails) (two.here.least rule one.here.fails)
 
--- the links of a text have one first fault
+-- the links of a text have at most one first fault
 one_link_fault : OneList → (text : List ℕ) (code place other_code other_place : ℕ) → HasLinkFault text code place
     → HasLinkFault text other_code other_place → (code ≡ other_code) × (place ≡ other_place)
 one_link_fault one text code place other_code other_place h k =
@@ -80,7 +80,7 @@ fault_determined none form one text code place other_code other_place (inr h) (i
 fault_determined none form one text code place other_code other_place (inr h) (inr k) =
     one_link_fault one text code place other_code other_place h k
 
--- what is accepted has no fault of its links
+-- an accepted text has no fault of its links
 no_link_fault : OneList → (text : List ℕ) (id_size : ℕ) (records : List Record) (code place : ℕ)
     → IsAccepted text id_size records → HasLinkFault text code place → ⊥
 no_link_fault one text id_size records code place accepted link =

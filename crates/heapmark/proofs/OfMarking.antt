@@ -27,7 +27,7 @@ known_fault OutOfMemory = known_unplaced 15 (omega arith) (omega arith) (λ h. o
 known_fault TagSpent = known_unplaced 16 (omega arith) (omega arith) (λ h. omega (arith, h))
 known_fault WorkerRefused = known_unplaced 18 (omega arith) (omega arith) (λ h. omega (arith, h))
 
--- and its code is one of a run
+-- the refusal for a fault of a marking has a code that a run may have before it writes
 pub known_marking : (refusal : Refusal) (fault : RunFault) → refusal ≡ run_refusal fault
     → IsRunRefusal refusal × (refusal.code ≤ 18)
 known_marking refusal fault same = subst IsKnown (sym same) (known_fault fault)

@@ -12,6 +12,6 @@ out_of_memory = record { code = 15; offset = None }
 abbrev pub read_fault : Refusal
 read_fault = record { code = 19; offset = None }
 
--- refused with that code
+-- `result` is a refusal with `code`
 abbrev pub HasCode : {X : Type 0} → Result X Refusal → ℕ → Type 0
 HasCode result code = IsErrAnd result (λ refusal. refusal.code ≡ code)

@@ -1,4 +1,4 @@
-//! The program on its command line, and its exit status.
+//! What the program does for the words of its command line, and its exit status.
 
 ghost use Rattle.std.specs.Prelude.{◌≡◌, ◌≢◌, ◌↔◌, ◌⊎◌, ◌*◌, ◌+◌, ◌-◌, ◌^◌, ◌<◌, ◌≤◌};
 ghost use Rattle.std.specs.Prelude.{IfErr, IfOk, IsOk, IsSome, OnErr, OnOk, true, ℕ, codes};
@@ -38,10 +38,12 @@ error: a word of the command line is not UTF-8 text
 For more information, try '--help'.
 ";
 
-/// Does all that the program does for `words`, the first of which is its own name. Returns the exit status: 0 if the
-/// report of the file is on `out`, or if the help or the version was asked for; 1 after a refusal; 2 if the words are
-/// wrong. Prints a refusal, in one line, or the faults of the words on `err`. A failure of `err` does not change the
-/// status, nor does a failure of `out` while the help or the version is printed.
+/// Does what `words` ask for. The first word is the program's own name. Prints a refusal, in one line, or what is wrong
+/// with the words, on `err`.
+///
+/// Returns the exit status: 1 after a refusal, such as that of a failed allocation; otherwise 2 if the words are wrong;
+/// otherwise 0: the report of the file is on `out`, or the help or the version was asked for. A failure of `err` does
+/// not change the status, nor does a failure of `out` while the help or the version is printed.
 pub fn program<T: Files + AllocGlobal + Threads + Wait + Sync, W: Write, E: Write>(
     rt: &T,
     words: &[&str],
@@ -51,13 +53,13 @@ pub fn program<T: Files + AllocGlobal + Threads + Wait + Sync, W: Write, E: Writ
     requires { failures_of out.old < 2 ^ 64 - 1 }
     ensures status { result ≤ 2 }
 
-    // 2 is for words that are wrong, and for no others. Such words get 2, or 1 if an allocation fails.
+    // Only wrong words get 2. Wrong words that ask for neither help nor version get 2, or 1 if an allocation fails.
     ensures usage { result ≡ 2 → IsWrong (texts_of words.now) }
     ensures wrong { (IsTaken (texts_of words.now) → ⊥) → (AsksAboutProgram (texts_of words.now) → ⊥) → result ≢ 0 }
     ensures untouched { result ≡ 2 → Keeps (W.contents (inner_of out.old)) (W.contents (inner_of out.new)) }
 
-    // At 0 no refusal was printed. If neither help nor version was asked for, a report was written and flushed, without
-    // the fields of `--skip`. No contract can say that it is the report of the file.
+    // At 0 no refusal was printed. If neither help nor version was asked for, a report without the fields of `--skip`
+    // was written and flushed. No contract can say that this is the report of the file.
     ensures reported { result ≡ 0 → (AsksAboutProgram (texts_of words.now) → ⊥)
         → WritesReportFor (text_given (codes "skip") (texts_of words.now))
         (W.contents (inner_of out.old)) (W.contents (inner_of out.new)) }
@@ -70,12 +72,12 @@ pub fn program<T: Files + AllocGlobal + Threads + Wait + Sync, W: Write, E: Writ
         → (AsksAboutProgram (texts_of words.now) → ⊥)
         → (result ≢ 0) × Keeps (W.contents (inner_of out.old)) (W.contents (inner_of out.new)) }
 
-    // A text that is no list of fields is refused, too, with nothing written.
+    // A text of `--skip` that is no list of fields is refused, too, with nothing written.
     ensures bad_list { HasBadList (text_given (codes "skip") (texts_of words.now))
         → (AsksAboutProgram (texts_of words.now) → ⊥)
         → (result ≢ 0) × Keeps (W.contents (inner_of out.old)) (W.contents (inner_of out.new)) }
 
-    // At 1 nothing was written, but for a beginning of a report if the writer failed.
+    // At 1 nothing was written, except a beginning of a report if the writer failed.
     ensures unwritten { result ≡ 1 → failures_of out.new ≡ failures_of out.old
         → Keeps (W.contents (inner_of out.old)) (W.contents (inner_of out.new)) }
     ensures beginning { result ≡ 1 → failures_of out.new ≡ failures_of out.old + 1
@@ -89,8 +91,8 @@ pub fn program<T: Files + AllocGlobal + Threads + Wait + Sync, W: Write, E: Writ
     status
 }
 
-/// Like [`program`], if `err` is a terminal: after a refusal it prints a second line, which says why the file could not
-/// be opened, or what can be done. The status has the same meaning.
+/// Like [`program`], for an `err` that is a terminal: after some refusals it prints a second line, which says why the
+/// file could not be opened, or what can be done. The status has the same meaning.
 pub fn program_at_terminal<T: Files + AllocGlobal + Threads + Wait + Sync, W: Write, E: Write>(
     rt: &T,
     words: &[&str],
@@ -109,7 +111,7 @@ pub fn program_at_terminal<T: Files + AllocGlobal + Threads + Wait + Sync, W: Wr
 }
 
 /// Does what `words` ask for, and prints a refusal in one line, or what is wrong with the words. Returns the exit
-/// status. If a file was refused, also returns why there is no report of it.
+/// status. If the words name a file and there is no report of it, also returns why.
 fn answer_line<'a, T: Files + AllocGlobal + Threads + Wait + Sync, W: Write, E: Write>(
     rt: &T,
     words: &'a [&'a str],
@@ -133,7 +135,8 @@ fn answer_line<'a, T: Files + AllocGlobal + Threads + Wait + Sync, W: Write, E: 
     }
 }
 
-/// Prints the help or the version on `out`, or what is wrong on `err`, as `error` says. Returns the exit status.
+/// Prints the text of `error`: the help or the version on `out`, or what is wrong with the words on `err`. If an
+/// allocation failed, prints that refusal on `err` instead. Returns the exit status.
 fn answer_words<W: Write, E: Write>(
     alloc: Global,
     error: &Error,
@@ -188,7 +191,7 @@ fn tell<E: Write>(err: &mut E, reason: &NoReport) -> u8
     }
 }
 
-/// Prints why a file could not be opened, or what can be done about a refusal.
+/// Prints why the file could not be opened, or what can be done about the refusal, if a hint is known.
 fn explain<T: Files + AllocGlobal, E: Write>(rt: &T, err: &mut E, unreported: &Unreported<'_>) {
     let Unreported { arguments, reason } = unreported;
     match reason {
@@ -209,7 +212,7 @@ pub fn print_refusal<E: Write>(err: &mut E, refusal: &Refusal) -> u8
     status::REFUSED
 }
 
-/// Returns the options by which the heap is to be marked.
+/// Returns the options of `arguments` for the marking. `Err(BadOptions)` if they are not allowed (`IsInRange`).
 fn options_of(arguments: &Arguments<'_>) -> Result<Options, BadOptions>
     ensures allowed { IsOk result ↔ IsInRange (wanted arguments.now) }
     ensures value { IfOk result (λ options. options ≡ wanted arguments.now) }
@@ -225,7 +228,8 @@ fn options_of(arguments: &Arguments<'_>) -> Result<Options, BadOptions>
     Options::new(workers, buffer, buffers, first_tag)
 }
 
-/// Returns the fields to be skipped.
+/// Returns the fields that `arguments` list, or none if there is no list. The error is `BadOptions` if the text is no
+/// list, and `OutOfMemory` if an allocation fails.
 fn skip_of<'a>(alloc: Global, arguments: &Arguments<'a>) -> Result<Skip<'a, Global>, SkipRefusal>
     ensures list { IfOk result (IsSkipListOf (list_of arguments.now)) }
     ensures bad { result ≡ Err SkipRefusal.BadOptions → HasBadList (list_of arguments.now) }
@@ -236,7 +240,7 @@ fn skip_of<'a>(alloc: Global, arguments: &Arguments<'a>) -> Result<Skip<'a, Glob
     }
 }
 
-/// Runs on the file of `arguments`. Tests the options and the list of fields before it opens the file.
+/// Calls [`run`] on the file of `arguments`. Tests the options and the list of fields before it opens the file.
 fn report_file<T: Files + AllocGlobal + Threads + Wait + Sync, W: Write>(
     rt: &T,
     arguments: &Arguments<'_>,

@@ -35,7 +35,7 @@ pub(crate) enum Hint<'a> {
 }
 
 /// Prints in one line what can be done about `refusal`, or nothing if no hint is known. `length` is the number of bytes
-/// of the file that were read, if it is known.
+/// that were read from the file, if that number is known.
 pub(crate) fn advise<T: Files + AllocGlobal, E: Write>(
     rt: &T,
     err: &mut E,
@@ -92,7 +92,8 @@ fn hint_of<'a, T: Files + AllocGlobal>(
     }
 }
 
-/// Returns what can be done about a file that does not begin as a dump does.
+/// Returns what can be done about the file `name`, which does not begin as a dump does. Returns `FileHint::NoDump` if
+/// the file cannot be read again.
 fn hint_of_beginning<T: Files>(rt: &T, name: &str) -> FileHint {
     match beginning_of(rt, name) {
         Ok(Beginning::Empty) => FileHint::Empty,
@@ -103,7 +104,7 @@ fn hint_of_beginning<T: Files>(rt: &T, name: &str) -> FileHint {
     }
 }
 
-/// Reads the first bytes of the file `name`, and returns what they say of it.
+/// Reads the first bytes of the file `name`, and classifies the file by them.
 fn beginning_of<T: Files>(rt: &T, name: &str) -> io::Result<Beginning> {
     let mut file = open_again(rt, name)?;
     let mut bytes = [0; beginning::LENGTH];
@@ -113,7 +114,7 @@ fn beginning_of<T: Files>(rt: &T, name: &str) -> io::Result<Beginning> {
 
 /// Returns what can be done about a file that is too large, refused at the offset `place`.
 fn hint_of_excess(place: Option<u64>) -> FileHint {
-    // A file with more bytes than a dump may have is refused at this place.
+    // A file with more bytes than a dump may have is refused at the offset `LIMIT`.
     if place == Some(u64::from(LIMIT)) {
         FileHint::TooManyBytes
     } else {
@@ -121,7 +122,7 @@ fn hint_of_excess(place: Option<u64>) -> FileHint {
     }
 }
 
-/// Returns what can be done if a run on the file `name` with this number of `workers` was out of memory.
+/// Returns what can be done if a run on the file `name` with `workers` workers was out of memory.
 fn hint_of_memory<T: Files>(rt: &T, name: &str, workers: u32) -> FileHint {
     if is_too_long(rt, name) {
         FileHint::TooManyBytes
@@ -132,7 +133,7 @@ fn hint_of_memory<T: Files>(rt: &T, name: &str, workers: u32) -> FileHint {
     }
 }
 
-/// Tests whether the file `name` is known to have more bytes than a dump may have: then no memory is enough.
+/// Tests whether the file `name` is known to have more bytes than a dump may have. No memory is enough for such a file.
 fn is_too_long<T: Files>(rt: &T, name: &str) -> bool {
     match fs::metadata(rt, name) {
         Ok(metadata) => metadata.len() > u64::from(LIMIT),
@@ -140,7 +141,7 @@ fn is_too_long<T: Files>(rt: &T, name: &str) -> bool {
     }
 }
 
-/// Tests whether `place` is known to be the offset at which the reading of the file ended.
+/// Tests whether the offset `place` is known to be `length`, where the reading of the file ended.
 fn is_at_end(place: Option<u64>, length: Option<u64>) -> bool
     ensures { IsTrue result ↔ (IsSome place × (place ≡ length)) }
 {

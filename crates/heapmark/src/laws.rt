@@ -1,4 +1,4 @@
-//! Laws about the first fault of a text. Each is a function whose body calls the laws from which it follows.
+//! Laws about the first fault of a text. Each law is a function, whose body calls the laws from which it follows.
 
 ghost use Rattle.std.specs.Prelude.{◌≡◌, ◌⊎◌, List, ℕ};
 ghost use Rattle.hprof_grammar.specs.Laws.{AreBytes};
@@ -16,7 +16,7 @@ pub fn always_accepted_or_fault()
     always_linked_or_fault();
 }
 
-/// States that an accepted text has no first fault. So if a refusal reports one, the bytes read are not accepted.
+/// States that an accepted text has no first fault. So the bytes read are not accepted if a refusal reports a fault.
 pub fn accepted_or_fault()
     ensures { (text : List ℕ) (code place : ℕ) → IsAcceptedText text → FirstFaultOf text code place → ⊥ }
 {

@@ -1,12 +1,13 @@
 //! Marks the reachable objects of a Java heap dump and prints a histogram by class.
 //!
-//! `run`, in `pipeline.rt`, is all that is promised: it reads the bytes, builds the graph, marks it and writes the
-//! report, or returns why it does not. `program`, in `command.rt`, opens the file, passes it to `run` with the options
-//! of the command line, and turns the result into the exit status. `main` only calls `process`, below. `process` calls
-//! `start`; after a report at a terminal, it also prints which entries of `--skip` name no field of the dump.
+//! `run`, in `pipeline.rt`, does all that the guarantee is about: it reads the bytes, builds the graph, marks it and
+//! writes the report, or returns why there is none. `program`, in `command.rt`, opens the file, passes it to `run` with
+//! the options of the command line, and turns the result into the exit status. `main` only calls `process`, below.
+//! `process` calls `start`. After a report, if standard error is a terminal, `process` also prints which entries of
+//! `--skip` name no field of the dump.
 //!
-//! The headline is defined in `specs/Headline.antt`, the refusals in `specs/RunRefusals.antt`; README.md at the top
-//! says both in words, and `docs/ARCHITECTURE.md` says where everything else is.
+//! The headline is defined in `specs/Headline.antt`, the refusals in `specs/RunRefusals.antt`. The README of the
+//! repository has both in words, and `docs/ARCHITECTURE.md` says where everything else is.
 #![tactic(auto)]
 
 ghost use Rattle.std.specs.Prelude.{◌≡◌, ◌-◌, ◌^◌, ◌<◌, false};
@@ -53,8 +54,8 @@ fn main(rt: HostRuntime) -> ExitCode {
     ExitCode::from(process(&rt, &rt, &mut out, &mut err, is_terminal))
 }
 
-/// Does all that the process does, and returns the exit status of `start`. After a report, if standard error
-/// `is_terminal`, prints which entries of `--skip` name no field of the dump.
+/// Calls `start`, and returns its exit status. After a report, if standard error is a terminal (`is_terminal`), also
+/// prints which entries of `--skip` name no field of the dump.
 fn process<T, V, W, E>(rt: &T, line: &V, out: &mut Counted<W>, err: &mut E, is_terminal: bool) -> u8
 where
     T: Files + AllocGlobal + Threads + Wait + Sync,
@@ -64,7 +65,8 @@ where
     requires { failures_of out.old < 2 ^ 64 - 1 }
     ensures status { IsStatusOfSome result W.contents out.old out.new }
 
-    // At 0 no refusal was printed, if standard error is no terminal: so no other status of `start` becomes 0.
+    // At 0, if standard error is no terminal, no refusal was printed. So `process` turns no other status of `start`
+    // into 0.
     ensures silent { result ≡ 0 → is_terminal ≡ false → Keeps (E.contents err.old) (E.contents err.new) }
 {
     let status = start(rt, line, out, err, is_terminal);
@@ -74,7 +76,7 @@ where
     status
 }
 
-/// Prints the hints that follow a report. Prints nothing if the command line cannot be read again.
+/// Prints which entries of `--skip` name no field of the dump. Prints nothing if the command line cannot be read again.
 fn look_again<T, V, E>(rt: &T, line: &V, err: &mut E)
 where
     T: Files + AllocGlobal + Threads + Sync,
@@ -90,7 +92,7 @@ where
 }
 
 /// Passes the words of the command line to the program, and returns the exit status. No contract knows these words, so
-/// the clauses say only what each status means for the streams.
+/// the clauses say only what each status means for `out` and `err`.
 fn start<T, V, W, E>(rt: &T, line: &V, out: &mut Counted<W>, err: &mut E, is_terminal: bool) -> u8
 where
     T: Files + AllocGlobal + Threads + Wait + Sync,
@@ -121,7 +123,7 @@ fn args_of<V: Env>(line: &V, alloc: Global) -> io::Result<Vec<String>> {
     Ok(env::args(&(line, alloc))?.collect(alloc)?)
 }
 
-/// Borrows each of `args` as a word.
+/// Borrows each of `args` as a word. `Err(AllocError)` if an allocation fails.
 fn words_of(args: &[String], alloc: Global) -> Result<Vec<&str>, AllocError> {
     args.iter().map(|arg| arg.as_str()).collect(alloc)
 }

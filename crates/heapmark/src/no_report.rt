@@ -7,15 +7,16 @@ use std::io;
 /// Why there is no report of a file.
 #[derive(Drop)]
 pub(crate) enum NoReport {
-    /// The options were refused.
+    /// The options or the list of `--skip` were refused, or an allocation failed, before the file was opened.
     Refused(Refusal),
-    /// The run was refused, after this number of bytes of the file was read: `None` for a pipe, which has no position.
+    /// The run was refused. The number is that of the bytes read from the file, or `None` if the system reports no
+    /// position, as for a pipe.
     Stopped(Refusal, Option<u64>),
-    /// The file could not be opened, for this reason of the system.
+    /// The file could not be opened. The error says why.
     NotOpened(io::Error),
 }
 
-/// A file of which there is no report.
+/// A command line for whose file there is no report.
 #[derive(Drop)]
 pub(crate) struct Unreported<'a> {
     /// The arguments of the command line.

@@ -25,20 +25,20 @@ use std::io::{Read, Write};
 use std::sync::Wait;
 use std::thread::Threads;
 
-/// The number of bytes to read at most: one more than a dump may have, so that a longer file is seen as such.
+/// The most bytes to read: one more than a dump may have, so that a longer file is noticed.
 const READ_LIMIT: usize = LIMIT as usize + 1;
 
 /// Reads a heap dump, marks its reachable objects with a thread for each worker, and writes the histogram of them. The
 /// fields of `skip` are not followed, and what they name does not count as unresolved.
 ///
-/// Reads until a read returns 0, or until it has one byte more than a dump may have. Does not retry a failed read or
-/// write, and writes nothing but the report.
+/// Reads until a read returns 0 or fails, or until it has one byte more than a dump may have. Does not retry a failed
+/// read or write, and writes nothing but the report.
 ///
-/// At `Ok` the clause `headline` holds for a reader whose bytes a contract can name, such as a slice. For any other,
-/// such as a file, the clauses only say that the report of some text was written and flushed. An error with a code of 1
-/// to 14 is the first fault of the bytes. Bytes that are no accepted dump are refused with their first fault, or with
-/// 15 or 19 if an allocation or the reader failed first. An accepted dump may be refused with 15 to 20. A run has no
-/// exit status: only the program has.
+/// At `Ok` the clause `headline` holds for a reader whose bytes a contract can name, such as a slice. For any other
+/// reader, such as a file, the clauses only say that the report of some text was written and flushed. An error with a
+/// code of 1 to 14 is the first fault of the bytes. Bytes that are no accepted dump are refused with their first fault,
+/// or with 15 or 19 if an allocation or the reader failed first. An accepted dump may be refused with 15, 16 or 18 to
+/// 20. A run has no exit status: only the program has.
 pub fn run<T, A, R, W, B, G>(
     rt: &T,
     alloc: A,
@@ -58,7 +58,7 @@ where
     requires reads { failures_of reader.old < 2 ^ 64 - 1 }
     requires writes { failures_of writer.old < 2 ^ 64 - 1 }
 
-    // The bytes read are an accepted dump, and their report was written after what the writer had.
+    // The bytes read are an accepted dump, and their report was appended to what the writer had.
     ensures headline { Headline result (R.remaining (inner_of reader.old)) skip.now
         (W.contents (inner_of writer.old)) (W.contents (inner_of writer.new)) }
 
@@ -68,8 +68,8 @@ where
 
     ensures flushed { OnOk result (is_flushed writer.new ≡ true) }
 
-    // The converse: a reported fault is the first one of the bytes. Bytes with a fault are refused with the first one,
-    // unless an allocation or the reader fails.
+    // The converse: a reported fault is the first fault of the bytes. Bytes that are not accepted are refused with
+    // their first fault, unless an allocation or the reader fails.
     ensures first_fault { IfErr result (λ refusal. refusal.code ≤ 14
         → IfSome (R.remaining (inner_of reader.old)) (λ given. RefusesFirstFault (bytes_read given) refusal)) }
     ensures not_accepted { IfSome (R.remaining (inner_of reader.old)) (λ given.
@@ -86,7 +86,8 @@ where
     ensures within { HasCode result 15
         → ConsumesFewer 1073741826 (R.remaining (inner_of reader.old)) (R.remaining (inner_of reader.new)) }
 
-    // Each count of failures rises with its own refusal, by one, and with no other outcome.
+    // A refusal with 19 raises the reader's count of failures by one, a refusal with 20 that of the writer. No other
+    // outcome changes a count.
     ensures read_fault { HasCode result 19 ↔ (failures_of reader.new ≡ failures_of reader.old + 1) }
     ensures no_read_fault { (HasCode result 19 → ⊥) → failures_of reader.new ≡ failures_of reader.old }
     ensures write_fault { HasCode result 20 ↔ (failures_of writer.new ≡ failures_of writer.old + 1) }

@@ -34,7 +34,7 @@ use std::io::{Read, Write};
 use std::sync::Wait;
 use std::thread::Threads;
 
-/// Returns the program's options with `workers` workers, 1 to 64.
+/// Returns the program's default options, but with `workers` workers, 1 to 64.
 fn usual(workers: u32) -> Options
     requires some { 1 ≤ workers }
     requires most { workers ≤ 64 }
@@ -45,7 +45,7 @@ fn usual(workers: u32) -> Options
     options
 }
 
-/// Returns options with the least buffers for `workers` workers, 1 to 64.
+/// Returns options with the fewest and smallest buffers for `workers` workers, 1 to 64.
 fn least(workers: u32) -> Options
     requires some { 1 ≤ workers }
     requires most { workers ≤ 64 }
@@ -56,10 +56,10 @@ fn least(workers: u32) -> Options
     options
 }
 
-/// The result of a run, and how much of its report it has written: `None` if it has written anything else.
+/// The result of a run, and how many bytes of the wanted report it has written: `None` if it has written anything else.
 type Answered = (Result<(), Refusal>, Option<usize>);
 
-/// Runs with these options, fields to skip and gate. Returns the result and the writer.
+/// Calls `run` with `options`, `skip` and `gate`. Returns the result and the writer.
 fn run_with<T, A, R, W, B, G>(
     rt: &T,
     alloc: A,
@@ -83,7 +83,7 @@ where
     (outcome, writer.into_inner())
 }
 
-/// Returns how much of `report` was written, or `None` if anything else was.
+/// Returns the length of `written` if it is a beginning of `report`, otherwise `None`.
 fn length_of(written: &[u8], report: &str) -> Option<usize> {
     if report.as_bytes().starts_with(written) {
         Some(written.len())
@@ -92,8 +92,8 @@ fn length_of(written: &[u8], report: &str) -> Option<usize> {
     }
 }
 
-/// Runs with these options and fields to skip, and a gate that does nothing. All that a run needs is dropped here, so
-/// that a test holds nothing while it asserts: that makes its proof cheap.
+/// Calls `run` with `options`, `skip` and a gate that does nothing. Drops here all that the run needed: a test that
+/// holds nothing while it asserts has a cheap proof.
 fn answer<T, R>(
     rt: &T,
     alloc: Global,
@@ -111,7 +111,7 @@ where
     (outcome, length_of(written.as_slice(), report))
 }
 
-/// Tests whether a run with these options, which skips no field, has the result `want` and writes just `report`.
+/// Tests whether a run with `options` that skips no field has the result `want` and writes just `report`.
 fn is_answered<T, R>(
     rt: &T,
     alloc: Global,
@@ -128,7 +128,7 @@ where
     told == (want, Some(report.len()))
 }
 
-/// Returns the result of a run that is refused.
+/// Returns the result of a run that is refused with `code` at `offset`.
 fn refused(code: u8, offset: Option<u64>) -> Result<(), Refusal> {
     Err(Refusal { code, offset })
 }

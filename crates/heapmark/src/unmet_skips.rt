@@ -1,8 +1,8 @@
 //! The lines about entries of `--skip` that name no field of the dump.
 //!
-//! Such an entry changes neither the report nor the status, so a line about it is printed after the report, only if
-//! standard error is a terminal. The file is read a second time for it. No clause is about these lines: the clauses of
-//! `start` cover only what is printed before.
+//! Such an entry changes neither the report nor the status. So the line about it is printed after the report, and only
+//! if standard error is a terminal. For these lines the file is read a second time. No clause is about them: the
+//! clauses of `start` cover only what is printed before.
 
 use crate::command::expected_size;
 use crate::pipeline::read_bytes;
@@ -48,7 +48,7 @@ fn met_in_file<T: Files + AllocGlobal + Threads + Sync>(
     skip.met(rt.alloc(), bytes.as_slice(), &dump).ok()
 }
 
-/// Reads the bytes of `file` again, if the run has read a plain file.
+/// Reads the bytes of `file` again. Returns `None` if it is no plain file, or if a read or an allocation fails.
 fn bytes_again<T: Files + AllocGlobal>(rt: &T, file: &str) -> Option<Vec<u8>> {
     let file = open_again(rt, file).ok()?;
     let size = file.metadata().ok()?.len();
@@ -56,7 +56,8 @@ fn bytes_again<T: Files + AllocGlobal>(rt: &T, file: &str) -> Option<Vec<u8>> {
     read_bytes(rt.alloc(), &mut reader).ok()
 }
 
-/// Prints a line for each entry of `list` that is not `met`. Commas separate the entries, and no entry contains one.
+/// Prints a line for each entry of `list` for which `met`, in the order of the entries, is `false`. Commas separate the
+/// entries, and no entry contains a comma.
 fn tell_unmet<E: Write>(err: &mut E, list: &str, met: &[bool]) {
     for (entry, is_met) in list.split(',').zip(met) {
         if !*is_met {

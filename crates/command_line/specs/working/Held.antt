@@ -4,7 +4,7 @@ use Rattle.std.specs.Str.Parse.{IsNumeral, digits_value, without_leading_plus}
 use Rattle.clap.specs.Words.{IsUnsignedIn, Text, first_value, one_text}
 use Rattle.clap.specs.declared.parser.matches.Found.{Found}
 
--- a number from `least` to `most` is found
+-- a number from `least` to `most` is found for `name`
 pub record HoldsNumber (found : Found) (name : Text) (least most : ℕ) : Type 0 where
   pub text : Text
   pub first : first_value found name ≡ Some text

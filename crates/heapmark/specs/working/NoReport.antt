@@ -7,7 +7,7 @@ use Rattle.heapmark.specs.RunRefusals.{out_of_memory}
 use Rattle.heapmark.specs.declared.no_report.NoReport.{NoReport}
 use Rattle.heapmark.specs.declared.no_report.NoReport.TheVariants as no_report
 
--- the options of the words
+-- the options that `a` has for the marking
 abbrev pub wanted : Arguments → Choice
 wanted a = choice a.workers a.buffer a.buffers a.first_tag
 

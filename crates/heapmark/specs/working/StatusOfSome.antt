@@ -12,7 +12,7 @@ pub record IsStatusOfSome {W : Type 0} (status : ℕ) (bytes_of : W → Option (
   pub most : status ≤ 2
   -- At 2 nothing was written.
   pub untouched : status ≡ 2 → Keeps (bytes_of (inner_of old)) (bytes_of (inner_of new))
-  -- At 1 nothing was written, but for a beginning of a report if the writer failed.
+  -- At 1 nothing was written, except a beginning of a report if the writer failed.
   pub unwritten : status ≡ 1 → failures_of new ≡ failures_of old
       → Keeps (bytes_of (inner_of old)) (bytes_of (inner_of new))
   pub beginning : status ≡ 1 → failures_of new ≡ failures_of old + 1

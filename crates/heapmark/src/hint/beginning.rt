@@ -18,7 +18,7 @@ pub(super) const LENGTH: usize = HEADER.len();
 pub(super) enum Beginning {
     /// There are none.
     Empty,
-    /// They are a part of the header, and the file ends there.
+    /// They are the header or a beginning of it: the file ends too early.
     Part,
     /// They are those of a dump of another version.
     Version(Version),
@@ -71,7 +71,7 @@ impl Beginning {
 }
 
 impl Version {
-    /// Returns the version that the header in `bytes` names, if `bytes` begin with a header.
+    /// Returns the version that `bytes` name, if `bytes` are the first bytes of a dump of any version.
     fn of(bytes: &[u8]) -> Option<Version> {
         match bytes.strip_prefix(FORMAT)? {
             [major, b'.', minor, b'.', patch, 0] if is_numeral(&[*major, *minor, *patch]) => {
@@ -108,7 +108,7 @@ impl Packer {
         None
     }
 
-    /// Returns the command that unpacks its files.
+    /// Returns the command that unpacks this program's files.
     pub(super) fn unpacker(self) -> &'static str {
         match self {
             Packer::Gzip => "gunzip",

@@ -10,7 +10,7 @@ pub(crate) enum FileHint {
     Empty,
     /// It ends before its dump is complete.
     EndsEarly,
-    /// It was compressed by the program that is named.
+    /// It was compressed by this program.
     Packed(Packer),
     /// It is a dump of this other version of the format.
     OtherVersion(Version),
@@ -20,9 +20,9 @@ pub(crate) enum FileHint {
     TooManyBytes,
     /// It has more objects than a dump may have.
     TooManyObjects,
-    /// It takes more memory than there is, with one worker.
+    /// With one worker, it takes more memory than there is.
     Memory,
-    /// It takes more memory than there is, with several workers.
+    /// With several workers, it takes more memory than there is.
     MemoryOfWorkers,
 }
 

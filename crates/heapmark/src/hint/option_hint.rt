@@ -9,11 +9,11 @@ use std::fmt;
 pub(crate) enum OptionHint {
     /// This first tag leaves too few tags.
     FirstTag(u64),
-    /// A thread of this number of workers could not be started.
+    /// With this number of workers, a thread could not be started.
     Threads(u32),
-    /// This number of buffers is too low for this number of workers.
+    /// There are too few buffers (the first number) for the workers (the second number).
     Buffers(u32, u32),
-    /// The text of the fields to be skipped lists none.
+    /// The text of `--skip` is no list of 1 to 64 entries.
     Fields,
 }
 
@@ -49,7 +49,7 @@ pub(super) fn least_buffers(workers: u32) -> u64
     2 * u64::from(workers) + 2
 }
 
-/// Returns what can be done if a thread of `workers` workers could not be started.
+/// Returns what can be done if, with `workers` workers, a thread could not be started.
 fn advice_on_threads(workers: u32) -> &'static str {
     if workers == 1 {
         "the system starts no thread: see ulimit -u and ulimit -v"

@@ -12,11 +12,12 @@ const FIRST: u64 = 31;
 /// The number of bytes of a record before its body: the tag, a time and the length of the body.
 const FRONT: usize = 9;
 
-/// Returns the end of the record of `file` in which the offset `place` lies. Returns `None` if the file has no such
-/// record, or if a read or an allocation fails.
+/// Returns the end of the record of `file` in which the offset `place` lies, by the length in that record: the file may
+/// end earlier. For a place in the header, returns the header's end. Returns `None` if the file has no such record, or
+/// if a read, a seek or an allocation fails.
 ///
-/// A file may have a hundred million records. They are read through a buffer, so that a short record costs no system
-/// call.
+/// A file may have a hundred million records. They are read through a buffer, so that one system call serves hundreds
+/// of short records.
 pub(crate) fn record_end<F: Read + Seek + Drop>(alloc: Global, file: F, place: u64) -> Option<u64>
     ensures { IfSome result (λ end. place < end) }
 {

@@ -5,7 +5,7 @@ use super::Refusal;
 /// An allocation failed.
 pub(crate) const OUT_OF_MEMORY: u8 = 15;
 
-/// A stack's last tag was loaded before an exchange that needed one more.
+/// A stack of buffers had its last tag, and an exchange needed one more.
 pub(crate) const TAG_SPENT: u8 = 16;
 
 /// A worker's thread could not be started.
@@ -30,7 +30,7 @@ impl Refusal {
         offset: None,
     };
 
-    /// A stack's last tag was loaded before an exchange that needed one more.
+    /// A stack of buffers had its last tag, and an exchange needed one more.
     pub const TAG_SPENT: Refusal = Refusal {
         code: TAG_SPENT,
         offset: None,

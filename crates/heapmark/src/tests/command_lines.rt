@@ -17,7 +17,8 @@ use std::rt::Files;
 use std::sync::Wait;
 use std::thread::Threads;
 
-/// A command line without the program's name, with FILE for a dump; its status, and all that standard error gets.
+/// A command line without the program's name, in which FILE stands for a dump; its status, and the whole text on
+/// standard error.
 type Line = (&'static str, u8, &'static str);
 
 const BAD_OPTIONS: &str = "heapmark: refused 21 BadOptions\n";
@@ -54,8 +55,8 @@ const OPTIONS: &[Line] = &[
     ("a --skip a.b --skip c.d", 2, SKIP_TWICE),
 ];
 
-/// The highest first tags that are enough without objects, and those above them, which are not. The leader and each
-/// worker make four exchanges of one head.
+/// For a dump without objects: for each number of workers, the highest first tag that leaves enough tags, and the next
+/// tag, which leaves too few. The leader and each worker make four exchanges of one head.
 const TAGS_OF_NOTHING: &[Line] = &[
     ("FILE --workers 1 --first-tag 281474976710647", 0, ""),
     ("FILE --workers 1 --first-tag 281474976710648", 1, TAG_SPENT),
@@ -73,15 +74,15 @@ const TAGS_OF_NOTHING: &[Line] = &[
     ),
 ];
 
-/// The first exchange is one too many.
+/// The first tag is the last one: the first exchange needs one more.
 const LAST_TAG: &[Line] = &[("FILE --first-tag 281474976710655", 1, TAG_SPENT)];
 
 /// The least buffers for one worker.
 const LEAST_BUFFERS: &[Line] = &[("FILE --workers 1 --buffer 2 --buffers 4", 0, "")];
 
-/// For an array of 64 objects: the default buffers, few or small buffers, and the highest first tags that are enough
-/// for one worker. The head of the empty stack changes 72 times with 128 buffers of 2, 20 times with 8 of 64, and 12
-/// times with 4 of 2. So these tags show that a run uses the numbers of its command line.
+/// For an array of 64 objects: the default buffers, few or small buffers, and for one worker the highest first tags
+/// that leave enough tags. The head of the empty stack changes 72 times with 128 buffers of 2 objects, 20 times with 8
+/// of 64, and 12 times with 4 of 2. So these tags show that a run uses the numbers of its command line.
 const BUFFERS_OF_AN_ARRAY: &[Line] = &[
     ("FILE --workers 1", 0, ""),
     ("FILE --workers 2", 0, ""),
@@ -120,7 +121,7 @@ const BUFFERS_OF_AN_ARRAY: &[Line] = &[
     ),
 ];
 
-/// The name of a file, the dump in it, its report, and the command lines that are tried on it.
+/// The name of a file, the dump in it, the dump's report, and the command lines that are tried on the file.
 static LINES: [(&str, Sample, &str, &[Line]); 6] = [
     (
         "heapmark_nothing.hprof",
@@ -160,8 +161,8 @@ static LINES: [(&str, Sample, &str, &[Line]); 6] = [
     ),
 ];
 
-/// Checks that the program has the status of `line` on a file of `sample`, also if standard error fails. It prints
-/// `report` at 0 and else nothing on the output, and just the text of `line` on standard error.
+/// Checks that the program has the status of `line` on a file of `sample`, also if standard error fails. Checks that it
+/// prints just the text of `line` on standard error, and on the output `report` at status 0, otherwise nothing.
 fn check_line<T: Abort + AllocGlobal + Env + Files + Threads + Wait + Sync>(
     rt: &T,
     name: &str,
@@ -186,7 +187,7 @@ fn lines_are_answered(rt: HostRuntime) {
     }
 }
 
-/// Not even the program's own name is given.
+/// A command line without any word, even without the program's own name.
 #[test]
 fn no_words_are_told(rt: HostRuntime) {
     assert_eq!(rt; answered(&rt, &[], "", NO_FILE), (2, true, true));
@@ -201,7 +202,7 @@ static TEXTS: [(&str, &str); 4] = [
     ("-V", VERSION),
 ];
 
-/// Returns the status for `word` if both streams fail, and how often the output did.
+/// Returns the status for `word` if both streams fail, and the number of failures of the output.
 fn asked_in_vain<T: Files + AllocGlobal + Threads + Wait + Sync>(rt: &T, word: &str) -> (u8, u64) {
     let mut out = Counted::new(Broken);
     let status = program(rt, &["heapmark", word], &mut out, &mut Broken);

@@ -7,10 +7,10 @@ use std::alloc::Global;
 use std::sync::Wait;
 use std::thread::Threads;
 
-/// The first and the last of some lengths, and the code and place of their refusal.
+/// The first and the last length of a range, and the code and place of the refusal at each.
 type Cut = (usize, usize, u8, u64);
 
-/// The file cut to each length below 174.
+/// The refusals of the file cut to each length below 174, which is its whole length.
 static CUTS: [Cut; 8] = [
     (0, 18, 1, 0),
     (19, 30, 3, 0),
@@ -22,8 +22,8 @@ static CUTS: [Cut; 8] = [
     (71, 173, 3, 70),
 ];
 
-/// The body of the heap record cut to each length that ends within a sub-record, with the record's length lowered to
-/// it.
+/// The refusals of the file if the body of its heap record is cut within a sub-record. The record's length is lowered
+/// to that of the cut body.
 static BODIES: [Cut; 4] = [
     (1, 47, 6, 79),
     (49, 68, 6, 127),
@@ -31,7 +31,7 @@ static BODIES: [Cut; 4] = [
     (91, 94, 6, 169),
 ];
 
-/// The body cut after a sub-record, and its report.
+/// The lengths at which the cut body is empty or ends with a whole sub-record, and the report for each.
 static WHOLE_BODIES: [(usize, &str); 5] = [
     (0, NOTHING_REPORT),
     (
@@ -58,7 +58,7 @@ static WHOLE_BODIES: [(usize, &str); 5] = [
     (95, TWO_OBJECTS_REPORT),
 ];
 
-/// Returns the first `length` of `bytes`, or all if there are fewer.
+/// Returns the first `length` of `bytes`, or all of `bytes` if there are fewer.
 pub fn front(bytes: &[u8], length: usize) -> &[u8] {
     &bytes[..length.min(bytes.len())]
 }
@@ -69,14 +69,15 @@ fn put(bytes: &mut Vec<u8>, place: usize, value: u8) {
     }
 }
 
-/// Returns the dump with the first `length` bytes of its heap record's body, and that length in the record.
+/// Returns `dump` cut after the first `length` bytes of its heap record's body, and sets the record's length to
+/// `length`.
 fn with_body(dump: &mut Vec<u8>, length: usize) -> &[u8] {
     put(dump, 78, u8::try_from(length).unwrap_or(u8::MAX));
     front(dump.as_slice(), length.saturating_add(79))
 }
 
 /// Tests whether the runs on `bytes` have the result `want` and write `report`: with two workers and the least buffers,
-/// and with 1, 2 and 64 workers and the buffers of the program.
+/// and with 1, 2 and 64 workers and the program's default buffers.
 fn runs_are_answered<T: Threads + Wait + Sync>(
     rt: &T,
     alloc: Global,
@@ -125,7 +126,7 @@ fn body_is_answered<T: Threads + Wait + Sync>(
     }
 }
 
-/// Returns the number of bytes of the file.
+/// Returns the number of bytes of the file, or `None` if an allocation fails.
 fn file_length(alloc: Global) -> Option<usize> {
     match two_objects(alloc) {
         Ok(dump) => Some(dump.bytes.len()),

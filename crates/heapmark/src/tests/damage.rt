@@ -1,6 +1,6 @@
 //! The dump of two objects with each byte changed to each other value.
 //!
-//! 44,370 files: the runs are fast enough as `rt test` builds them, but too slow as `rt try --test` does.
+//! These are 44,370 files. The runs are fast enough in the build of `rt test`, but too slow in that of `rt try --test`.
 
 mod answers;
 mod two_workers;
@@ -13,11 +13,12 @@ use std::alloc::Global;
 use std::sync::Wait;
 use std::thread::Threads;
 
-/// A place, the first and the last value of a range, and the result for each value there but the dump's own. A refusal
-/// has its code, its place, and 0. A report has 0, its length, and the mix of the range's reports in order ([`mixed`]).
+/// A place, the first and the last value of a range, and the result of the dump with any of these values at that place,
+/// except the dump's own. For refusals the result is their code, their place, and 0; for reports it is 0, their length,
+/// and a number mixed from all reports of the range in order ([`mixed`]).
 pub type Answer = (usize, u8, u8, u8, u64, u32);
 
-/// For each code, or 0 for reports, the number of files that have it, and the sum of the places, or of the lengths.
+/// For each code, or 0 for reports: the number of files with this result, and the sum of their places or lengths.
 static SUMS: [(u32, u64); 15] = [
     (26_261, 4_847_130),
     (4_845, 0),
@@ -36,7 +37,7 @@ static SUMS: [(u32, u64); 15] = [
     (0, 0),
 ];
 
-/// Mixes `report` into `before`, the mix of the reports before it.
+/// Mixes `report` into `before`, the number that was mixed from the reports before it, and returns the new number.
 fn mixed(before: u32, report: &[u8]) -> u32 {
     let mut mix = before;
     for byte in report {
@@ -45,7 +46,8 @@ fn mixed(before: u32, report: &[u8]) -> u32 {
     mix
 }
 
-/// Runs on `dump`. Returns the code and the place of its refusal, or 0 and the length of its report, and the new mix.
+/// Runs on `dump`. Returns the code and the place of its refusal, or 0 and the length of its report; and `mix` with the
+/// report mixed in. Returns the code 255 if a run that is refused has written something.
 fn told<T: Threads + Wait + Sync>(
     rt: &T,
     alloc: Global,
@@ -67,11 +69,11 @@ fn told<T: Threads + Wait + Sync>(
     }
 }
 
-/// The first file of a row whose result is not the row's: the value, and the code and the place.
+/// The first file of a row whose result is not the one that the row says: its value, and the two numbers of [`told`].
 type Other = Option<(u8, u8, u64)>;
 
-/// Runs on each file of `row`, made of `dump`. Returns the number of files, their reports mixed, and the first with
-/// another result.
+/// Runs on each file of `row`, made by changing `dump`. Returns the number of files, the number mixed from their
+/// reports, and the first file with another result.
 fn run_row<T: Threads + Wait + Sync>(
     rt: &T,
     alloc: Global,
@@ -101,7 +103,8 @@ fn run_row<T: Threads + Wait + Sync>(
     (files, reports, other)
 }
 
-/// Returns the number of files of `row`, without the dump itself, if each has the result that the row says.
+/// Returns the number of files of `row`, without the dump itself. Returns `None` if a file has another result than
+/// `row` says, or if an allocation fails.
 fn files_of<T: Threads + Wait + Sync>(
     rt: &T,
     alloc: Global,
@@ -117,8 +120,8 @@ fn files_of<T: Threads + Wait + Sync>(
     }
 }
 
-/// Returns for each code the sums over the files of all rows, as in `SUMS`. `Err` with a row's place and values if that
-/// row is the first that overlaps the rows before it, or that has a file with another result.
+/// Returns for each code the sums over the files of all rows, as in `SUMS`. The error is the place and the values of
+/// the first row that overlaps the rows before it or has a file with another result.
 fn sums_of_rows<T: Threads + Wait + Sync>(
     rt: &T,
     alloc: Global,
@@ -133,7 +136,7 @@ fn sums_of_rows<T: Threads + Wait + Sync>(
             sum.0 = sum.0.wrapping_add(files);
             sum.1 = sum.1.wrapping_add(u64::from(files).wrapping_mul(at));
         }
-        // the rows follow one another, so that no value of a place is in two of them
+        // each row begins after the end of the row before, so no value of a place is in two rows
         let begin = place.wrapping_mul(256);
         if end > begin.wrapping_add(usize::from(first)) {
             return Err((place, first, last));

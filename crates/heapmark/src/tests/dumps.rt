@@ -9,7 +9,7 @@ pub const NOTHING_REPORT: &str = "         0               0  (reachable)
          0               0  (unresolved)
 ";
 
-/// The report of the two instances.
+/// The report of the dump of two objects.
 pub const TWO_OBJECTS_REPORT: &str = "         2               8  A
          1               0  <class>
          3               8  (reachable)
@@ -17,19 +17,20 @@ pub const TWO_OBJECTS_REPORT: &str = "         2               8  A
          0               0  (unresolved)
 ";
 
-/// Returns the dump of the two instances, 174 bytes.
+/// Returns the dump of two objects, 174 bytes: a class `A`, two instances that refer to each other, and a root.
 pub fn two_objects(alloc: Global) -> Result<Bytes, AllocError> {
     Bytes::dump(alloc, 4, TWO_OBJECTS)
 }
 
-/// Returns a dump of the records `names` and of a heap dump with the body `heap`.
+/// Returns a dump of the records `names`, followed by a heap dump record with the body `heap`.
 fn with_heap(alloc: Global, names: &[Record], heap: &Bytes) -> Result<Bytes, AllocError> {
     let mut dump = Bytes::dump(alloc, 4, names)?;
     dump.record(0x0C, heap.bytes.as_slice())?;
     Ok(dump)
 }
 
-/// Returns a dump of a class `A` without fields and `count` instances of it from 0x201 on, 64 at most, each a root.
+/// Returns a dump of a class `A` without fields and `count` instances of it, at most 64, each a root. Their identifiers
+/// begin at 0x201.
 pub fn roots_alone(alloc: Global, count: u64) -> Result<Bytes, AllocError> {
     let mut heap = Bytes::new(alloc, 4);
     heap.sub(Sub::Class(0x100, 0, &[]))?;
@@ -64,7 +65,7 @@ pub const NINE_ROOTS_REPORT: &str = "         9               0  A
          0               0  (unresolved)
 ";
 
-/// Returns a dump of an array of 64 instances, which is the root.
+/// Returns a dump of an array of 64 instances. The array is the root.
 pub fn wide_array(alloc: Global) -> Result<Bytes, AllocError> {
     let elements: Vec<u64> = (0x301..0x341u64).collect(alloc)?;
     let mut heap = Bytes::new(alloc, 4);
@@ -83,7 +84,7 @@ pub fn wide_array(alloc: Global) -> Result<Bytes, AllocError> {
     with_heap(alloc, &names, &heap)
 }
 
-/// The report of that array.
+/// The report of [`wide_array`].
 pub const WIDE_ARRAY_REPORT: &str = "         1             256  [LL;
         64               0  L
          2               0  <class>
@@ -92,7 +93,8 @@ pub const WIDE_ARRAY_REPORT: &str = "         1             256  [LL;
          0               0  (unresolved)
 ";
 
-/// Returns a dump of the two instances and of an array, a root too, whose 100,000 elements are all the second instance.
+/// Returns the dump of two objects with an array added, which is a root too. Each of the array's 100,000 elements is
+/// the second instance.
 pub fn long_array(alloc: Global) -> Result<Bytes, AllocError> {
     let elements = vec![in alloc; 0x202u64; 100_000]?;
     let mut heap = Bytes::new(alloc, 4);
@@ -106,7 +108,7 @@ pub fn long_array(alloc: Global) -> Result<Bytes, AllocError> {
     with_heap(alloc, &TWO_OBJECTS[..2], &heap)
 }
 
-/// The report of these two instances and that array.
+/// The report of [`long_array`].
 pub const LONG_ARRAY_REPORT: &str = "         3          400008  A
          1               0  <class>
          4          400008  (reachable)
@@ -119,7 +121,7 @@ pub const LONG_ARRAY_REPORT: &str = "         3          400008  A
 pub enum Sample {
     Nothing,
     TwoObjects,
-    /// This number of instances that are roots, 64 at most.
+    /// The dump of [`roots_alone`] with this number of instances.
     Roots(u64),
     WideArray,
     LongArray,

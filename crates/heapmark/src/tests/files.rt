@@ -1,4 +1,4 @@
-//! Files as the program opens them: the room that it reserves, and which files it does not open a second time.
+//! Files as the program opens them: how much memory it reserves, and which files it does not open a second time.
 
 use super::hints::advice;
 use super::program::{answered_to_people, file_of};
@@ -12,7 +12,7 @@ use std::path::{Path, PathBuf};
 use std::rt::Files;
 use std::{env, fs, io};
 
-/// Returns the capacity and the length of the bytes that are read of the file `name`.
+/// Returns the capacity and the length of the vector into which the file `name` is read.
 fn room_of<T: AllocGlobal + Files>(rt: &T, name: &str) -> Option<(usize, usize)> {
     let Ok(mut reader) = open(rt, name) else {
         return None;
@@ -23,7 +23,7 @@ fn room_of<T: AllocGlobal + Files>(rt: &T, name: &str) -> Option<(usize, usize)>
     }
 }
 
-/// Returns the capacity and the length of what is read of a file of `bytes`.
+/// Like [`room_of`], for a file of `bytes`.
 fn room_of_bytes<T: AllocGlobal + Env + Files>(rt: &T, bytes: &[u8]) -> Option<(usize, usize)> {
     let Ok(path) = file_of(rt, "heapmark_room.hprof", bytes) else {
         return None;
@@ -35,7 +35,7 @@ fn room_of_bytes<T: AllocGlobal + Env + Files>(rt: &T, bytes: &[u8]) -> Option<(
     }
 }
 
-/// Returns the capacity and the length of what is read of the file at `path`.
+/// Like [`room_of`], for the file at `path`.
 fn room_of_path<T: AllocGlobal + Files>(rt: &T, path: Path<'_>) -> Option<(usize, usize)> {
     room_of(rt, path.to_str()?)
 }
@@ -45,7 +45,7 @@ fn zeros(alloc: Global, size: usize) -> Result<Vec<u8>, AllocError> {
     vec![in alloc; 0u8; size]
 }
 
-/// A file gets room for its bytes and one more, so that the last read finds the end.
+/// The memory reserved for a file is its size and one byte more, so that the last read finds the end.
 #[test]
 fn a_file_gets_the_room_of_its_size(rt: HostRuntime) {
     for size in [0, 1, 174, 1_000_000] {
@@ -57,7 +57,8 @@ fn a_file_gets_the_room_of_its_size(rt: HostRuntime) {
     }
 }
 
-/// Only a plain file is opened again, since opening a pipe could wait. So a device's first bytes stay unknown.
+/// Only a plain file is opened again, since opening a pipe could wait. So the first bytes of a device are not looked
+/// at.
 #[test]
 fn only_a_plain_file_is_opened_again(rt: HostRuntime) {
     let refusal = "heapmark: refused 1 BadHeader at 0\n";
@@ -67,7 +68,7 @@ fn only_a_plain_file_is_opened_again(rt: HostRuntime) {
     assert_eq!(rt; told, (1, true, Some(refusal.len() + hint.len())));
 }
 
-/// Makes a file of `size` bytes without content, which takes no room on the disk.
+/// Makes a file with a hole of `size` bytes, which takes no room on the disk.
 fn hollow_file<T: AllocGlobal + Env + Files>(rt: &T, size: u64) -> io::Result<PathBuf> {
     let path = env::temp_dir(rt)?.join(rt.alloc(), "heapmark_hollow.hprof")?;
     fs::create(rt, path.as_path())?.set_len(size)?;

@@ -1,4 +1,4 @@
-//! The line about what to do that follows a refusal at a terminal.
+//! The second line after a refusal at a terminal, which says what to do.
 
 use super::cuts::front;
 use super::dumps::Record::{Heap, Text};
@@ -12,7 +12,7 @@ use std::rt::Files;
 use std::sync::Wait;
 use std::thread::Threads;
 
-/// Returns all that is printed about `refusal` of `file`, with these numbers of `workers` and `buffers`.
+/// Returns the hint that is printed for the `refusal` of `file` if the options are `workers` and `buffers`.
 pub fn advice<T: Files + AllocGlobal>(
     rt: &T,
     file: &str,
@@ -33,7 +33,7 @@ pub fn advice<T: Files + AllocGlobal>(
     err
 }
 
-/// Tests whether just `want` is printed about `refusal` of a file that does not exist.
+/// Tests whether just `want` is printed as the hint for the `refusal` of a file that does not exist.
 fn is_hint<T: Files + AllocGlobal>(
     rt: &T,
     refusal: Refusal,
@@ -45,7 +45,7 @@ fn is_hint<T: Files + AllocGlobal>(
     hint.as_slice() == want.as_bytes()
 }
 
-/// No offset is known to be the end of a file that does not exist.
+/// Here neither the refusal's offset nor the file's length is known, so codes 6 and 8 have no hint.
 #[test]
 fn seven_codes_have_a_hint_wherever_they_are(rt: HostRuntime) {
     for code in 0..=255u8 {
@@ -123,8 +123,8 @@ fn each_hint_says_what_to_do(rt: HostRuntime) {
     }
 }
 
-/// Tests whether a file of `bytes` has this `refusal`, followed at a terminal by a line that ends with `want`, or by no
-/// line if `want` is empty.
+/// Tests whether the program refuses a file of `bytes` by the line `refusal`. At a terminal, a line that ends with
+/// `want` must follow, or no line if `want` is empty.
 fn is_told<T: AllocGlobal + Env + Files + Threads + Wait + Sync>(
     rt: &T,
     bytes: &[u8],
@@ -158,7 +158,7 @@ const NEWER: &str = "heapmark_hints.hprof: \
 HPROF of version 1.0.3; only 1.0.2 is read, as `jcmd PID GC.heap_dump FILE` writes it
 ";
 
-/// The first bytes are taken from the descriptions of the formats.
+/// The first bytes of compressed files are taken from the descriptions of their formats.
 #[test]
 fn a_file_is_told_by_its_first_bytes(rt: HostRuntime) {
     let gzipped = "heapmark_hints.hprof: compressed: gunzip it first\n";
@@ -193,8 +193,8 @@ fn a_file_is_told_by_its_first_bytes(rt: HostRuntime) {
     }
 }
 
-/// Tests whether the first `length` bytes of the worked dump have this `refusal`, followed at a terminal by the line
-/// that the file ends too early.
+/// Tests whether the program refuses the first `length` bytes of the dump of two objects by the line `refusal`, and
+/// says at a terminal that the file ends too early.
 fn cut_is_told<T: AllocGlobal + Env + Files + Threads + Wait + Sync>(
     rt: &T,
     length: usize,
@@ -220,8 +220,7 @@ fn a_cut_file_is_told(rt: HostRuntime) {
     }
 }
 
-/// Tests whether the dump of `records` has this `refusal`, followed at a terminal by a line that ends with `want`, or
-/// by no line if `want` is empty.
+/// Like [`is_told`], for a file with the dump of `records`.
 fn dump_is_told<T: AllocGlobal + Env + Files + Threads + Wait + Sync>(
     rt: &T,
     records: &[Record],
@@ -234,8 +233,8 @@ fn dump_is_told<T: AllocGlobal + Env + Files + Threads + Wait + Sync>(
     }
 }
 
-/// Records, their refusal, and the end of the line that follows it. The first two end with a cut root; the third has
-/// such a root before its last record; the fourth has two heap dumps.
+/// Records, their refusal, and the end of the line that follows it. The first two dumps end with a cut root; in the
+/// third, another record follows the cut root; the fourth has two heap dumps.
 static FAULTS: [(&[Record], &str, &str); 4] = [
     (
         &[Heap(&[Raw(&[0xff, 0])])],
@@ -269,7 +268,7 @@ fn a_fault_before_the_end_is_told_apart(rt: HostRuntime) {
     }
 }
 
-/// A name with control characters, and one beyond ASCII.
+/// A name with four characters that are not printable ASCII; three of them are control characters.
 #[test]
 fn a_name_is_shown_without_control_characters(rt: HostRuntime) {
     let name = "/nowhere/\x1b[31m\u{9b}\u{e4}\n";

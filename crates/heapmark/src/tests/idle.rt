@@ -1,5 +1,5 @@
-//! Workers that stay until all are idle: one that finds nothing at first gets work as soon as there is some, and the
-//! report is the same in each run.
+//! Workers that stay until all are idle: a worker that finds no work at first gets some as soon as another has shared
+//! it, and the report is the same in each run.
 
 use super::dumps::Sample::{Roots, WideArray};
 use super::dumps::{EIGHT_ROOTS_REPORT, SEVEN_ROOTS_REPORT, Sample, WIDE_ARRAY_REPORT, wide_array};
@@ -12,21 +12,23 @@ use std::thread;
 use std::thread::Threads;
 use std::time::{Clock, Duration};
 
-/// How often two workers run on the array. A worker stays for some 0.4 s, so on a busy machine one may leave too soon.
+/// The number of runs with two workers on the array. A worker stays for some 0.4 s, so on a busy machine one may leave
+/// too soon.
 const RUNS: u32 = 10;
 
-/// How often the worker that has made work tests whether the other has come, 1 ms apart.
+/// How often the worker that has shared work tests whether the other has come, 1 ms apart.
 const TURNS: u32 = 500;
 
 /// The number of runs on each dump.
 const RUNS_OF_MANY: u32 = 200;
 
-/// Holds the first worker, which takes the root, until the second has found nothing to do. Holds the first again after
-/// it has shared what the root refers to, until the second has come.
+/// A gate. It holds the worker that takes the root, for 5 ms, so that the other worker finds nothing to do. Then the
+/// worker shares what the root refers to. At its next scan the gate holds it until the other has come, for half a
+/// second at most.
 #[derive(Drop)]
 struct Late<C: Clock> {
     clock: C,
-    /// A bit for each of the two workers that came.
+    /// A bit for each of the two workers, set once it has come.
     come: AtomicU64,
 }
 
@@ -108,7 +110,7 @@ fn a_worker_stays_until_another_has_made_work(rt: HostRuntime) {
     );
 }
 
-/// A dump, workers, objects in a buffer, buffers, and the report: with the least buffers some workers get no pair.
+/// A dump, workers, objects in a buffer, buffers, and the report. With the least buffers some workers get no pair.
 static ROWS: [(Sample, u32, u32, u32, &str); 5] = [
     (WideArray, 64, 2, 1024, WIDE_ARRAY_REPORT),
     (WideArray, 64, 256, 1024, WIDE_ARRAY_REPORT),
@@ -117,7 +119,7 @@ static ROWS: [(Sample, u32, u32, u32, &str); 5] = [
     (Roots(7), 1, 2, 4, SEVEN_ROOTS_REPORT),
 ];
 
-/// Tests whether each run on `bytes` writes `report`.
+/// Tests whether each of `RUNS_OF_MANY` runs on `bytes` writes `report`.
 fn runs_are_the_same<T: Threads + Wait + Sync>(
     rt: &T,
     alloc: Global,
@@ -133,7 +135,7 @@ fn runs_are_the_same<T: Threads + Wait + Sync>(
     true
 }
 
-/// Tests whether each run on `row` writes its report.
+/// Tests whether each of `RUNS_OF_MANY` runs on `row` writes its report.
 fn row_is_the_same<T: Threads + Wait + Sync>(
     rt: &T,
     alloc: Global,

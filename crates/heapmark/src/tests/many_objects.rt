@@ -1,6 +1,6 @@
-//! Trees of many objects: runs with 1 and 4 workers count each of them, and share the work on them.
+//! Trees of many objects: runs with 1 and 4 workers count each object, and 4 workers share the work on them.
 //!
-//! `rt try --test` takes some minutes for it: `--seconds 300` lets it end.
+//! `rt try --test` takes some minutes for this file: `--seconds 300` lets it end.
 
 use super::dumps::{Bytes, TWO_OBJECTS};
 use super::{is_answered, run_with, usual};
@@ -10,7 +10,7 @@ use std::alloc::{AllocError, Global};
 use std::sync::Wait;
 use std::thread::{Threads, available_parallelism};
 
-/// The nodes of a tree of 20 levels: with their class 2^20 objects.
+/// The number of nodes of a tree of 20 levels. With their class there are 2^20 objects.
 const MANY: u32 = 1_048_575;
 
 /// The fewest objects on which threads share the work.
@@ -24,7 +24,7 @@ const REPORT: &str = "   1048575         8388600  A
          0               0  (unresolved)
 ";
 
-/// Returns the identifier of the node `number` of a tree of `nodes` nodes, or 0 if it has none of this number.
+/// Returns the identifier of the node `number` of a tree of `nodes` nodes, or 0 if the tree has no node of this number.
 fn id_of(number: u32, nodes: u32) -> u32 {
     if number <= nodes {
         number.wrapping_mul(8).wrapping_add(4096)
@@ -33,7 +33,8 @@ fn id_of(number: u32, nodes: u32) -> u32 {
     }
 }
 
-/// Puts the node `number`, whose two fields refer to the nodes 2 * `number` and 2 * `number` + 1.
+/// Puts the node `number` into `heap`. Its two fields refer to the nodes 2 * `number` and 2 * `number` + 1, or are null
+/// if the tree has no such nodes.
 fn put_node(heap: &mut Bytes, number: u32, nodes: u32) -> Result<(), AllocError> {
     let left = number.wrapping_mul(2);
     heap.raw(&[0x21])?;
@@ -43,7 +44,7 @@ fn put_node(heap: &mut Bytes, number: u32, nodes: u32) -> Result<(), AllocError>
     heap.number(id_of(left.wrapping_add(1), nodes))
 }
 
-/// Returns the body of a heap dump: the class, the nodes of a tree, and its first node as the one root.
+/// Returns the body of a heap dump: the class, the nodes of a tree, and a root, which is the first node.
 fn nodes_of(alloc: Global, nodes: u32) -> Result<Bytes, AllocError> {
     let mut heap = Bytes::new(alloc, 4);
     heap.sub(super::dumps::Sub::Class(0x100, 0, &[2, 2]))?;
@@ -86,7 +87,7 @@ fn a_million_objects_are_counted(rt: HostRuntime) {
     assert!(rt; tree_is_reported(&rt, rt.alloc()));
 }
 
-/// Returns how many allocations a run with these `options` on `bytes` makes, if it is not refused.
+/// Returns how many allocations a run with `options` on `bytes` makes, or `None` if the run is refused.
 fn requests_on<T: Threads + Wait + Sync>(
     rt: &T,
     alloc: Global,
@@ -102,7 +103,8 @@ fn requests_on<T: Threads + Wait + Sync>(
     }
 }
 
-/// Returns how many more allocations a run on the tree of `SHARED` nodes makes than one on a tree of a single node.
+/// Returns how many more allocations a run on a tree of `SHARED` nodes makes than a run on a tree of a single node, or
+/// `None` if it makes fewer or a run is refused.
 fn requests_of_size<T: Threads + Wait + Sync>(
     rt: &T,
     alloc: Global,
@@ -117,7 +119,8 @@ fn requests_of_size<T: Threads + Wait + Sync>(
     }
 }
 
-/// Each part of the work has lists of its own. A single processor shares nothing.
+/// Work that is shared makes more allocations, since each part of it has lists of its own. With a single processor
+/// nothing is shared.
 #[test]
 fn workers_share_the_work_before_the_marking(rt: HostRuntime) {
     let alone = requests_of_size(&rt, rt.alloc(), &usual(1)).unwrap_or(None);

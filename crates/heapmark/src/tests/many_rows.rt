@@ -1,6 +1,6 @@
 //! A report of 100,000 rows, each of a class of its own.
 //!
-//! `rt try --test` takes some minutes for it: `--seconds 300` lets it end.
+//! `rt try --test` takes some minutes for this file: `--seconds 300` lets it end.
 
 use super::dumps::Bytes;
 use super::{is_answered, usual};
@@ -10,7 +10,7 @@ use std::thread::Threads;
 
 const CLASSES: u32 = 100_000;
 
-/// Puts a class without a name, without fields, an instance of it, and a root that names the instance.
+/// Puts into `heap` a class without name and fields, an instance of the class, and a root that names the instance.
 fn put_class(heap: &mut Bytes, number: u32) -> Result<(), AllocError> {
     let [_, a, b, c] = number.to_be_bytes();
     heap.raw(&[0x20, 1, a, b, c])?;
@@ -31,7 +31,8 @@ fn classes(alloc: Global) -> Result<Bytes, AllocError> {
     Ok(dump)
 }
 
-/// Returns its report: rows with the same numbers of objects and bytes come in the order of their names.
+/// Returns the report of the dump of all the classes: rows with equal bytes and objects come in the order of their
+/// names.
 fn report(alloc: Global) -> Result<String, AllocError> {
     let mut report = String::new(alloc);
     write!(report, "{CLASSES:>10}  {:>14}  <class>\n", 0)?;

@@ -1,4 +1,4 @@
-//! Runs at the limits of a pool: its last tags and its least buffers.
+//! Runs at the limits of a pool: with its last tags, or with the least buffers.
 
 use super::dumps::Sample::{LongArray, Nothing, Roots, TwoObjects, WideArray};
 use super::dumps::{
@@ -14,12 +14,12 @@ use std::thread::Threads;
 /// The last tag of a stack's head. It is also the number of exchanges that a head can make from tag 0 on.
 const LAST_TAG: u64 = 281_474_976_710_655;
 
-/// A dump; workers, objects in a buffer, buffers, and the number of exchanges of a head that the first tag leaves; and
-/// the result of a run: a report, or the code of a refusal.
+/// A dump; workers, objects in a buffer, buffers, and how many exchanges of a head are possible from the first tag on;
+/// and the result of a run: a report, or the code of a refusal.
 type Row = (Sample, (u32, u32, u32, u64), Result<&'static str, u8>);
 
 static ROWS: [Row; 13] = [
-    // the first exchange is one too many
+    // the first exchange needs a tag after the last one
     (TwoObjects, (4, 256, 1024, 0), Err(16)),
     // without objects the leader and each worker pop two buffers and push them again: four exchanges each
     (Nothing, (1, 256, 1024, 8), Ok(NOTHING_REPORT)),
@@ -28,7 +28,7 @@ static ROWS: [Row; 13] = [
     (Nothing, (2, 256, 1024, 11), Err(16)),
     (Nothing, (64, 256, 130, 260), Ok(NOTHING_REPORT)),
     (Nothing, (64, 256, 130, 259), Err(16)),
-    // four buffers of two have no room for 64 successors
+    // four buffers of two objects have no room for 64 successors
     (WideArray, (1, 2, 4, LAST_TAG), Ok(WIDE_ARRAY_REPORT)),
     (LongArray, (1, 256, 1024, LAST_TAG), Ok(LONG_ARRAY_REPORT)),
     (LongArray, (2, 256, 1024, LAST_TAG), Ok(LONG_ARRAY_REPORT)),

@@ -1,4 +1,4 @@
-//! Allocations that fail: each allocation of a run fails in turn, once as the only one and once with all later ones.
+//! Allocations that fail: each allocation of a run fails in turn, once as the only one, and once with all later ones.
 
 use super::dumps::Sample::{Records, TwoObjects, WideArray};
 use super::dumps::Sub::{Class, Objects, Root, Values};
@@ -11,7 +11,7 @@ use std::alloc::Global;
 use std::sync::Wait;
 use std::thread::Threads;
 
-/// Both kinds of array.
+/// A heap with an array of references and an array of numbers.
 const ARRAYS: Record = Record::Heap(&[
     Class(0x100, 0, &[]),
     Objects(0x201, 0x100, &[0, 0x201, 0x999]),
@@ -20,7 +20,7 @@ const ARRAYS: Record = Record::Heap(&[
     Root(0x202),
 ]);
 
-/// Both kinds of array, and the name of their class.
+/// The heap of `ARRAYS`, and a name for its class.
 const NAMED_ARRAYS: &[Record] = &[
     Record::Text(1, b"[Ljava/lang/Object;"),
     Record::Load(0x100, 1),
@@ -53,7 +53,7 @@ const SUPERCLASS_SKIPPED_REPORT: &str = "         2              16  T
          0               0  (unresolved)
 ";
 
-/// A dump; workers, objects in a buffer, and buffers; the list of fields to be skipped, if there is one; the report.
+/// A dump; workers, objects in a buffer, and buffers; the list of fields to be skipped, or `None`; the report.
 type Row = (Sample, (u32, u32, u32), Option<&'static str>, &'static str);
 
 /// Rows with few buffers.
@@ -67,12 +67,12 @@ static FEW: [Row; 6] = [
         NAMED_ARRAYS_REPORT,
     ),
     (WideArray, (2, 2, 6), None, WIDE_ARRAY_REPORT),
-    // the worker's own list grows, since four buffers of two do not hold all
+    // the worker's own list grows, since four buffers of two objects do not hold all 64
     (WideArray, (1, 2, 4), None, WIDE_ARRAY_REPORT),
     (WideArray, (2, 64, 8), None, WIDE_ARRAY_REPORT),
 ];
 
-/// Rows with the buffers of the program.
+/// Rows with the program's default buffers.
 static OF_THE_PROGRAM: [Row; 3] = [
     (TwoObjects, (2, 256, 1024), None, TWO_OBJECTS_REPORT),
     (
@@ -84,7 +84,7 @@ static OF_THE_PROGRAM: [Row; 3] = [
     (WideArray, (2, 256, 1024), None, WIDE_ARRAY_REPORT),
 ];
 
-/// Rows with a list, so that the names of classes and fields are looked up.
+/// A row with a list of `--skip`, so that the names of classes and fields are looked up.
 static WITH_A_LIST: [Row; 1] = [(
     Records(4, REFERENCES),
     (2, 2, 6),
@@ -92,8 +92,8 @@ static WITH_A_LIST: [Row; 1] = [(
     SUPERCLASS_SKIPPED_REPORT,
 )];
 
-/// Returns the result of a run whose allocation `request` fails, only that one if `alone` is true, else with all later
-/// ones; how much of the report it has written; and how many allocations failed.
+/// Runs on `dump` while the allocation `request` (counted from 0) fails, and all later ones too unless `alone`. Returns
+/// the result, how many bytes of `report` were written (`None` if anything else was), and how many allocations failed.
 fn run_refusing<T: Threads + Wait + Sync>(
     rt: &T,
     alloc: Global,
@@ -118,8 +118,9 @@ fn run_refusing<T: Threads + Wait + Sync>(
     )
 }
 
-/// Fails each allocation in turn until none fails in a run. Returns the number of the first whose run has a wrong
-/// result. A run that makes fewer than nine allocations, or 4,096 and more, counts as wrong, too.
+/// Fails each allocation in turn, in a run of its own, until none fails in a run. Returns the number of the first
+/// allocation whose run has a wrong result, or `None` if there is none. Fewer than nine allocations in all, or 4,096
+/// and more, count as a wrong result, too.
 fn first_other<T: Threads + Wait + Sync>(
     rt: &T,
     alloc: Global,
@@ -133,7 +134,7 @@ fn first_other<T: Threads + Wait + Sync>(
         let (outcome, written, refusals) = run_refusing(
             rt, alloc, dump, options, skip, report, request, alone,
         );
-        // if only this allocation failed, a list may succeed by allocating less
+        // if only this allocation failed, a list may have tried again with less, and the run may succeed
         let want = if refusals == 0 || alone && outcome.is_ok() {
             (Ok(()), Some(report.len()))
         } else {
@@ -160,7 +161,8 @@ fn skip_of(
     }
 }
 
-/// Tests whether each allocation of `row` on `dump` is reported if it fails, as the only one and with all later ones.
+/// Tests whether runs of `row` on `dump` are right while each allocation fails in turn, as the only one and with all
+/// later ones ([`first_other`]).
 fn requests_are_told<T: Threads + Wait + Sync>(
     rt: &T,
     alloc: Global,
@@ -180,7 +182,7 @@ fn requests_are_told<T: Threads + Wait + Sync>(
     }
 }
 
-/// Tests whether each allocation of `row` is reported if it fails.
+/// Like [`requests_are_told`], for the dump of `row`.
 fn row_is_told<T: Threads + Wait + Sync>(rt: &T, alloc: Global, row: &Row) -> bool {
     match row.0.dump(alloc) {
         Ok(dump) => requests_are_told(rt, alloc, dump.bytes.as_slice(), row),

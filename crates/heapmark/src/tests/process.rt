@@ -1,4 +1,4 @@
-//! The process: its exit status for the words of a command line, text or not.
+//! The process: its exit status and what it prints for the words of a command line, which need not be text.
 
 use super::dumps::{Sample, TWO_OBJECTS_REPORT};
 use super::program::{Asked, answered_on};
@@ -9,7 +9,7 @@ use std::rt::Files;
 use std::sync::Wait;
 use std::thread::Threads;
 
-/// The words of a command line, text or not.
+/// The words of a command line. They need not be text.
 #[derive(Drop)]
 struct Words<'a> {
     words: &'a [&'a [u8]],
@@ -45,7 +45,7 @@ For more information, try '--help'.
 /// The refusal of a file that does not exist.
 const NOT_READ: &str = "heapmark: refused 19 ReadFault\n";
 
-/// That refusal, and the line that follows it at a terminal.
+/// The refusal of a file that does not exist, and the line that follows it at a terminal.
 const NOT_THERE: &str = "heapmark: refused 19 ReadFault
 heapmark: /nowhere/heapmark.hprof: No such file or directory (os error 2)
 ";
@@ -143,7 +143,7 @@ pub fn processed<T: AllocGlobal + Files + Threads + Wait + Sync>(
     (status, is_reported, err.as_slice() == told.as_bytes())
 }
 
-/// A command line without the program's name, its status, and what is printed on the output.
+/// A command line without the program's name, its status, and all that is printed on the output.
 static LINES: [(&str, u8, &str); 7] = [
     ("FILE", 0, TWO_OBJECTS_REPORT),
     ("FILE --workers 0", 2, ""),
@@ -158,7 +158,7 @@ static LINES: [(&str, u8, &str); 7] = [
     ),
 ];
 
-/// A file is reported, at a terminal or not, and the words after FILE are read, too.
+/// A file is reported, at a terminal or not, and the words after FILE count, too.
 #[test]
 fn a_line_is_answered_to_its_end(rt: HostRuntime) {
     // The blanks, also the last one, are part of the name.

@@ -16,7 +16,7 @@ use std::sync::Wait;
 use std::thread::Threads;
 use std::{env, fs, io};
 
-/// A writer each of whose calls fails.
+/// A writer whose every call fails.
 #[derive(Drop)]
 pub struct Broken;
 
@@ -30,7 +30,7 @@ impl Write for Broken {
     }
 }
 
-/// A root, and after it a tag that no table has.
+/// A root, and after it a byte that is no tag of a sub-record.
 const BAD_TAG: &[Record] = &[Heap(&[Raw(&[0xff, 0, 0, 0, 0, 0x7a])])];
 
 /// Makes a file of `bytes` in the temporary folder.
@@ -44,7 +44,7 @@ pub fn file_of<T: AllocGlobal + Env + Files>(
     Ok(path)
 }
 
-/// Returns the program's name and the words of `line`, with `file` for the word FILE.
+/// Returns `heapmark` and the words of `line`, with `file` in place of the word FILE.
 fn words_of<'a>(alloc: Global, line: &'a str, file: &'a str) -> Result<Vec<&'a str>, AllocError> {
     let mut words = Vec::new(alloc);
     words.push("heapmark")?;
@@ -54,25 +54,26 @@ fn words_of<'a>(alloc: Global, line: &'a str, file: &'a str) -> Result<Vec<&'a s
     Ok(words)
 }
 
-/// Where the program prints, and what is tested of that.
+/// Where the program or the process prints, and what is tested of its output and standard error.
 #[derive(Clone, Copy)]
 pub enum Asked<'a> {
     /// Tests whether the output is the first text, and standard error the second.
     Both(&'a str, &'a str),
-    /// At a terminal: tests whether the output is empty, and standard error begins with the first text and ends with
-    /// the second.
+    /// At a terminal: tests whether the output is empty, and whether standard error begins with the first text and ends
+    /// with the second.
     People(&'a str, &'a str),
-    /// The output fails: tests whether standard error is this.
+    /// The output fails: tests whether standard error is this text.
     Unwritten(&'a str),
     /// Standard error fails: tests nothing but the status.
     Unheard,
-    /// The process, at a terminal or not: tests whether the output is this.
+    /// The process, at a terminal or not: tests whether the output is this text.
     Process(bool, &'a str),
     /// The process, at a terminal or not: tests whether the output is the first text, and standard error the second.
     Whole(bool, &'a str, &'a str),
 }
 
-/// Returns the status of the program for `words`, and whether output and standard error are as `asked` says.
+/// Returns the status of the program for `words`, and whether output and standard error are as `asked` says. What
+/// `asked` does not test counts as right.
 fn told<T: Files + AllocGlobal + Threads + Wait + Sync>(
     rt: &T,
     words: &[&str],
@@ -103,7 +104,7 @@ fn told<T: Files + AllocGlobal + Threads + Wait + Sync>(
     }
 }
 
-/// Like [`told`], for the words of `line`, with the file at `path` for FILE.
+/// Like [`told`], for the words of `line`, with the file at `path` in place of FILE.
 fn told_at<T: Files + AllocGlobal + Threads + Wait + Sync>(
     rt: &T,
     path: Path<'_>,
@@ -117,7 +118,7 @@ fn told_at<T: Files + AllocGlobal + Threads + Wait + Sync>(
     }
 }
 
-/// Like [`told`], for the words of `line`, with a file of `bytes` for FILE.
+/// Like [`told`], for the words of `line`, with a file of `bytes` in place of FILE.
 pub fn told_on<T: AllocGlobal + Env + Files + Threads + Wait + Sync>(
     rt: &T,
     name: &str,
@@ -135,7 +136,7 @@ pub fn told_on<T: AllocGlobal + Env + Files + Threads + Wait + Sync>(
     }
 }
 
-/// Like [`told`], for the words of `line`, with a file of `sample` for FILE.
+/// Like [`told`], for the words of `line`, with a file of `sample` in place of FILE.
 pub fn answered_on<T: AllocGlobal + Env + Files + Threads + Wait + Sync>(
     rt: &T,
     name: &str,
@@ -160,8 +161,8 @@ fn printed<T: Files + AllocGlobal + Threads + Wait + Sync>(
     (status, out.into_inner(), err)
 }
 
-/// Returns the status of the program for `words`, and whether it prints just `report` and just `refusal` on standard
-/// error.
+/// Returns the status of the program for `words`, and whether it prints just `report` on the output and just `refusal`
+/// on standard error.
 pub fn answered<T: Files + AllocGlobal + Threads + Wait + Sync>(
     rt: &T,
     words: &[&str],
@@ -174,7 +175,7 @@ pub fn answered<T: Files + AllocGlobal + Threads + Wait + Sync>(
 }
 
 /// Returns the status of the program for `words` at a terminal, whether it prints nothing on the output, and the length
-/// of what it prints on standard error, if that begins with `begins` and ends with `ends`.
+/// of what it prints on standard error: `None` unless that begins with `begins` and ends with `ends`.
 pub fn answered_to_people<T: Files + AllocGlobal + Threads + Wait + Sync>(
     rt: &T,
     words: &[&str],
@@ -240,7 +241,7 @@ fn a_file_that_is_not_there_is_refused(rt: HostRuntime) {
     is_not_opened(&rt, "/", "heapmark: /: is a directory\n");
 }
 
-/// Checks that `file` is refused in one line, and that a second one says why at a terminal.
+/// Checks that `file` is refused in one line, and that at a terminal a second line says why.
 fn is_not_opened<T: Abort + Files + AllocGlobal + Threads + Wait + Sync>(
     rt: &T,
     file: &str,

@@ -1,4 +1,4 @@
-//! The walk over the records of a file for a hint: it takes few calls of the file, however many records there are.
+//! The walk over the records of a file for a hint: it makes few reads and seeks, even if there are many records.
 
 use crate::hint::records::record_end;
 use std::alloc::{AllocError, Global};
@@ -30,7 +30,7 @@ impl Seek for Observed<'_> {
 /// The number of short records in the file, 9 bytes each.
 const RECORDS: u64 = 50_000;
 
-/// Returns a header, the short records, and one with a body of 300 bytes.
+/// Returns a header, the short records, and a last record with a body of 300 bytes.
 fn many_records(alloc: Global) -> Result<Vec<u8>, AllocError> {
     let mut bytes = vec![in alloc; 0u8; 31]?;
     for _ in 0..RECORDS {
@@ -41,7 +41,8 @@ fn many_records(alloc: Global) -> Result<Vec<u8>, AllocError> {
     Ok(bytes)
 }
 
-/// Returns the end of the record in which the offset `place` of `bytes` lies, and how many calls of the file it took.
+/// Returns the end of the record in which the offset `place` of `bytes` lies ([`record_end`]), and how many reads and
+/// seeks that took.
 fn end_at(alloc: Global, bytes: &[u8], place: u64) -> (Option<u64>, u64) {
     let calls = AtomicU64::new(0);
     let file = Observed {
@@ -52,7 +53,8 @@ fn end_at(alloc: Global, bytes: &[u8], place: u64) -> (Option<u64>, u64) {
     (end, calls.load(Ordering::SeqCst))
 }
 
-/// Tests whether the record around each offset of `cases` has the end that its case names, found in at most 200 calls.
+/// Tests whether the record around each offset of `cases` has the end that its case names, found by at most 200 reads
+/// and seeks.
 fn ends_are_found(alloc: Global, bytes: &[u8], cases: &[(u64, Option<u64>)]) -> bool {
     for (place, want) in cases {
         let (end, calls) = end_at(alloc, bytes, *place);

@@ -4,7 +4,7 @@ use crate::Refusal;
 use crate::command::print_refusal;
 use std::alloc::Global;
 
-/// The code and the name of each refusal.
+/// The code and the name of each refusal, also of 17, which is withdrawn.
 static NAMES: [(u8, &str); 21] = [
     (1, "BadHeader"),
     (2, "BadIdSize"),
@@ -43,7 +43,7 @@ fn told(alloc: Global, refusal: &Refusal, want: &str) -> (u8, bool) {
     (status, err.as_slice() == want.as_bytes())
 }
 
-/// Tests whether a refusal of `code`, without a place, is printed by its code and `name`, with status 1.
+/// Tests whether a refusal of `code`, without a place, is printed with its code and `name`, and has status 1.
 fn is_printed(alloc: Global, code: u8, name: &str) -> bool {
     let refusal = Refusal { code, offset: None };
     match format!(in alloc; "heapmark: refused {code} {name}\n") {

@@ -37,7 +37,7 @@ pub fn report_of(alloc: Global, lines: &[Line]) -> Result<String, AllocError> {
 /// How a run reads a dump.
 #[derive(Clone, Copy)]
 pub enum Reading {
-    /// A read fills the whole buffer; with 1, 2 and 64 workers.
+    /// A read fills its buffer, as far as the dump goes; with 1, 2 and 64 workers.
     Whole,
     /// A read returns one byte; with two workers and the least buffers.
     ByteByByte,
@@ -93,7 +93,7 @@ fn is_reported<T: Threads + Wait + Sync>(
     }
 }
 
-/// Tests whether the runs on the dump of `row` find its fault.
+/// Tests whether the runs on the dump of `row` are refused as `row` says.
 fn is_refused<T: Threads + Wait + Sync>(
     rt: &T,
     alloc: Global,
@@ -129,7 +129,7 @@ static SAMPLES: [(Sample, &str); 3] = [
     (Sample::WideArray, WIDE_ARRAY_REPORT),
 ];
 
-/// Checks the dump of each row.
+/// Checks that the runs on the dump of each of `rows` write its report.
 fn all_are_reported<T: Abort + Threads + Wait + Sync>(
     rt: &T,
     alloc: Global,
@@ -141,7 +141,7 @@ fn all_are_reported<T: Abort + Threads + Wait + Sync>(
     }
 }
 
-/// Checks each dump that has a report.
+/// Checks that the runs on each dump that has a report write it.
 pub fn reports_are_written<T: Abort + Threads + Wait + Sync>(
     rt: &T,
     alloc: Global,
@@ -157,7 +157,7 @@ pub fn reports_are_written<T: Abort + Threads + Wait + Sync>(
     }
 }
 
-/// Checks each dump with a fault.
+/// Checks that the runs on each dump with a fault are refused as its row says.
 pub fn faults_are_found<T: Abort + Threads + Wait + Sync>(rt: &T, alloc: Global, reading: Reading) {
     for row in &REFUSED {
         assert!(rt; is_refused(rt, alloc, reading, row), "{}", row.0);
@@ -174,14 +174,14 @@ fn faults_are_refused(rt: HostRuntime) {
     faults_are_found(&rt, rt.alloc(), Reading::Whole);
 }
 
-/// Returns a header, and the beginning of a string of 2 ^ 32 - 1 bytes.
+/// Returns a header, and the head of a string record with a body of 2 ^ 32 - 1 bytes, which is missing.
 fn long_string(alloc: Global) -> Result<Bytes, AllocError> {
     let mut dump = Bytes::header(alloc, 4)?;
     dump.raw(&[0x01, 0, 0, 0, 0, 0xff, 0xff, 0xff, 0xff])?;
     Ok(dump)
 }
 
-/// Tests whether the runs on the file of [`long_string`] are refused.
+/// Tests whether the runs on the file of [`long_string`] are refused as `Truncated`.
 fn long_string_is_refused<T: Threads + Wait + Sync>(rt: &T, alloc: Global) -> bool {
     let (reading, want) = (Reading::Whole, refused(3, Some(31)));
     match long_string(alloc) {
@@ -190,7 +190,7 @@ fn long_string_is_refused<T: Threads + Wait + Sync>(rt: &T, alloc: Global) -> bo
     }
 }
 
-/// A file that ends where a string of 2 ^ 32 - 1 bytes begins.
+/// A file that ends after the head of a string record. By its head, the record has a body of 2 ^ 32 - 1 bytes.
 #[test]
 fn a_long_string_is_refused(rt: HostRuntime) {
     assert!(rt; long_string_is_refused(&rt, rt.alloc()));

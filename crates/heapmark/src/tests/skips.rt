@@ -1,4 +1,4 @@
-//! Fields that are not followed, with 1, 2 and 64 workers, and texts that are no list of fields.
+//! Runs with 1, 2 and 64 workers that do not follow some fields, and texts that are no list of fields.
 
 mod names;
 mod unmet;
@@ -26,8 +26,8 @@ pub type Skipped = (
     &'static [Line],
 );
 
-/// Three instances of a class `T`. It and its superclass declare a field `referent` each. The two fields of the first
-/// instance name the other instances; the superclass's field of the third names no object.
+/// Three instances of a class `T`. The class and its superclass declare a field `referent` each. The two fields of the
+/// first instance name the other instances. In the third instance, the superclass's field names no object of the dump.
 pub const REFERENCES: &[Record] = &[
     Text(1, b"java/lang/ref/Reference"),
     Text(2, b"referent"),
@@ -218,7 +218,7 @@ fn the_words_list_the_fields(rt: HostRuntime) {
     assert!(rt; is_reported(&rt, "--skip=T.other FILE", ALL));
 }
 
-/// Checks that the program refuses `words` by the line `refusal` on standard error, and writes no report.
+/// Checks that the program refuses `words` with just the line `refusal` on standard error, and writes no report.
 fn is_refused<T: Abort + Files + AllocGlobal + Threads + Wait + Sync>(
     rt: &T,
     words: &[&str],

@@ -1,4 +1,4 @@
-//! Readers and writers that fail, each at every call in turn.
+//! Readers and writers that fail: each call fails in turn, in a run of its own.
 
 use super::dumps::Sample::{Nothing, TwoObjects};
 use super::dumps::{NOTHING_REPORT, Sample, TWO_OBJECTS_REPORT, two_objects};
@@ -10,7 +10,7 @@ use std::io::{ErrorKind, Read, Write};
 use std::sync::Wait;
 use std::thread::Threads;
 
-/// A reader that returns one byte a call, and fails at one call only.
+/// A reader that returns one byte a call, and fails with `kind` only at the call after `calls_left` calls.
 #[derive(Drop)]
 pub struct Drip<'a> {
     bytes: &'a [u8],
@@ -19,7 +19,7 @@ pub struct Drip<'a> {
 }
 
 impl<'a> Drip<'a> {
-    /// Creates a reader of `bytes` that fails only after more calls than a test makes.
+    /// Creates a reader of `bytes` that does not fail: it would only after more calls than a test makes.
     pub fn new(bytes: &'a [u8]) -> Self {
         Drip {
             bytes,
@@ -52,7 +52,8 @@ enum Failure {
     TakesNothing,
 }
 
-/// A writer that takes `step` bytes a call, and fails at one write only, or at the first flush.
+/// A writer that takes `step` bytes a call. It fails only at the write after `writes_left` writes, and at the first
+/// flush if `flushes` is false.
 #[derive(Drop)]
 struct Tray {
     taken: Vec<u8>,
@@ -63,7 +64,7 @@ struct Tray {
 }
 
 impl Tray {
-    /// Creates a writer that fails after `writes_left` writes.
+    /// Creates a writer whose write after `writes_left` writes fails.
     fn new(alloc: Global, step: usize, writes_left: usize, failure: Failure) -> Self {
         Tray {
             taken: Vec::new(alloc),
@@ -74,7 +75,7 @@ impl Tray {
         }
     }
 
-    /// Creates a writer that takes all, and fails at the first flush.
+    /// Creates a writer that takes all that a test writes, and fails at the first flush.
     fn that_does_not_flush(alloc: Global) -> Self {
         let mut tray = Tray::new(alloc, 1000, 1000, Failure::TakesNothing);
         tray.flushes = false;
@@ -108,7 +109,7 @@ impl Write for Tray {
     }
 }
 
-/// Returns the result of a run on the two objects whose reader fails after `calls_left` calls, with `kind`.
+/// Returns the result of a run on the dump of two objects whose reader fails after `calls_left` calls, with `kind`.
 fn read_failing<T: Threads + Wait + Sync>(
     rt: &T,
     alloc: Global,
@@ -217,7 +218,7 @@ fn a_fault_of_the_flush_is_told(rt: HostRuntime) {
     );
 }
 
-/// The report has no rows: the first of its last three lines is cut after the count.
+/// The report of `Nothing` has no rows. The first of its three lines is cut after the count.
 #[test]
 fn a_write_fault_leaves_a_beginning_of_the_last_lines(rt: HostRuntime) {
     for options in [least(2), usual(1), usual(2), usual(64)] {

@@ -51,12 +51,12 @@ Example:
   $ heapmark --workers 8 /tmp/app.hprof
 ";
 
-/// The version, and the logic that it is proved with.
+/// The version, and the logic with which it is proved.
 pub const VERSION: &str = "heapmark 0.1.0
 rattle logic dac8208d650f15bf
 ";
 
-/// The message about no words, or about a line without FILE.
+/// The message about a command line without any word, or with the program's name only.
 pub const NO_FILE: &str = "error: the following required arguments were not provided:
   <FILE>
 
@@ -65,7 +65,7 @@ Usage: heapmark <FILE>
 For more information, try '--help'.
 ";
 
-/// The message about a line with an option and without FILE.
+/// The message about a command line with an option but without FILE.
 pub const NO_FILE_BUT_WORKERS: &str = "error: the following required arguments were not provided:
   <FILE>
 
@@ -92,7 +92,7 @@ Usage: heapmark [OPTIONS] <FILE>
 For more information, try '--help'.
 ";
 
-/// The message about an option that does not exist and is like one that does.
+/// The message about an option that does not exist, but whose name is like that of an option that does.
 pub const ALMOST_AN_OPTION: &str = "error: unexpected argument '--worker' found
 
   tip: a similar argument exists: '--workers'
@@ -123,7 +123,7 @@ Usage: heapmark [OPTIONS] <FILE>
 For more information, try '--help'.
 ";
 
-/// The messages about values that are out of their ranges, or no numbers.
+/// The messages about values of options that are out of range or no numbers.
 pub const WORKERS_0: &str = "error: invalid value '0' for '--workers <N>': 0 is not in 1..=64
 
 For more information, try '--help'.

@@ -1,4 +1,4 @@
-//! Runs with several workers: their calls of the gate, and that their number changes no report.
+//! Runs with several workers: which calls of the gate they make, and that the number of workers changes no report.
 
 use super::dumps::{EIGHT_ROOTS_REPORT, roots_alone};
 use super::{Answered, length_of, run_with};
@@ -21,17 +21,18 @@ const MANY_ROOTS: &str = "        60               0  A
 /// How often a worker that waits tests whether the others have come, 1 ms apart.
 const TURNS: u32 = 2_000;
 
-/// Holds each worker at its first scan until every worker has begun one, and notes each call.
+/// A gate that holds each worker at its first scan until every worker has begun one, for two seconds at most. It counts
+/// all calls.
 #[derive(Drop)]
 struct Meeting<C: Clock> {
     clock: C,
     workers: u32,
-    /// A bit for each worker that came.
+    /// A bit for each worker, set once it has come.
     come: AtomicU64,
     /// The number of workers that waited in vain.
     late: AtomicU64,
     calls: AtomicU64,
-    /// A bit for each object.
+    /// A bit for each object, set once the gate was called for it.
     objects: AtomicU64,
     by_others: AtomicU64,
 }
@@ -75,8 +76,8 @@ impl<C: Clock + Sync> Gate for Meeting<C> {
     }
 }
 
-/// Returns the result of a run on `bytes` whose workers meet at the gate; and the number of workers that waited in
-/// vain, the number of calls of the gate, a bit for each object, and the number of calls by the leader.
+/// Returns the result of a run on `bytes` whose workers meet at the gate; and four numbers of the gate: the workers
+/// that waited in vain, all calls, a bit for each object for which it was called, and the calls by the leader.
 fn run_meeting_on<T: Clock + Threads + Wait + Sync>(
     rt: &T,
     alloc: Global,

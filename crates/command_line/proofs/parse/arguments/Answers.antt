@@ -1,4 +1,4 @@
--- What clap says of its matches, read at the definition of the command: each option by its place in the line.
+-- What clap proves of its matches, applied to the definition of the command: each option is named by its place there.
 use Rattle.std.proofs.Common.{[], ap, arith, codes, map, refl, subst, ◌≡◌, ◌≢◌, ◌∙◌}
 use Rattle.clap.specs.Words.{App, HasKind, fault_of, found_of, is_simple, is_simple_and_free, matches_of}
 use Rattle.clap.specs.Walk.{rows_of}

@@ -1,5 +1,5 @@
--- If the words are no valid arguments, the status is 0 only if they request the help or the version. Else nothing is
--- written.
+-- If the words are no valid arguments, the status is 0 only if they request the help or the version. At any other
+-- status nothing is written.
 use Rattle.std.proofs.Common.{arith, inl, inr, rules, subst, ◌≡◌, ◌≢◌, ◌⊎◌}
 use Rattle.clap.specs.Words.{IsAmong, Kinds, kind_of}
 use Rattle.clap.specs.declared.error.kind.ErrorKind.{ErrorKind}

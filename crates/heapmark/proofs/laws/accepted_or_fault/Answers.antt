@@ -1,4 +1,4 @@
--- An accepted text has no fault: a dump has none of its form, and its one list of records is linked.
+-- An accepted text has no fault: a dump has no fault of its form, and its one list of records is linked.
 use Rattle.heapmark.proofs.Faults.{accepted_excludes}
 use Rattle.heapmark.proofs.laws.accepted_or_fault.Goals as goal
 

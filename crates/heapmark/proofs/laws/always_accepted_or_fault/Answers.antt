@@ -1,4 +1,4 @@
--- A text has a fault of its form or spells a dump, whose links have a fault or none: the laws of both crates below.
+-- `hprof_grammar`: a text has a fault of its form or spells a dump. `heap_graph`: a dump is linked or has a fault.
 use Rattle.heapmark.proofs.Faults.{by_form}
 use Rattle.heapmark.proofs.laws.always_accepted_or_fault.Goals as goal
 

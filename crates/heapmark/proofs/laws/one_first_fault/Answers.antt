@@ -1,4 +1,4 @@
--- There is one first fault of the form and one of the links, and no text has both.
+-- A text has at most one first fault of its form and at most one of its links, and no text has both.
 use Rattle.heapmark.proofs.Faults.{fault_determined}
 use Rattle.heapmark.proofs.laws.one_first_fault.Goals as goal
 

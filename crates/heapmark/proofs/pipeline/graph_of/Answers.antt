@@ -1,4 +1,4 @@
--- The codes of refusals: reading and linking report first faults.
+-- Reading and linking refuse with a first fault or out of memory: both have codes that a run may have.
 use Rattle.std.proofs.Common.{rules}
 use Rattle.heapmark.proofs.Codes.{known_of}
 use Rattle.heapmark.proofs.pipeline.graph_of.Goals as goal

@@ -1,4 +1,4 @@
--- A refusal of the answer leaves the writer as it was.
+-- If `answer` returns a refusal, nothing was written.
 use Rattle.std.proofs.Common.{rules}
 use Rattle.std.proofs.lemmas.Result.{err_from_is_err_and}
 use Rattle.heapmark.proofs.pipeline.report_bytes.Goals as goal

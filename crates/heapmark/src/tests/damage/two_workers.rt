@@ -1,7 +1,6 @@
 //! The dump of two objects with each byte changed to each other value, marked by two workers.
 //!
-//! The dumps are shared out among tests, eight places each, so that each ends far within its minute, on a busy machine
-//! too.
+//! Each test changes eight places, so that it ends far within its minute, even on a busy machine.
 
 use super::answers::ANSWERS;
 use super::files_of;
@@ -10,11 +9,12 @@ use std::process::Abort;
 use std::sync::Wait;
 use std::thread::Threads;
 
-/// The number of places of the dump that a test changes.
+/// The number of places of the dump that a test changes, one at a time.
 const PLACES: usize = 8;
 
-/// Returns options with two workers, and with two more buffers than the least, of two objects each. With the least, a
-/// worker may get no pair. That worker is never idle, so the other waits for it in all its turns, some 0.4 s.
+/// Returns options with two workers, and with eight buffers of two objects each. That is two buffers more than the
+/// least: with the least, a worker may get no pair. Such a worker is never idle, so the other worker waits for it in
+/// all its turns, some 0.4 s.
 fn two_workers() -> Options {
     let Ok(options) = Options::new(2, 2, 8, 0) else {
         unreachable!();
@@ -22,7 +22,7 @@ fn two_workers() -> Options {
     options
 }
 
-/// Checks the rows of `PLACES` places from `from` on.
+/// Checks the rows of the `PLACES` places from `from` on.
 fn check_from<T: Abort + AllocGlobal + Threads + Wait + Sync>(rt: &T, from: usize) {
     for row in &ANSWERS {
         if from <= row.0 && row.0 - from < PLACES {

@@ -1,4 +1,4 @@
-//! Dumps that show what a class refers to, and the fields of superclasses, and their reports.
+//! Dumps that show what a class refers to and which fields superclasses add, and the reports of these dumps.
 
 use super::Reported;
 use crate::tests::dumps::Record::{Heap, Load, Text};

@@ -1,4 +1,4 @@
-//! Dumps with a fault, and the code and place of their refusals.
+//! Dumps with a fault, and the code and place of the refusal of each.
 
 use super::Refused;
 use crate::tests::dumps::Record::{Heap, Other, Segment};

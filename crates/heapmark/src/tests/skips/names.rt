@@ -1,5 +1,5 @@
-//! A field is skipped by two names: that of the class that declares it, and its own. If a name has several records, the
-//! first counts.
+//! A field is skipped by two names: that of the class that declares it, and its own. If there are several records for a
+//! class or a string, the first counts.
 
 use super::Skipped;
 use crate::tests::dumps::Record;
@@ -15,7 +15,7 @@ const HEAP: Record = Heap(&[
     Root(0x201),
 ]);
 
-/// The class is named twice, first `T`; its field is named twice, first `referent`.
+/// `HEAP`, whose class is named twice, first `T`, and whose field is named twice, first `referent`.
 const NAMED_TWICE: &[Record] = &[
     Text(2, b"referent"),
     Text(2, b"other"),
@@ -43,7 +43,7 @@ const SKIPPED: &[Line] = &[
     (0, 0, "(unresolved)"),
 ];
 
-/// The lines if the class has no name.
+/// The lines of the report if the class has no name: nothing is skipped.
 const OF_NO_NAME: &[Line] = &[
     (1, 4, "?0x110"),
     (1, 4, "int[]"),
@@ -53,7 +53,7 @@ const OF_NO_NAME: &[Line] = &[
     (0, 0, "(unresolved)"),
 ];
 
-/// A class `T` without fields below a class `S` with the field `referent`.
+/// A class `T` without fields of its own, whose superclass `S` has the field `referent`, and an instance of `T`.
 const INHERITED: &[Record] = &[
     Text(1, b"S"),
     Text(2, b"referent"),

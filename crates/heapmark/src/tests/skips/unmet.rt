@@ -1,4 +1,4 @@
-//! The lines about entries that name no field of the dump, which follow the report at a terminal.
+//! The lines that follow the report at a terminal: each is about an entry of `--skip` that names no field of the dump.
 
 use super::{ALL, REFERENCES, SUPERCLASS_SKIPPED};
 use crate::tests::dumps::Record::{Heap, Load, Text};
@@ -13,7 +13,7 @@ use std::rt::Files;
 use std::sync::Wait;
 use std::thread::Threads;
 
-/// Records, a list, the lines of the report, and the entries about which a line follows it at a terminal.
+/// Records, a list, the lines of the report, and the entries about which a line follows the report at a terminal.
 type Unmet = (
     &'static [Record],
     &'static str,
@@ -92,7 +92,7 @@ static UNMET: [Unmet; 9] = [
     ),
 ];
 
-/// Returns the lines about these entries.
+/// Returns the lines about `entries`.
 fn lines_about(alloc: Global, entries: &[&str]) -> Result<String, AllocError> {
     let mut lines = String::new(alloc);
     for entry in entries {
@@ -147,7 +147,7 @@ fn entries_that_name_no_field_are_told(rt: HostRuntime) {
     }
 }
 
-/// Returns a command line with a list of 25,000 bytes, of which only the last entry names a field.
+/// Returns a command line whose list has more than 25,000 bytes. Only the last of its two entries names a field.
 fn long_line(alloc: Global) -> Result<String, AllocError> {
     let mut line = String::new(alloc);
     line.push_str("FILE --skip ")?;
@@ -158,7 +158,7 @@ fn long_line(alloc: Global) -> Result<String, AllocError> {
     Ok(line)
 }
 
-/// Tests whether the process, for [`long_line`], writes the report without the field of the last entry.
+/// Tests whether the process, run with [`long_line`], writes the report without the field of the last entry.
 fn long_line_is_read<T: AllocGlobal + Env + Files + Threads + Wait + Sync>(
     rt: &T,
     is_terminal: bool,
@@ -180,7 +180,7 @@ fn a_long_word_is_read_to_its_end(rt: HostRuntime) {
     assert!(rt; long_line_is_read(&rt, true), "a terminal");
 }
 
-/// A list that is refused has its own second line, and nothing is read if the version is requested.
+/// A list that is refused has a second line of its own. If the version is requested, no line about entries follows.
 #[test]
 fn other_lines_are_told_nothing_of_entries(rt: HostRuntime) {
     let (name, sample) = ("heapmark_unmet_else.hprof", Sample::Records(4, REFERENCES));

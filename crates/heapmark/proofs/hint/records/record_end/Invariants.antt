@@ -1,4 +1,4 @@
--- Each record is read once: the place at which the next one begins rises.
+-- Each record is read once: in each turn the place at which the next record begins rises.
 use Rattle.std.proofs.Common.{◌+◌, ◌-◌}
 use Rattle.heapmark.proofs.hint.records.record_end.Given as goal
 
