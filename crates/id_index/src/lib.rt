@@ -13,10 +13,10 @@
 //! Both shift the lowest bits out, in which all identifiers agree.
 //!
 //! Runs: `builder` makes them, one object after the other, and `sorting` sorts them. `repeats` looks for the first
-//! object whose identifier an earlier one bears. `settling` keeps the runs that have a place which no earlier run of
-//! their page has first, and a `run_index` searches only those. A look-up goes through a table of where pages begin
-//! (`beginnings`) to the first run of a page (`pages`), and over the runs of that page (`look_up`). The search for the
-//! first run looks at a bounded number of runs (`looks`).
+//! object whose identifier an earlier one bears. `settling` moves the runs to the front that have a place which no
+//! earlier run of their page has: a `run_index` searches only those. A look-up goes through a table of where pages
+//! begin (`beginnings`) to the first run of a page (`pages`), and over the runs of that page (`look_up`). The search
+//! for the first run looks at a bounded number of runs (`looks`).
 //!
 //! Pairs: `id_places` notes which places have an object, in the memory that the pairs take later. `page_words` has the
 //! pages from the first to the last one with an object, and counts the objects before each. `pair_builder` places pairs
