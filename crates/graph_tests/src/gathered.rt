@@ -192,7 +192,8 @@ fn is_right_or_refused<T: Threads + Sync>(
     }
 }
 
-/// Fails each allocation that a team of four makes in turn. Returns their number, or `None` if a result is wrong.
+/// Fails in turn each allocation that a team of four makes. Returns the number of allocations, or `None` if a result is
+/// wrong.
 fn requests_in_parts<T: Threads + Sync>(rt: &T, alloc: Global, ids: &[u32]) -> Option<u64> {
     requests_of(alloc, |heap| is_right_or_refused(rt, alloc, heap, ids))
 }

@@ -77,7 +77,7 @@ fn comes<T: Threads + Sync>(
     }
 }
 
-/// Fails each allocation in turn that it takes to come to what is `wanted`. Returns the number of allocations, or
+/// Fails in turn each allocation that it takes to come to what is `wanted`. Returns the number of allocations, or
 /// `None` if a result is wrong.
 fn requests_until<T: Threads + Sync>(
     rt: &T,

@@ -101,7 +101,7 @@ fn is_answered<T: Threads + Sync>(
     }
 }
 
-/// Fails each allocation in turn that it takes to read `list` and `CLASSES` and to find the entries that are met.
+/// Fails in turn each allocation that it takes to read `list` and `CLASSES` and to find the entries that are met.
 /// Returns the number of allocations, or `None` if a result is wrong.
 fn requests_to_answer<T: Threads + Sync>(
     rt: &T,

@@ -116,8 +116,8 @@ fn is_list_of(heap: &LimitedHeap<Global>, text: &str, entries: usize) -> bool {
     }
 }
 
-/// Fails each allocation of reading `text`, a list of `entries` entries, in turn. Returns the number of allocations, or
-/// `None` if a result is wrong.
+/// Fails in turn each allocation that it takes to read `text`, a list of `entries` entries. Returns the number of
+/// allocations, or `None` if a result is wrong.
 fn requests_to_read(alloc: Global, text: &str, entries: usize) -> Option<u64> {
     requests_of(alloc, |heap| is_list_of(heap, text, entries))
 }

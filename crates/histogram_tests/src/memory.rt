@@ -31,8 +31,8 @@ fn rows_over<T: Threads + Sync>(
     }
 }
 
-/// Fails each allocation in turn that `team` makes for the rows. Returns the number of allocations, or `None` if a result
-/// is wrong.
+/// Fails in turn each allocation that `team` makes for the rows. Returns the number of allocations, or `None` if a
+/// result is wrong.
 fn requests_of_rows<T: Threads + Sync>(
     team: &Team<'_, T>,
     alloc: Global,
@@ -109,8 +109,8 @@ fn writes_over(alloc: Global, heap: &LimitedHeap<Global>, report: &Report<Global
     told_none && right
 }
 
-/// Fails each allocation in turn that it takes to write the report of two objects. Returns the number of allocations, or
-/// `None` if a result is wrong.
+/// Fails in turn each allocation that it takes to write the report of two objects. Returns the number of allocations,
+/// or `None` if a result is wrong.
 fn written_in_turn(alloc: Global) -> Option<u64> {
     match two_objects(alloc) {
         Ok(report) => requests_of(alloc, |heap| writes_over(alloc, heap, &report)),
@@ -124,8 +124,8 @@ fn want_of_memory_writes_nothing(rt: HostRuntime) {
     assert!(rt; requests.is_some_and(|requests| requests > 0));
 }
 
-/// Tests whether `bytes` are read right on `heap`, up to `limit`, if `expected` bytes are expected, or whether memory ran
-/// out after `heap` refused an allocation.
+/// Tests whether `bytes` are read right on `heap`, up to `limit`, if `expected` bytes are expected, or whether memory
+/// ran out after `heap` refused an allocation.
 fn reads_over(heap: &LimitedHeap<Global>, bytes: &[u8], expected: usize, limit: usize) -> bool {
     let mut reader = Counted::of_size(bytes, expected);
     let outcome = reader.read_to_limit(heap, limit);
@@ -175,8 +175,8 @@ fn want_of_memory_is_no_read_fault(rt: HostRuntime) {
     }
 }
 
-/// Writes to a vector on `heap`, which grants no allocation. Tests whether the write fails and is counted once, and whether
-/// nothing else asks for memory.
+/// Writes to a vector on `heap`, which grants no allocation. Tests whether the write fails and is counted once, and
+/// whether nothing else asks for memory.
 fn counts_over(heap: &LimitedHeap<Global>) -> bool {
     let mut writer = Counted::new(Vec::<u8, _>::new(heap));
     let before = (writer.failures(), heap.refusals());

@@ -31,8 +31,8 @@ const TEAMS: [(u32, u32); 8] = [
     (4, 37),
 ];
 
-/// 65 objects are marked, so 36 are not: the instances 64 to 69, and 71 to 100. Each instance with an even number holds an
-/// identifier that names no object.
+/// 65 objects are marked, so 36 are not: the instances 64 to 69, and 71 to 100. Each instance with an even number holds
+/// an identifier that names no object.
 const REPORT: &str = "        64             256  A
          1               0  <class>
         65             256  (reachable)
@@ -40,8 +40,8 @@ const REPORT: &str = "        64             256  A
         50               0  (unresolved)
 ";
 
-/// Tests whether `instance` is a root. The class and the roots are objects 0 to 63, whose marks fill two words, and object
-/// 70.
+/// Tests whether `instance` is a root. The class and the roots are objects 0 to 63, whose marks fill two words, and
+/// object 70.
 fn is_root(instance: u64) -> bool {
     instance < 64 || instance == 70
 }

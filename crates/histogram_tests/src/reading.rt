@@ -8,8 +8,8 @@ use std::io::Read;
 /// The kinds of fault after which a caller might be tempted to try again.
 const KINDS: [io::ErrorKind; 2] = [io::ErrorKind::Interrupted, io::ErrorKind::WouldBlock];
 
-/// A reader that gives one of `bytes` a call, and none at their end. Call number `fails_at` fails with a fault of the kind
-/// `kind`.
+/// A reader that gives one of `bytes` a call, and none at their end. Call number `fails_at` fails with a fault of the
+/// kind `kind`.
 #[derive(Drop)]
 struct Drip<'a> {
     bytes: &'a [u8],
@@ -80,8 +80,8 @@ fn reads(alloc: Global, limit: usize, want: &str) -> bool {
     }
 }
 
-/// A reader of `left` bytes that counts its calls. Each read gives as many bytes as the buffer has room for, or all that
-/// are left.
+/// A reader of `left` bytes that counts its calls. Each read gives as many bytes as the buffer has room for, or all
+/// that are left.
 #[derive(Drop)]
 struct Block {
     left: usize,
@@ -97,8 +97,8 @@ impl Read for Block {
     }
 }
 
-/// Reads a block of `length` bytes, of which `expected` are expected. Returns how many bytes are read, and with how many
-/// calls.
+/// Reads a block of `length` bytes, of which `expected` are expected. Returns how many bytes are read, and with how
+/// many calls.
 fn read_block(
     alloc: Global,
     length: usize,
@@ -133,8 +133,8 @@ fn reads_to_the_end_or_the_limit(rt: HostRuntime) {
     }
 }
 
-/// Reads from a reader that fails at the call `fails_at`. Returns how many bytes are read, or the refusal; how many calls
-/// failed; and how many calls there were.
+/// Reads from a reader that fails at the call `fails_at`. Returns how many bytes are read, or the refusal; how many
+/// calls failed; and how many calls there were.
 fn read_failing(
     alloc: Global,
     fails_at: u32,

@@ -64,8 +64,8 @@ fn writes_the_worked_reports(rt: HostRuntime) {
     assert!(rt; writes_two_objects(rt.alloc()));
 }
 
-/// Writes the report of no object to a [`Trickle`]. Tests whether the report is refused, one failure is counted, and the
-/// writer is not called after call `trouble_at` and has taken just the first `length` bytes.
+/// Writes the report of no object to a [`Trickle`]. Tests whether the report is refused, one failure is counted, and
+/// the writer is not called after call `trouble_at` and has taken just the first `length` bytes.
 fn leaves_beginning(
     alloc: Global,
     trouble_at: u32,

@@ -116,7 +116,7 @@ impl<A: Allocator> Beginnings<A> {
     }
 
     /// Guesses the index of the first run of `page`. The runs of its bucket are those from index `begin` up to `end`:
-    /// the guess is right if their pages are evenly spread over the bucket. It may be any index if the product wraps.
+    /// the guess takes their pages as evenly spread over the bucket. If the product wraps, the guess may be any index.
     /// Only time rests on a guess.
     // Inlined, as `around` is.
     #[inline(always)]

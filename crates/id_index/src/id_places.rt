@@ -94,9 +94,10 @@ impl Numbering {
 
 /// The pages around the identifiers of objects, with a bit for each place: it is set if an object's identifier is noted
 /// there. To a contract an `IdPlaces` is the number of objects.
-// No clause says which bits are set: the pairs are tested after they were placed by them. Each part of the objects has
-// pages of its own, so that threads can note several parts at the same time. The bits of a page are kept in a `Pair`:
-// those of the first 32 places in `at`, the others in `number`. The pairs later take the same memory.
+// No clause says which bits are set. The bits only say where pairs are placed, and all pairs are tested afterwards.
+// Each part of the objects has pages of its own, so that threads can note several parts at the same time. The bits of a
+// page are kept in a `Pair`: those of the first 32 places in `at`, the others in `number`. The pairs later take the
+// same memory.
 #[derive(Drop)]
 pub struct IdPlaces<A: Allocator> {
     numbering: Numbering,
@@ -183,8 +184,9 @@ impl<A: Allocator> IdPlaces<A> {
         }
     }
 
-    /// Returns the page words of the pages from the first to the last one on which a place is taken, and before them
-    /// the identifier of the first place on these pages, without its lowest bits. `AllocError` if the allocation fails.
+    /// Returns the identifier, without its lowest bits, at which the first page with a taken place begins, and the page
+    /// words from that page to the last page with a taken place. If no place is taken, the page words have no page.
+    /// `AllocError` if the allocation fails.
     pub(crate) fn words<B: Allocator>(
         &mut self,
         alloc: B,

@@ -1,11 +1,11 @@
 //! The page words: for each page a bit for each place, set if an object is there, and the number of objects on the
-//! pages before. They guess the index of the pair of a place.
+//! pages before. They guess the index of the pair for a place.
 
 use crate::pairs::Pair;
 use crate::runs::{PLACES, rank_in};
 use std::alloc::{AllocError, Allocator};
 
-/// The places of a page that have objects.
+/// The word of one page.
 // Three words of 32 bits, 12 bytes: with a word of 64 bits for the places, a page would take 16.
 #[derive(Clone, Copy)]
 struct Page {

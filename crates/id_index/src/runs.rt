@@ -1,4 +1,4 @@
-//! Runs of neighbouring objects, and how many bits of a word are set below one of them.
+//! Runs of neighbouring objects, and how many bits of a run's word are set below a place.
 
 ghost use Rattle.std.specs.Prelude.{◌<◌, ◌≡◌};
 ghost use Rattle.id_index.specs.working.Runs.{rank};

@@ -108,7 +108,7 @@ impl Joining<'_> {
     }
 }
 
-/// Lists are cut at each place, and each allocation fails in turn. Each index that is made nevertheless agrees with a
+/// Lists are cut at each place, and each allocation fails in turn. If an index is made even so, the index agrees with a
 /// search one by one.
 #[test]
 fn joined_as_one_by_one_or_want_of_memory(rt: HostRuntime) {

@@ -117,7 +117,7 @@ fn is_right(heap: &LimitedHeap<Global>, ids: &[u64]) -> bool {
     }
 }
 
-/// Each allocation fails in turn. Each index that is made nevertheless agrees with a search one by one.
+/// Each allocation fails in turn. If an index is made even so, the index agrees with a search one by one.
 #[test]
 fn as_one_by_one_or_want_of_memory(rt: HostRuntime) {
     for ids in LISTS {

@@ -117,7 +117,7 @@ fn is_right<T: Threads + Sync>(
 /// All numbers of parts below this one are tried.
 const PARTS: usize = 5;
 
-/// Each allocation fails in turn. Each index that is made nevertheless agrees with a search one by one, and none is
+/// Each allocation fails in turn. If an index is made even so, the index agrees with a search one by one. No index is
 /// made if pairs do not serve.
 #[test]
 fn paired_as_one_by_one_or_out_of_memory(rt: HostRuntime) {

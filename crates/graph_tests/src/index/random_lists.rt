@@ -34,7 +34,7 @@ impl Numbers {
         (self.state >> 33) % end
     }
 
-    /// Returns an identifier: in three of four cases `last`, the next or the one after that, `step` apart, and else any
+    /// Returns an identifier: in three of four cases `last`, or the one or two steps of `step` after it, and else any
     /// of a few pages from `base` on.
     fn next_id(&mut self, last: u64, base: u64, step: u64) -> u64 {
         match self.below(4) {
