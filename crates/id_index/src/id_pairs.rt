@@ -10,7 +10,7 @@ use std::marker::Model;
 
 /// The identifiers of objects in the order of the file. All agree in their lowest bits, and an index by pairs is made
 /// of them. A caller first notes the places of all of them in an [`IdPlaces`], and then pushes each.
-// The identifiers are in the file already: a caller reads them there twice, so that only the pairs take memory.
+// The identifiers are in the file already: a caller reads them there twice, so that no list of them takes memory.
 #[derive(Drop)]
 pub struct IdPairsBuilder<A: Allocator> {
     pairs: PairIndexBuilder<A>,
@@ -55,7 +55,8 @@ impl<A: Allocator> IdPairsBuilder<A> {
     }
 
     /// Adds the next object, which has the identifier `id`. Returns `false` if an earlier object bears `id`, and may
-    /// return `false` if some identifier was not noted. No clause says what the builder has after `false`.
+    /// return `false` if some identifier was not noted, or two are 2^32 places or more apart. No clause says what the
+    /// builder has after `false`.
     pub fn push(&mut self, id: u64) -> bool
         requires { id % 2 ^ self.old.shift ≡ self.old.low }
         ensures ids { IsTrue result → self.new.ids ≡ self.old.ids ++ id ∷ [] }

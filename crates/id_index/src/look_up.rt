@@ -112,7 +112,8 @@ pub(crate) fn first_bearer<A: Allocator>(
     }
 }
 
-/// Tests whether the run that is guessed for `id` has it, so that [`first_bearer`] searches nothing.
+/// Tests whether the run that is guessed for `id` has an object that bears `id`, so that [`first_bearer`] does not
+/// search.
 pub(crate) fn is_guessed<A: Allocator>(runs: &[Run], beginnings: &Beginnings<A>, id: u64) -> bool
     requires runs { AreAscending runs.now }
     requires begun { AreBeginnings runs.now beginnings.now }

@@ -34,8 +34,8 @@ impl Numbers {
         (self.state >> 33) % end
     }
 
-    /// Returns an identifier: in three of four cases `last`, or the one or two steps of `step` after it, and else any
-    /// of a few pages from `base` on.
+    /// Returns an identifier: in about three of four cases `last`, `last + step` or `last + 2 * step`, and else any on
+    /// a few pages from `base` on.
     fn next_id(&mut self, last: u64, base: u64, step: u64) -> u64 {
         match self.below(4) {
             0 => return base.wrapping_add(self.below(200).wrapping_mul(step)),
