@@ -137,8 +137,8 @@ static IDENTIFIERS: [Faulty; 17] = [
     ),
 ];
 
-/// The first fault of the dump of two instances with one byte changed: the place of the byte, its new value, and the
-/// code and the place of the fault.
+/// Changes of one byte in the dump of two instances: the place of the byte, its new value, and the code and the place
+/// of the first fault.
 static CHANGES: [(usize, u8, u8, u64); 5] = [
     (82, 0, 9, 79),
     (152, 1, 10, 148),
@@ -147,7 +147,8 @@ static CHANGES: [(usize, u8, u8, u64); 5] = [
     (126, 5, 13, 127),
 ];
 
-/// Returns the code and the place of the fault for which the dump `bytes` has no graph.
+/// Returns the code and the place of the fault for which the dump `bytes` has no graph. Returns `None` if its graph is
+/// built, or memory runs out.
 fn fault_in<T: Threads + Sync>(rt: &T, alloc: Global, bytes: &[u8]) -> Option<(u8, u64)> {
     let skip = Skip::none(alloc);
     match build(&Team::new(rt, 4), alloc, bytes, &skip) {
@@ -156,7 +157,7 @@ fn fault_in<T: Threads + Sync>(rt: &T, alloc: Global, bytes: &[u8]) -> Option<(u
     }
 }
 
-/// Returns the code and the place of the fault for which a heap dump of `subs` has no graph.
+/// Like [`fault_in`], for a heap dump of `subs`.
 fn first_fault<T: Threads + Sync>(
     rt: &T,
     alloc: Global,
@@ -166,7 +167,8 @@ fn first_fault<T: Threads + Sync>(
     Ok(fault_in(rt, alloc, &file.bytes))
 }
 
-/// Returns the name of the first dump of `table` whose fault is not the one in the table.
+/// Returns the name of the first dump of `table` whose fault is not the one in the table, or `None` if there is no such
+/// dump.
 fn first_other<T: Threads + Sync>(
     rt: &T,
     alloc: Global,
@@ -188,8 +190,8 @@ fn first_faults(rt: HostRuntime) -> Result<(), Fail> {
     Ok(())
 }
 
-/// Returns the code and the place of the fault of the dump of two instances with the byte at `at` changed to `byte`.
-/// Returns `None` also if the dump has no such place.
+/// Like [`fault_in`], for the dump of two instances with the byte at `at` changed to `byte`. Returns `None` also if the
+/// dump has no such place.
 fn fault_of_change<T: Threads + Sync>(
     rt: &T,
     alloc: Global,

@@ -18,7 +18,7 @@ const INSTANCES: u32 = 66_000;
 /// The identifier of the class.
 const CLASS: u32 = 0x100;
 
-/// A field of the instance with that number, and a new value for it.
+/// A change of an instance's identifier or of its class: the number of the instance, and the new value.
 #[derive(Clone, Copy)]
 enum Change {
     Id(u32, u32),
@@ -60,7 +60,7 @@ impl Change {
     }
 }
 
-/// Writes `value` at `place`. Returns `None` if the bytes end before that.
+/// Writes the four bytes of `value` at `place`. Returns `None` if `bytes` ends before the last of them.
 fn put(bytes: &mut [u8], (place, value): (u64, u32)) -> Option<()> {
     let field = bytes.get_mut(place as usize..)?.get_mut(..4)?;
     field.copy_from_slice(&value.to_be_bytes());
@@ -104,8 +104,8 @@ fn answer<T: Threads + Sync, A: Allocator + Copy + Send + Sync>(
     }
 }
 
-/// Returns the results of a team of one thread and of a team of four for the dump with `changes`, which are then
-/// undone.
+/// Makes `changes` in the dump `bytes`, and returns the results of a team of one thread and of a team of four. Then
+/// undoes the changes. Returns `None` if the dump has no such field.
 fn answers<T: Threads + Sync>(
     rt: &T,
     alloc: Global,
@@ -128,7 +128,7 @@ type Case = (&'static [Change], Result<u32, (u8, u32)>);
 
 static CASES: [Case; 9] = [
     (&[], Ok(66_001)),
-    // The last object of the first part, with a fault in each other part.
+    // The last object of the first part has the first fault, and each other part has one.
     (
         &[
             Change::Class(16_499, 0x999),
@@ -138,7 +138,7 @@ static CASES: [Case; 9] = [
         ],
         Err((11, 16_499)),
     ),
-    // The first object of the second part.
+    // The first object of the second part has the first fault.
     (
         &[
             Change::Id(16_500, 0),
@@ -147,14 +147,15 @@ static CASES: [Case; 9] = [
         ],
         Err((9, 16_500)),
     ),
-    // The last object of the third part.
+    // The last object of the third part has the first fault.
     (
         &[Change::Class(49_501, 0x999), Change::Id(65_999, 0)],
         Err((11, 49_501)),
     ),
-    // The last object of all.
+    // The last object of all has the only fault.
     (&[Change::Id(65_999, 0)], Err((9, 65_999))),
-    // The identifier of an object in another part, with faults after it in its part and in the next ones.
+    // An object has the identifier of an object in the first part. There are faults after it, in its part and in the
+    // next ones.
     (
         &[
             Change::Id(30_000, 0x1000),
@@ -164,9 +165,9 @@ static CASES: [Case; 9] = [
         ],
         Err((10, 30_000)),
     ),
-    // The identifier of an object in another part, with a fault in the part before.
+    // An object has the identifier of an object in the part before, and there is another fault in that part.
     (&[Change::Id(2, 0), Change::Id(30_000, 0x1000)], Err((9, 2))),
-    // A repeated identifier within the last part, with a fault in the part before.
+    // An identifier is repeated within the last part. There is a fault in the part before.
     (
         &[Change::Class(40_000, 0x999), Change::Id(60_001, 0xfa60)],
         Err((11, 40_000)),

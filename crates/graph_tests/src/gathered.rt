@@ -1,6 +1,6 @@
 //! Dumps of few objects that are nevertheless gathered in parts, some of only one object. Identifiers ascend, descend
-//! or are in no order. One of them, at each place in turn, has other lowest bits than the rest. Each third object is a
-//! class; each other object refers to all objects, so each identifier is looked up.
+//! or do neither. At each place in turn, one identifier has other lowest bits than the rest; in some dumps none has.
+//! Each third object is a class. Each other object refers to all objects, so that each identifier is looked up.
 
 use crate::graphs::{build, gives};
 use heap_graph::{Graph, Skip};
@@ -22,8 +22,8 @@ const CLASSES_EACH: u32 = 3;
 /// modulo 16.
 type Order = (u32, u32);
 
-/// Ascending, descending, and neither. In descending order each object would be a run, so these objects are indexed by
-/// pairs.
+/// Ascending, descending, and neither. In descending order each object would be a run, so two or more such objects are
+/// indexed by pairs.
 const ORDERS: [Order; 3] = [(0, 1), (15, 15), (3, 5)];
 
 /// Returns the identifiers of `count` objects in `order`. The identifier of object `odd`, if that exists, has other
@@ -178,7 +178,8 @@ fn graphs_of_parts(rt: HostRuntime) -> Result<(), Fail> {
     Ok(())
 }
 
-/// Tests whether a team of four makes the right graph on `heap`, or is out of memory after an allocation failed.
+/// Tests whether a team of four makes the right graph on `heap`, or runs out of memory after `heap` refused an
+/// allocation.
 fn is_right_or_refused<T: Threads + Sync>(
     rt: &T,
     alloc: Global,
@@ -191,7 +192,8 @@ fn is_right_or_refused<T: Threads + Sync>(
     }
 }
 
-/// Returns the number of allocations that a team of four makes, if each result is right while they fail in turn.
+/// Fails in turn each allocation that a team of four makes. Returns the number of allocations, or `None` if a result is
+/// wrong.
 fn requests_in_parts<T: Threads + Sync>(rt: &T, alloc: Global, ids: &[u32]) -> Option<u64> {
     requests_of(alloc, |heap| is_right_or_refused(rt, alloc, heap, ids))
 }
@@ -238,8 +240,8 @@ fn requests_by_bits<T: Threads + Sync>(
     ])
 }
 
-/// Tests whether identifiers that agree take the same number of allocations whatever their lowest bits are, and fewer
-/// than a list of which one identifier differs.
+/// Tests whether identifiers that agree in their lowest bits take the same number of allocations whatever these bits
+/// are, and fewer than a list in which one identifier differs.
 fn are_gathered_once<T: Threads + Sync>(
     rt: &T,
     alloc: Global,
@@ -271,8 +273,8 @@ fn requests_in_order<T: Threads + Sync>(
     Ok(requests_by_one(rt, alloc, &ids))
 }
 
-/// Objects in descending order take no more allocations than objects in ascending order: all their places are allocated
-/// at once, and so are all their pairs. A list of their runs would grow step by step.
+/// Objects in descending order take no more allocations than objects in ascending order: all their pairs are allocated
+/// at once, and so are all page words. A list of their runs would grow step by step.
 #[test]
 fn pairs_are_asked_for_at_once(rt: HostRuntime) -> Result<(), Fail> {
     let ascending = requests_in_order(&rt, rt.alloc(), (0, 1))?;

@@ -8,7 +8,7 @@ use std::test::Fail;
 use std::thread::Threads;
 use test_dumps::Bytes;
 
-/// Reads the dump `bytes`, which is whole, and builds its graph, both on `heap`. Returns out of memory also if the dump
+/// Reads the dump `bytes`, which is whole, and builds its graph, both on `heap`. Returns `OutOfMemory` also if the dump
 /// is not read.
 pub fn build<'a, T: Threads + Sync, A: Allocator + Copy + Send + Sync>(
     team: &Team<'_, T>,
@@ -22,7 +22,7 @@ pub fn build<'a, T: Threads + Sync, A: Allocator + Copy + Send + Sync>(
     Graph::build(team, heap, bytes, dump, skip)
 }
 
-/// Returns the graph of the dump `bytes`, which is whole and linked.
+/// Returns the graph of the dump `bytes`, which is whole and linked, or `None` if no graph is built.
 pub fn graph_of<'a, T: Threads + Sync>(
     rt: &T,
     alloc: Global,
@@ -60,7 +60,8 @@ fn visits<A: Allocator>(visit: Visit<'_, A>, objects: &[u32], unresolved: u64) -
     visit.next().is_none() && visit.unresolved() == unresolved
 }
 
-/// Tests whether `graph` returns what is `wanted` of `object`, by a visit, by a walk and by the calls for one property.
+/// Tests whether `graph` has `object`, and returns what is `wanted` of it: by a visit, by a walk, and by the calls for
+/// one property.
 pub fn tells<A: Allocator>(graph: &Graph<'_, A>, object: u32, wanted: &Object<'_>) -> bool {
     if object >= graph.len() {
         return false;

@@ -1,9 +1,9 @@
 //! Tests of `id_index`.
 //!
-//! `making` makes an index of a list of identifiers, as callers do, `pairing` one by pairs, and `joining` one of lists
-//! that are gathered apart. `beside` compares an index with a search through the list, one by one: for a table of
-//! lists (`lists`) while each allocation fails in turn, and for many random ones (`random_lists`). `guessed` tests that
-//! look-ups need no search if identifiers are evenly spread.
+//! Three files make an index as callers do: `making` of a list of identifiers, `pairing` by pairs, and `joining` of
+//! lists that are gathered apart. `beside` compares an index with a search one by one, which goes through the list of
+//! identifiers. `lists` does so for a table of lists while each allocation fails in turn, and `random_lists` for many
+//! random lists. `guessed` tests that nearly all look-ups need no search if identifiers are evenly spread.
 
 mod beside;
 mod guessed;

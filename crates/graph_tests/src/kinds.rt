@@ -25,8 +25,8 @@ enum Kind {
     Any,
 }
 
-/// The kind, the class if it is known, the objects after it, the row, the bytes, and the number of unresolved
-/// identifiers.
+/// The kind, the class if it is known, the objects that the rest of the walk yields, the row, the bytes, and the number
+/// of unresolved identifiers.
 type Parts = (Kind, Option<u32>, &'static [u32], RowKey, u64, u64);
 
 /// The parts of each object's visit. For a class, only the kind is tested.
@@ -91,7 +91,7 @@ fn has_parts<T: Threads + Sync>(
 /// The number of classes, each of which has an array.
 const CLASSES: u32 = 32;
 
-/// Returns a dump of classes and of an array of each.
+/// Returns a dump of `CLASSES` classes, and of an array of each class.
 fn arrays(alloc: Global) -> Result<Bytes, AllocError> {
     let mut heap = Bytes::new(alloc, 4);
     for class in 0..CLASSES {
@@ -106,7 +106,8 @@ fn arrays(alloc: Global) -> Result<Bytes, AllocError> {
     Ok(file)
 }
 
-/// Tests whether object `object` is an array whose class is object `class`, without a look-up.
+/// Tests whether object `object` is an array of which a visit knows, without a look-up, that its class is object
+/// `class`.
 fn is_array_of<A: Allocator>(graph: &Graph<'_, A>, object: u32, class: u32) -> bool {
     if object >= graph.len() {
         return false;
@@ -117,7 +118,7 @@ fn is_array_of<A: Allocator>(graph: &Graph<'_, A>, object: u32, class: u32) -> b
     }
 }
 
-/// Tests whether each array's class is known in `graph`.
+/// Tests whether visits in `graph` know the class of each array.
 fn knows_classes<A: Allocator>(graph: &Graph<'_, A>) -> bool {
     (0..CLASSES).all(|class| is_array_of(graph, CLASSES + class, class))
 }
@@ -128,7 +129,8 @@ fn count_guessed<A: Allocator>(graph: &Graph<'_, A>) -> usize {
     (0..CLASSES).filter(guessed).count()
 }
 
-/// Returns the results of [`knows_classes`] and [`count_guessed`] for the graph of the dump [`arrays`].
+/// Returns the results of [`knows_classes`] and [`count_guessed`] for the graph of the dump [`arrays`], or `None` if no
+/// graph is built.
 fn known_and_guessed<T: Threads + Sync>(
     rt: &T,
     alloc: Global,
@@ -141,7 +143,7 @@ fn known_and_guessed<T: Threads + Sync>(
     }
 }
 
-/// Classes are guessed at different places: at least three of four classes were noted last at their place.
+/// At least three of four classes are guessed. A class is guessed if no other class was noted after it at its place.
 #[test]
 fn classes_are_guessed(rt: HostRuntime) -> Result<(), Fail> {
     let told = known_and_guessed(&rt, rt.alloc())?;

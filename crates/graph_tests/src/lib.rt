@@ -1,12 +1,13 @@
-//! Tests of `heap_graph`, and of `id_index` below it (`index`). They are in a crate of their own, so that the two are
-//! not proved again together with their tests, and use only public calls. The crate exports nothing.
+//! Tests of `heap_graph`, and of `id_index` below it (`index`). They are in a crate of their own, so that these two
+//! crates are not proved again together with their tests. They use only public calls. The crate exports nothing.
 //!
 //! `worked` has dumps with their expected graphs, and `skipped` has dumps of which some fields are not followed.
-//! `chains` and `faults` have dumps that are not linked, with the first fault of each; `faults_in_parts` has large
-//! ones, and `gathered` small ones that are nevertheless gathered in parts. `graphs` calls everything that a graph
-//! offers, `walks` tests the number of remaining identifiers of a walk, `kinds` a visit by the kind of its object.
-//! `memory` lets each allocation fail in turn. `skips` has texts that are lists of fields, and `met` the entries that
-//! name a field of a dump. `texts` tests the texts of refusals, and `sizes` the size of a visit.
+//! `chains` and `faults` have dumps that are not linked, with the first fault of each, and `faults_in_parts` tests a
+//! large dump with such faults. `gathered` has dumps of few objects that are nevertheless gathered in parts. `graphs`
+//! compares a graph with the expected one, `walks` tests the number of remaining identifiers of a walk, and `kinds`
+//! tests a visit by the kind of its object. `memory` lets each allocation fail in turn. `skips` has texts that are
+//! lists of fields and texts that are not, and `met` tests which entries of a list name a field of a dump. `texts`
+//! tests the texts of refusals, and `sizes` the size of a visit.
 
 #![tactic(auto)]
 

@@ -1,5 +1,5 @@
-//! Out of memory: each allocation of `read` and `build` fails in turn, with all after it and as the only one. The calls
-//! on a graph allocate nothing.
+//! Out of memory: each allocation that it takes to read a dump and to build its graph fails in turn, once with all
+//! later ones and once alone. The calls on a graph allocate nothing.
 
 use crate::graphs::{build, is_worked, tells};
 use crate::skipped::SKIPPED;
@@ -24,7 +24,7 @@ fn is_built<T: Threads + Sync>(
     build(&Team::new(rt, 4), heap, bytes, skip).is_ok()
 }
 
-/// Returns the number of allocations that `build` makes.
+/// Returns the number of allocations that a team of four makes to build a graph.
 fn requests_to_build<T: Threads + Sync>(
     rt: &T,
     alloc: Global,
@@ -36,7 +36,7 @@ fn requests_to_build<T: Threads + Sync>(
     u64::MAX - heap.requests_left()
 }
 
-/// The expected result for a dump: the worked graph, or the fault with that code at that place.
+/// The expected result for a dump: a worked graph, or the code and the place of a fault.
 #[derive(Drop)]
 enum Wanted<'a> {
     Graph(&'a Worked),
@@ -62,7 +62,8 @@ fn is_refusal(wanted: &Wanted<'_>, refusal: LinkRefusal, refusals: u64) -> bool 
     }
 }
 
-/// Tests whether the result on `heap` is what is `wanted`, or is out of memory after an allocation failed.
+/// Tests whether the result of `build` on `heap` is what is `wanted`, or is out of memory after `heap` refused an
+/// allocation.
 fn comes<T: Threads + Sync>(
     rt: &T,
     heap: &LimitedHeap<Global>,
@@ -76,8 +77,8 @@ fn comes<T: Threads + Sync>(
     }
 }
 
-/// Returns the number of allocations that it takes to come to what is `wanted`, if each result is right while they fail
-/// in turn.
+/// Fails in turn each allocation that it takes to come to what is `wanted`. Returns the number of allocations, or
+/// `None` if a result is wrong.
 fn requests_until<T: Threads + Sync>(
     rt: &T,
     alloc: Global,
@@ -88,8 +89,8 @@ fn requests_until<T: Threads + Sync>(
     requests_of(alloc, |heap| comes(rt, heap, bytes, skip, wanted))
 }
 
-/// Tests whether each result is right while the allocations fail in turn, and whether the allocations are just those
-/// that build the graph: the calls on the graph make none.
+/// Fails each allocation in turn. Tests whether each result is right, and whether the allocations are just those that
+/// build the graph: the calls on the graph make none.
 fn is_right_in_turn<T: Threads + Sync>(
     rt: &T,
     alloc: Global,
@@ -162,8 +163,7 @@ static TOO_SHORT: [Record; 1] = [Record::Heap(&[
     Instance(0x201, 0x110, &[0; 4]),
 ])];
 
-/// Returns the number of allocations that it takes to find the fault of `TOO_SHORT`, if each result is right while they
-/// fail in turn.
+/// Like [`requests_until`], for the fault of `TOO_SHORT`.
 fn requests_to_refuse_short<T: Threads + Sync>(
     rt: &T,
     alloc: Global,
@@ -195,7 +195,7 @@ fn walks_over<T: Threads + Sync>(
 }
 
 /// Tests the walk over the array on a heap that grants just the allocations that it takes to build the graph. Returns
-/// whether it is right, and the numbers of allocations that remain and that failed.
+/// whether the walk is right, how many of the granted allocations remain, and how many allocations failed.
 fn walked<T: Threads + Sync>(
     rt: &T,
     alloc: Global,
@@ -208,8 +208,7 @@ fn walked<T: Threads + Sync>(
     (right, heap.requests_left(), heap.refusals())
 }
 
-/// Tests the walk over a long array with just the allocations that it takes to build its graph. Returns whether it is
-/// right, and the numbers of allocations that remain and that failed.
+/// Like [`walked`], for the long array.
 fn walked_long<T: Threads + Sync>(rt: &T, alloc: Global) -> Result<(bool, u64, u64), AllocError> {
     let file = long_array(alloc)?;
     let mut elements = vec![in alloc; 2u32; MANY + 1]?;

@@ -86,8 +86,8 @@ fn entries_are_met(rt: HostRuntime) {
     }
 }
 
-/// Tests whether the list and the dump, both read on `heap`, result in `want`, or in out of memory after an allocation
-/// failed.
+/// Tests whether the entries of `list` are met by the dump `bytes` as in `want` if all is read on `heap`, or whether
+/// memory ran out after `heap` refused an allocation.
 fn is_answered<T: Threads + Sync>(
     rt: &T,
     heap: &LimitedHeap<Global>,
@@ -101,8 +101,8 @@ fn is_answered<T: Threads + Sync>(
     }
 }
 
-/// Returns the number of allocations that it takes to read `list` and `CLASSES` and to find the entries that are met,
-/// if each result is right while they fail in turn.
+/// Fails in turn each allocation that it takes to read `list` and `CLASSES` and to find the entries that are met.
+/// Returns the number of allocations, or `None` if a result is wrong.
 fn requests_to_answer<T: Threads + Sync>(
     rt: &T,
     alloc: Global,

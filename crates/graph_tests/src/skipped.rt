@@ -39,8 +39,8 @@ const DOTS: &[Record] = &[
     ]),
 ];
 
-/// Class `T` is loaded again as `U`, and there is a second string for `f`. It has a field whose string is missing. The
-/// second class is not loaded, and the string of the third one is missing.
+/// Class `T` is loaded again as `U`. It has a field `f`, for whose name there is a second string, and a field whose
+/// string is missing. The second class is not loaded, and the string of the third class is missing.
 const LACKING: &[Record] = &[
     Text(1, b"T"),
     Text(2, b"f"),
@@ -70,7 +70,7 @@ const NAMES_LACKING: Worked = Worked {
     unresolved: 0,
 };
 
-/// Lists of fields, each with the graph of a dump in which they are not followed.
+/// Lists of fields, each with a dump and with its graph if the fields of the list are not followed.
 pub static SKIPPED: [(&str, Worked); 9] = [
     (
         "T.other",

@@ -88,7 +88,8 @@ fn ends_with<A: Allocator>(skip: &Skip<'_, A>, class: &[u8], field: &[u8]) -> bo
     }
 }
 
-/// Reads a list of `entries` entries. Returns the number of entries read, and whether the last is the last of 64.
+/// Reads a list of `entries` entries. Returns the number of entries read, and whether the last one is `field63` of
+/// `Class63`.
 fn read_of(alloc: Global, entries: u32) -> Result<(usize, bool), SkipRefusal> {
     let Ok(text) = list_of(alloc, entries) else {
         return Err(SkipRefusal::OutOfMemory);
@@ -106,8 +107,8 @@ fn at_most_64_entries(rt: HostRuntime) {
     assert_eq!(rt; read_of(rt.alloc(), 65), Err(SkipRefusal::BadOptions));
 }
 
-/// Tests whether `text` is read on `heap` as a list of `entries` entries, or is out of memory after an allocation
-/// failed.
+/// Tests whether reading `text` on `heap` gives `entries` entries, or is refused as out of memory after `heap` refused
+/// an allocation.
 fn is_list_of(heap: &LimitedHeap<Global>, text: &str, entries: usize) -> bool {
     match Skip::new(heap, text) {
         Ok(skip) => skip.entries().len() == entries,
@@ -115,14 +116,13 @@ fn is_list_of(heap: &LimitedHeap<Global>, text: &str, entries: usize) -> bool {
     }
 }
 
-/// Returns the number of allocations that it takes to read `text`, a list of `entries` entries, if each result is right
-/// while they fail in turn.
+/// Fails in turn each allocation that it takes to read `text`, a list of `entries` entries. Returns the number of
+/// allocations, or `None` if a result is wrong.
 fn requests_to_read(alloc: Global, text: &str, entries: usize) -> Option<u64> {
     requests_of(alloc, |heap| is_list_of(heap, text, entries))
 }
 
-/// Returns the number of allocations that it takes to read a list of 64 entries, if each result is right while they
-/// fail in turn.
+/// Like [`requests_to_read`], for a list of 64 entries.
 fn requests_to_read_most(alloc: Global) -> Result<Option<u64>, AllocError> {
     let text = list_of(alloc, 64)?;
     Ok(requests_to_read(alloc, &text, 64))
@@ -131,7 +131,7 @@ fn requests_to_read_most(alloc: Global) -> Result<Option<u64>, AllocError> {
 #[test]
 fn memory_refused_in_turn(rt: HostRuntime) -> Result<(), Fail> {
     let alloc = rt.alloc();
-    // room for 4 entries, doubled each time
+    // A list has room for 4 entries at first, and each further allocation doubles the room.
     let requests = (
         requests_to_read(alloc, "T.f,U.g", 2),
         requests_to_read_most(alloc)?,

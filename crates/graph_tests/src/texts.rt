@@ -20,7 +20,7 @@ const FAULT: (LinkFault, &str) = (
     "fault 13 at 4294967296",
 );
 
-/// Why no graph was built, and why no list of fields was made, with the texts.
+/// Why no graph was built, with the texts.
 const LINKS: [(LinkRefusal, &str); 2] = [
     (
         LinkRefusal::Fault(LinkFault { code: 9, offset: 0 }),
@@ -29,6 +29,7 @@ const LINKS: [(LinkRefusal, &str); 2] = [
     (LinkRefusal::OutOfMemory, "out of memory"),
 ];
 
+/// Why no list of fields was made, with the texts.
 const SKIPS: [(SkipRefusal, &str); 2] = [
     (
         SkipRefusal::BadOptions,

@@ -51,12 +51,14 @@ static WALKS: [Walk; 7] = [
     ),
 ];
 
-/// Returns the number of remaining identifiers before a call of `next`, and whether that returns an object.
+/// Calls `next`. Returns the number of identifiers that remained before the call, and whether the call returned an
+/// object.
 fn next_of<A: Allocator>(walk: &mut Successors<'_, A>) -> (u64, bool) {
     (walk.left(), walk.next().is_some())
 }
 
-/// Tests whether the numbers of remaining identifiers are `left`, call by call. The last two calls return `None`.
+/// Calls `next` once for each number of `left`. Tests whether that many identifiers remain before the call, and whether
+/// just the last two calls return `None`.
 fn leaves<A: Allocator>(walk: Successors<'_, A>, left: &[u64]) -> bool {
     let mut walk = walk;
     let objects = left.len().saturating_sub(2);
@@ -89,7 +91,7 @@ fn leaves_in<T: Threads + Sync>(
     }
 }
 
-/// Returns the dump of `WORKED` with that `name`.
+/// Returns the dump of `WORKED` with the name `name`, or `None` if there is none.
 fn worked_of(name: &str) -> Option<&'static Worked> {
     for worked in &WORKED {
         if worked.name == name {
@@ -99,7 +101,7 @@ fn worked_of(name: &str) -> Option<&'static Worked> {
     None
 }
 
-/// Tests whether the numbers of remaining identifiers are those of `walk`.
+/// Tests whether the numbers of remaining identifiers in the dump of `walk` are those of `walk`.
 fn is_walk<T: Threads + Sync>(rt: &T, alloc: Global, walk: &Walk) -> Result<bool, AllocError> {
     let (name, object, left) = *walk;
     match worked_of(name) {
@@ -145,7 +147,7 @@ pub fn long_array(alloc: Global) -> Result<Bytes, AllocError> {
     Ok(file)
 }
 
-/// Instances of a class that declares a field with the same name as its superclass's field, in `java/lang/ref`.
+/// Instances of class `T`, which declares a field of the same name as its superclass `java/lang/ref/Reference`.
 pub const REFERENCES: &[Record] = &[
     Record::Text(1, b"java/lang/ref/Reference"),
     Record::Text(2, b"referent"),
@@ -162,7 +164,8 @@ pub const REFERENCES: &[Record] = &[
     ]),
 ];
 
-/// A list, the number of identifiers that object 0x201 holds, and the number of those of 0x203 that name no object.
+/// A list of fields that are not followed, the number of identifiers that object 0x201 holds, and the number of those
+/// that object 0x203 holds and that name no object.
 const SKIPS: [(&str, u64, u64); 3] = [
     ("T.other", 3, 1),
     ("T.referent", 2, 1),

@@ -11,7 +11,7 @@ failures_of c = c.failures
 abbrev pub inner_of : {T : Type 0} → Counted T → T
 inner_of c = c.inner
 
--- nothing was taken since the last flush that succeeded
+-- nothing was taken since the last flush that succeeded, or since the start if there was none
 abbrev pub is_flushed : {T : Type 0} → Counted T → Bool
 is_flushed c = c.is_flushed
 

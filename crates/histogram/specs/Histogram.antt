@@ -32,7 +32,7 @@ entry g numbers row = record {
   bytes = sum_by (bytes_at g) (of_row g row numbers);
 }
 
--- an entry for each row that has one of the objects `numbers`
+-- an entry for each row that has at least one of the objects `numbers`
 unfoldable pub entries : ObjectGraph → List ℕ → List Entry
 entries g numbers = filter (λ e. nat_lt 0 e.count) (map (entry g numbers) (all_rows g))
 
@@ -45,7 +45,7 @@ compare a b =
     nat_cmp a.class b.class)))
 
 -- the rows in order; the number and the bytes of all marked objects, and of all others; and the number of identifiers
--- that name no object
+-- other than 0 that name no object
 pub record Histogram : Type 0 where
   pub rows : List Entry
   pub reachable : ℕ × ℕ

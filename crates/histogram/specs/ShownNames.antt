@@ -6,7 +6,7 @@ use Rattle.std.specs.Fmt.{digits}
 use Rattle.heap_graph.specs.declared.row.RowKey.{RowKey}
 use Rattle.heap_graph.specs.declared.row.RowKey.TheVariants as keys
 
--- a hex digit in lower case
+-- the hex digit of `n` below 16, in lower case
 abbrev pub hex_digit : ℕ → ℕ
 hex_digit n = if nat_lt n 10 then 48 + n else 87 + n
 
@@ -46,7 +46,7 @@ shown_row g (keys.Class n) = shown_class (class_at g n).id (class_at g n).text
 shown_row g (keys.Primitive t) = shown_primitive t
 shown_row g keys.ClassObject = codes "<class>"
 
--- the identifier of the row's class, or 0
+-- the identifier of the row's class, or 0 if the row is no class
 abbrev pub row_id : ObjectGraph → RowKey → ℕ
 row_id g (keys.Class n) = (class_at g n).id
 row_id g row = 0

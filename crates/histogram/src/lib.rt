@@ -1,8 +1,8 @@
 //! The histogram of a marked heap, and its report.
 //!
 //! `rows` makes the histogram of a graph and of a marking of it: a line for each row with a marked object, and the
-//! three totals. `write_report` writes its text and nothing else. `Counted` wraps a reader or a writer and counts its
-//! failures, so that contracts can say which calls failed.
+//! three totals. `write_report` writes the histogram's text and nothing else. `Counted` wraps a reader or a writer and
+//! counts its failures, so that contracts can say whether a call failed.
 //!
 //! From `crates/histogram_tests/src/reports.rt`, which is proved and run:
 //!

@@ -10,7 +10,7 @@ use heap_graph::{Graph, RowKey};
 use std::alloc::{AllocError, Allocator};
 use std::io::Write;
 
-/// Returns the name of `row`.
+/// Returns the name of `row`, as the report shows it. `AllocError` if an allocation fails.
 pub(crate) fn row_name<A: Allocator, B: Allocator>(
     alloc: B,
     graph: &Graph<'_, A>,
@@ -38,7 +38,7 @@ pub(crate) fn row_class<A: Allocator>(graph: &Graph<'_, A>, row: RowKey) -> u64
     }
 }
 
-/// Returns the name of `class`, or what is shown in place of it if the dump has none.
+/// Returns the name of `class`, as the report shows it, or what is shown in place of the name if the dump has none.
 fn class_name<A: Allocator, B: Allocator>(
     alloc: B,
     graph: &Graph<'_, A>,
@@ -56,7 +56,7 @@ fn class_name<A: Allocator, B: Allocator>(
     Ok(name)
 }
 
-/// Appends `text`, the bytes of a name, as the report shows it.
+/// Appends `text`, the bytes of a name, as the report shows a name.
 fn append_shown<A: Allocator>(out: &mut Vec<u8, A>, text: &[u8]) -> Result<(), AllocError>
     ensures { OnOk result (out.new.items ≡ out.old.items ++ shown_text text.now) }
 {
@@ -85,8 +85,8 @@ fn is_plain_byte(byte: u8) -> bool
     0x21 <= byte && byte <= 0x7E && byte != b'\\'
 }
 
-/// Appends what is shown in place of the name of a class without one: `?0x` and the identifier `class` in lower-case
-/// hex digits. `Err(AllocError)` if an allocation fails.
+/// Appends what is shown for a class without a name: `?0x` and the identifier `class` in lower-case hex digits.
+/// `Err(AllocError)` if an allocation fails.
 pub fn append_unnamed<A: Allocator>(out: &mut Vec<u8, A>, class: u64) -> Result<(), AllocError>
     ensures { OnOk result (out.new.items ≡ out.old.items ++ unnamed class) }
 {

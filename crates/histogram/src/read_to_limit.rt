@@ -22,12 +22,12 @@ pub enum ReaderRefusal {
     OutOfMemory,
 }
 
-/// The most bytes that one read asks for, and the most that are reserved when the vector is full.
+/// The most bytes that one read asks for, and the most for which room is asked when the vector is full.
 const CHUNK: usize = 262_144;
 
 /// The number of bytes that are zeroed at a time.
 // The C library zeroes 2 KiB and more with one instruction that runs over many pages. This is slow if the pages are
-// touched for the first time: 587 MB took 440 ms with it, and 405 in steps of this size.
+// touched for the first time: to zero 587 MB took 440 ms with that instruction, and 405 ms in steps of this size.
 const ZEROED_AT_ONCE: usize = 2_047;
 
 impl<R: Read> Counted<R> {
@@ -93,7 +93,8 @@ impl<R: Read> Counted<R> {
     }
 }
 
-/// Makes room in `bytes` after the first `filled` of them, by appending zeros. The length stays within `limit`.
+/// Makes room in `bytes` after the first `filled` of them, by appending zeros. The length stays at most `limit`.
+/// `AllocError` if an allocation fails.
 fn make_room<A: Allocator>(
     bytes: &mut Vec<u8, A>,
     filled: usize,

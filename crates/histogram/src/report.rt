@@ -5,8 +5,8 @@ use std::alloc::Allocator;
 /// The rows of a histogram in the order of the report, and its totals.
 #[derive(Drop)]
 pub struct Report<A: Allocator> {
-    /// One line for each row that has a reachable object: the most bytes first, then the most objects, then the least
-    /// name, then the least class.
+    /// One line for each row that has a reachable object. Lines with more bytes come first; if the bytes are equal,
+    /// lines with more objects; then lines with the lesser name; then lines with the lesser class.
     pub rows: Vec<Line<A>, A>,
     /// The number of reachable objects, and the sum of their bytes.
     pub reachable: (u64, u64),
@@ -25,6 +25,6 @@ pub struct Line<A: Allocator> {
     pub class: u64,
     /// The number of reachable objects of the row.
     pub count: u64,
-    /// The sum of their bytes.
+    /// The sum of the bytes of these objects.
     pub bytes: u64,
 }

@@ -43,7 +43,7 @@ pub fn rows<T: Threads + Sync, A: Allocator + Copy, B: Allocator + Sync, C: Allo
 }
 
 /// Returns the number of identifiers other than 0, in all objects and in the roots, that name no object. `unmarked` is
-/// the number of those in the objects that are not marked.
+/// the number of such identifiers in the objects that are not marked.
 fn all_unresolved<A: Allocator, B: Allocator>(
     graph: &Graph<'_, A>,
     marks: &Marked<B>,
@@ -74,8 +74,8 @@ fn lines_in_order<A: Allocator + Copy, B: Allocator, C: Allocator>(
     Ok(lines)
 }
 
-/// Compares two lines: the line of more bytes comes first, then that of more objects, then that of the lesser name,
-/// then that of the lesser class.
+/// Compares two lines. The line with more bytes comes first; if the bytes are equal, the line with more objects; then
+/// the line with the lesser name; then the line with the lesser class.
 fn compare_lines<A: Allocator>(a: &Line<A>, b: &Line<A>) -> Ordering
     ensures { result ≡ compare (entry_of a.now) (entry_of b.now) }
 {

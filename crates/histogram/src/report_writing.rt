@@ -19,7 +19,7 @@ pub enum WriteRefusal {
     /// An allocation for the text failed. Nothing was written.
     #[error("out of memory")]
     OutOfMemory,
-    /// A write or the flush failed. It was not tried again, and a beginning of the text was written.
+    /// A write or the flush failed. It was not tried again. A beginning of the text was written: nothing, some or all.
     #[error("a write failed")]
     WriteFault,
 }
@@ -27,7 +27,7 @@ pub enum WriteRefusal {
 /// Writes the text of `report`, and flushes `writer`. Makes the whole text before the first write.
 ///
 /// `Err(OutOfMemory)` if an allocation for the text fails: nothing was written. `Err(WriteFault)` if a write or the
-/// flush fails: it is not tried again, and a beginning of the text was written.
+/// flush fails: it is not tried again, and a beginning of the text was written, which may be nothing or all of it.
 pub fn write_report<A: Allocator, B: Allocator, W: Write>(
     alloc: B,
     report: &Report<A>,
@@ -42,7 +42,7 @@ pub fn write_report<A: Allocator, B: Allocator, W: Write>(
     ensures untouched { result ≡ Err WriteRefusal.OutOfMemory
         → Keeps (W.contents (inner_of writer.old)) (W.contents (inner_of writer.new)) }
 
-    // A flush came after the last write that took something.
+    // A successful flush came after the last write that took something.
     ensures flushed { OnOk result (is_flushed writer.new ≡ true) }
 
     // The count rises if a write or the flush failed, and only then.

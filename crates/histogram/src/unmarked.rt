@@ -34,7 +34,7 @@ impl Unmarked {
         unresolved: 0,
     };
 
-    /// Counts `object`, by one walk over it.
+    /// Returns the totals of `object` alone, by one walk over its references.
     fn of<A: Allocator>(graph: &Graph<'_, A>, object: u32) -> Unmarked
         requires { object < object_count graph.now }
         ensures { result ≡ totals_of graph.now (object ∷ []) }
@@ -48,7 +48,7 @@ impl Unmarked {
         }
     }
 
-    /// Adds the totals of `others`.
+    /// Returns the sums of these totals and of those of `others`.
     fn and(self, others: Unmarked) -> Unmarked
         requires { AddUp self others }
         ensures { result ≡ both self others }
@@ -61,9 +61,9 @@ impl Unmarked {
     }
 }
 
-/// Counts the objects that are not marked, by a walk over each. If there are many, it takes them in batches and splits
-/// each batch into a part for each thread of `team`. If there are few, or if the allocation of a batch fails, it takes
-/// one object after the other, from the first on.
+/// Counts the objects that are not marked, by a walk over each. If there are many (`Team::splits`), takes them in
+/// batches, and splits each batch into at most as many parts as `team` has threads. If there are few, or if the
+/// allocation of a batch fails, takes one object after the other, from the first on.
 pub(crate) fn count_unmarked<
     T: Threads + Sync,
     A: Allocator + Copy,
@@ -120,8 +120,9 @@ fn count_in_turn<A: Allocator, B: Allocator>(graph: &Graph<'_, A>, marks: &Marke
     left
 }
 
-/// Counts the objects `numbers` in parts of `size` objects: the first in a thread of its own, while this thread counts
-/// the others. It calls itself once for each part, and requires no more parts than the team has threads.
+/// Counts the objects `numbers` in parts of `size` objects, the last of which may be smaller. If there are several
+/// parts, a thread of its own counts the first, if one can be started, while this thread calls this function for the
+/// others. Requires no more parts than the team has threads.
 fn count_in_parts<T: Threads + Sync, A: Allocator + Sync>(
     team: &Team<'_, T>,
     graph: &Graph<'_, A>,

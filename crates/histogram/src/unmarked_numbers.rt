@@ -39,7 +39,8 @@ impl<'m, A: Allocator> UnmarkedNumbers<'m, A> {
         UnmarkedNumbers { marks, from: 0 }
     }
 
-    /// Takes a batch: `first`, and the numbers that follow, as many as fit.
+    /// Takes a batch: `first`, and the next numbers of the iterator, in all at most `MOST_AT_ONCE`. `AllocError` if an
+    /// allocation fails.
     pub(crate) fn batch_from<B: Allocator>(
         &mut self,
         alloc: B,

@@ -1,5 +1,5 @@
-//! Allocations that fail: each allocation of a call fails in turn, first together with all later ones, then only that
-//! one. The call then still returns its whole result, as when a list asks again for less memory; or it reports that
+//! Allocations that fail: each allocation of a call fails in turn, first together with all later ones, then alone. The
+//! call then still returns its whole result, as it can if a list asks again for less memory. Or the call reports that
 //! memory was refused, and has written nothing.
 
 ghost use Rattle.drain.specs.Marks.{IsMarkingOf};
@@ -15,7 +15,7 @@ use std::sync::Wait;
 use std::thread::Threads;
 use test_dumps::Bytes;
 
-/// Tests whether the rows are right on `heap`.
+/// Tests whether `team` makes the right rows on `heap`, or is out of memory after `heap` refused an allocation.
 fn rows_over<T: Threads + Sync>(
     team: &Team<'_, T>,
     alloc: Global,
@@ -31,7 +31,8 @@ fn rows_over<T: Threads + Sync>(
     }
 }
 
-/// Returns the number of allocations of the rows, if each result is right while they fail in turn.
+/// Fails in turn each allocation that `team` makes for the rows. Returns the number of allocations, or `None` if a
+/// result is wrong.
 fn requests_of_rows<T: Threads + Sync>(
     team: &Team<'_, T>,
     alloc: Global,
@@ -48,7 +49,7 @@ fn requests_of_rows<T: Threads + Sync>(
     )
 }
 
-/// Returns the same for the rows of a marking of `graph`.
+/// Like [`requests_of_rows`], for a team of two and a marking of `graph`.
 fn rows_in_turn<T: Threads + Wait + Sync>(
     rt: &T,
     alloc: Global,
@@ -64,7 +65,7 @@ fn rows_in_turn<T: Threads + Wait + Sync>(
     }
 }
 
-/// Returns the same for the rows of a dump, its `bytes`, if it is accepted.
+/// Like [`rows_in_turn`], for the graph of the dump `bytes`. Returns `None` also if the dump is not accepted.
 fn rows_of_dump<T: Threads + Wait + Sync>(rt: &T, alloc: Global, bytes: &[u8]) -> Option<u64> {
     let skip = Skip::none(alloc);
     let team = Team::new(rt, 4);
@@ -77,7 +78,7 @@ fn rows_of_dump<T: Threads + Wait + Sync>(rt: &T, alloc: Global, bytes: &[u8]) -
     }
 }
 
-/// Returns the same for the rows of the worked dump.
+/// Like [`rows_of_dump`], for the worked dump.
 fn rows_of_two_objects<T: Threads + Wait + Sync>(rt: &T, alloc: Global) -> Option<u64> {
     match Bytes::dump(alloc, 4, test_dumps::TWO_OBJECTS) {
         Ok(dump) => rows_of_dump(rt, alloc, dump.bytes.as_slice()),
@@ -92,7 +93,8 @@ fn rows_or_want_of_memory(rt: HostRuntime) {
     assert_eq!(rt; requests, Some(3));
 }
 
-/// Tests whether the report of two objects is written right on `heap`.
+/// Tests whether `report`, that of two objects, is written right on `heap`, or whether nothing is written and no write
+/// fails after `heap` refused an allocation.
 fn writes_over(alloc: Global, heap: &LimitedHeap<Global>, report: &Report<Global>) -> bool {
     let mut writer = Counted::new(Vec::new(alloc));
     let outcome = write_report(heap, report, &mut writer);
@@ -107,8 +109,8 @@ fn writes_over(alloc: Global, heap: &LimitedHeap<Global>, report: &Report<Global
     told_none && right
 }
 
-/// Returns the number of allocations that it takes to write the report of two objects, if each result is right while
-/// they fail in turn.
+/// Fails in turn each allocation that it takes to write the report of two objects. Returns the number of allocations,
+/// or `None` if a result is wrong.
 fn written_in_turn(alloc: Global) -> Option<u64> {
     match two_objects(alloc) {
         Ok(report) => requests_of(alloc, |heap| writes_over(alloc, heap, &report)),
@@ -122,7 +124,8 @@ fn want_of_memory_writes_nothing(rt: HostRuntime) {
     assert!(rt; requests.is_some_and(|requests| requests > 0));
 }
 
-/// Tests whether `bytes` are read right on `heap`, if `expected` bytes are expected.
+/// Tests whether `bytes` are read right on `heap`, up to `limit`, if `expected` bytes are expected, or whether memory
+/// ran out after `heap` refused an allocation.
 fn reads_over(heap: &LimitedHeap<Global>, bytes: &[u8], expected: usize, limit: usize) -> bool {
     let mut reader = Counted::of_size(bytes, expected);
     let outcome = reader.read_to_limit(heap, limit);
@@ -154,7 +157,7 @@ fn reads_in_turn(alloc: Global, bytes: &[u8], case: Case) -> bool {
     requests_of(alloc, |heap| reads_over(heap, bytes, expected, limit)) == Some(requests)
 }
 
-/// Tests the same for the block.
+/// Like [`reads_in_turn`], for a block of 600,000 bytes.
 fn reads_block_in_turn(alloc: Global, case: Case) -> bool {
     match vec![in alloc; 7u8; 600_000] {
         Ok(block) => reads_in_turn(alloc, block.as_slice(), case),
@@ -172,7 +175,8 @@ fn want_of_memory_is_no_read_fault(rt: HostRuntime) {
     }
 }
 
-/// Tests whether a write on `heap`, which grants nothing, fails and is counted once, and nothing else takes memory.
+/// Writes to a vector on `heap`, which grants no allocation. Tests whether the write fails and is counted once, and
+/// whether nothing else asks for memory.
 fn counts_over(heap: &LimitedHeap<Global>) -> bool {
     let mut writer = Counted::new(Vec::<u8, _>::new(heap));
     let before = (writer.failures(), heap.refusals());

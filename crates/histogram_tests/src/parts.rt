@@ -31,8 +31,8 @@ const TEAMS: [(u32, u32); 8] = [
     (4, 37),
 ];
 
-/// 65 objects are marked, so 36 are not: 64 to 69, and 71 to 100. The even instances hold an identifier that names
-/// nothing.
+/// 65 objects are marked, so 36 are not: the instances 64 to 69, and 71 to 100. Each instance with an even number holds
+/// an identifier that names no object.
 const REPORT: &str = "        64             256  A
          1               0  <class>
         65             256  (reachable)
@@ -40,7 +40,8 @@ const REPORT: &str = "        64             256  A
         50               0  (unresolved)
 ";
 
-/// Tests whether `instance` is a root. The class and the roots are all objects of two words of marks, and one more.
+/// Tests whether `instance` is a root. The class and the roots are objects 0 to 63, whose marks fill two words, and
+/// object 70.
 fn is_root(instance: u64) -> bool {
     instance < 64 || instance == 70
 }
@@ -72,7 +73,7 @@ fn dump(alloc: Global) -> Result<Bytes, AllocError> {
     Ok(file)
 }
 
-/// Tests whether the rows are right with `team` and on `heap`.
+/// Tests whether `team` makes the right rows on `heap`.
 fn rows_of_team<T: Threads + Sync, A: Allocator + Copy>(
     team: &Team<'_, T>,
     alloc: Global,
@@ -108,7 +109,7 @@ fn refused_to_team<T: Threads + Sync>(
 /// For each team, whether the rows are right, and how many of its allocations fail.
 type Answers = Vec<(bool, Option<u64>)>;
 
-/// Returns what the teams do on `graph`.
+/// Returns the answers of all `TEAMS` for `graph`, or no answer if `graph` is not marked.
 fn answers_of_graph<T: Threads + Wait + Sync>(
     rt: &T,
     alloc: Global,
@@ -131,7 +132,7 @@ fn answers_of_graph<T: Threads + Wait + Sync>(
     Ok(answers)
 }
 
-/// Returns what the teams do on the dump.
+/// Like [`answers_of_graph`], for the graph of the dump.
 fn answers<T: Threads + Wait + Sync>(rt: &T, alloc: Global) -> Result<Answers, AllocError> {
     let file = dump(alloc)?;
     let bytes = file.bytes.as_slice();
@@ -149,7 +150,7 @@ fn answers<T: Threads + Wait + Sync>(rt: &T, alloc: Global) -> Result<Answers, A
 #[test]
 fn counts_in_parts(rt: HostRuntime) -> Result<(), Fail> {
     let answers = answers(&rt, rt.alloc())?;
-    // One thread takes no memory, nor do several if there are too few objects.
+    // To count, a team of one thread takes no memory, nor does any team if there are too few objects.
     let wanted = [0, 1, 1, 1, 1, 1, 1, 0].map(|refused| (true, Some(refused)));
     assert_eq!(rt; answers.as_slice(), wanted.as_slice());
     Ok(())

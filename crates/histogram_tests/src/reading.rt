@@ -8,7 +8,8 @@ use std::io::Read;
 /// The kinds of fault after which a caller might be tempted to try again.
 const KINDS: [io::ErrorKind; 2] = [io::ErrorKind::Interrupted, io::ErrorKind::WouldBlock];
 
-/// A reader that gives one byte a call, and fails at the call `fails_at` with the fault `kind`.
+/// A reader that gives one of `bytes` a call, and none at their end. Call number `fails_at` fails with a fault of the
+/// kind `kind`.
 #[derive(Drop)]
 struct Drip<'a> {
     bytes: &'a [u8],
@@ -79,7 +80,8 @@ fn reads(alloc: Global, limit: usize, want: &str) -> bool {
     }
 }
 
-/// A reader of `left` bytes that counts its calls. Each read takes as many bytes as the buffer has room for.
+/// A reader of `left` bytes that counts its calls. Each read gives as many bytes as the buffer has room for, or all
+/// that are left.
 #[derive(Drop)]
 struct Block {
     left: usize,
@@ -95,7 +97,8 @@ impl Read for Block {
     }
 }
 
-/// Returns how many of `length` bytes are read, and with how many calls, if `expected` bytes are expected.
+/// Reads a block of `length` bytes, of which `expected` are expected. Returns how many bytes are read, and with how
+/// many calls.
 fn read_block(
     alloc: Global,
     length: usize,
@@ -112,7 +115,7 @@ fn read_block(
     (outcome, reader.into_inner().calls)
 }
 
-/// One read takes 262,144 bytes at most, and the last one finds the end.
+/// One read takes 262,144 bytes at most, and the last read finds the end.
 #[test]
 fn a_large_file_takes_few_reads(rt: HostRuntime) {
     for (length, calls) in [(0usize, 1), (262_144, 2), (600_000, 4), (2_621_440, 11)] {
@@ -130,8 +133,8 @@ fn reads_to_the_end_or_the_limit(rt: HostRuntime) {
     }
 }
 
-/// Returns the result of a read that fails at the call `fails_at`: how many bytes are read or why none are, how many
-/// calls failed, and how many there were.
+/// Reads from a reader that fails at the call `fails_at`. Returns how many bytes are read, or the refusal; how many
+/// calls failed; and how many calls there were.
 fn read_failing(
     alloc: Global,
     fails_at: u32,

@@ -50,7 +50,7 @@ pub fn two_objects(alloc: Global) -> Result<Report<Global>, AllocError> {
     })
 }
 
-/// Tests whether `report` is written as `text`, and no call failed. No allocation is refused.
+/// Tests whether `report` is written as `text`, and no call failed. Returns `false` also if an allocation fails.
 pub fn writes<A: Allocator>(alloc: Global, report: &Report<A>, text: &str) -> bool {
     let mut writer = Counted::new(Vec::new(alloc));
     let is_whole = write_report(alloc, report, &mut writer).is_ok() && writer.failures() == 0;

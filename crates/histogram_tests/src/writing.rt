@@ -6,8 +6,8 @@ use std::alloc::Global;
 use std::io;
 use std::io::Write;
 
-/// A writer that takes ten bytes a call, and at the call `trouble_at` fails with `fault`, or takes nothing if there is
-/// none.
+/// A writer that takes up to ten bytes a write. Writes and flushes are counted together: call number `trouble_at` fails
+/// with `fault`. If `fault` is `None`, that call takes nothing if it is a write, and succeeds if it is a flush.
 #[derive(Drop)]
 struct Trickle {
     taken: Vec<u8>,
@@ -64,8 +64,8 @@ fn writes_the_worked_reports(rt: HostRuntime) {
     assert!(rt; writes_two_objects(rt.alloc()));
 }
 
-/// Tests whether the report of no object is refused if the writer fails at the call `trouble_at`: it counts one
-/// failure, is not called again, and has taken the first `length` bytes.
+/// Writes the report of no object to a [`Trickle`]. Tests whether the report is refused, one failure is counted, and
+/// the writer is not called after call `trouble_at` and has taken just the first `length` bytes.
 fn leaves_beginning(
     alloc: Global,
     trouble_at: u32,

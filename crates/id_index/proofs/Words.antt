@@ -1,4 +1,4 @@
--- The words and the lemmas of std, and the words of specs/, that the proofs use, in one place.
+-- The definitions and lemmas of std, and the definitions of specs/, that the proofs use, in one place.
 pub use Rattle.std.proofs.Common.{Bool, Contains, IsPermutation, IsSorted, List, None, Option, Some, [], ap, arith}
 pub use Rattle.std.proofs.Common.{false, get_or, inl, inr, length, length-append, map, max, min, position, refl}
 pub use Rattle.std.proofs.Common.{slice_get, slice_index, subst, suc, sym, take, true, zero, ℕ, ◌%◌, ◌*◌, ◌++◌, ◌+◌}

@@ -1,4 +1,4 @@
--- Words that only private clauses use.
+-- Definitions that only private clauses use.
 pub mod Runs
 pub mod Beginnings
 pub mod Building

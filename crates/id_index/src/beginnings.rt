@@ -7,21 +7,22 @@ ghost use Rattle.id_index.specs.working.Runs.{DoPagesRise, IsNoPage, page_in};
 use crate::runs::Run;
 use std::alloc::{AllocError, Allocator};
 
-/// The beginnings of buckets in ascending runs. The bucket of a page is its distance from the least page without the
-/// lowest `shift` bits.
+/// The beginnings of buckets in ascending runs. The bucket of a page is the page's distance from the least page,
+/// shifted right by `shift`.
 #[derive(Drop)]
 pub(crate) struct Beginnings<A: Allocator> {
+    /// The least page, or 0 if there is no run.
     pub(crate) least: u64,
     /// The distance of the greatest page from the least one.
     pub(crate) span: u64,
     pub(crate) shift: u32,
-    /// A word whose lowest `shift` bits are set: a guess takes these bits of a distance.
+    /// A word in which only the lowest `shift` bits are set: a guess takes these bits of a distance.
     pub(crate) mask: u64,
-    /// The index of the first run of each bucket, and after the last one the number of runs.
+    /// For each bucket the index of the first run that is not in a bucket before it, and at the end the number of runs.
     pub(crate) starts: Vec<u32, A>,
 }
 
-/// Returns the least number of lowest bits without which the numbers up to `span` are below `buckets`.
+/// Returns the least number of bits by which `span` has to be shifted right to be below `buckets`.
 fn shift_for(span: u64, buckets: u64) -> u32
     requires { 2 ≤ buckets }
     ensures within { result < 64 }
@@ -36,7 +37,7 @@ fn shift_for(span: u64, buckets: u64) -> u32
     63
 }
 
-/// Returns the least and the greatest page of ascending runs, 0 if there is no run.
+/// Returns the least and the greatest page of ascending runs, or 0 for both if there is no run.
 fn ends_of(runs: &[Run]) -> (u64, u64)
     requires { DoPagesRise runs.now }
     ensures order { result.0 ≤ result.1 }
@@ -49,7 +50,8 @@ fn ends_of(runs: &[Run]) -> (u64, u64)
     }
 }
 
-/// Returns the index of the first run from `from` on that is not in a bucket before `bucket`.
+/// Returns the index of the first run that is not in a bucket before `bucket`, or the number of runs if there is none.
+/// No run before index `from` is such a run.
 fn start_of(runs: &[Run], least: u64, shift: u32, from: usize, bucket: u64) -> usize
     requires rise { DoPagesRise runs.now }
     requires low { (k : ℕ) → k < length runs.now → least ≤ page_in runs.now k }
@@ -92,7 +94,8 @@ impl<A: Allocator> Beginnings<A> {
         })
     }
 
-    /// Returns where the runs of the bucket of `page` begin and end. Returns `None` if no run is of that page.
+    /// Returns where the runs of the bucket of `page` begin and end. Returns `None` if `page` is below the least page
+    /// or above the greatest: then no run is of `page`.
     // Inlined, as `guess` is: each look-up takes the two numbers, which a call would return through memory.
     #[inline(always)]
     pub(crate) fn around(&self, runs: &[Run], page: u64) -> Option<(usize, usize)>
@@ -112,9 +115,9 @@ impl<A: Allocator> Beginnings<A> {
         ))
     }
 
-    /// Guesses the index of the first run of `page` among those of its bucket, from `begin` up to `end`, as if their
-    /// pages were evenly spread over the bucket. The guess may be any index if the product wraps: only time rests on
-    /// it.
+    /// Guesses the index of the first run of `page`. The runs of its bucket are those from index `begin` up to `end`:
+    /// the guess takes their pages as evenly spread over the bucket. If the product wraps, the guess may be any index.
+    /// Only time rests on a guess.
     // Inlined, as `around` is.
     #[inline(always)]
     pub(crate) fn guess(&self, page: u64, begin: usize, end: usize) -> usize

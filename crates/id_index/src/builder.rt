@@ -1,4 +1,4 @@
-//! The builder of runs, to which objects are added one after the other, and which makes an index of them.
+//! The builder that makes runs of objects, which are added one after the other, and an index of these runs.
 
 ghost use Rattle.std.specs.Prelude.{IfOk, OnErr, [], length, map, ◌++◌, ◌+◌, ◌<◌, ◌∷◌, ◌^◌, ◌≡◌, ℕ};
 ghost use Rattle.id_index.specs.working.Building.{raised_by, with_last};
@@ -18,8 +18,8 @@ use std::marker::Model;
 pub(crate) struct RunIndexBuilder<A: Allocator> {
     /// The runs but for the one in `last`, in the order of the file.
     runs: Vec<Run, A>,
-    /// The last run, which the next object may join. There is none before the first object, and none after the objects
-    /// of another builder were appended.
+    /// The last run, which the next object may join. `None` before the first object, and directly after the objects of
+    /// another builder were appended.
     last: Option<Run>,
     /// The number of objects.
     count: u32,
@@ -36,7 +36,7 @@ impl<A: Allocator> Model for RunIndexBuilder<A> {
     ghost invariant = { λ b. AreFewBuilt b.runs.items b.last (ids_built b.runs.items b.last b.count) b.count };
 }
 
-/// Pushes the last run, if there is one. `AllocError` if the allocation fails.
+/// Pushes the run in `last`, if there is one, onto `runs`. `AllocError` if the allocation fails.
 fn close<A: Allocator>(runs: &mut Vec<Run, A>, last: Option<Run>) -> Result<(), AllocError>
     ensures runs { IfOk result (λ _. runs.new.items ≡ with_last runs.old.items last) }
     ensures err { OnErr result (runs.new.items ≡ runs.old.items) }
@@ -47,7 +47,8 @@ fn close<A: Allocator>(runs: &mut Vec<Run, A>, last: Option<Run>) -> Result<(), 
     Ok(())
 }
 
-/// Pushes the runs of `more` with the numbers of their objects raised by `by`. `AllocError` if the allocation fails.
+/// Pushes the runs of `more` onto `runs`, with the numbers of their objects raised by `by`. `AllocError` if the
+/// allocation fails.
 fn push_raised<A: Allocator>(
     runs: &mut Vec<Run, A>,
     more: &[Run],
@@ -80,7 +81,7 @@ impl<A: Allocator> RunIndexBuilder<A> {
         }
     }
 
-    /// Adds the next object. `AllocError` if an allocation fails.
+    /// Adds the next object, which has the identifier `id`. `AllocError` if an allocation fails.
     pub(crate) fn push(&mut self, id: u64) -> Result<(), AllocError>
         requires { length self.old + 1 < 2 ^ 32 }
         ensures { IfOk result (λ _. self.new ≡ self.old ++ id ∷ []) }

@@ -8,9 +8,9 @@ use crate::pair_builder::PairIndexBuilder;
 use std::alloc::{AllocError, Allocator};
 use std::marker::Model;
 
-/// The identifiers of objects in the order of the file, which agree in their lowest bits: an index by pairs is made of
-/// them. Each identifier is given twice: all are noted in an [`IdPlaces`], and then all are pushed.
-// The identifiers are in the file already: read twice they need no list beside the pairs.
+/// The identifiers of objects in the order of the file. All agree in their lowest bits, and an index by pairs is made
+/// of them. A caller first notes the places of all of them in an [`IdPlaces`], and then pushes each.
+// The identifiers are in the file already: a caller reads them there twice, so that no list of them takes memory.
 #[derive(Drop)]
 pub struct IdPairsBuilder<A: Allocator> {
     pairs: PairIndexBuilder<A>,
@@ -36,8 +36,8 @@ impl<A: Allocator> Model for IdPairsBuilder<A> {
 }
 
 impl<A: Allocator> IdPairsBuilder<A> {
-    /// Creates a builder for the objects whose places `noted` has and whose identifiers have the lowest bits `bits`,
-    /// without an object. `AllocError` if an allocation fails.
+    /// Creates a builder without an object, for the objects whose places are noted in `noted`. Their identifiers have
+    /// the lowest bits `bits`, with which `noted` was made. `AllocError` if an allocation fails.
     pub fn new(alloc: A, bits: LowBits, noted: IdPlaces<A>) -> Result<Self, AllocError>
         requires shifted { bits.shift < 64 }
         requires low { bits.low < 2 ^ bits.shift }
@@ -54,8 +54,9 @@ impl<A: Allocator> IdPairsBuilder<A> {
         id % (1 << self.bits.shift) == self.bits.low
     }
 
-    /// Adds the next object. Returns `false` if `id` was not noted or an earlier object bears it; what the builder has
-    /// then is not said.
+    /// Adds the next object, which has the identifier `id`. Returns `false` if an earlier object bears `id`, and may
+    /// return `false` if some identifier was not noted, or two are 2^32 places or more apart. No clause says what the
+    /// builder has after `false`.
     pub fn push(&mut self, id: u64) -> bool
         requires { id % 2 ^ self.old.shift ≡ self.old.low }
         ensures ids { IsTrue result → self.new.ids ≡ self.old.ids ++ id ∷ [] }
@@ -65,7 +66,8 @@ impl<A: Allocator> IdPairsBuilder<A> {
         self.pairs.push(id >> self.bits.shift)
     }
 
-    /// Returns the index of these objects, if all that were noted have been added.
+    /// Returns the index of the added objects. Returns `None` if they are fewer than the objects of the [`IdPlaces`],
+    /// or if their pairs do not ascend strictly, as can be only if some identifier was not noted.
     pub fn finish(self) -> Option<IdIndex<A>>
         ensures { IfSome result (λ index. index ≡ self.ids) }
     {

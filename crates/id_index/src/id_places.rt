@@ -1,4 +1,4 @@
-//! The places that identifiers take: what is noted of objects in no order before their pairs are placed.
+//! The places that the identifiers of objects in no order take. They are noted before the pairs are placed.
 
 ghost use Rattle.std.specs.Prelude.{IfOk, ◌*◌, ◌<◌, ◌^◌, ◌≡◌, ℕ};
 
@@ -11,11 +11,11 @@ use std::marker::Model;
 use std::thread;
 use std::thread::Threads;
 
-/// The most pages that pairs may span: these have 2^32 places, as many as `Pair::at` counts.
+/// The most pages that pairs may span. They have 2^32 places, one for each value of `Pair::at`.
 const MOST_PAGES: u64 = 1 << 26;
 
-/// The part of the pages between two identifiers that is added on either side: a sixteenth. So the ends of a sample
-/// serve for all identifiers of most heaps.
+/// For every `MARGIN` pages from the least identifier to the greatest, one page is added on either side. With the added
+/// pages, the ends of a sample serve for all identifiers of most heaps.
 const MARGIN: usize = 16;
 
 /// A page on which no place is taken.
@@ -34,17 +34,18 @@ pub fn are_close(bits: LowBits, least: u64, greatest: u64, count: u32) -> bool
     requires { bits.shift < 64 }
 {
     let (first, last) = (page_of(bits, least), page_of(bits, greatest));
-    // With two objects on a page, an object takes 14 bytes: 8 of its pair and 6 of the page.
+    // With two objects a page on average, an object takes 14 bytes: the 8 of its pair and half the 12 of a page.
     first <= last && last - first < MOST_PAGES.min(u64::from(count) / 2)
 }
 
-/// Takes the places on `page` that are taken on `more`.
+/// Notes in `page` the places that are noted in `more`.
 fn join_page(page: &mut Pair, more: Pair) {
     page.at |= more.at;
     page.number |= more.number;
 }
 
-/// Returns the pages from the first to the last one on which a place is taken, and the number of pages before them.
+/// Returns how many of `pages` come before the first one on which a place is taken, and the pages from that one to the
+/// last one on which a place is taken. If no place is taken, returns the number of `pages`, and no page.
 fn trimmed(pages: &[Pair]) -> (usize, &[Pair]) {
     let mut begin = 0;
     while begin < pages.len() && pages[begin].at == 0 && pages[begin].number == 0 {
@@ -57,17 +58,17 @@ fn trimmed(pages: &[Pair]) -> (usize, &[Pair]) {
     (begin, &pages[begin..end])
 }
 
-/// How the places of identifiers are counted.
+/// How the place of an identifier follows from the identifier.
 #[derive(Clone, Copy)]
 struct Numbering {
-    /// The identifier of the first place, without its lowest bits.
+    /// The identifier of the first place of the first page, shifted right by `shift`.
     lowest: u64,
-    /// The number of lowest bits that are left out.
+    /// The number of lowest bits that are shifted out of an identifier.
     shift: u32,
 }
 
 impl Numbering {
-    /// Takes the place of `id` in `pages`. An identifier that has no place there is ignored.
+    /// Notes in `pages` the place of `id`. Ignores an `id` that has no place there.
     fn note(self, pages: &mut [Pair], id: u64) {
         let at = id.wrapping_shr(self.shift).wrapping_sub(self.lowest);
         if at / PLACES < pages.len() as u64 {
@@ -80,7 +81,8 @@ impl Numbering {
         }
     }
 
-    /// Takes the places of the objects from number `start` up to `end` in `pages`. `id_of` returns their identifiers.
+    /// Notes in `pages` the places of the objects whose numbers are at least `start` and below `end`. `id_of` returns
+    /// the identifier of an object by its number.
     fn note_part<F: Fn(usize) -> u64>(self, pages: &mut [Pair], start: usize, end: usize, id_of: &F)
         requires { (n : ℕ) → n < end → F.pre id_of.now n }
     {
@@ -90,19 +92,20 @@ impl Numbering {
     }
 }
 
-/// The pages around the identifiers of objects, with a bit for each place: whether an object has its identifier there.
-/// To a contract it is the number of objects.
-// No clause says which bits are set: an index is not believed because of them. Each part of the objects has bits of its
-// own, so that threads can set them at once. The bits of a page take as much as a pair, and are where pairs will be
-// afterwards: in `at` are those of the first 32 places, in `number` the others.
+/// The pages around the identifiers of objects, with a bit for each place: it is set if an object's identifier is noted
+/// there. To a contract an `IdPlaces` is the number of objects.
+// No clause says which bits are set. The bits only say where pairs are placed, and all pairs are tested afterwards.
+// Each part of the objects has pages of its own, so that threads can note several parts at the same time. The bits of a
+// page are kept in a `Pair`: those of the first 32 places in `at`, the others in `number`. The pairs later take the
+// same memory.
 #[derive(Drop)]
 pub struct IdPlaces<A: Allocator> {
     numbering: Numbering,
     /// The number of objects.
     pub(crate) count: u32,
-    /// The number of pages.
+    /// The number of pages of each part.
     span: usize,
-    /// The pages of the first part, then those of the next part, and so on. There is room for a pair of each object.
+    /// The pages of the first part, then those of the next part, and so on. There is room for a pair for each object.
     pub(crate) pages: Vec<Pair, A>,
 }
 
@@ -117,8 +120,9 @@ impl<A: Allocator> Model for IdPlaces<A> {
 }
 
 impl<A: Allocator> IdPlaces<A> {
-    /// Creates the pages for `count` objects, in at most `parts` parts, without a place that is taken. The identifiers
-    /// are between `least` and `greatest`, or not far outside. `AllocError` if the allocation fails.
+    /// Creates pages for `count` objects, on which no place is taken: those from `least` to `greatest`, and on either
+    /// side a sixteenth as many. There are at most `parts` parts, but at least one. `AllocError` if an allocation
+    /// fails.
     pub fn new(
         alloc: A,
         bits: LowBits,
@@ -134,7 +138,7 @@ impl<A: Allocator> IdPlaces<A> {
         let inner = page_of(bits, greatest).saturating_sub(first) as usize + 1;
         let margin = inner / MARGIN;
         let span = inner + 2 * margin;
-        // All parts together take no more than the pairs will.
+        // If there are several parts, they take no more memory than the pairs will.
         let parts = parts.min(count as usize / span).max(1);
         let mut pages = Vec::with_capacity(alloc, count as usize)?;
         pages.resize(span.saturating_mul(parts), EMPTY)?;
@@ -149,8 +153,8 @@ impl<A: Allocator> IdPlaces<A> {
         })
     }
 
-    /// Takes the places of all objects, whose identifiers `id_of` returns. The parts are noted at once, as far as
-    /// threads can be started.
+    /// Notes the places of all objects. `id_of` returns the identifier of an object by its number; one that is on none
+    /// of the pages is ignored. The parts are noted at the same time, as far as `rt` can start threads.
     pub fn note_all<T: Threads + Sync, F: Fn(usize) -> u64 + Sync>(&mut self, rt: &T, id_of: &F)
         requires { (n : ℕ) → n < self.old → F.pre id_of.now n }
         ensures { self.new ≡ self.old }
@@ -167,7 +171,7 @@ impl<A: Allocator> IdPlaces<A> {
         thread::for_each_chunk_mut(rt, self.pages.as_mut_slice(), span, &note);
     }
 
-    /// Takes the places of all parts in the first part.
+    /// Notes in the first part the places that are noted in the others.
     fn join(&mut self)
         ensures { self.new ≡ self.old }
     {
@@ -180,8 +184,9 @@ impl<A: Allocator> IdPlaces<A> {
         }
     }
 
-    /// Returns the words of the pages from the first to the last one on which a place is taken, and the identifier of
-    /// the first place there without its lowest bits. `AllocError` if the allocation fails.
+    /// Returns the identifier, without its lowest bits, at which the first page with a taken place begins, and the page
+    /// words from that page to the last page with a taken place. If no place is taken, the page words have no page.
+    /// `AllocError` if the allocation fails.
     pub(crate) fn words<B: Allocator>(
         &mut self,
         alloc: B,

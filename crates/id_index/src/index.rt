@@ -1,6 +1,6 @@
 //! The index of objects by their identifiers, which agree in their lowest bits, and its builder for objects that are
-//! mostly in order. Runs and pairs are made of what is above those bits, so that the pages of objects at multiples of
-//! eight are dense.
+//! mostly in order. Runs and pairs are made of the bits above those, so that the pages of objects at multiples of eight
+//! are dense.
 
 ghost use Rattle.std.specs.Prelude.{Contains, IfOk, IsTrue, [], length, position, take};
 ghost use Rattle.std.specs.Prelude.{◌==◌, ◌≡◌, ◌↔◌, ◌%◌, ◌+◌, ◌++◌, ◌∷◌, ◌<◌, ◌^◌};
@@ -37,7 +37,7 @@ pub(crate) enum Form<A: Allocator> {
 pub struct IdIndex<A: Allocator> {
     form: Form<A>,
     bits: LowBits,
-    /// The lowest `bits.shift` bits, set: made once, not for each look-up.
+    /// A word in which only the lowest `bits.shift` bits are set. It is made once, not for each look-up.
     mask: u64,
 }
 
@@ -60,7 +60,8 @@ impl<A: Allocator> Model for IdIndex<A> {
 impl<A: Allocator> IdIndex<A> {
     ghost use Rattle.id_index.specs.Forms.{ids_held};
 
-    /// Creates the index of objects whose identifiers have the lowest bits `bits`, by what is above those.
+    /// Creates the index of the objects in `form`, whose identifiers have the lowest bits `bits`. `form` has the bits
+    /// above those.
     pub(crate) fn of(form: Form<A>, bits: LowBits) -> Self
         requires shifted { bits.shift < 64 }
         requires low { bits.low < 2 ^ bits.shift }
@@ -73,7 +74,7 @@ impl<A: Allocator> IdIndex<A> {
         }
     }
 
-    /// Returns the number of the object that `id` names, if an object bears it.
+    /// Returns the number of the first object that bears `id`, or `None` if no object does.
     // Inlined into a worker's loop, which looks up each reference that is not 0.
     #[inline(always)]
     pub fn find(&self, id: u64) -> Option<u32>
@@ -152,7 +153,7 @@ impl<A: Allocator> Model for IdIndexBuilder<A> {
 }
 
 impl<A: Allocator> IdIndexBuilder<A> {
-    /// Creates a builder without an object, for identifiers with the lowest bits `bits`. It takes no memory yet.
+    /// Creates a builder without an object, for identifiers with the lowest bits `bits`. Allocates nothing.
     pub fn new(alloc: A, bits: LowBits) -> Self
         requires shifted { bits.shift < 64 }
         requires low { bits.low < 2 ^ bits.shift }
@@ -173,8 +174,8 @@ impl<A: Allocator> IdIndexBuilder<A> {
         id % (1 << self.bits.shift) == self.bits.low
     }
 
-    /// Adds the next object. Allocates only if the object begins a run. `AllocError` if an allocation fails; no clause
-    /// says what the builder has then.
+    /// Adds the next object, which has the identifier `id`. Allocates only if the object begins a run. `AllocError` if
+    /// an allocation fails; no clause says what the builder has then.
     pub fn push(&mut self, id: u64) -> Result<(), AllocError>
         requires fits { id % 2 ^ self.old.shift ≡ self.old.low }
         requires few { length self.old.ids + 1 < 2 ^ 32 }

@@ -1,21 +1,26 @@
 //! An index from the identifiers of objects to their numbers, for the objects of a heap dump in the order of the file.
 //!
-//! A page is 64 identifiers, those with one quotient by 64, and each of them has its place in it, from 0 to 63. A run
-//! is a stretch of neighbouring objects of one page whose numbers follow one another: its page, the number of its first
-//! object, and a word with a bit for each place where it has an object. So an object's number is that of the run's
-//! first one plus the number of bits that are set below its place.
+//! A page is the 64 identifiers that have the same quotient by 64; the remainder, from 0 to 63, is an identifier's
+//! place in the page. A run is a stretch of neighbouring objects of one page whose numbers follow one another. It has
+//! its page, the number of its first object, and a word with a bit for each place, set if the run has an object there.
+//! So an object's number is that of the run's first object plus the number of bits that are set below the object's
+//! place.
 //!
-//! Objects that are in no order are given apart: their index is a vector of pairs of identifier and number, ordered by
-//! identifier and searched by halving. Words with a bit for each place of a page guess where a pair is.
+//! Objects in no order have an index of another form: a vector of pairs of identifier and number, ordered by identifier
+//! and searched by halving. Words with a bit for each place of a page guess where a pair is.
 //!
 //! `index` has the index and the builder for objects that are mostly in order, `id_pairs` the builder for the others.
-//! Both leave out the lowest bits, in which all identifiers agree. `builder` makes the runs one object after the other.
-//! Then they are sorted (`sorting`), the first identifier that repeats is looked for (`repeats`), and the runs that say
-//! something new are told from the others (`settling`): a `run_index`. A look-up goes through a table of where pages
-//! begin (`beginnings`) to the first run of a page (`pages`), and over the runs of that page (`look_up`). The search of
-//! the first run looks at a bounded number of runs (`looks`). `id_places` notes which places
-//! have an object, `page_words` counts them, and `pair_builder` places pairs where these words guess them and makes a
-//! `pairs` index of them if all were right.
+//! Both shift the lowest bits out, in which all identifiers agree.
+//!
+//! Runs: `builder` makes them, one object after the other, and `sorting` sorts them. `repeats` looks for the first
+//! object whose identifier an earlier one bears. `settling` moves the runs to the front that have a place which no
+//! earlier run of their page has: a `run_index` searches only those. A look-up goes through a table of where pages
+//! begin (`beginnings`) to the first run of a page (`pages`), and over the runs of that page (`look_up`). The search
+//! for the first run looks at a bounded number of runs (`looks`).
+//!
+//! Pairs: `id_places` notes which places have an object, in the memory that the pairs take later. `page_words` has the
+//! pages from the first to the last one with an object, and counts the objects before each. `pair_builder` places pairs
+//! where the page words guess them, and makes a `pairs` index if no pair is missing and all ascend.
 #![tactic(auto)]
 
 mod beginnings;

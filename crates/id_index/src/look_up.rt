@@ -11,10 +11,10 @@ use crate::pages::first_from;
 use crate::runs::{PLACES, Run};
 use std::alloc::Allocator;
 
-/// The most runs of one page: each has a place that none before it has.
+/// The most runs of one page: each has an object at a place where no earlier run of the page has one.
 const MANY_RUNS: usize = 64;
 
-/// Returns the number of the object at place `place` of `run`, if the run has one there.
+/// Returns the number of the object that `run` has at place `place`, or `None` if it has no object there.
 // Inlined, as the look-up is.
 #[inline(always)]
 fn number_at_place(run: Run, place: u32) -> Option<u32>
@@ -31,7 +31,8 @@ fn number_at_place(run: Run, place: u32) -> Option<u32>
     Some(run.first + (up_to.count_ones() - 1))
 }
 
-/// Returns the number of the object that bears `id`, if the run at index `at` has it and is the first of its page.
+/// Returns the number of the object that bears `id`, if the run at index `at` has that object and is the first run of
+/// its page. Returns `None` otherwise.
 // Inlined, as the look-up is.
 #[inline(always)]
 fn number_at(runs: &[Run], at: usize, id: u64) -> Option<u32>
@@ -49,8 +50,8 @@ fn number_at(runs: &[Run], at: usize, id: u64) -> Option<u32>
     number_at_place(runs[at], (id % PLACES) as u32)
 }
 
-/// Returns the number of the object that bears `id` in the first run that has it. `from` is the index of the first run
-/// of its page.
+/// Returns the number of the object that bears `id` in the first run with such an object, or `None` if there is no such
+/// run. `from` is the index of the first run whose page is not below that of `id`.
 fn number_from(runs: &[Run], from: usize, id: u64) -> Option<u32>
     requires runs { AreAscending runs.now }
     requires few { AreFewAPage runs.now }
@@ -71,8 +72,8 @@ fn number_from(runs: &[Run], from: usize, id: u64) -> Option<u32>
     None
 }
 
-/// Like [`first_bearer`], for an `id` that was not found at the guess `near`. The first run of the identifier's page is
-/// between `begin` and `end`.
+/// Like [`first_bearer`], for an `id` that was not found at the guess `near`. The first run whose page is not below
+/// that of `id` is at index `begin` or later, and at `end` or earlier.
 // Not inlined, so that nearly all look-ups are one straight line.
 #[inline(never)]
 fn search_runs(runs: &[Run], begin: usize, end: usize, near: usize, id: u64) -> Option<u32>
@@ -85,7 +86,8 @@ fn search_runs(runs: &[Run], begin: usize, end: usize, near: usize, id: u64) -> 
     number_from(runs, from, id)
 }
 
-/// Returns the number of the object that bears `id` in the first run that has it.
+/// Returns the number of the object that bears `id` in the first run with such an object, or `None` if there is no such
+/// run.
 // Inlined, as the `find` of an index is, which only forwards to this.
 #[inline(always)]
 pub(crate) fn first_bearer<A: Allocator>(
@@ -110,7 +112,8 @@ pub(crate) fn first_bearer<A: Allocator>(
     }
 }
 
-/// Tests whether the run that is guessed for `id` has it, so that [`first_bearer`] searches nothing.
+/// Tests whether the run that is guessed for `id` has an object that bears `id`, so that [`first_bearer`] does not
+/// search.
 pub(crate) fn is_guessed<A: Allocator>(runs: &[Run], beginnings: &Beginnings<A>, id: u64) -> bool
     requires runs { AreAscending runs.now }
     requires begun { AreBeginnings runs.now beginnings.now }

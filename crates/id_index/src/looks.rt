@@ -1,5 +1,5 @@
-//! Looks at runs, which a search counts. A search begins with a number of looks, and its proof fails if it could take
-//! more. No contract has this number, so no clause refuses a search that reads runs without a look.
+//! Looks at runs, which a search counts. A search begins with a number of looks, and its proof fails if the search
+//! could take more. No contract has this number, so no clause refuses a search that reads runs without a look.
 
 ghost use Rattle.std.specs.Prelude.{length, ◌+◌, ◌<◌, ◌≡◌};
 ghost use Rattle.id_index.specs.working.Runs.{page_in};

@@ -1,21 +1,22 @@
-//! The page words: a bit for each place that has an object, page by page. They guess where the pair of a place is.
+//! The page words: for each page a bit for each place, set if an object is there, and the number of objects on the
+//! pages before. They guess the index of the pair for a place.
 
 use crate::pairs::Pair;
 use crate::runs::{PLACES, rank_in};
 use std::alloc::{AllocError, Allocator};
 
-/// The places of a page that have objects.
-// Three words of 32 bits: with one of 64 a page took 16 bytes in place of 12.
+/// The word of one page.
+// Three words of 32 bits, 12 bytes: with a word of 64 bits for the places, a page would take 16.
 #[derive(Clone, Copy)]
 struct Page {
-    /// A bit for each place that has an object: of the first 32 places, and of the others.
+    /// A bit for each place, set if an object is there: the bits of the first 32 places, and those of the others.
     places: [u32; 2],
-    /// The number of objects on the pages before this one.
+    /// The number of places with an object on the pages before this one.
     begin: u32,
 }
 
 impl Page {
-    /// Returns the bits of all places.
+    /// Returns the bits of all 64 places as one word.
     // Inlined, as `guess` is.
     #[inline(always)]
     fn places(self) -> u64 {
@@ -23,16 +24,17 @@ impl Page {
     }
 }
 
-/// The pages from the least one to the greatest. No clause says what they have: nothing but time rests on a guess.
-// Bits and number of a page are beside each other, so that a look-up waits for memory once.
+/// The pages from the first to the last one on which an object is noted. No clause says which bits are set: nothing but
+/// time rests on a guess.
+// The bits and the number of a page are beside each other, so that a look-up waits for memory once.
 #[derive(Drop)]
 pub(crate) struct PageWords<A: Allocator> {
     pages: Vec<Page, A>,
 }
 
 impl<A: Allocator> PageWords<A> {
-    /// Creates the page words of `noted`, the bits of each page as [`IdPlaces`](crate::IdPlaces) has them. `AllocError`
-    /// if the allocation fails.
+    /// Creates the page words of the pages `noted`, whose bits are in pairs, as an [`IdPlaces`](crate::IdPlaces) has
+    /// them. `AllocError` if the allocation fails.
     pub(crate) fn of(alloc: A, noted: &[Pair]) -> Result<Self, AllocError> {
         let empty = Page {
             places: [0, 0],
@@ -48,7 +50,8 @@ impl<A: Allocator> PageWords<A> {
         Ok(PageWords { pages })
     }
 
-    /// Returns how many objects were noted before place `at`: the index of its pair, if each object was noted.
+    /// Returns how many places before place `at` have an object: the index of the pair of place `at`, if all objects
+    /// were noted. Returns `usize::MAX` if place `at` is on none of the pages.
     // Inlined, as the look-up is.
     #[inline(always)]
     pub(crate) fn guess(&self, at: u64) -> usize {

@@ -7,20 +7,23 @@ ghost use Rattle.id_index.specs.working.Runs.{DoPagesRise, IsFirstFrom};
 use crate::looks::Looks;
 use crate::runs::Run;
 
-/// The most runs that a search goes through from the guess on, one after the other.
+/// Among at most this many runs, a search goes from one run to the next, beginning at the guess.
 const MANY_RUNS: usize = 64;
 
-/// How far from the guess a run on either side is looked at, if there are more than `MANY_RUNS` runs.
+/// How far from the guess are the two runs, one on either side, that a search looks at first if there are more than
+/// `MANY_RUNS` runs.
 const REACH: usize = 32;
 
-/// The looks that narrow up to 2^64 runs to at most `MANY_RUNS`: two around a guess, and 58 that halve.
+/// The most looks that it takes to narrow up to 2^64 runs to at most `MANY_RUNS`: two around a guess, and 58 that
+/// halve.
 const NARROWING: usize = 60;
 
-/// The looks that go through `MANY_RUNS` runs, down and up.
+/// The most looks that it takes to go through `MANY_RUNS` runs, first down and then up.
 const WALKING: usize = 2 * MANY_RUNS;
 
-/// Narrows `low` and `high`, the ends between which the first run whose page is not below `page` is found. Looks at the
-/// run at index `at`, if that is between the ends, and returns the new ends.
+/// Narrows the ends `low` and `high` by a look at the run at index `at`, and returns them. The index of the first run
+/// whose page is not below `page` is at least `low` and at most `high`, before and after. Returns the ends unchanged,
+/// without a look, if `at` is below `low`, or not below `high`.
 fn after_look(
     looks: &mut Looks,
     runs: &[Run],
@@ -47,8 +50,9 @@ fn after_look(
     }
 }
 
-/// Narrows the runs between `begin` and `end` to at most `MANY_RUNS`, and returns the ends of those: around the guess
-/// `near` if it is good, and otherwise by halving. Takes at most `NARROWING` looks.
+/// Narrows the runs between `begin` and `end` to at most `MANY_RUNS`, and returns the ends of those. Looks on either
+/// side of the guess `near` first, which suffices if the guess is good, and halves what remains if it is not. Takes at
+/// most `NARROWING` looks.
 // Not inlined, so that a search of few runs has no locals for halving many.
 #[inline(never)]
 fn narrow(runs: &[Run], begin: usize, end: usize, near: usize, page: u64) -> (usize, usize)
@@ -69,9 +73,9 @@ fn narrow(runs: &[Run], begin: usize, end: usize, near: usize, page: u64) -> (us
     (low, high)
 }
 
-/// Returns the index of the first of ascending runs whose page is not below `page`. The index is between `begin` and
-/// `end`, or `end`, and is the same for any guess `near`; a good guess takes fewer looks. There are at most `WALKING`
-/// looks among few runs, and `NARROWING` more among many.
+/// Returns the index of the first of the ascending `runs` whose page is not below `page`. The index is at least `begin`
+/// and at most `end`, and is the same for any guess `near`; with a good guess the search takes fewer looks. It takes at
+/// most `WALKING` looks, and `NARROWING` more if there are more than `MANY_RUNS` runs between `begin` and `end`.
 pub(crate) fn first_from(runs: &[Run], begin: usize, end: usize, near: usize, page: u64) -> usize
     requires rise { DoPagesRise runs.now }
     requires around { IsAround runs.now page begin end }

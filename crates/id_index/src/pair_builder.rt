@@ -8,9 +8,10 @@ use crate::pairs::{Pair, PairIndex, UNSET, do_ascend};
 use std::alloc::{AllocError, Allocator};
 use std::marker::Model;
 
-/// The identifiers of objects in the order of the file, whose places were noted before. No two are the same.
-// A pair goes where the page words guess it, so that nothing is compared to order them. Whether all of them were right
-// is looked at when all are there.
+/// The identifiers of the added objects, in the order of the file. No two are the same. The places of all objects were
+/// noted before.
+// A pair goes where the page words guess it, so that no pairs are compared to order them. Whether all guesses were
+// right is tested when all pairs are set (`finish`).
 #[derive(Drop)]
 pub(crate) struct PairIndexBuilder<A: Allocator> {
     /// The identifier of the first place of the least page.
@@ -34,8 +35,8 @@ impl<A: Allocator> Model for PairIndexBuilder<A> {
 }
 
 impl<A: Allocator> PairIndexBuilder<A> {
-    /// Creates a builder for the objects whose places `noted` has, without an object. `AllocError` if the allocation of
-    /// the page words fails.
+    /// Creates a builder without an object, for the objects whose places are noted in `noted`. `AllocError` if the
+    /// allocation of the page words fails: the pairs take the memory of `noted`.
     pub(crate) fn new(alloc: A, mut noted: IdPlaces<A>) -> Result<Self, AllocError>
         ensures { IfOk result (λ b. b ≡ []) }
     {
@@ -56,8 +57,9 @@ impl<A: Allocator> PairIndexBuilder<A> {
         })
     }
 
-    /// Adds the next object. Returns `false` if it has no place of its own, since it was not noted or an earlier one
-    /// bears `id`.
+    /// Adds the next object, which has the identifier `id`. Returns `false` if `id` is before the first page or 2^32
+    /// places after its beginning, or if the pair at the guessed index is missing or set already. It is set already if
+    /// an earlier object bears `id`.
     pub(crate) fn push(&mut self, id: u64) -> bool
         ensures { IsTrue result → self.new ≡ self.old ++ id ∷ [] }
     {
@@ -77,7 +79,8 @@ impl<A: Allocator> PairIndexBuilder<A> {
         true
     }
 
-    /// Returns the index of these objects, if all were pushed and their pairs ascend.
+    /// Returns the index of the added objects. Returns `None` if a pair is not set, or if the pairs do not ascend
+    /// strictly.
     pub(crate) fn finish(self) -> Option<PairIndex<A>>
         ensures { IfSome result (λ index. index ≡ self) }
     {

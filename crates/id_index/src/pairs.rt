@@ -1,4 +1,4 @@
-//! Pairs of an object's identifier and its number, ordered by identifier and searched by halving.
+//! Pairs of an object's identifier and the object's number, ordered by identifier and searched by halving.
 
 ghost use Rattle.std.specs.Prelude.{IsTrue, MatchOption, length, position, ◌==◌, ◌≡◌, ◌≤◌, ℕ};
 ghost use Rattle.id_index.specs.working.Pairs.{AreSet, DoAscend, Names};
@@ -8,19 +8,20 @@ use crate::page_words::PageWords;
 use std::alloc::Allocator;
 use std::marker::Model;
 
-/// A number that no object has.
+/// The number in a pair that is not set: no object has this number.
 pub(crate) const UNSET: u32 = u32::MAX;
 
-/// An object's identifier and its number.
+/// An object's identifier and the object's number. While places are noted, a `Pair` has the bits of a page instead
+/// (`id_places`).
 #[derive(Clone, Copy)]
 pub(crate) struct Pair {
-    /// The identifier less the lowest one.
+    /// The identifier minus that of the first place of the least page.
     pub(crate) at: u32,
     pub(crate) number: u32,
 }
 
-/// The objects by all bits of their identifiers, of which no two are the same. A look-up first tries the pair that the
-/// page words guess.
+/// The objects by their identifiers, out of which the lowest bits are shifted. No two identifiers are the same. A
+/// look-up first tries the pair that the page words guess.
 #[derive(Drop)]
 pub(crate) struct PairIndex<A: Allocator> {
     /// The identifier of the first place of the least page.
@@ -60,7 +61,7 @@ pub(crate) fn do_ascend(pairs: &[Pair]) -> bool
     true
 }
 
-/// Returns the number that ascending `pairs` have for `id`, if one has it.
+/// Returns the number of the object that bears `id` in the ascending `pairs`, or `None` if no pair has `id`.
 // Not inlined, so that nearly all look-ups are one straight line.
 #[inline(never)]
 fn search_pairs(pairs: &[Pair], lowest: u64, id: u64) -> Option<u32>
@@ -75,7 +76,7 @@ fn search_pairs(pairs: &[Pair], lowest: u64, id: u64) -> Option<u32>
 }
 
 impl<A: Allocator> PairIndex<A> {
-    /// Returns the number of the object that `id` names, if an object bears it.
+    /// Returns the number of the object that bears `id`, or `None` if no object does.
     // Inlined, as the `find` of an index is, which forwards it.
     #[inline(always)]
     pub(crate) fn find(&self, id: u64) -> Option<u32>
@@ -92,7 +93,7 @@ impl<A: Allocator> PairIndex<A> {
         search_pairs(&self.pairs, self.lowest, id)
     }
 
-    /// Tests whether `find` searches nothing for `id`, since the guessed pair has it.
+    /// Tests whether the guessed pair has `id`, so that `find` does not search.
     pub(crate) fn is_guessed(&self, id: u64) -> bool {
         let at = id.wrapping_sub(self.lowest);
         let near = self.words.guess(at);

@@ -8,7 +8,7 @@ ghost use Rattle.id_index.specs.working.Settling.{AreSorted};
 use crate::runs::{Run, rank_in};
 use crate::settling::seen_of;
 
-/// Returns the least of `least` and the numbers of the objects of `run` in the places `before`.
+/// Returns the least of `least` and the numbers of the objects of `run` at places whose bits are set in `before`.
 fn lower_least(least: u32, run: Run, before: u64) -> u32
     requires { end_of run < 2 ^ 32 }
     ensures { IsLowered run before least result }

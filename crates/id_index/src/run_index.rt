@@ -9,13 +9,13 @@ use crate::runs::Run;
 use std::alloc::Allocator;
 use std::marker::Model;
 
-/// The objects by all bits of their identifiers.
+/// The objects by their identifiers, out of which the lowest bits are shifted.
 #[derive(Drop)]
 pub(crate) struct RunIndex<A: Allocator> {
-    /// The runs that say something new, in ascending order, and after them those that do not, since earlier runs of
-    /// their pages have all their places.
+    /// The kept runs, in ascending order, and after them the others. A run is kept if it has an object at a place where
+    /// no earlier run of its page has one.
     pub(crate) runs: Vec<Run, A>,
-    /// The number of runs that say something new.
+    /// The number of kept runs.
     pub(crate) kept: usize,
     pub(crate) beginnings: Beginnings<A>,
     /// The number of objects.
@@ -45,7 +45,7 @@ impl<A: Allocator> Model for RunIndex<A> {
 }
 
 impl<A: Allocator> RunIndex<A> {
-    /// Returns the number of the object that `id` names, if an object bears it.
+    /// Returns the number of the first object that bears `id`, or `None` if no object does.
     // Inlined, as the `find` of an index is, which only forwards to this.
     #[inline(always)]
     pub(crate) fn find(&self, id: u64) -> Option<u32>
@@ -54,7 +54,7 @@ impl<A: Allocator> RunIndex<A> {
         first_bearer(&self.runs[..self.kept], &self.beginnings, id)
     }
 
-    /// Tests whether `find` searches nothing for `id`, since the guessed run has it.
+    /// Tests whether the guessed run has an object that bears `id`, so that `find` does not search.
     pub(crate) fn is_guessed(&self, id: u64) -> bool {
         is_guessed(&self.runs[..self.kept], &self.beginnings, id)
     }

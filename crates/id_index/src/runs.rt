@@ -1,4 +1,4 @@
-//! Runs of neighbouring objects, and the bits of their words.
+//! Runs of neighbouring objects, and how many bits of a run's word are set below a place.
 
 ghost use Rattle.std.specs.Prelude.{◌<◌, ◌≡◌};
 ghost use Rattle.id_index.specs.working.Runs.{rank};
@@ -6,15 +6,15 @@ ghost use Rattle.id_index.specs.working.Runs.{rank};
 /// The number of places of a page.
 pub(crate) const PLACES: u64 = 64;
 
-/// Neighbouring objects of one page whose numbers follow one another. Runs are ordered by page, and those of one page
-/// as their objects are.
+/// Neighbouring objects of one page whose numbers follow one another. Runs are ordered by page, and runs of one page by
+/// the numbers of their objects.
 #[derive(Clone, Copy, PartialEq, Eq, PartialOrd, Ord)]
 pub(crate) struct Run {
-    /// The identifiers of its objects, divided by 64.
+    /// The quotient of its objects' identifiers by 64, which is the same for all.
     pub(crate) page: u64,
     /// The number of its first object.
     pub(crate) first: u32,
-    /// A bit for each place of the page, set where the run has an object.
+    /// A bit for each place of the page, set if the run has an object there.
     pub(crate) places: u64,
 }
 

@@ -1,4 +1,5 @@
-//! Sorted runs are settled: those that say something new are parted from the others.
+//! Sorted runs are settled: those that have an object at a place where no earlier run of their page has one are kept in
+//! front of the others.
 
 ghost use Rattle.std.specs.Prelude.{bit_or, length, take, ◌<◌, ◌^◌, ◌≡◌, ◌≤◌};
 ghost use Rattle.id_index.specs.working.Runs.{AreFewAPage};
@@ -7,7 +8,8 @@ ghost use Rattle.id_index.specs.working.Settling.{AreSettledBefore, AreSorted, I
 use crate::runs::Run;
 use std::alloc::Allocator;
 
-/// Returns `seen`, the places seen of page `page`, if `own` is the same page, and no place otherwise.
+/// Returns `seen`, the places that were seen of page `page`, if `own` is the same page. Returns 0, which is no place,
+/// if `own` is another page.
 pub(crate) fn seen_of(own: u64, page: u64, seen: u64) -> u64
     ensures same { own ≡ page → result ≡ seen }
     ensures other { (own ≡ page → ⊥) → result ≡ 0 }
@@ -18,8 +20,8 @@ pub(crate) fn seen_of(own: u64, page: u64, seen: u64) -> u64
     0
 }
 
-/// Moves the run at index `at`, which has the places `places`, after the first `kept`, unless all its places were seen.
-/// Returns how many are kept then.
+/// Moves the run at index `at` to index `kept`, after the kept runs, unless all its places `places` are among `seen`.
+/// Returns how many runs are kept then.
 fn take_run<A: Allocator>(
     runs: &mut Vec<Run, A>,
     kept: usize,
@@ -39,8 +41,8 @@ fn take_run<A: Allocator>(
     kept + 1
 }
 
-/// Moves runs to the back if earlier runs of their page have all their places. Returns how many are kept in front:
-/// these still ascend, and no page has more of them than places.
+/// Moves runs to the back if earlier runs of their page have objects at all their places. Returns how many runs are
+/// kept in front. The kept runs still ascend, and at most 64 of them are of one page.
 pub(crate) fn settle<A: Allocator>(runs: &mut Vec<Run, A>) -> usize
     requires { AreSorted runs.old.items }
     ensures settled { AreSettledBefore runs.old.items runs.new.items (length runs.old.items) result }

@@ -3,7 +3,7 @@
 use id_index::IdIndex;
 use std::alloc::Allocator;
 
-/// Returns the place of the first of `ids` that is `id`.
+/// Returns the place in `ids` of the first that is `id`, or `None` if none is.
 pub fn first_of(ids: &[u64], id: u64) -> Option<usize> {
     for (place, other) in ids.iter().enumerate() {
         if *other == id {
@@ -23,7 +23,7 @@ fn first_repeat_of(ids: &[u64]) -> usize {
     ids.len()
 }
 
-/// Tests whether the index finds `id` at `first`, or not at all if that is `None`.
+/// Tests whether the index finds `id` at `first`, or does not find `id` if `first` is `None`.
 pub fn finds<A: Allocator>(index: &IdIndex<A>, id: u64, first: Option<usize>) -> bool {
     match index.find(id) {
         Some(number) => return first == Some(number as usize),
@@ -31,8 +31,8 @@ pub fn finds<A: Allocator>(index: &IdIndex<A>, id: u64, first: Option<usize>) ->
     }
 }
 
-/// Tests whether the index says the same of `id` as a search one by one: its first place, and whether it is before each
-/// of the first places.
+/// Tests whether the index says the same of `id` as a search one by one: which object is the first that bears `id`, and
+/// for each number whether an object before that number bears `id`.
 fn answers<A: Allocator>(index: &IdIndex<A>, ids: &[u64], id: u64) -> bool {
     let first = first_of(ids, id);
     for number in 0..ids.len() {
@@ -56,7 +56,8 @@ fn answers_around<A: Allocator>(index: &IdIndex<A>, ids: &[u64], id: u64) -> boo
         && answers(index, ids, id ^ 0x8000_0000_0000_0000)
 }
 
-/// Like [`answers_around`], for each of `ids`; also tests whether the index has the first repeat of `ids`.
+/// Like [`answers_around`], for each of `ids`. Also tests what the index says of identifier 0, and whether it returns
+/// the first repeat of `ids`.
 pub fn answers_all<A: Allocator>(index: &IdIndex<A>, ids: &[u64]) -> bool {
     for id in ids {
         if !answers_around(index, ids, *id) {

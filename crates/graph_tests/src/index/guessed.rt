@@ -15,8 +15,8 @@ fn count_guessed<A: Allocator>(index: &IdIndex<A>, ids: &[u64]) -> usize {
     ids.iter().filter(|id| index.is_guessed(**id)).count()
 }
 
-/// Returns `MANY` identifiers at places that are `apart` multiples of eight from one another. Object `number` is at
-/// place `number * step`, modulo the prime 1009.
+/// Returns `MANY` identifiers. Object `number` is at place `number * step`, modulo the prime 1009, and each place is
+/// `apart` multiples of eight after the one before it.
 fn places(alloc: Global, step: u64, apart: u64) -> Result<Vec<u64>, AllocError> {
     let mut ids = Vec::new(alloc);
     for number in 0..MANY {

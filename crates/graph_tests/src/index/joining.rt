@@ -8,7 +8,7 @@ use id_index::{IdIndex, IdIndexBuilder, LowBits};
 use limited_heap::{LimitedHeap, requests_of};
 use std::alloc::{AllocError, Allocator, Global};
 
-/// Returns a builder with `ids`, if all have the lowest bits `bits`.
+/// Returns a builder with `ids`, or `None` if not all have the lowest bits `bits`.
 fn gathered<A: Allocator>(
     alloc: A,
     ids: &[u64],
@@ -30,8 +30,8 @@ fn gathered<A: Allocator>(
     Ok(Some(builder))
 }
 
-/// Returns the index of objects with the identifiers `ids`, if all have the lowest bits `bits`. They are gathered in
-/// three lists: the first `at`, up to three after those, and the rest.
+/// Returns the index of objects with the identifiers `ids`, or `None` if not all have the lowest bits `bits`. The `ids`
+/// are gathered in three lists: the first `at`, up to three after those, and the rest.
 fn joined_index<A: Allocator + Copy>(
     alloc: A,
     ids: &[u64],
@@ -70,7 +70,7 @@ struct Joining<'a> {
 }
 
 impl Joining<'_> {
-    /// Returns the lowest bits of the first identifier that are dropped.
+    /// Returns the lowest bits that are dropped: those of the first identifier, or 0 if there is none.
     fn bits(&self) -> LowBits
         ensures shifted { result.shift < 64 }
         ensures low { result.low < 2 ^ result.shift }
@@ -108,7 +108,8 @@ impl Joining<'_> {
     }
 }
 
-/// Lists are cut at each place. Each joined index agrees with a search one by one, while each allocation fails in turn.
+/// Lists are cut at each place, and each allocation fails in turn. If an index is made even so, the index agrees with a
+/// search one by one.
 #[test]
 fn joined_as_one_by_one_or_want_of_memory(rt: HostRuntime) {
     for ids in LISTS {

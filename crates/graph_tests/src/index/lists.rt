@@ -1,4 +1,4 @@
-//! Lists of identifiers, each as it comes from a dump.
+//! Lists of identifiers, whose indexes are compared with a search one by one.
 
 use super::beside::{answers_all, finds, first_of};
 use super::making::index_of;
@@ -7,9 +7,9 @@ use limited_heap::{LimitedHeap, requests_of};
 use std::alloc::{AllocError, Allocator, Global};
 use std::test::Fail;
 
-/// Identifiers that repeat within a run, in another run of the page and in another page, runs that overlap, pages that
-/// alternate, identifiers at both ends of 64 bits, those with other lowest bits than the first one, and those that
-/// crowd into one bucket.
+/// Identifiers that repeat at once, after a run of the same page and after a run of another page; runs that overlap;
+/// pages that alternate; identifiers at both ends of 64 bits; identifiers with other lowest bits than the first one;
+/// and identifiers that crowd into one bucket.
 pub const LISTS: [&[u64]; 21] = [
     &[],
     &[7],
@@ -83,8 +83,9 @@ pub const LISTS: [&[u64]; 21] = [
     ],
 ];
 
-/// Neighbours: the first of them, how far each is from the one before it, and their number. They ascend and descend,
-/// within pages and from page to page, by whole pages and by multiples of eight.
+/// Lists of neighbours: the first identifier, the distance of each from the one before it, modulo 2^64, and their
+/// number. Some lists ascend and some descend, within pages and from page to page, by whole pages and by multiples of
+/// eight.
 const NEIGHBOURS: [(u64, u64, usize); 16] = [
     (0, 1, 63),
     (0, 1, 64),
@@ -104,8 +105,8 @@ const NEIGHBOURS: [(u64, u64, usize); 16] = [
     (0x7f00_0000, u64::MAX - 511, 70),
 ];
 
-/// Tests whether the index of `ids` that is made on `heap` agrees with a search one by one, or is out of memory after
-/// an allocation failed.
+/// Makes the index of `ids` on `heap`. Tests whether the index agrees with a search one by one, or was not made because
+/// `heap` refused an allocation.
 fn is_right(heap: &LimitedHeap<Global>, ids: &[u64]) -> bool {
     if ids.len() > 1000 {
         return false;
@@ -116,7 +117,7 @@ fn is_right(heap: &LimitedHeap<Global>, ids: &[u64]) -> bool {
     }
 }
 
-/// Each index agrees with a search one by one, while each allocation fails in turn.
+/// Each allocation fails in turn. If an index is made even so, the index agrees with a search one by one.
 #[test]
 fn as_one_by_one_or_want_of_memory(rt: HostRuntime) {
     for ids in LISTS {
@@ -146,7 +147,7 @@ fn neighbours_or_want_of_memory(rt: HostRuntime) -> Result<(), Fail> {
     Ok(())
 }
 
-/// Tests whether the index finds each identifier below `most` where a search one by one does.
+/// Tests whether the index returns for each identifier below `most` what a search one by one returns.
 fn finds_all<A: Allocator>(index: &IdIndex<A>, ids: &[u64], most: u64) -> bool {
     for id in 0..most {
         if !finds(index, id, first_of(ids, id)) {

@@ -1,11 +1,11 @@
-//! Makes an index of a list of identifiers, as callers do.
+//! Makes an index from a list of identifiers, as callers do.
 
 ghost use Rattle.std.specs.Prelude.{IfOk, IfSome, length, ◌<◌, ◌^◌, ◌≡◌};
 
 use id_index::{IdIndex, IdIndexBuilder, LowBits};
 use std::alloc::{AllocError, Allocator};
 
-/// Returns the lowest three bits of the first of `ids`, or 0.
+/// Returns the lowest three bits of the first of `ids`, or 0 if there is none.
 fn first_low(ids: &[u64]) -> u64
     ensures { result < 8 }
 {
@@ -15,7 +15,8 @@ fn first_low(ids: &[u64]) -> u64
     }
 }
 
-/// Returns the index of objects with the identifiers `ids` without their three lowest bits, if those are `low` in all.
+/// Returns the index of objects with the identifiers `ids`, made without the three lowest bits. Returns `None` if those
+/// bits are not `low` in all.
 fn aligned_index<A: Allocator + Copy>(
     alloc: A,
     ids: &[u64],
@@ -35,7 +36,7 @@ fn aligned_index<A: Allocator + Copy>(
     Ok(Some(builder.finish(alloc)?))
 }
 
-/// Returns the index of objects with the identifiers `ids`, with all their bits.
+/// Returns the index of objects with the identifiers `ids`, made with all bits.
 fn whole_index<A: Allocator + Copy>(alloc: A, ids: &[u64]) -> Result<IdIndex<A>, AllocError>
     requires few { length ids.now < 2 ^ 32 }
     ensures { IfOk result (λ index. index ≡ ids.now) }
@@ -47,8 +48,8 @@ fn whole_index<A: Allocator + Copy>(alloc: A, ids: &[u64]) -> Result<IdIndex<A>,
     builder.finish(alloc)
 }
 
-/// Returns the index of objects with the identifiers `ids`: without their three lowest bits if those are the same in
-/// all, as in dumps whose objects are at multiples of eight.
+/// Returns the index of objects with the identifiers `ids`. It is made without the three lowest bits if those are the
+/// same in all, as in dumps whose objects are at multiples of eight.
 pub fn index_of<A: Allocator + Copy>(alloc: A, ids: &[u64]) -> Result<IdIndex<A>, AllocError>
     requires few { length ids.now < 2 ^ 32 }
     ensures { IfOk result (λ index. index ≡ ids.now) }

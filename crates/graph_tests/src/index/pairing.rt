@@ -1,4 +1,4 @@
-//! Makes an index by pairs of a list of identifiers, as callers do.
+//! Makes an index by pairs, from a list of identifiers, as callers do.
 
 ghost use Rattle.std.specs.Prelude.{IfOk, IfSome, length, ◌<◌, ◌^◌, ◌≡◌};
 
@@ -20,7 +20,8 @@ fn ends_of(ids: &[u64]) -> (u64, u64) {
 }
 
 /// Returns the index by pairs of objects with the identifiers `ids`, if their three lowest bits are `low` and pairs
-/// serve. Their places are noted in at most `parts` parts, between the identifiers `ends` or not far outside.
+/// serve, and `None` otherwise. Places are noted in at most `parts` parts. `ends` are the least and the greatest
+/// identifier of a sample: a place far outside them is not noted, and then pairs do not serve.
 fn paired_between<T: Threads + Sync, A: Allocator + Copy>(
     rt: &T,
     alloc: A,
@@ -53,7 +54,7 @@ fn paired_between<T: Threads + Sync, A: Allocator + Copy>(
     Ok(builder.finish())
 }
 
-/// Like [`paired_between`], between the least and the greatest of `ids`.
+/// Like [`paired_between`], with the least and the greatest of `ids` as `ends`.
 pub fn paired_index<T: Threads + Sync, A: Allocator + Copy>(
     rt: &T,
     alloc: A,
@@ -68,8 +69,9 @@ pub fn paired_index<T: Threads + Sync, A: Allocator + Copy>(
     paired_between(rt, alloc, ids, low, ends_of(ids), parts)
 }
 
-/// Lists of identifiers, and whether pairs serve: the three lowest bits are 0, none is repeated, and there are two for
-/// each page of 512 from the first to the last.
+/// Lists of identifiers, and whether pairs serve. They serve if all identifiers have the three lowest bits 0, no
+/// identifier is repeated, and there are on average at least two on each page (of 512 values) from the least to the
+/// greatest.
 const PAIRED: [(&[u64], bool); 14] = [
     (&[], false),
     (&[8], false),
@@ -92,8 +94,9 @@ const PAIRED: [(&[u64], bool); 14] = [
     ),
 ];
 
-/// Tests whether the index by pairs of `ids` that is made on `heap` in at most `parts` parts is as a search one by one
-/// if pairs serve, as `serves` says, and is none otherwise; or is out of memory after an allocation failed.
+/// Makes the index by pairs of `ids` on `heap`, with places in at most `parts` parts. Tests whether the index agrees
+/// with a search one by one if `serves` is true, and is `None` if `serves` is false, or whether `heap` refused an
+/// allocation.
 fn is_right<T: Threads + Sync>(
     rt: &T,
     heap: &LimitedHeap<Global>,
@@ -111,10 +114,11 @@ fn is_right<T: Threads + Sync>(
     }
 }
 
-/// The greatest number of parts that are tried.
+/// All numbers of parts below this one are tried.
 const PARTS: usize = 5;
 
-/// Each allocation fails in turn, and then the index is as a search one by one, or there is none if pairs do not serve.
+/// Each allocation fails in turn. If an index is made even so, the index agrees with a search one by one. No index is
+/// made if pairs do not serve.
 #[test]
 fn paired_as_one_by_one_or_out_of_memory(rt: HostRuntime) {
     for (ids, serves) in PAIRED {
@@ -157,8 +161,8 @@ fn does_serve<T: Threads + Sync>(
     }
 }
 
-/// The first and the last page of a sample of [`spread`], and whether its ends serve for all: a sixteenth of the pages
-/// is added on either side.
+/// The first and the last page of a sample of [`spread`], and whether the ends of the sample serve for all identifiers:
+/// a sixteenth of the sample's pages is added on either side.
 const SAMPLES: [(u64, u64, bool); 6] = [
     (0, 71, true),
     (4, 71, true),
@@ -185,7 +189,8 @@ fn ends_of_a_sample_serve(rt: HostRuntime) -> Result<(), Fail> {
     Ok(())
 }
 
-/// Ends of identifiers at multiples of eight, and whether the pages between have at most 2^32 places.
+/// The least and the greatest of identifiers at multiples of eight, and whether the pages from the one to the other
+/// have at most 2^32 places. In the last row the greatest comes first: then there are no such pages.
 const ENDS: [(u64, u64, bool); 5] = [
     (0, (1 << 35) - 8, true),
     (0, 1 << 35, false),

@@ -15,14 +15,14 @@ const LISTS: usize = 100_000;
 /// Where identifiers begin: at the least one, within a page, near a page's end, and near the greatest one.
 const BASES: [u64; 4] = [0, 37, 0x7f00_01f8, u64::MAX - 600];
 
-/// Random numbers.
+/// A generator of random numbers.
 #[derive(Drop)]
 struct Numbers {
     state: u64,
 }
 
 impl Numbers {
-    /// Returns a number below `end`, which is at most 2^31.
+    /// Returns a random number below `end`, and below 2^31 if `end` is greater.
     fn below(&mut self, end: u64) -> u64
         requires { 0 < end }
         ensures { result < end }
@@ -34,7 +34,8 @@ impl Numbers {
         (self.state >> 33) % end
     }
 
-    /// Returns an identifier like the others: the next after `last` or one near by, or any of a few pages.
+    /// Returns an identifier: in about three of four cases `last`, `last + step` or `last + 2 * step`, and else any on
+    /// a few pages from `base` on.
     fn next_id(&mut self, last: u64, base: u64, step: u64) -> u64 {
         match self.below(4) {
             0 => return base.wrapping_add(self.below(200).wrapping_mul(step)),
@@ -42,7 +43,7 @@ impl Numbers {
         }
     }
 
-    /// Returns up to 40 identifiers, which agree in their three lowest bits or do not.
+    /// Returns up to 40 identifiers. In about half of the lists, all agree in their three lowest bits.
     fn list(&mut self, alloc: Global) -> Result<Vec<u64>, AllocError> {
         let base = BASES[self.below(4) as usize];
         let step = match self.below(2) {
@@ -95,7 +96,8 @@ impl Numbers {
         Ok(ids)
     }
 
-    /// Replaces one of `ids`, chosen at random, by another or by itself. Returns whether it was replaced by another.
+    /// Copies one of `ids`, chosen at random, to a place in `ids` that is chosen at random. Returns whether that is
+    /// another place.
     fn repeat_one(&mut self, ids: &mut [u64]) -> bool {
         if ids.is_empty() || ids.len() > 1000 {
             return false;
@@ -125,7 +127,7 @@ fn is_paired<T: Threads + Sync>(
     }
 }
 
-/// Each second list has an identifier that is put over another, or over itself.
+/// In each second list, an identifier is copied to another place, or to its own.
 #[test]
 fn scattered_lists(rt: HostRuntime) -> Result<(), Fail> {
     let mut numbers = Numbers { state: 1 };

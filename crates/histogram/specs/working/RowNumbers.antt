@@ -11,7 +11,7 @@ use Rattle.heap_graph.specs.declared.row.RowKey.{RowKey}
 abbrev pub row_entry : ObjectGraph → RowKey → ℕ × ℕ → Entry
 row_entry g row told = record { name = shown_row g row; class = row_id g row; count = told.0; bytes = told.1 }
 
--- the entries of the rows with a number below n
+-- the entries of the rows that have a number below `n` and at least one of `objects`
 abbrev pub entries_below : ObjectGraph → List ℕ → ℕ → List Entry
 entries_below g objects n =
     filter (λ e. nat_lt 0 e.count) (map (λ k. entry g objects (numbered_row k)) (range_with_len 0 n))

@@ -1,4 +1,4 @@
-//! The calls that count: no other body can set the count or note a flush.
+//! The calls that count failures. Code elsewhere can neither set the count nor note a flush.
 
 ghost use Rattle.std.specs.Prelude.{◌≡◌, ◌+◌, ◌-◌, ◌^◌, ◌<◌, ◌&&◌, if◌then◌else◌, is_err, true};
 ghost use Rattle.std.specs.Io.{ReadsAtMost, WritesAtMost};
@@ -11,7 +11,7 @@ use std::io;
 use std::io::{Read, Write};
 
 impl<T> Counted<T> {
-    /// Wraps `inner`, a reader or a writer of which no call has failed yet.
+    /// Wraps `inner`, a reader or a writer. The count of its failures starts at 0.
     pub fn new(inner: T) -> Self
         ensures wraps { inner_of result ≡ inner }
         ensures starts { failures_of result ≡ 0 }
@@ -19,8 +19,8 @@ impl<T> Counted<T> {
         Counted::of_size(inner, 0)
     }
 
-    /// Wraps a reader that is expected to give `expected` bytes, so that room for them is taken at once. It may give
-    /// more or fewer.
+    /// Wraps the reader `inner`, which is expected to give `expected` bytes: `read_to_limit` takes room for them at
+    /// once, up to its limit. The reader may give more or fewer.
     pub fn of_size(inner: T, expected: usize) -> Self
         ensures wraps { inner_of result ≡ inner }
         ensures starts { failures_of result ≡ 0 }
@@ -34,7 +34,7 @@ impl<T> Counted<T> {
         }
     }
 
-    /// Returns the number of calls of the reader or the writer that have failed so far.
+    /// Returns how many calls of the reader or the writer have failed since it was wrapped.
     pub fn failures(&self) -> u64
         ensures { result ≡ failures_of self.now }
     {
@@ -59,7 +59,7 @@ impl<T> Counted<T> {
         inner
     }
 
-    /// Counts a call if it `failed`.
+    /// Raises the count by one if a call `failed`.
     fn count_if(&mut self, failed: bool)
         requires { failures_of self.old < 2 ^ 64 - 1 }
         ensures counts { failures_of self.new ≡ (if failed then failures_of self.old + 1 else failures_of self.old) }
@@ -73,7 +73,7 @@ impl<T> Counted<T> {
 }
 
 impl<R: Read> Counted<R> {
-    /// Makes one read of the wrapped reader, and counts it if it fails.
+    /// Calls `read` of the wrapped reader once, and counts the call if it fails.
     pub fn read(&mut self, buf: &mut [u8]) -> io::Result<usize>
         requires { failures_of self.old < 2 ^ 64 - 1 }
         ensures bound { ReadsAtMost result buf.new }
@@ -89,8 +89,8 @@ impl<R: Read> Counted<R> {
 }
 
 impl<W: Write> Counted<W> {
-    /// Makes one write of the wrapped writer, and counts it if it fails, or if it takes nothing of a slice that is not
-    /// empty.
+    /// Calls `write` of the wrapped writer once. Counts the call if it returns a fault, or takes nothing of a `buf`
+    /// that is not empty.
     pub fn write(&mut self, buf: &[u8]) -> io::Result<usize>
         requires { failures_of self.old < 2 ^ 64 - 1 }
         ensures bound { WritesAtMost result buf.now }
@@ -106,7 +106,7 @@ impl<W: Write> Counted<W> {
         outcome
     }
 
-    /// Makes one flush of the wrapped writer, and counts it if it fails.
+    /// Calls `flush` of the wrapped writer once, and counts the call if it fails.
     pub fn flush(&mut self) -> io::Result<()>
         requires { failures_of self.old < 2 ^ 64 - 1 }
         ensures bytes { Keeps (W.contents (inner_of self.old)) (W.contents (inner_of self.new)) }

@@ -14,8 +14,8 @@ pub record IsBeginning (runs : List Run) (least shift bucket at : ℕ) : Type 0 
   pub before : (k : ℕ) → k < at → bucket_of least shift (page_in runs k) < bucket
   pub behind : (k : ℕ) → at ≤ k → k < length runs → bucket ≤ bucket_of least shift (page_in runs k)
 
--- `b.starts` has the index at which the runs of each bucket begin, and one more index; in all at most half as many
--- indexes as runs, and three more
+-- `b.starts` has for each bucket the index at which its runs begin, and one index more: in all at most three more than
+-- half the number of runs
 pub record AreBeginnings {A : Type 0} (runs : List Run) (b : Beginnings A) : Type 0 where
   pub shifted : b.shift < 64
   pub low : (k : ℕ) → k < length runs → b.least ≤ page_in runs k

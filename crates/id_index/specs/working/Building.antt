@@ -38,7 +38,7 @@ AreBuiltUpTo runs (Some last) ids = AreOpen runs last ids
 abbrev pub with_last : List Run → Option Run → List Run
 with_last runs last = runs ++ option_to_list last
 
--- the runs are built of `ids`, and are at most `count` in number, which is less than 2 ^ 32
+-- `runs` and `last`, if there is one, are built of `ids`; they are at most `count` runs, and `count` is below 2 ^ 32
 pub record AreFewBuilt (runs : List Run) (last : Option Run) (ids : List ℕ) (count : ℕ) : Type 0 where
   pub built : AreBuiltUpTo runs last ids
   pub fewer : length (with_last runs last) ≤ count

@@ -1,4 +1,4 @@
--- Pairs of an object's identifier, less `lowest`, and the object's number. `lowest` is the identifier of the first
+-- Pairs of an object's identifier, minus `lowest`, and the object's number. `lowest` is the identifier of the first
 -- place of the least page.
 use Rattle.std.specs.Prelude.{Bool, List, Some, length, map, slice_get, slice_index_or, ◌+◌, ◌-◌, ◌<◌, ◌==◌, ◌^◌}
 use Rattle.std.specs.Prelude.{◌≡◌, ◌≢◌, ◌≤◌, ℕ}
@@ -34,7 +34,7 @@ Names pairs lowest id number = (k : ℕ) × IsPairAt pairs lowest id number k
 abbrev pub is_numbered : ℕ → Pair → Bool
 is_numbered number pair = pair.number == number
 
--- the identifier of object `number`
+-- the identifier of object `number`, or `lowest` if no pair has that number
 abbrev pub id_paired : List Pair → ℕ → ℕ → ℕ
 id_paired pairs lowest number = lowest + (pair_in pairs (position_or_len (is_numbered number) pairs)).at
 
@@ -53,7 +53,7 @@ pub record Agree (pairs : List Pair) (lowest : ℕ) (ids : List ℕ) : Type 0 wh
 abbrev pub IsSet : List Pair → ℕ → Type 0
 IsSet pairs k = (k < length pairs) × ((pair_in pairs k).number ≢ 2 ^ 32 - 1)
 
--- the pairs that are set are of the first `count` objects, one of each
+-- the pairs that are set are those of the first `count` objects, one for each
 pub record ArePlaced (pairs : List Pair) (count : ℕ) : Type 0 where
   pub few : length pairs < 2 ^ 32
   pub fits : count ≤ length pairs
