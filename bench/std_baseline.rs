@@ -2,8 +2,8 @@
 //! tagged head.
 //!
 //! It takes the same arguments as `pool_bench`, and writes the same to standard output. The times go to standard error.
-//! The third time is for pops and pushes that also take a vector out of the number's slot and put it back. `pool_bench`
-//! has no such time: `pool.sh` compares both times of pops and pushes here with the pool's one time of them.
+//! For the third time, each pop also takes a vector out of the slot of the popped number, and puts it back before the
+//! push. `pool_bench` has one time of pops and pushes: `pool.sh` compares it with the second and with the third here.
 
 use std::cell::UnsafeCell;
 use std::hint::black_box;
@@ -89,8 +89,8 @@ fn claim_part(marks: &[AtomicU64], part: Range<u64>) -> u64 {
     part.filter(|object| claim(marks, *object)).count() as u64
 }
 
-/// Claims `passes` times each object of the rows of thread `number`, and returns how many were white. A row is `row`
-/// neighbouring objects; the threads have the rows in turn.
+/// Claims each object in the rows of thread `number`, `passes` times over, and returns how many were white. A row is
+/// `row` neighbouring objects; the threads have the rows in turn.
 fn claim_passes(marks: &[AtomicU64], objects: u64, row: u64, threads: u64, number: u64, passes: u64) -> u64 {
     let rows_of_all = row * threads;
     let mut white = 0;

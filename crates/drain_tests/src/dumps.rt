@@ -6,7 +6,7 @@ use std::alloc::{AllocError, Global};
 use std::test::Fail;
 use std::thread::Threads;
 
-/// Appends class 0x100, which has no superclass, fields or values.
+/// Appends class 0x100, which has no superclass, no constants and no fields, static or not.
 pub(crate) fn put_class(heap: &mut Vec<u8>) -> Result<(), AllocError> {
     heap.extend_from_slice(&[0x20, 0, 0, 1, 0])?;
     heap.extend_from_slice(&[0; 38])

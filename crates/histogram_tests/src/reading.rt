@@ -8,8 +8,8 @@ use std::io::Read;
 /// The kinds of fault after which a caller might be tempted to try again.
 const KINDS: [io::ErrorKind; 2] = [io::ErrorKind::Interrupted, io::ErrorKind::WouldBlock];
 
-/// A reader that gives one of `bytes` a call, and none at their end. Call number `fails_at` fails with a fault of the
-/// kind `kind`.
+/// A reader that gives one of `bytes` a call, and none at their end. Call number `fails_at`, counted from 1, fails with
+/// a fault of the kind `kind`; none fails if `fails_at` is 0.
 #[derive(Drop)]
 struct Drip<'a> {
     bytes: &'a [u8],
@@ -71,7 +71,7 @@ fn dripping(fails_at: u32, kind: io::ErrorKind) -> Drip<'static> {
     }
 }
 
-/// Tests whether `want` is read up to `limit`, and no call failed.
+/// Tests whether a read of `heap` up to `limit` bytes returns `want`, and no call failed.
 fn reads(alloc: Global, limit: usize, want: &str) -> bool {
     let mut reader = Counted::new(dripping(0, io::ErrorKind::Other));
     match reader.read_to_limit(alloc, limit) {

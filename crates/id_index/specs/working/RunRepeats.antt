@@ -11,7 +11,8 @@ pub record IsRepeatAt (runs : List Run) (first second place : ℕ) : Type 0 wher
   pub earlier : bit_at (run_in runs first).places place ≡ 1
   pub later : bit_at (run_in runs second).places place ≡ 1
 
--- `number` is the least number of a repeat among the runs before index `end`, or `count` if there is no repeat
+-- `number` is the least number of an object that repeats an earlier one, among the runs before index `end`, or `count`
+-- if there is none
 pub record IsLeastRepeat (runs : List Run) (end count number : ℕ) : Type 0 where
   pub least : (first second place : ℕ) → IsRepeatAt runs first second place → second < end
       → number ≤ number_in (run_in runs second) place
