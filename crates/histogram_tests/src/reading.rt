@@ -71,7 +71,7 @@ fn dripping(fails_at: u32, kind: io::ErrorKind) -> Drip<'static> {
     }
 }
 
-/// Tests whether a read of `heap` up to `limit` bytes returns `want`, and no call failed.
+/// Tests whether a read of the four bytes, up to `limit` of them, returns `want`, and no call failed.
 fn reads(alloc: Global, limit: usize, want: &str) -> bool {
     let mut reader = Counted::new(dripping(0, io::ErrorKind::Other));
     match reader.read_to_limit(alloc, limit) {
