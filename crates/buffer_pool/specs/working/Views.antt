@@ -29,7 +29,7 @@ pub record IsViewOf (events : List Event) (w : ℕ) (v : SeatView) : Type 0 wher
   pub ended : v.named ≡ true → (n : ℕ) → v.from ≡ Some n → IsTakenIn events n v.taken
   -- a worker that does not know its number did nothing
   pub fresh : v.named ≡ false → deeds w events ≡ []
-  -- its story leads to its book, if no step is left in `unsaid`
+  -- its story leads to its book, if it knows its number and no step is left in `unsaid`
   pub leads : v.named ≡ true → v.unsaid ≡ [] → LeadsToBook v.log v.book
 
 -- each view that has a share is the view of its worker

@@ -177,7 +177,8 @@ pub(crate) fn full_is_empty<A: Allocator>(
     pool.sees_empty(worker, buffer_pool::Which::Full)
 }
 
-/// Disposes of the pair. Returns what the pair's places have if a last tag stops the disposal, and `None` otherwise.
+/// Disposes of the pair. If a last tag stops the disposal, returns the number of objects at each place of the pair that
+/// is left, otherwise `None`.
 pub(crate) fn dispose<R: Wait + Abort, A: Allocator>(
     rt: &R,
     pool: &Pool<A>,
