@@ -105,8 +105,9 @@ fn ends(count: usize, id: impl Fn(usize) -> u64, low: LowBits) -> Option<(u64, u
     })
 }
 
-/// Notes the objects on the pages from `least` to `greatest`. Returns the first page that has an object, and the pages
-/// from there to the last one that has an object, if no object is elsewhere, all have these low bits and all IDs differ.
+/// Notes the objects on the pages from `least` to `greatest`. Returns the number of the first page with an object, and
+/// the pages from there to the last one with an object. Returns `None` if an object is elsewhere or has other low bits
+/// than `low`, if two objects have one ID, or if there are too many pages.
 fn noted(
     count: usize,
     id: impl Fn(usize) -> u64,

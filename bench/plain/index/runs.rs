@@ -42,11 +42,12 @@ pub fn gather(objects: impl Iterator<Item = Option<(u64, u32)>>) -> Option<Vec<R
     Some(runs)
 }
 
-/// If more than one run in `FEW_DESCENTS` has a lower page than the run before, there are no long stretches in order:
-/// with such stretches the stable sort is fast.
+/// The stable sort is fast on long stretches in order. There are none if more than 1 in `FEW_DESCENTS` runs has a lower
+/// page than the run before: then the sort is unstable.
 const FEW_DESCENTS: usize = 16;
 
-/// Whether many runs have a lower page than the run before. The numbers of gathered runs never descend.
+/// Whether many runs have a lower page than the run before. Only pages are compared, since numbers of gathered runs
+/// never descend.
 pub fn descend_often(runs: &[Run]) -> bool {
     let descents = runs.windows(2).filter(|pair| pair[1].page < pair[0].page).count();
     descents > runs.len() / FEW_DESCENTS
@@ -61,8 +62,8 @@ pub fn sort(runs: &mut [Run]) {
     }
 }
 
-/// Drops each run that is empty, or whose places earlier runs of its page all have: so a page keeps at most 64 runs.
-/// Returns the least number of an object with the ID of an earlier object.
+/// Drops each run that adds no place to those of earlier runs of its page. So a page keeps at most 64 runs. Returns the
+/// least number of an object with the ID of an earlier object.
 pub fn settle(runs: &mut Vec<Run>) -> Option<u32> {
     let (mut page, mut seen) = (0, 0);
     let mut repeat: Option<u32> = None;

@@ -1,4 +1,4 @@
-//! Indexes beside a search one by one.
+//! Compares indexes with a search one by one.
 
 use super::pairs::Pairs;
 use super::runs::{Run, descend_often, sort};
@@ -57,9 +57,9 @@ fn lists() {
         ("ascending with gaps", (0..100).map(|number| 72 * number).collect(), 14, 0, 3),
         ("descending", falling(0x1000, 200), 0, 200, 3),
         ("all places of a page, descending", falling(0x1000, 64), 0, 64, 3),
-        ("not on places that eight divides, but alike", (0..64).map(|number| 0x1005 + 8 * number).collect(), 1, 0, 3),
-        ("not on such places", (0..128).map(|number| 0x1000 + number).collect(), 2, 0, 0),
-        ("the last one alone is not", [neighbours(0x1000, 64), vec![0x1201]].concat(), 9, 0, 0),
+        ("alike modulo eight, but no multiples", (0..64).map(|number| 0x1005 + 8 * number).collect(), 1, 0, 3),
+        ("not alike modulo eight", (0..128).map(|number| 0x1000 + number).collect(), 2, 0, 0),
+        ("alike modulo eight, but for the last", [neighbours(0x1000, 64), vec![0x1201]].concat(), 9, 0, 0),
         ("two runs of one page that overlap", [0, 16, 32, 8, 24, 40].to_vec(), 2, 0, 3),
         ("two objects of one ID", vec![0x1000, 0x1000], 1, 0, 3),
         ("one ID again and again", vec![0x1000; 100], 1, 0, 3),
@@ -79,7 +79,8 @@ fn lists() {
     }
 }
 
-/// All runs but one are in one slot of the table: more than a look-up passes one after the other.
+/// All runs but one are in one slot of the table. In all lists but `full` reversed these are more than the `MANY` that
+/// a look-up steps through.
 #[test]
 fn crowded_into_one_slot() {
     let even = neighbours(0, 500).into_iter().map(|id| 64 * id);
@@ -101,7 +102,7 @@ impl Chance {
         (self.0 >> 3) % limit
     }
 
-    /// A list of few IDs, or of some hundred: at random, in steps, or both.
+    /// A list of a few IDs, or of a few hundred: at random, in steps, or both.
     fn list(&mut self) -> Vec<u64> {
         let limit = [16, 64, 600, 5000, 1 << 40, u64::MAX >> 3][self.below(6) as usize];
         let longest = if self.below(500) == 0 { 400 } else { 40 };

@@ -5,7 +5,7 @@ use command_line::{Arguments, arguments};
 use std::alloc::Global;
 use std::test::Fail;
 
-/// The message about a list of `--skip` that is given twice.
+/// The message if `--skip` is given twice.
 const LIST_TWICE: &str = "\
 error: the argument '--skip <LIST>' cannot be used multiple times
 
@@ -50,7 +50,7 @@ fn is_told(alloc: Global, words: &[&str], kind: ErrorKind, text: &str) -> bool {
 
 #[test]
 fn takes_one_list_of_fields(rt: HostRuntime) {
-    // An empty text is taken too: `arguments` does not read it.
+    // An empty text is taken too: `arguments` does not check what the list says.
     let lists: [(&[&str], &str); 3] = [
         (&["heapmark", "--skip", "a.b,c.d", "app.hprof"], "a.b,c.d"),
         (&["heapmark", "app.hprof", "--skip="], ""),

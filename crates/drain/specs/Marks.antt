@@ -15,8 +15,8 @@ is_set mark = nat_le 1 mark
 abbrev pub AreFinished : List ℕ → Type 0
 AreFinished marks = (o : ℕ) → 1 ≤ slice_index marks o → slice_index marks o ≡ 2
 
--- Which objects are marked; for each row, by its place, the number of its marked objects and their bytes together; and
--- how many identifiers of marked objects are other than 0 and name no object.
+-- Which objects are marked; for each row, in the order of `sum_of_row`, the number of its marked objects and their
+-- bytes together; and how many identifiers that marked objects hold are other than 0 and name no object.
 pub record MarkedObjects : Type 0 where
   pub marks : List Bool
   pub sums : List Sum

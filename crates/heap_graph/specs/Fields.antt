@@ -19,8 +19,8 @@ field_ids skips s (f ∷ fs) values =
     (if not (skips f.0 f.1) && (f.1.type == 2) then big_number s (take s values) ∷ [] else [])
     ++ field_ids skips s fs (drop (size_of s f.1.type) values)
 
--- The identifiers in all fields of type 2, for fields without the classes that declare them: what `field_ids` is if no
--- field is skipped.
+-- The same for all fields of type 2, from a list of members that are not paired with their classes: what `field_ids`
+-- is if no field is skipped.
 abbrev pub all_field_ids : ℕ → List Member → List ℕ → List ℕ
 all_field_ids s [] values = []
 all_field_ids s (m ∷ ms) values =

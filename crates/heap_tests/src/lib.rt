@@ -1,5 +1,5 @@
-//! Tests of `limited_heap`. They are in a crate of their own, so that `limited_heap` is proved once, not twice, and
-//! use its public calls only.
+//! Tests of `limited_heap`, by its public calls only. They are in a crate of their own, so that `limited_heap` is
+//! proved once, not twice.
 
 #![tactic(auto)]
 

@@ -33,8 +33,8 @@ pub(crate) struct PageWords<A: Allocator> {
 }
 
 impl<A: Allocator> PageWords<A> {
-    /// Creates the page words of the pages `noted`, whose bits are in pairs, as an [`IdPlaces`](crate::IdPlaces) has
-    /// them. `AllocError` if the allocation fails.
+    /// Creates the page words of `noted`: here each `Pair` has the bits of one page, as in an
+    /// [`IdPlaces`](crate::IdPlaces). `AllocError` if the allocation fails.
     pub(crate) fn of(alloc: A, noted: &[Pair]) -> Result<Self, AllocError> {
         let empty = Page {
             places: [0, 0],

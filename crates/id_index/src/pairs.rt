@@ -77,7 +77,7 @@ fn search_pairs(pairs: &[Pair], lowest: u64, id: u64) -> Option<u32>
 
 impl<A: Allocator> PairIndex<A> {
     /// Returns the number of the object that bears `id`, or `None` if no object does.
-    // Inlined, as the `find` of an index is, which forwards it.
+    // Inlined, as is the `find` of an index, which forwards to it.
     #[inline(always)]
     pub(crate) fn find(&self, id: u64) -> Option<u32>
         ensures { result ≡ position (λ x. x == id) self.now }

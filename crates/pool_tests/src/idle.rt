@@ -8,9 +8,9 @@ use buffer_pool::{Pool, PoolFault, Which, Worker};
 use std::alloc::Allocator;
 use std::test::Fail;
 
-/// Lets `one` and then `other` go idle, and then `one` come back. Returns four results: `all_idle` of 2 after `one` went
-/// idle; of 2 and of 1 after both did; and of 2 after `one` came back. Returns `None` if a worker did not see the full
-/// stack empty.
+/// Lets `one` and then `other` go idle, and then `one` come back. Returns four results: `all_idle` of 2 after `one`
+/// went idle; of 2 and of 1 after both did; and of 2 after `one` came back. Returns `None` if a worker did not see the
+/// full stack empty.
 fn idle_in_turn<A: Allocator>(
     pool: &Pool<A>,
     one: &mut Worker<A>,

@@ -10,7 +10,7 @@ pub enum Sub {
     /// A class without superclass and instance fields, and the type and the value of its one static field. The
     /// identifier of the field's name is 2.
     Static(u64, u8, &'static [u8]),
-    /// A class given by all of its parts.
+    /// A class with a superclass, constants, and static and instance fields.
     Whole(ClassParts),
     /// An instance, its class, and the bytes of its field values.
     Instance(u64, u64, &'static [u8]),

@@ -1,5 +1,5 @@
 //! The steps of a pop and of a push. Each function makes at most one atomic step on the table. `take_top` and `put_top`
-//! also access the slot that is out.
+//! also access the slot that the seat has taken out.
 ghost use Rattle.std.specs.Prelude.{◌≡◌, ℕ, suc, ◌+◌, ◌<◌, ◌≤◌, [], ◌∷◌, Option, Some, None, MatchOption, MatchResult};
 ghost use Rattle.std.specs.Prelude.{Contains, length};
 ghost use Rattle.std.specs.Option.{ForSome};
@@ -44,8 +44,8 @@ pub(crate) fn load_head<A: Allocator>(
     HeadWord::from_word(words.load::<SeeHead>(seat, head_word(which)))
 }
 
-/// Loads the link of buffer `index`, which the last loaded head of the stack `which` names. Returns the link, or `None`
-/// if the word of the link is 0.
+/// Loads the link of buffer `index`: the head last loaded from the stack `which` names this buffer. Returns the link,
+/// or `None` if the word of the link is 0.
 pub(crate) fn load_link<A: Allocator>(
     words: &Words<A>,
     seat: &mut Token<A>,
@@ -138,8 +138,8 @@ pub(crate) fn store_link<A: Allocator>(
     words.store::<StoreLink>(seat, FIRST_LINK + index as usize, link_to(head));
 }
 
-/// Exchanges the head `old` of the stack `which` for `new`, which names the buffer whose slot is out, if the head is
-/// still `old`. Returns the head found.
+/// If the head of the stack `which` is still `old`, exchanges it for `new`. `new` names the buffer whose slot is out.
+/// Returns the head found.
 fn exchange_for_buffer<A: Allocator>(
     words: &Words<A>,
     seat: &mut Token<A>,

@@ -24,7 +24,7 @@ pub record HasStarted {A V X : Type 0} (graph : V) (duty : X → Duty A V) (begu
   pub finished : leader.book.account.finished ≡ begun.book.account.finished
   pub owed : (k : ℕ) (t : X) → k < number → IsDutyUnder graph begun (duty (get_or threads k t))
 
--- a worker of the leader's pool that is through and has its one unit, and the tally of what it finished
+-- a worker of the leader's pool that is free and has its one unit, and the tally of what it finished
 pub record IsBackUnder {A : Type 0} (m : Measure) (leader w : Holder) (t : Tally A) : Type 0 where
   pub pool : w.pool ≡ leader.pool
   pub setup : w.book.setup ≡ leader.book.setup

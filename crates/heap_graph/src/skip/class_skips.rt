@@ -16,8 +16,8 @@ use hprof_grammar::MemberField;
 use std::alloc::Allocator;
 
 /// A test of which fields of one class are on the list. `entries` is the whole list if an entry names the class,
-/// otherwise it is empty. `class` is the text that names the class, or `None` if the dump has none, or if the whole list
-/// has no entries.
+/// otherwise it is empty. `class` is the text that names the class, or `None` if the dump has none, or if the whole
+/// list has no entries.
 #[derive(Drop)]
 pub(crate) struct ClassSkips<'s, 'a, A: Allocator> {
     names: &'s NamesById<'s, 'a, A>,

@@ -12,11 +12,11 @@ use std::thread;
 use std::thread::Threads;
 use std::time::{Clock, Duration};
 
-/// The number of runs with two workers on the array. A worker stays for some 0.4 s, so on a busy machine one may leave
-/// too soon.
+/// The number of runs with two workers on the array. A worker that finds no work leaves after some 0.4 s, even if not
+/// all are idle, so on a busy machine one may leave too soon.
 const RUNS: u32 = 10;
 
-/// How often the worker that has shared work tests whether the other has come, 1 ms apart.
+/// How many times at most the worker that has shared work tests whether the other has come, 1 ms apart.
 const TURNS: u32 = 500;
 
 /// The number of runs on each dump.
@@ -110,7 +110,7 @@ fn a_worker_stays_until_another_has_made_work(rt: HostRuntime) {
     );
 }
 
-/// A dump, workers, objects in a buffer, buffers, and the report. With the least buffers some workers get no pair.
+/// A dump, workers, objects in a buffer, buffers, and the report. With the fewest buffers some workers get no pair.
 static ROWS: [(Sample, u32, u32, u32, &str); 5] = [
     (WideArray, 64, 2, 1024, WIDE_ARRAY_REPORT),
     (WideArray, 64, 256, 1024, WIDE_ARRAY_REPORT),
