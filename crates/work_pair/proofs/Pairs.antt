@@ -1,6 +1,7 @@
 -- The effect of a call on a pair follows from its effect on the three places.
 use Rattle.std.proofs.Common.{◌≡◌, ℕ, Bool, true, false, List, [], ◌∷◌, ◌++◌, Option, Some, None, IfSome, IfNone}
-use Rattle.std.proofs.Common.{IfErr, OnOk, Result, Ok, Err, refl, sym, ap, subst, ◌∙◌, inl, inr, ⊎_elim, arith}
+use Rattle.std.proofs.Common.{IfErr, IfOk, OnOk, is_err, Result, Ok, Err, refl, sym, ap, subst, ◌∙◌, inl, inr, ⊎_elim}
+use Rattle.std.proofs.Common.{arith}
 use Rattle.std.proofs.lemmas.Bool.{false≢true}
 use Rattle.mark_core.specs.declared.which.Which.TheVariants.{Full, Empty}
 use Rattle.mark_core.specs.Lists.{times}
@@ -18,7 +19,7 @@ use Rattle.work_pair.specs.declared.stop.Stop.{Stop}
 use Rattle.work_pair.specs.declared.stop.Stop.TheVariants.{TagSpent, OutOfMemory}
 use Rattle.work_pair.specs.working.Asks.{MayTrade}
 use Rattle.work_pair.specs.working.Buffers.{as_pair}
-use Rattle.work_pair.specs.working.Steps.{BalanceAnswers, Clears, ClearAnswers, Ends, EndsOut, FindsNone, GetAnswers}
+use Rattle.work_pair.specs.working.Steps.{BalanceAnswers, Clears, ClearAnswers, EndsOut, FindsNone, GetAnswers}
 use Rattle.work_pair.specs.working.Steps.{PublishAnswers, PutAnswers, Trades, places}
 use Rattle.work_pair.proofs.Renewing.{out_alone}
 use Rattle.work_pair.proofs.Spilling.{beside, listed, listed_effect, listed_sum, spilled, unspilled}
@@ -54,11 +55,9 @@ pub put_from : {A : Type 0} (m : Buffers A) {first : Option HeldBuffer} → firs
 put_from m same object b q c r told =
     subst (λ (f : Option HeldBuffer). PutAnswers object (places f m.second m.third) b q c r) same told
 
-pub got_from : {A : Type 0} (m : Buffers A) {first : Option HeldBuffer} → first ≡ m.first → (b : Book) (q : PairState)
-    (c : Book) (r : Result (Option ℕ) Stop) → GetAnswers (places first m.second m.third) b q c r
-    → GetAnswers (as_pair m) b q c r
-got_from m same b q c r told =
-    subst (λ (f : Option HeldBuffer). GetAnswers (places f m.second m.third) b q c r) same told
+-- a pair that is not stopped owes no last tag
+not_ended : {now : Bool} → now ≡ false → (ms : List Move) → now ≡ true → EndAtLastTag ms
+not_ended is ms stopped = absurd (false≢true (sym is ∙ stopped))
 
 -- a pair whose state in contracts is v
 module _ {A : Type 0} {v : PairState} (i : Inside A) (is : seen_as i ≡ v) where
@@ -83,16 +82,13 @@ module _ {A : Type 0} {v : PairState} (i : Inside A) (is : seen_as i ≡ v) wher
   pub still_going : IsOpen v → i.stopped ≡ false
   still_going going = ap (λ (w : PairState). w.stopped) is ∙ going.going
 
-  not_ended : IsOpen v → (ms : List Move) → i.stopped ≡ true → EndAtLastTag ms
-  not_ended going ms stopped = absurd (false≢true (sym (still_going going) ∙ stopped))
-
   -- the last object of the list was taken
   pub takes_last : (m : List ℕ) (o : ℕ) → i.spill ≡ m ++ o ∷ [] → IsOpen v → (b : Book) → IsBacked v [] b
       → CallEffect v b [] (o ∷ []) (listed (as_pair i.buffers) m i.stopped i.starved) b
   takes_last m o l_is going b backed =
       let u : Trades (as_pair i.buffers) b [] [] (as_pair i.buffers) b = untouched (inner backed).sized in
       rw (← is) (listed_effect refl refl (λ x. omega (arith, unspilled m o x, ap (times x) l_is)) (seen backed) u
-      (not_ended going u.moves))
+      (not_ended (still_going going) u.moves))
 
   module _ (b : Book) (q : Buffers A) (c : Book) where
     -- the buffers were traded, and the list is as it was
@@ -112,7 +108,7 @@ module _ {A : Type 0} {v : PairState} (i : Inside A) (is : seen_as i ≡ v) wher
       puts done_is =
           let a = answered true done_is in
           rw (← is) (
-            trades refl backed a.0 (not_ended going a.0.moves),
+            trades refl backed a.0 (not_ended (still_going going) a.0.moves),
             inl refl,
             a.2,
             ⊎_elim (λ room. inl room) (λ fills. inr (inr fills)) a.3,
@@ -127,7 +123,7 @@ module _ {A : Type 0} {v : PairState} (i : Inside A) (is : seen_as i ≡ v) wher
         spills m_is =
             rw (← is) (
               listed_effect refl refl (λ o. omega (arith, spilled i.spill object o, ap (times o) m_is))
-                  (seen backed) none.0 (not_ended going none.0.moves),
+                  (seen backed) none.0 (not_ended (still_going going) none.0.moves),
               inr (m_is, none.2),
               out_alone none.0.moves none.2,
               inr (inl none.2),
@@ -137,7 +133,7 @@ module _ {A : Type 0} {v : PairState} (i : Inside A) (is : seen_as i ≡ v) wher
             × (effect.moves ≡ FoundNone Empty ∷ [])
         starves m_is =
             rw (← is) (
-              trades m_is (backed_less v (object ∷ []) b backed) none.0 (not_ended going none.0.moves),
+              trades m_is (backed_less v (object ∷ []) b backed) none.0 (not_ended (still_going going) none.0.moves),
               none.2,
             )
 
@@ -157,74 +153,83 @@ module _ {A : Type 0} {v : PairState} (i : Inside A) (is : seen_as i ≡ v) wher
               buffers = none.3.buffers;
             })
 
-    module _ (backed : IsBacked v [] b) where
-      -- the buffers were balanced or published
-      module _ (going : IsOpen v) (done : Unit) where
-        pub balances : BalanceAnswers (as_pair i.buffers) b (as_pair q) c (Ok done)
-            → Balances v b (listed (as_pair q) i.spill i.stopped i.starved) c
-        balances told =
-            rw (← is) (
-              trades refl backed told.0 (not_ended going told.0.moves),
-              told.2,
-              told.3,
-              told.4,
-            )
-
-        pub publishes : PublishAnswers (as_pair i.buffers) b (as_pair q) c (Ok done)
-            → PublishesBoth v b (listed (as_pair q) i.spill i.stopped i.starved) c
-        publishes told =
-            rw (← is) (trades refl backed told.0 (not_ended going told.0.moves), told.4)
-
-      -- a call stopped, and had popped nothing from full
-      pub stops : (stop : Stop) → EndsOut (as_pair i.buffers) b (as_pair q) c stop
-          → (stop ≡ TagSpent) × (true ≡ true) × PopsNoneFromFull v b (listed (as_pair q) i.spill true i.starved) c
-      stops TagSpent told = (
+    -- a call returned, and the pair noted whether with a stop
+    module _ (backed : IsBacked v [] b) {now : Bool} where
+      -- the call popped nothing from full
+      pub stops : (stop : Stop) → now ≡ true → EndsOut (as_pair i.buffers) b (as_pair q) c stop
+          → (stop ≡ TagSpent) × (now ≡ true) × PopsNoneFromFull v b (listed (as_pair q) i.spill now i.starved) c
+      stops TagSpent now_is told = (
         refl,
-        refl,
+        now_is,
         rw (← is) (trades refl backed told.0 (λ stopped. told.1), told.2),
       )
-      stops OutOfMemory none = absurd none
+      stops OutOfMemory now_is none = absurd none
+
+      -- the buffers were balanced or published
+      pub balances : (r : Result Unit Stop) → now ≡ is_err r → BalanceAnswers (as_pair i.buffers) b (as_pair q) c r
+          → OnOk r (Balances v b (listed (as_pair q) i.spill now i.starved) c)
+          × IfErr r (λ s. (s ≡ TagSpent) × (now ≡ true)
+          × PopsNoneFromFull v b (listed (as_pair q) i.spill now i.starved) c)
+      balances (Ok done) now_is told =
+          (rw (← is) (trades refl backed told.0 (not_ended now_is told.0.moves), told.2, told.3, told.4), tt)
+      balances (Err stop) now_is told = (tt, stops stop now_is told)
+
+      pub publishes : (r : Result Unit Stop) → now ≡ is_err r → PublishAnswers (as_pair i.buffers) b (as_pair q) c r
+          → OnOk r (PublishesBoth v b (listed (as_pair q) i.spill now i.starved) c)
+          × IfErr r (λ s. (s ≡ TagSpent) × (now ≡ true)
+          × PopsNoneFromFull v b (listed (as_pair q) i.spill now i.starved) c)
+      publishes (Ok done) now_is told =
+          (rw (← is) (trades refl backed told.0 (not_ended now_is told.0.moves), told.4), tt)
+      publishes (Err stop) now_is told = (tt, stops stop now_is told)
 
       -- an object was requested from the buffers, and the list is as it was
       module _ (m : List ℕ) (m_is : m ≡ i.spill) where
-        gets : {now : Bool} {got : List ℕ} (u : Trades (as_pair i.buffers) b [] got (as_pair q) c)
+        gets : {got : List ℕ} (u : Trades (as_pair i.buffers) b [] got (as_pair q) c)
             → (now ≡ true → EndAtLastTag u.moves) → CallEffect v b [] got (listed (as_pair q) m now i.starved) c
         gets u ends = rw (← is) (trades m_is backed u ends)
 
-        pub get_stops : (stop : Stop) → Ends (as_pair i.buffers) b (as_pair q) c stop
-            → (stop ≡ TagSpent) × (true ≡ true) × CallEffect v b [] [] (listed (as_pair q) m true i.starved) c
-        get_stops TagSpent told = (refl, refl, gets told.0 (λ stopped. told.1))
-        get_stops OutOfMemory none = absurd none
+        pub get_stops : (r : Result (Option ℕ) Stop) → now ≡ is_err r
+            → GetAnswers (as_pair i.buffers) b (as_pair q) c r
+            → IfErr r (λ s. (s ≡ TagSpent) × (now ≡ true)
+            × CallEffect v b [] [] (listed (as_pair q) m now i.starved) c)
+        get_stops (Ok x) now_is told = tt
+        get_stops (Err TagSpent) now_is told = (refl, now_is, gets told.0 (λ stopped. told.1))
+        get_stops (Err OutOfMemory) now_is none = absurd none
 
-        module _ (going : IsOpen v) where
-          pub got_told : (r : Option ℕ) → GetAnswers (as_pair i.buffers) b (as_pair q) c (Ok r)
-              → IfSome r (λ o. CallEffect v b [] (o ∷ []) (listed (as_pair q) m i.stopped i.starved) c)
-          got_told (Some o) told = gets told.0 (not_ended going told.0.moves)
-          got_told None told = tt
+        pub got_told : (r : Result (Option ℕ) Stop) → now ≡ is_err r
+            → GetAnswers (as_pair i.buffers) b (as_pair q) c r
+            → IfOk r (λ x. IfSome x (λ o. CallEffect v b [] (o ∷ []) (listed (as_pair q) m now i.starved) c))
+        got_told (Ok (Some o)) now_is told = gets told.0 (not_ended now_is told.0.moves)
+        got_told (Ok None) now_is told = tt
+        got_told (Err stop) now_is told = tt
 
-          -- the rule of getting an object, which does not read the list
-          pub gets_told : (r : Option ℕ) → GetAnswers (as_pair i.buffers) b (as_pair q) c (Ok r)
-              → Gets v b r (listed (as_pair q) m i.stopped i.starved) c
-          gets_told (Some o) told =
-              rw (← is) (
-                trades m_is backed told.0 (not_ended going told.0.moves),
-                by_rule i (as_pair q) told.0.moves (Some o) told.2,
-              )
-          gets_told None told =
-              rw (← is) (
-                trades m_is backed told.0 (not_ended going told.0.moves),
-                by_rule i (as_pair q) told.0.moves None told.6,
-              )
+        -- the rule of getting an object, which does not read the list
+        pub gets_told : (r : Result (Option ℕ) Stop) → now ≡ is_err r
+            → GetAnswers (as_pair i.buffers) b (as_pair q) c r
+            → IfOk r (λ x. Gets v b x (listed (as_pair q) m now i.starved) c)
+        gets_told (Ok (Some o)) now_is told =
+            rw (← is) (
+              trades m_is backed told.0 (not_ended now_is told.0.moves),
+              by_rule i (as_pair q) told.0.moves (Some o) told.2,
+            )
+        gets_told (Ok None) now_is told =
+            rw (← is) (
+              trades m_is backed told.0 (not_ended now_is told.0.moves),
+              by_rule i (as_pair q) told.0.moves None told.6,
+            )
+        gets_told (Err stop) now_is told = tt
 
-          pub none_told : m ≡ [] → (r : Option ℕ) → GetAnswers (as_pair i.buffers) b (as_pair q) c (Ok r)
-              → IfNone r (CallEffect v b [] [] (listed (as_pair q) m i.stopped i.starved) c
-              × (pair_items (listed (as_pair q) m i.stopped i.starved) ≡ []) × WasSeenEmpty Full b c)
-          none_told empty (Some o) told = tt
-          none_told empty None told = (
-            gets told.0 (not_ended going told.0.moves),
-            ap (λ (k : List ℕ). k ++ buffered_items (as_pair q)) empty ∙ told.2,
-            told.3,
-          )
+        pub none_told : m ≡ [] → (r : Result (Option ℕ) Stop) → now ≡ is_err r
+            → GetAnswers (as_pair i.buffers) b (as_pair q) c r
+            → IfOk r (λ x. IfNone x (CallEffect v b [] [] (listed (as_pair q) m now i.starved) c
+            × (pair_items (listed (as_pair q) m now i.starved) ≡ []) × WasSeenEmpty Full b c))
+        none_told empty (Ok (Some o)) now_is told = tt
+        none_told empty (Ok None) now_is told = (
+          gets told.0 (not_ended now_is told.0.moves),
+          ap (λ (k : List ℕ). k ++ buffered_items (as_pair q)) empty ∙ told.2,
+          told.3,
+        )
+        none_told empty (Err stop) now_is told = tt
 
   -- the worker backs the pair without its list, too
   given_up : (b : Book) → IsBacked v [] b → IsBacked (listed (as_pair i.buffers) [] i.stopped i.starved) [] b

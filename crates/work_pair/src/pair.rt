@@ -200,13 +200,9 @@ impl<A: Allocator> Pair<A> {
         if let Some(object) = take_at(&mut self.buffers.first) {
             return Ok(Some(object));
         }
-        match self.buffers.get_elsewhere(rt, pool, worker) {
-            Ok(got) => Ok(got),
-            Err(stop) => {
-                self.stopped = true;
-                Err(stop)
-            }
-        }
+        let result = self.buffers.get_elsewhere(rt, pool, worker);
+        self.stopped = result.is_err();
+        result
     }
 
     /// Gives work to others. If the second buffer has items, pushes it on the full stack. Otherwise, if the first has
@@ -230,13 +226,9 @@ impl<A: Allocator> Pair<A> {
         ensures spent { IfErr result (λ s. (s ≡ TagSpent) × (self.new.stopped ≡ true) × PopsNoneFromFull self.old
             worker.old.book self.new worker.new.book) }
     {
-        match self.buffers.balance(rt, pool, worker) {
-            Ok(()) => Ok(()),
-            Err(stop) => {
-                self.stopped = true;
-                Err(stop)
-            }
-        }
+        let result = self.buffers.balance(rt, pool, worker);
+        self.stopped = result.is_err();
+        result
     }
 
     /// Gives the work of the pair's buffers to others: pushes each one that has items on the full stack. A buffer stays
@@ -263,13 +255,9 @@ impl<A: Allocator> Pair<A> {
         ensures spent { IfErr result (λ s. (s ≡ TagSpent) × (self.new.stopped ≡ true) × PopsNoneFromFull self.old
             worker.old.book self.new worker.new.book) }
     {
-        match self.buffers.publish(rt, pool, worker) {
-            Ok(()) => Ok(()),
-            Err(stop) => {
-                self.stopped = true;
-                Err(stop)
-            }
-        }
+        let result = self.buffers.publish(rt, pool, worker);
+        self.stopped = result.is_err();
+        result
     }
 
     /// Disposes of the pair: pushes the buffers with items on the full stack and the others on the empty one. If a last

@@ -1,22 +1,27 @@
 -- The effect of a publication on the buffers is one on the pair, whose list is as it was.
-use Rattle.work_pair.proofs.Pairs.{may_trade, publishes, stops}
+use Rattle.std.proofs.lemmas.Result.{on_ok_weaker}
+use Rattle.work_pair.proofs.Pairs.{may_trade, publishes}
 use Rattle.work_pair.proofs.pair.Pair.publish.Goals as goal
 
-pub publish-requires : goal.publish-requires
-publish-requires g c =
+pub publish-result-requires : goal.publish-result-requires
+publish-result-requires g c =
     may_trade c.self.inside c.self.view_is c.requires.pool c.requires.going c.requires.backed c.requires.busy
 
-pub returns-in-Ok-clause-published : goal.returns-in-Ok-clause-published
-returns-in-Ok-clause-published g c =
-    (publishes c.self.inside c.self.view_is c.args.worker.now.book c.publish.new.self c.publish.new.worker.book
-    c.requires.backed c.requires.going tt c.in-Ok.ensures.publishes).0
+pub returns-clause-published : goal.returns-clause-published
+returns-clause-published g c =
+    on_ok_weaker c.publish-result.result (λ both. both.0)
+    (publishes c.self.inside c.self.view_is c.args.worker.now.book c.publish-result.new.self
+    c.publish-result.new.worker.book c.requires.backed c.publish-result.result c.is_err-self-inside.ensures.value
+    c.publish-result.ensures.publishes).0
 
-pub returns-in-Ok-clause-publishes : goal.returns-in-Ok-clause-publishes
-returns-in-Ok-clause-publishes g c =
-    publishes c.self.inside c.self.view_is c.args.worker.now.book c.publish.new.self c.publish.new.worker.book
-    c.requires.backed c.requires.going tt c.in-Ok.ensures.publishes
+pub returns-clause-publishes : goal.returns-clause-publishes
+returns-clause-publishes g c =
+    (publishes c.self.inside c.self.view_is c.args.worker.now.book c.publish-result.new.self
+    c.publish-result.new.worker.book c.requires.backed c.publish-result.result c.is_err-self-inside.ensures.value
+    c.publish-result.ensures.publishes).0
 
-pub returns-in-Err-clause-spent : goal.returns-in-Err-clause-spent
-returns-in-Err-clause-spent g c =
-    stops c.self.inside c.self.view_is c.args.worker.now.book c.publish.new.self c.publish.new.worker.book
-    c.requires.backed c.in-Err.stop c.in-Err.ensures.publishes
+pub returns-clause-spent : goal.returns-clause-spent
+returns-clause-spent g c =
+    (publishes c.self.inside c.self.view_is c.args.worker.now.book c.publish-result.new.self
+    c.publish-result.new.worker.book c.requires.backed c.publish-result.result c.is_err-self-inside.ensures.value
+    c.publish-result.ensures.publishes).1

@@ -106,5 +106,5 @@ returns-in-Err-clause-back g c =
     let b = c.args.worker.now.book in
     let backed = backed_less c.args.self.now (c.args.object ∷ []) b c.requires.backed in
     let told = stops c.self.inside c.self.view_is b c.put_elsewhere.new.self c.put_elsewhere.new.worker.book backed
-    c.in-Err.stop answer in
+    c.in-Err.stop refl answer in
     (refl, ap (λ (w : PairState). w.spill) c.self.view_is, told.2)
