@@ -1,4 +1,5 @@
-//! Pairs of ID and number, ordered by ID, for objects in no order. A word of bits for each page guesses the pair.
+//! Pairs of ID and number, ordered by ID, for objects in no order. A word of bits and an index for each page guess
+//! where the pair of an ID is.
 
 use super::LowBits;
 use super::runs::PLACES;
@@ -10,7 +11,8 @@ const MOST_PAGES: u64 = 1 << 26;
 const STRETCHES: usize = 64;
 const NEIGHBOURS: usize = 1024;
 
-/// The part of a sample's pages that is added on either side, so that its ends serve for most heaps.
+/// A sixteenth of the pages that a sample spans is added on either side. So most heaps need no second pass to find
+/// their least and their greatest page.
 const MARGIN: u64 = 16;
 
 /// An object's number, and its ID with the low bits shifted out, minus the first place of the least page.
@@ -43,8 +45,8 @@ pub struct Pairs {
 
 impl Pairs {
     /// Returns the pairs of `count` objects, if the objects are in no order, their pages are close together, and their
-    /// IDs all differ and have the low bits `low`. `id` reads the ID of the object with a number. `ids` yields all IDs
-    /// once more, in order, if pairs are made.
+    /// IDs all differ and have the low bits `low`. `id(number)` is the ID of object `number`. `ids` yields the IDs of
+    /// objects 0, 1, 2 and so on; it is read if pairs are made.
     pub fn of(
         count: usize,
         id: impl Fn(usize) -> u64,
@@ -134,8 +136,8 @@ fn noted(
     (before as usize == count).then_some((least + begin as u64, pages))
 }
 
-/// Returns the pairs of the `count` objects, each at the index that `pages` guess for it. `ids` are their IDs, in
-/// order.
+/// Returns the pairs of the `count` objects, each at the index that `pages` guess for it. `ids` are their IDs,
+/// by number.
 fn placed(least: u64, pages: &[Page], count: usize, ids: impl Iterator<Item = u64>, low: LowBits) -> Vec<Pair> {
     let mut pairs = vec![Pair::default(); count];
     for (number, id) in (0..).zip(ids) {

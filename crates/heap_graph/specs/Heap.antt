@@ -22,7 +22,7 @@ abbrev pub as_class : SubRecord → Option Class
 as_class (class_dump c) = Some c
 as_class o = None
 
--- The class that an identifier names: it names an object, and that object is a class dump. Identifier 0 names none.
+-- The class that an identifier names, if the object that it names is a class dump. Identifier 0 names none.
 abbrev pub class_named : List SubRecord → ℕ → Option Class
 class_named heap id = if id == 0 then None else option_and_then as_class (object_named heap id)
 

@@ -14,7 +14,7 @@ pub record IsReachable (is_root : ℕ → Type 0) (refers : ℕ → ℕ → Type
   pub root : is_root first
   pub leads : LeadsTo refers first path o
 
--- object `o` is a root of the graph `g`, and object `a` refers to object `b`
+-- object `o` is a root of the graph `g`; below, object `a` of `g` refers to object `b`
 abbrev pub IsRootOf : ObjectGraph → ℕ → Type 0
 IsRootOf g o = Contains g.roots o
 

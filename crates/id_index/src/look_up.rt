@@ -15,15 +15,15 @@ use std::alloc::Allocator;
 const MANY_RUNS: usize = 64;
 
 /// Returns the number of the object that `run` has at place `place`, or `None` if it has no object there.
-// Inlined, as the look-up is.
+// Inlined, as [`first_bearer`] is.
 #[inline(always)]
 fn number_at_place(run: Run, place: u32) -> Option<u32>
     requires place { place < 64 }
     requires few { end_of run < 2 ^ 32 }
     ensures { MatchOption result (bit_at run.places place ≢ 1) (λ number. IsNumberAt run place number) }
 {
-    // The bits of the places up to `place`, with its own bit as the highest. If this bit is set, the set bits are one
-    // more than those below it.
+    // The bits of the places up to `place`, with its own bit as the highest. If this bit is set, the number of set bits
+    // less one is the number of objects of the run before this one.
     let up_to = run.places << (63 - place);
     if up_to < 1 << 63 {
         return None;
@@ -112,8 +112,8 @@ pub(crate) fn first_bearer<A: Allocator>(
     }
 }
 
-/// Tests whether the run that is guessed for `id` has an object that bears `id`, so that [`first_bearer`] does not
-/// search.
+/// Tests whether [`first_bearer`] finds `id` without a search: the run that is guessed for it is the first of its page
+/// and has an object that bears `id`.
 pub(crate) fn is_guessed<A: Allocator>(runs: &[Run], beginnings: &Beginnings<A>, id: u64) -> bool
     requires runs { AreAscending runs.now }
     requires begun { AreBeginnings runs.now beginnings.now }

@@ -99,8 +99,8 @@ fn gather_part<B: Allocator + Copy>(
     Ok(Some(gathered))
 }
 
-/// Joins `parts`, the results of the parts of all places, in order. Returns the first `None` or `AllocError` among
-/// `parts`, if there is one. `AllocError` also if an allocation fails.
+/// Joins `parts`, what was gathered from each part of the places, in order. Returns the first `None` or `AllocError`
+/// among `parts`, if there is one. `AllocError` also if an allocation fails.
 fn join_parts<B: Allocator + Copy>(
     alloc: B,
     bits: LowBits,
@@ -143,7 +143,7 @@ fn gather_in_parts<T: Threads + Sync, B: Allocator + Copy + Send + Sync>(
 
 /// Gathers the objects at `places`: in parts if there are many (`Team::splits`), and in one part if there are few, or
 /// if an allocation for several parts fails. Returns `None` if an identifier has other lowest bits than `bits`.
-/// `AllocError` if an allocation for one part fails.
+/// `AllocError` if an allocation fails while all is gathered in one part.
 pub(crate) fn gather<T: Threads + Sync, B: Allocator + Copy + Send + Sync>(
     team: &Team<'_, T>,
     alloc: B,

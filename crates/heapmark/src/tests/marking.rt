@@ -1,4 +1,4 @@
-//! Runs at the limits of a pool: with its last tags, or with the least buffers.
+//! Runs at the limits of a pool: with its last tags, or with the fewest and smallest buffers.
 
 use super::dumps::Sample::{LongArray, Nothing, Roots, TwoObjects, WideArray};
 use super::dumps::{
@@ -28,14 +28,14 @@ static ROWS: [Row; 13] = [
     (Nothing, (2, 256, 1024, 11), Err(16)),
     (Nothing, (64, 256, 130, 260), Ok(NOTHING_REPORT)),
     (Nothing, (64, 256, 130, 259), Err(16)),
-    // four buffers of two objects have no room for 64 successors
+    // four buffers of two objects have no room for the 64 successors of the wide array
     (WideArray, (1, 2, 4, LAST_TAG), Ok(WIDE_ARRAY_REPORT)),
     (LongArray, (1, 256, 1024, LAST_TAG), Ok(LONG_ARRAY_REPORT)),
     (LongArray, (2, 256, 1024, LAST_TAG), Ok(LONG_ARRAY_REPORT)),
     (LongArray, (64, 256, 1024, LAST_TAG), Ok(LONG_ARRAY_REPORT)),
-    // seven roots take all four buffers: the worker has no pair, and the leader scans what it could not pass on
+    // seven roots take all four buffers: the worker finds none for a pair and ends, and the leader scans all seven
     (Roots(7), (1, 2, 4, LAST_TAG), Ok(SEVEN_ROOTS_REPORT)),
-    // the ninth root goes to the leader's own list
+    // the ninth root goes to the leader's spill list
     (Roots(9), (1, 2, 4, LAST_TAG), Ok(NINE_ROOTS_REPORT)),
 ];
 

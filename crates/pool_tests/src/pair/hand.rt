@@ -15,7 +15,8 @@ use work_pair::{Pair, Stop};
 /// The number of objects of the pool in each test.
 pub(crate) const OBJECTS: u32 = 400;
 
-/// The number of objects at each place of a pair, and `None` for a place without a buffer.
+/// The numbers that [`Pair::lens`] returns: of the objects in the first buffer, in the second, and in the buffer that a
+/// stopped call left. `None` if there is no buffer.
 pub(crate) type Lens = [Option<u32>; 3];
 
 /// Creates a pool whose objects are all roots. Returns it with its worker.
@@ -177,8 +178,8 @@ pub(crate) fn full_is_empty<A: Allocator>(
     pool.sees_empty(worker, buffer_pool::Which::Full)
 }
 
-/// Disposes of the pair. If a last tag stops the disposal, returns the number of objects at each place of the pair that
-/// is left, otherwise `None`.
+/// Disposes of the pair. Returns `None`, or, if a last tag stops the disposal, the numbers of objects in the pair that
+/// remains.
 pub(crate) fn dispose<R: Wait + Abort, A: Allocator>(
     rt: &R,
     pool: &Pool<A>,

@@ -110,7 +110,8 @@ RenewAnswers half q old before new third after (Err TagSpent) = (r : Renews old 
     × EndAtLastTag r.moves × (HasPopFromFull r.moves → IsFull q)
 RenewAnswers half q old before new third after (Err OutOfMemory) = ⊥
 
--- a place whose buffer has items was renewed
+-- one place was published: its buffer was pushed on full and replaced if it had items, unless no empty buffer was
+-- found; or a last tag was loaded
 abbrev pub PublishesAt : Option HeldBuffer → Book → Option HeldBuffer → Option HeldBuffer → Book
     → Result Unit Stop → Type 0
 PublishesAt old before new third after (Ok done) = (r : Renews old before new third after)
