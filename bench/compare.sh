@@ -3,12 +3,12 @@
 #
 # usage: bench/compare.sh DUMP HISTOGRAM REPORTER..
 #
-# REPORTER..: a command that prints the report of the dump that is its last argument, such as
-# crates/heapmark/out/heapmark. To count all objects of the dump, the plain marker is built and run.
+# REPORTER..: a command, such as crates/heapmark/out/heapmark, that is run with DUMP as its last argument and prints the
+# report. To count all objects of the dump, the plain marker is built and run.
 #
 # For each class whose counts differ, prints the number of its objects in the histogram, in the dump and in the report.
-# After these lines come the totals, the number of classes with equal counts, and the report's last line. A class object
-# is in the row `<class>` of the report, and an instance of java.lang.Class in the histogram.
+# After these lines come the totals, the number of classes with equal counts, and the report's last line. The report
+# counts class objects in the row `<class>`, the histogram as instances of java.lang.Class.
 set -euo pipefail
 
 [ $# -ge 3 ] || { sed -n 's/^# usage: /usage: /p' "$0" >&2; exit 2; }
