@@ -22,7 +22,7 @@ pub use Rattle.atomic_table.specs.declared.shared.Seat.{Seat}
 pub use Rattle.atomic_table.specs.declared.shared.Shared.{Shared}
 pub use Rattle.buffer_pool.specs.Book.{Book, claimed, counts_of, failed, finished, idle_loaded, idled, joined}
 pub use Rattle.buffer_pool.specs.Book.{link_loaded, loaded, new_book, parted, popped, pushed, woken}
-pub use Rattle.buffer_pool.specs.Calls.{HeldBuffer, Holder, LostPops, LostPushes, MayPush, Shows, TriesPop, TriesPush}
+pub use Rattle.buffer_pool.specs.Calls.{HeldBuffer, Owner, LostPops, LostPushes, MayPush, Shows, TriesPop, TriesPush}
 pub use Rattle.buffer_pool.specs.Closing.{IsAtTheEnd, MarksTell}
 pub use Rattle.buffer_pool.specs.Ranges.{IsInside, IsWithin}
 pub use Rattle.buffer_pool.specs.Steps.{lost_pops, lost_pushes, try_pop_steps, try_push_steps}

@@ -20,7 +20,7 @@ use Rattle.buffer_pool.specs.declared.answers.Popped.{Popped}
 use Rattle.buffer_pool.specs.declared.answers.Popped.TheVariants as pop
 
 -- a worker: its pool, its book, and its log
-pub record Holder : Type 0 where
+pub record Owner : Type 0 where
   pub pool : TableId
   pub book : Book
   pub log : Log

@@ -15,10 +15,10 @@ pub struct Worker<A: Allocator> {
 
 impl<A: Allocator> Model for Worker<A> {
     ghost use Rattle.std.specs.Prelude.{◌≡◌, length};
-    ghost use Rattle.buffer_pool.specs.Calls.{Holder};
+    ghost use Rattle.buffer_pool.specs.Calls.{Owner};
     ghost use Rattle.buffer_pool.specs.working.BetweenCalls.{IsSound};
 
-    ghost Value = { Holder };
+    ghost Value = { Owner };
 
     ghost view = { λ w. record { pool = w.seat.table_id; book = w.seat.me.0.book; log = w.seat.me.0.log } };
 

@@ -1,7 +1,7 @@
 -- What a worker with its pair has at hand after each call.
 use Rattle.drain.proofs.Words.{All, All-from_get_or, AreClaimed, AreOfSize, Book, Bool, CallEffect, CameFrom, CanClaim}
 use Rattle.drain.proofs.Words.{CanFinish, Contains, Contains-append_cases, Contains-append_left, Contains-get_or}
-use Rattle.drain.proofs.Words.{Contains-push, Contains-push_cases, GoesOn, HasAtHand, Holder, IsAtWork, IsBacked}
+use Rattle.drain.proofs.Words.{Contains-push, Contains-push_cases, GoesOn, HasAtHand, Owner, IsAtWork, IsBacked}
 use Rattle.drain.proofs.Words.{IsBusy, IsClaimed, IsFree, IsOpen, IsPut, List, MayClaim, PairState, Setup, WorksOn, []}
 use Rattle.drain.proofs.Words.{ap, arith, buffered_items, claimed, cond, empty_pair, eq-eqb, false, false≢true}
 use Rattle.drain.proofs.Words.{finished, get_or, if◌then◌else◌, inl, inr, ne_eqb, none_last, only, only-same}
@@ -9,10 +9,10 @@ use Rattle.drain.proofs.Words.{pair_items, refl, stands_times, subst, sum_of-app
 use Rattle.drain.proofs.Words.{times_stands, true, without_spill, ℕ, ⊎_elim, ◌++◌, ◌<◌, ◌==◌, ◌↔◌, ◌∙◌, ◌∷◌, ◌≡◌, ◌≢◌}
 use Rattle.mark_core.specs.Account.{Account}
 
-pub came_at_all : (w : Holder) → CameFrom w w
+pub came_at_all : (w : Owner) → CameFrom w w
 came_at_all w = record { pool = refl; setup = refl; share = refl; seen = λ o h. h }
 
-pub came_again : {a b c : Holder} → CameFrom a b → CameFrom b c → CameFrom a c
+pub came_again : {a b c : Owner} → CameFrom a b → CameFrom b c → CameFrom a c
 came_again s t = record {
   pool = t.pool ∙ s.pool;
   setup = t.setup ∙ s.setup;
@@ -20,21 +20,21 @@ came_again s t = record {
   seen = λ o h. t.seen o (s.seen o h);
 }
 
-pub goes_on_at_all : (w : Holder) → GoesOn w w
+pub goes_on_at_all : (w : Owner) → GoesOn w w
 goes_on_at_all w = record { came = came_at_all w; idle = refl; finished = refl }
 
-pub goes_on_again : {a b c : Holder} → GoesOn a b → GoesOn b c → GoesOn a c
+pub goes_on_again : {a b c : Owner} → GoesOn a b → GoesOn b c → GoesOn a c
 goes_on_again s t = record {
   came = came_again s.came t.came;
   idle = t.idle ∙ s.idle;
   finished = t.finished ∙ s.finished;
 }
 
-pub works_on_again : {a b c : Holder} → WorksOn a b → WorksOn b c → WorksOn a c
+pub works_on_again : {a b c : Owner} → WorksOn a b → WorksOn b c → WorksOn a c
 works_on_again s t = record { came = came_again s.came t.came; idle = t.idle ∙ s.idle }
 
 -- a worker that goes on, without finishing anything, works on
-pub works : {a b : Holder} → GoesOn a b → WorksOn a b
+pub works : {a b : Owner} → GoesOn a b → WorksOn a b
 works on = record { came = on.came; idle = on.idle }
 
 -- a worker with the share and the idle number of a busy one is busy
@@ -52,7 +52,7 @@ pub only_member : (a o : ℕ) → Contains (a ∷ []) o → a ≡ o
 only_member a o h = ⊎_elim (λ e. absurd (omega (arith, e.1))) (λ e. e) (Contains-push_cases [] a o h)
 
 -- a free worker that has no pair yet has nothing at hand
-pub free_hand : {w : Holder} → IsFree w → HasAtHand empty_pair [] w
+pub free_hand : {w : Owner} → IsFree w → HasAtHand empty_pair [] w
 free_hand free = record {
   going = record { going = refl; third = refl };
   sized = record { first = tt; second = tt; third = tt };
@@ -61,7 +61,7 @@ free_hand free = record {
 }
 
 -- a pair without items has as much at hand without its spill list
-pub hand_without_spill : {p : PairState} {w : Holder} → pair_items p ≡ [] → HasAtHand p [] w
+pub hand_without_spill : {p : PairState} {w : Owner} → pair_items p ≡ [] → HasAtHand p [] w
     → HasAtHand (without_spill p) [] w
 hand_without_spill {p} none hand = record {
   going = record { going = hand.going.going; third = hand.going.third };
@@ -72,7 +72,7 @@ hand_without_spill {p} none hand = record {
 }
 
 -- a worker whose pair is gone is free if nothing is at hand and no push is open
-pub gone_free : {w : Holder} → HasAtHand empty_pair [] w → w.book.account.open_push ≡ false → IsFree w
+pub gone_free : {w : Owner} → HasAtHand empty_pair [] w → w.book.account.open_push ≡ false → IsFree w
 gone_free {w} hand closed = record {
   held = nothing w.book.account.held hand.held;
   charge = nothing w.book.account.charge (λ o. hand.charge o);
@@ -80,7 +80,7 @@ gone_free {w} hand closed = record {
 }
 
 -- a worker that has `put` and `rest` at hand backs its pair and the objects `put`
-pub backs : {p : PairState} (put rest : List ℕ) {w : Holder} → HasAtHand p (put ++ rest) w → IsBacked p put w.book
+pub backs : {p : PairState} (put rest : List ℕ) {w : Owner} → HasAtHand p (put ++ rest) w → IsBacked p put w.book
 backs {p} put rest hand = record {
   held = λ i. omega (arith, hand.held i);
   charged = λ o. omega
@@ -88,7 +88,7 @@ backs {p} put rest hand = record {
   sized = hand.sized;
 }
 
-module _ {old : PairState} (before : Holder) {put got : List ℕ} {new : PairState} (after : Holder)
+module _ {old : PairState} (before : Owner) {put got : List ℕ} {new : PairState} (after : Owner)
     (effect : CallEffect old before.book put got new after.book) where
   -- an object that was put is in the pair, or was pushed with a buffer of it; one that was got is no longer in the pair
   pub hand_after : (rest : List ℕ) → IsOpen new → HasAtHand old (put ++ rest) before
@@ -124,7 +124,7 @@ module _ {old : PairState} (before : Holder) {put got : List ℕ} {new : PairSta
   }
 
 -- what may be claimed because of what the worker has at hand
-pub can_claim : {p : PairState} {besides : List ℕ} {w : Holder} (o : ℕ) → HasAtHand p besides w
+pub can_claim : {p : PairState} {besides : List ℕ} {w : Owner} (o : ℕ) → HasAtHand p besides w
     → MayClaim w.book.setup besides o → CanClaim w.book.setup o w.book.account
 can_claim {p} {besides} {w} o hand may = ⊎_elim inl
     (λ by.
@@ -132,7 +132,7 @@ can_claim {p} {besides} {w} o hand may = ⊎_elim inl
     inr (by.0, times_stands w.book.account.charge by.0 (omega (arith, here, hand.charge by.0)), by.2))
     may
 
-module _ (old new : Holder) (pool : new.pool ≡ old.pool) (o found : ℕ) (is : new.book ≡ claimed o found old.book) where
+module _ (old new : Owner) (pool : new.pool ≡ old.pool) (o found : ℕ) (is : new.book ≡ claimed o found old.book) where
   seen_is : new.book.account.seen ≡ old.book.account.seen ++ o ∷ []
   seen_is = ap (λ (c : Book). c.account.seen) is
 
@@ -219,28 +219,28 @@ module _ (old new : Holder) (pool : new.pool ≡ old.pool) (o found : ℕ) (is :
       }
 
 -- an object that the worker saw needs no step to be claimed
-pub seen_claimed : (o : ℕ) (p : PairState) (w : Holder) → Contains w.book.account.seen o → IsClaimed o p w p w false
+pub seen_claimed : (o : ℕ) (p : PairState) (w : Owner) → Contains w.book.account.seen o → IsClaimed o p w p w false
 seen_claimed o p w seen = record { goes_on = goes_on_at_all w; saw = seen; at_work = λ besides was. was }
 
 -- a worker that saw `o` saw each object of the list of only `o`
-sees_one : (o : ℕ) (w : Holder) → Contains w.book.account.seen o → (x : ℕ) → Contains (o ∷ []) x
+sees_one : (o : ℕ) (w : Owner) → Contains w.book.account.seen o → (x : ℕ) → Contains (o ∷ []) x
     → Contains w.book.account.seen x
 sees_one o w saw x h = subst (Contains w.book.account.seen) (only_member o x h) saw
 
 -- an object that was found marked is claimed, and nothing else changes
-pub marked_claimed : {o : ℕ} {p q : PairState} {a b : Holder} {white : Bool} → white ≡ false
+pub marked_claimed : {o : ℕ} {p q : PairState} {a b : Owner} {white : Bool} → white ≡ false
     → IsClaimed o p a q b white → AreClaimed (o ∷ []) p a q b
 marked_claimed {o} {p} {q} {a} {b} marked claim =
     let none = subst (IsClaimed o p a q b) marked claim in
     record { goes_on = none.goes_on; saw = sees_one o b none.saw; at_work = none.at_work }
 
 -- an object that was found white is at hand, besides those that were before
-pub white_at_work : {o : ℕ} {p q : PairState} {a b : Holder} {white : Bool} (besides : List ℕ) → white ≡ true
+pub white_at_work : {o : ℕ} {p q : PairState} {a b : Owner} {white : Bool} (besides : List ℕ) → white ≡ true
     → IsClaimed o p a q b white → IsAtWork p besides a → IsAtWork q (o ∷ besides) b
 white_at_work {o} {p} {q} {a} {b} besides is claim = (subst (IsClaimed o p a q b) is claim).at_work besides
 
 -- a white object that was then put is claimed
-pub white_claimed : {o : ℕ} {p q r : PairState} {a b c : Holder} {white : Bool} → white ≡ true
+pub white_claimed : {o : ℕ} {p q r : PairState} {a b c : Owner} {white : Bool} → white ≡ true
     → IsClaimed o p a q b white → IsPut o q b r c → AreClaimed (o ∷ []) p a r c
 white_claimed {o} {c = c} is claim puts = record {
   goes_on = goes_on_again claim.goes_on puts.goes_on;
@@ -249,7 +249,7 @@ white_claimed {o} {c = c} is claim puts = record {
 }
 
 -- an object that the pair took in was put
-pub is_put : {o : ℕ} {p q : PairState} (a b : Holder) → b.pool ≡ a.pool → CallEffect p a.book (o ∷ []) [] q b.book
+pub is_put : {o : ℕ} {p q : PairState} (a b : Owner) → b.pool ≡ a.pool → CallEffect p a.book (o ∷ []) [] q b.book
     → IsOpen q
     → IsPut o p a q b
 is_put a b pool effect going = record {
@@ -257,7 +257,7 @@ is_put a b pool effect going = record {
   at_work = λ besides. at_work_after a b effect besides going;
 }
 
-pub none_claimed : (p : PairState) (w : Holder) → AreClaimed [] p w p w
+pub none_claimed : (p : PairState) (w : Owner) → AreClaimed [] p w p w
 none_claimed p w = record {
   goes_on = goes_on_at_all w;
   saw = λ o h. absurd (omega (arith, h.1));
@@ -265,7 +265,7 @@ none_claimed p w = record {
 }
 
 -- if some objects were claimed and then others, all were claimed
-pub more_claimed : {xs ys : List ℕ} {p q r : PairState} {a b c : Holder} → AreClaimed xs p a q b → AreClaimed ys q b r c
+pub more_claimed : {xs ys : List ℕ} {p q r : PairState} {a b c : Owner} → AreClaimed xs p a q b → AreClaimed ys q b r c
     → AreClaimed (xs ++ ys) p a r c
 more_claimed {xs} {ys} first next = record {
   goes_on = goes_on_again first.goes_on next.goes_on;
@@ -275,7 +275,7 @@ more_claimed {xs} {ys} first next = record {
 }
 
 -- the scanned object may be finished after all that it refers to was claimed, and then it is no longer at hand
-module _ {o : ℕ} {p : PairState} {mid : Holder} (at_work : IsAtWork p (o ∷ []) mid) where
+module _ {o : ℕ} {p : PairState} {mid : Owner} (at_work : IsAtWork p (o ∷ []) mid) where
   charged : 0 < times o mid.book.account.charge
   charged = omega (arith, at_work.hand.charge o, only-same o o refl)
 
@@ -283,7 +283,7 @@ module _ {o : ℕ} {p : PairState} {mid : Holder} (at_work : IsAtWork p (o ∷ [
       → CanFinish mid.book.setup o mid.book.account
   may_finish saw = (times_stands mid.book.account.charge o charged, saw)
 
-  scanned : (new : Holder) → new.pool ≡ mid.pool → new.book ≡ finished o mid.book
+  scanned : (new : Owner) → new.pool ≡ mid.pool → new.book ≡ finished o mid.book
       → WorksOn mid new × IsAtWork p [] new
   scanned new pool is =
       let setup = ap (λ (c : Book). c.setup) is in
@@ -312,13 +312,13 @@ module _ {o : ℕ} {p : PairState} {mid : Holder} (at_work : IsAtWork p (o ∷ [
       )
 
 -- an object that was at hand was finished, and the worker is at its pair
-pub record IsScanned (o : ℕ) (old : Holder) (p : PairState) (new : Holder) : Type 0 where
+pub record IsScanned (o : ℕ) (old : Owner) (p : PairState) (new : Owner) : Type 0 where
   pub works_on : WorksOn old new
   pub at_work : IsAtWork p [] new
   pub finished : new.book.account.finished ≡ old.book.account.finished ++ o ∷ []
 
 -- a worker that claims what an object refers to and then finishes the object has scanned it
-pub claimed_and_finished : {o : ℕ} {xs : List ℕ} {p q : PairState} {a b : Holder} (c : Holder) → IsAtWork p (o ∷ []) a
+pub claimed_and_finished : {o : ℕ} {xs : List ℕ} {p q : PairState} {a b : Owner} (c : Owner) → IsAtWork p (o ∷ []) a
     → AreClaimed xs p a q b → c.pool ≡ b.pool → c.book ≡ finished o b.book → IsScanned o a q c
 claimed_and_finished {o} c was are pool is =
     let done = scanned (are.at_work (o ∷ []) was) c pool is in
@@ -337,6 +337,6 @@ all_claimable o nexts e pairs =
     (λ k inside. inr (o, Contains-push [] o, pairs (get_or nexts k 0) (Contains-get_or nexts k 0 inside)))
 
 -- an object that is at hand is an object of the graph
-pub got_is_object : {o : ℕ} {p : PairState} {w : Holder} → IsAtWork p (o ∷ []) w
+pub got_is_object : {o : ℕ} {p : PairState} {w : Owner} → IsAtWork p (o ∷ []) w
     → ((x : ℕ) → Contains w.book.account.charge x → x < w.book.setup.objects) → o < w.book.setup.objects
 got_is_object {o} {p} {w} at_work within = within o (times_stands w.book.account.charge o (charged at_work))

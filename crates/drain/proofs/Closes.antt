@@ -1,5 +1,5 @@
 -- The marks at the close are exactly at the reachable objects.
-use Rattle.drain.proofs.Words.{Book, Contains, Holder, IsMarked, IsReachable, IsReferenceOf, IsRootOf, IsSetupOf, List}
+use Rattle.drain.proofs.Words.{Book, Contains, Owner, IsMarked, IsReachable, IsReferenceOf, IsRootOf, IsSetupOf, List}
 use Rattle.drain.proofs.Words.{Marking, MarksReachableOf, MarksTell, ObjectGraph, SawRoots, Setup, [], ap, arith, false}
 use Rattle.drain.proofs.Words.{false≢true, is_set, le-leb, leb-true, length-map, map, new_book, object_count, pairs_of}
 use Rattle.drain.proofs.Words.{slice_index, subst, suc, sym, zero, ℕ, ◌↔◌, ◌∙◌, ◌∷◌, ◌≡◌, ◌≤◌}
@@ -41,7 +41,7 @@ module _ (g : ObjectGraph) (e : Setup) (setup : IsSetupOf (object_count g) g.roo
       ((pair_is_reference g p o).1 (subst (λ (ps : List (ℕ × ℕ)). Contains ps (p, o)) setup.pairs leads.0))
 
   pub exactly_marked :
-      (w : Holder) (last : Marking) (marks : List ℕ) → w.book.setup ≡ e → w.book.account.open_push ≡ false → SawRoots w
+      (w : Owner) (last : Marking) (marks : List ℕ) → w.book.setup ≡ e → w.book.account.open_push ≡ false → SawRoots w
       → MarksTell w.book last marks → MarksReachableOf g (map is_set marks)
   exactly_marked w last marks made closed_push saw tells = record {
     one_each = length-map marks is_set ∙ tells.count ∙ ap (λ (s : Setup). s.objects) made ∙ setup.objects;

@@ -1,11 +1,11 @@
 -- What a thread owed is returned, whatever the leader did meanwhile.
-use Rattle.drain.proofs.Words.{Book, Duty, HasTallied, Holder, IsBackUnder, IsDutyUnder, IsThrough, Measure, ap, subst}
+use Rattle.drain.proofs.Words.{Book, Duty, HasTallied, Owner, IsBackUnder, IsDutyUnder, IsThrough, Measure, ap, subst}
 use Rattle.drain.proofs.Words.{sym, ◌∙◌, ◌≡◌}
 use Rattle.drain.specs.declared.tallied_worker.TalliedWorker.{TalliedWorker}
 use Rattle.drain.specs.declared.tally.Tally.{Tally}
 
 -- a worker that kept its duty is back
-pub came_back : {A V : Type 0} (measure : V → Measure) {graph : V} {leader w : Holder} (t : Tally A) {duty : Duty A V}
+pub came_back : {A V : Type 0} (measure : V → Measure) {graph : V} {leader w : Owner} (t : Tally A) {duty : Duty A V}
     → IsDutyUnder graph leader duty → IsThrough duty.begun.value w → HasTallied (measure duty.graph.value) w t
     → IsBackUnder (measure graph) leader w t
 came_back measure {w = w} t owed through tally = record {
@@ -17,11 +17,11 @@ came_back measure {w = w} t owed through tally = record {
 }
 
 -- a worker and its tally are back
-abbrev pub Back : {A : Type 0} → Measure → Holder → TalliedWorker A → Type 0
+abbrev pub Back : {A : Type 0} → Measure → Owner → TalliedWorker A → Type 0
 Back m leader t = IsBackUnder m leader t.worker t.tally
 
 -- a worker that is back for one leader is back for another of the same pool and setup
-pub back_still : {A : Type 0} {m : Measure} {old : Holder} (new : Holder) {w : Holder} {t : Tally A}
+pub back_still : {A : Type 0} {m : Measure} {old : Owner} (new : Owner) {w : Owner} {t : Tally A}
     → new.pool ≡ old.pool → new.book.setup ≡ old.book.setup → IsBackUnder m old w t → IsBackUnder m new w t
 back_still new pool setup back = record {
   pool = back.pool ∙ sym pool;

@@ -1,6 +1,6 @@
 -- A worker that goes idle, looks at the idle word and at the full stack, and comes back: it keeps what it had at each
 -- step.
-use Rattle.drain.proofs.Words.{AreOfSize, Book, Bool, CameFrom, CanIdle, Contains, HasAtHand, HasNoneLeft, Holder}
+use Rattle.drain.proofs.Words.{AreOfSize, Book, Bool, CameFrom, CanIdle, Contains, HasAtHand, HasNoneLeft, Owner}
 use Rattle.drain.proofs.Words.{IsAtWork, IsAwake, List, PairState, Sees, Setup, [], ap, arith, false, false≢true}
 use Rattle.drain.proofs.Words.{idle_loaded, idled, inr, is_none, is_some, loaded, pair_items, refl, subst, sym, times}
 use Rattle.drain.proofs.Words.{true, woken, ℕ, ◌&&◌, ◌+◌, ◌||◌, ◌↔◌, ◌∙◌, ◌≡◌, ◌≢◌}
@@ -10,7 +10,7 @@ use Rattle.drain.specs.working.Idle.WaitsInVain.{more as one_more_vain, none as 
 use Rattle.drain.proofs.AtHand.{came_again, came_at_all, nothing}
 
 -- the worker has what it had, has no open push, and found the full stack empty
-pub record IsStill (begun w : Holder) : Type 0 where
+pub record IsStill (begun w : Owner) : Type 0 where
   pub came : CameFrom begun w
   pub held : w.book.account.held ≡ begun.book.account.held
   pub charge : w.book.account.charge ≡ begun.book.account.charge
@@ -19,22 +19,22 @@ pub record IsStill (begun w : Holder) : Type 0 where
   pub found : w.book.account.found ≡ true
 
 -- the worker is idle, and has what it had
-pub record IsIdling (begun w : Holder) : Type 0 where
+pub record IsIdling (begun w : Owner) : Type 0 where
   pub still : IsStill begun w
   pub idle : w.book.account.idle ≡ 1
 
 -- a worker without items may go idle
-pub may_idle : {p : PairState} {w : Holder} → IsAwake w → HasAtHand p [] w → HasNoneLeft p w → CanIdle w.book.account
+pub may_idle : {p : PairState} {w : Owner} → IsAwake w → HasAtHand p [] w → HasNoneLeft p w → CanIdle w.book.account
 may_idle {w = w} awake hand none =
     let uncharged = nothing w.book.account.charge (λ o. omega (arith, hand.charge o, ap (times o) none.0)) in
     (awake.share, awake.idle, uncharged, none.2)
 
 -- a worker that is not idle is at work
-pub awake_at_work : {p : PairState} {w : Holder} → IsAwake w → HasAtHand p [] w → IsAtWork p [] w
+pub awake_at_work : {p : PairState} {w : Owner} → IsAwake w → HasAtHand p [] w → IsAtWork p [] w
 awake_at_work awake hand = record { hand = hand; busy = inr awake.idle }
 
 -- the worker still has its pair, without items
-module _ {p q : PairState} {begun w : Holder} (same : q ≡ p) (still : IsStill begun w) where
+module _ {p q : PairState} {begun w : Owner} (same : q ≡ p) (still : IsStill begun w) where
   pub hand_still : HasAtHand p [] begun → HasAtHand q [] w
   hand_still was =
       subst (λ (r : PairState). HasAtHand r [] w) (sym same) (record {
@@ -47,7 +47,7 @@ module _ {p q : PairState} {begun w : Holder} (same : q ≡ p) (still : IsStill 
   pub none_still : HasNoneLeft p begun → HasNoneLeft q w
   none_still was = (ap pair_items same ∙ was.0, still.open_push, still.found)
 
-module _ {old : Holder} (new : Holder) (pool : new.pool ≡ old.pool) where
+module _ {old : Owner} (new : Owner) (pool : new.pool ≡ old.pool) where
   -- a book with the same setup, share, buffers, charge, and seen and finished objects
   module _ (b : Book) (is : new.book ≡ b) (setup : b.setup ≡ old.book.setup)
       (share : b.account.share ≡ old.book.account.share) (held : b.account.held ≡ old.book.account.held)
@@ -61,7 +61,7 @@ module _ {old : Holder} (new : Holder) (pool : new.pool ≡ old.pool) where
       seen = λ o h. subst (λ (xs : List ℕ). Contains xs o) (sym (ap (λ (c : Book). c.account.seen) is ∙ seen)) h;
     }
 
-    still_after : {begun : Holder} → IsStill begun old → b.account.open_push ≡ false → b.account.found ≡ true
+    still_after : {begun : Owner} → IsStill begun old → b.account.open_push ≡ false → b.account.found ≡ true
         → IsStill begun new
     still_after was closed found = record {
       came = came_again was.came came_after;
@@ -72,7 +72,7 @@ module _ {old : Holder} (new : Holder) (pool : new.pool ≡ old.pool) where
       found = ap (λ (c : Book). c.account.found) is ∙ found;
     }
 
-  module _ {begun : Holder} (was : IsIdling begun old) where
+  module _ {begun : Owner} (was : IsIdling begun old) where
     -- it loads the idle word
     pub sees_idle : (word : ℕ) → new.book ≡ idle_loaded word old.book → IsIdling begun new
     sees_idle word is =
@@ -105,7 +105,7 @@ module _ {old : Holder} (new : Holder) (pool : new.pool ≡ old.pool) where
     }
 
 -- it goes idle
-pub goes_idle : (p : PairState) {old : Holder} (new : Holder) → new.pool ≡ old.pool → new.book ≡ idled old.book
+pub goes_idle : (p : PairState) {old : Owner} (new : Owner) → new.pool ≡ old.pool → new.book ≡ idled old.book
     → IsAwake old → HasNoneLeft p old → IsIdling old new
 goes_idle p {old} new pool is awake none =
     let still : IsStill old old =

@@ -1,9 +1,9 @@
 -- The leader while it passes units to workers and takes workers in.
-use Rattle.drain.proofs.Words.{AreOfSize, Book, Contains, Contains-append_left, HasAtHand, Holder, IsAtWork, IsAwake}
+use Rattle.drain.proofs.Words.{AreOfSize, Book, Contains, Contains-append_left, HasAtHand, Owner, IsAtWork, IsAwake}
 use Rattle.drain.proofs.Words.{IsBusy, IsFree, Leads, List, PairState, Setup, [], ap, arith, inl, joined, new_book}
 use Rattle.drain.proofs.Words.{only, parted, refl, subst, sum_of-append, sym, times, ℕ, ◌++◌, ◌<◌, ◌||◌, ◌∙◌, ◌≡◌}
 
-pub leads_at_all : (w : Holder) → Leads w w
+pub leads_at_all : (w : Owner) → Leads w w
 leads_at_all w = record {
   pool = refl;
   setup = refl;
@@ -13,7 +13,7 @@ leads_at_all w = record {
   pushed = refl;
 }
 
-pub leads_again : {a b c : Holder} → Leads a b → Leads b c → Leads a c
+pub leads_again : {a b c : Owner} → Leads a b → Leads b c → Leads a c
 leads_again s t = record {
   pool = t.pool ∙ s.pool;
   setup = t.setup ∙ s.setup;
@@ -24,7 +24,7 @@ leads_again s t = record {
 }
 
 -- a leader that gave units away still leads
-pub gave_away : (old new : Holder) (units : ℕ) → new.pool ≡ old.pool → new.book ≡ parted units old.book → Leads old new
+pub gave_away : (old new : Owner) (units : ℕ) → new.pool ≡ old.pool → new.book ≡ parted units old.book → Leads old new
 gave_away old new units pool is = record {
   pool = pool;
   setup = ap (λ (b : Book). b.setup) is;
@@ -35,7 +35,7 @@ gave_away old new units pool is = record {
 }
 
 -- a leader that took in a free worker still leads
-pub took_in : (old other new : Holder) → new.pool ≡ old.pool → new.book ≡ joined old.book other.book → IsFree other
+pub took_in : (old other new : Owner) → new.pool ≡ old.pool → new.book ≡ joined old.book other.book → IsFree other
     → Leads old new
 took_in old other new pool is free = record {
   pool = pool;
@@ -58,7 +58,7 @@ took_in old other new pool is free = record {
 }
 
 -- a leader that took in a free worker is free if it was free before
-pub joined_free : (old other new : Holder) → new.book ≡ joined old.book other.book → IsFree old → IsFree other
+pub joined_free : (old other new : Owner) → new.book ≡ joined old.book other.book → IsFree old → IsFree other
     → IsFree new
 joined_free old other new is free other_free = record {
   held = ap (λ (b : Book). b.account.held) is ∙ (λ k. free.held k ++ other_free.held k);
@@ -67,7 +67,7 @@ joined_free old other new is free other_free = record {
 }
 
 -- a leader that leads has the same pair at hand
-leads_hand : {p : PairState} {old new : Holder} → Leads old new → HasAtHand p [] old → HasAtHand p [] new
+leads_hand : {p : PairState} {old new : Owner} → Leads old new → HasAtHand p [] old → HasAtHand p [] new
 leads_hand {p} leads was = record {
   going = was.going;
   sized = subst (λ (e : Setup). AreOfSize e.size p) (sym leads.setup) was.sized;
@@ -76,23 +76,23 @@ leads_hand {p} leads was = record {
 }
 
 -- a worker with several units is busy, whatever its idle number
-pub several_busy : (w : Holder) → 1 < w.book.account.share → IsBusy w.book.account
+pub several_busy : (w : Owner) → 1 < w.book.account.share → IsBusy w.book.account
 several_busy w several = inl (λ one. omega (arith, several, one))
 
 -- a leader is at work again once it has several units
-pub leads_on : {p : PairState} {old new : Holder} → Leads old new → 1 < new.book.account.share → HasAtHand p [] old
+pub leads_on : {p : PairState} {old new : Owner} → Leads old new → 1 < new.book.account.share → HasAtHand p [] old
     → IsAtWork p [] new
 leads_on {new = new} leads several was = record { hand = leads_hand leads was; busy = several_busy new several }
 
 -- a worker that was just made with one unit is not idle
-pub new_awake : (w : Holder) (e : Setup) → w.book ≡ new_book e 1 → IsAwake w
+pub new_awake : (w : Owner) (e : Setup) → w.book ≡ new_book e 1 → IsAwake w
 new_awake w e is = record {
   share = ap (λ (b : Book). b.account.share) is;
   idle = ap (λ (b : Book). b.account.idle) is;
 }
 
 -- a worker that was just made is free
-pub new_free : (w : Holder) (e : Setup) (units : ℕ) → w.book ≡ new_book e units → IsFree w
+pub new_free : (w : Owner) (e : Setup) (units : ℕ) → w.book ≡ new_book e units → IsFree w
 new_free w e units is = record {
   held = ap (λ (b : Book). b.account.held) is;
   charge = ap (λ (b : Book). b.account.charge) is;

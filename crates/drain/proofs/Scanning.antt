@@ -1,5 +1,5 @@
 -- A worker that got an object, claimed what it refers to and finished it: its tally had room, and takes the object in.
-use Rattle.drain.proofs.Words.{CameFrom, Contains, HasTallied, Holder, IsAtWork, IsAwake, IsMeasureOf, IsSetupOf}
+use Rattle.drain.proofs.Words.{CameFrom, Contains, HasTallied, Owner, IsAtWork, IsAwake, IsMeasureOf, IsSetupOf}
 use Rattle.drain.proofs.Words.{IsSmall, IsTallyOf, List, Measure, Setup, Sum, WorksOn, [], ap, arith, length}
 use Rattle.drain.proofs.Words.{length_push, subst, sym, ℕ, ◌++◌, ◌↔◌, ◌∙◌, ◌∷◌, ◌≡◌, ◌≤◌}
 use Rattle.drain.specs.declared.job.Job.{Job}
@@ -28,7 +28,7 @@ still_on_job was came at_work tally = record {
 }
 
 -- a worker that worked on since it was awake is awake
-pub still_awake : {old new : Holder} → IsAwake old → WorksOn old new → IsAwake new
+pub still_awake : {old new : Owner} → IsAwake old → WorksOn old new → IsAwake new
 still_awake was on = record { share = on.came.share ∙ was.share; idle = on.idle ∙ was.idle }
 
 -- workers that finished the same objects have the same tally

@@ -24,7 +24,7 @@ pub use Rattle.mark_core.specs.Lists.{only, times}
 pub use Rattle.mark_core.specs.World.{Marking, Setup}
 pub use Rattle.buffer_pool.specs.Book.{Book, claimed, finished, idle_loaded, idled, joined, loaded, new_book, parted}
 pub use Rattle.buffer_pool.specs.Book.{woken}
-pub use Rattle.buffer_pool.specs.Calls.{Holder, Sees}
+pub use Rattle.buffer_pool.specs.Calls.{Owner, Sees}
 pub use Rattle.buffer_pool.specs.Closing.{MarksTell}
 pub use Rattle.work_pair.proofs.Calls.{none_first, none_last}
 pub use Rattle.work_pair.specs.CallEffects.{CallEffect, Puts, TouchesNoFull}

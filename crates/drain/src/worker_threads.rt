@@ -2,7 +2,7 @@
 
 ghost use Rattle.std.specs.Prelude.{◌≡◌, ◌<◌, ◌≤◌, ◌+◌, ◌⊎◌, ℕ, IfErr, IfOk, get_or, vec_capacity, vec_len};
 ghost use Rattle.drain.specs.declared.marked.RunFault.TheVariants as fault;
-ghost use Rattle.buffer_pool.specs.Calls.{Holder};
+ghost use Rattle.buffer_pool.specs.Calls.{Owner};
 ghost use Rattle.drain.specs.working.AtWork.{HasGiven, IsSetupOf, IsThrough, Leads};
 ghost use Rattle.drain.specs.working.Duties.{AreBackUnder, HasStarted, IsDutyUnder};
 ghost use Rattle.drain.specs.working.Jobs.{HasWorked, MayRun, MayWork};
@@ -137,7 +137,7 @@ where
     requires room { vec_len starting.threads < vec_capacity starting.threads }
     requires tallies { (0 < vec_len starting.tallies)
         × AreTalliesOfNone (V.measure job.now.graph.now) starting.tallies.items }
-    ensures started { IfOk result (λ s. (begun : Holder) → number < begun.book.account.share
+    ensures started { IfOk result (λ s. (begun : Owner) → number < begun.book.account.share
         → vec_len starting.threads ≡ number
         → HasStarted job.now.graph.now (λ t. t.promise) begun starting.leader starting.threads.items number
         → HasStarted job.now.graph.now (λ t. t.promise) begun s.leader s.threads.items (number + 1)) }
@@ -206,7 +206,7 @@ pub fn join_all<T: Threads, A: Allocator, V: Measured>(
 ) -> Result<Vec<TalliedWorker<A>, A>, RunFault>
     requires room { (vec_len back ≡ 0) × (vec_len threads ≤ vec_capacity back) }
     ensures count { IfOk result (λ l. vec_len l ≡ vec_len threads) }
-    ensures back { IfOk result (λ l. (graph : _) (leader : Holder) → ((number : ℕ) (t : _) → number < vec_len threads
+    ensures back { IfOk result (λ l. (graph : _) (leader : Owner) → ((number : ℕ) (t : _) → number < vec_len threads
         → IsDutyUnder graph leader (get_or threads.items number t).promise)
         → AreBackUnder (V.measure graph) leader l.items) }
     ensures refused { IfErr result (λ e. (e ≡ fault.TagSpent) ⊎ (e ≡ fault.OutOfMemory)) }

@@ -1,1 +1,1 @@
-pub mod Holders
+pub mod Owners

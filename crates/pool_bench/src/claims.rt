@@ -2,7 +2,7 @@
 //! threads in turn, and each thread claims the objects of its own rows.
 
 ghost use Rattle.std.specs.Prelude.{◌≡◌, All};
-ghost use Rattle.pool_bench.specs.Holders.{AreRoots, HasSeen, SamePool};
+ghost use Rattle.pool_bench.specs.Owners.{AreRoots, HasSeen, SamePool};
 
 use crate::sizes::Sizes;
 use crate::workers::{NumberedWorker, sum_of};

@@ -4,7 +4,7 @@ ghost use Rattle.std.specs.Prelude.{◌≡◌, ℕ, [], IfErr, IfOk};
 ghost use Rattle.mark_core.specs.Shares.{whole};
 ghost use Rattle.buffer_pool.specs.Faults.{Refuses};
 ghost use Rattle.buffer_pool.specs.Ranges.{IsInside};
-ghost use Rattle.pool_bench.specs.Holders.{AreRoots, numbers};
+ghost use Rattle.pool_bench.specs.Owners.{AreRoots, numbers};
 
 use crate::sizes::{BUFFERS, SIZE};
 use buffer_pool::{Edges, Pool, PoolFault, Worker};

@@ -1,7 +1,7 @@
 //! Pops from the empty stack, and pushes on it.
 
 ghost use Rattle.std.specs.Prelude.{◌≡◌, ◌≤◌, All};
-ghost use Rattle.pool_bench.specs.Holders.{PopsAndPushes};
+ghost use Rattle.pool_bench.specs.Owners.{PopsAndPushes};
 
 use crate::workers::{NumberedWorker, sum_of};
 use buffer_pool::{Pool, Popped, Which, Worker};

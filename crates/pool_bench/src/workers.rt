@@ -1,7 +1,7 @@
 //! A worker for each thread.
 
 ghost use Rattle.std.specs.Prelude.{◌≡◌, ◌<◌, ◌≤◌, All, IfOk, vec_len};
-ghost use Rattle.pool_bench.specs.Holders.{SamePool};
+ghost use Rattle.pool_bench.specs.Owners.{SamePool};
 
 use buffer_pool::{Pool, Worker};
 use std::alloc::{AllocError, Global};

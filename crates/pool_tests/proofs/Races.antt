@@ -5,7 +5,7 @@ use Rattle.mark_core.specs.Lists.{remove_one}
 use Rattle.mark_core.specs.World.{Setup}
 use Rattle.mark_core.proofs.Sums.{remove_one-same}
 use Rattle.buffer_pool.specs.Book.{loaded, link_loaded}
-use Rattle.buffer_pool.specs.Calls.{Holder, HeldBuffer, TriesPop, Pops}
+use Rattle.buffer_pool.specs.Calls.{Owner, HeldBuffer, TriesPop, Pops}
 use Rattle.buffer_pool.specs.Calls.LostPops.{none as no_pop}
 use Rattle.pool_tests.specs.Worked.{Holds, bare}
 use Rattle.buffer_pool.specs.declared.answers.TryPopped.TheVariants as try_pop
@@ -14,7 +14,7 @@ use Rattle.pool_tests.proofs.RoundSteps.{IsLook, look_head, look_link}
 use Rattle.pool_tests.proofs.SmallRuns.{look_failed, look_then, lost_pops, pops_bare}
 
 -- a worker that only looked has what it had
-holds_still : (old new : Holder) (n : ℕ) (list : List ℕ) → IsLook old.book new.book → Holds n list old
+holds_still : (old new : Owner) (n : ℕ) (list : List ℕ) → IsLook old.book new.book → Holds n list old
     → Holds n list new
 holds_still old new n list look was =
     record {
@@ -24,7 +24,7 @@ holds_still old new n list look was =
       awake = look.idle ∙ was.awake;
     }
 
-module _ (old new : Holder) (n : ℕ) (list : List ℕ) (was : Holds n list old) where
+module _ (old new : Owner) (n : ℕ) (list : List ℕ) (was : Holds n list old) where
   pub found_nothing : (q : Which) → Pops q old.book new.book pop.Empty → Holds n list new
   found_nothing q p =
       let looked : IsLook p.0 new.book = subst (IsLook p.0) (sym p.2.2) (look_head q p.2.0 p.0) in
@@ -46,7 +46,7 @@ module _ (old new : Holder) (n : ℕ) (list : List ℕ) (was : Holds n list old)
   took_try q h p none = pops_bare old new n list was q h h.index (old.book, no_pop old.book, p) refl none
 
 -- the one buffer that it had was given away
-pub none_left : (w : Holder) (n i : ℕ) → Holds n (remove_one i (i ∷ [])) w → Holds n [] w
+pub none_left : (w : Owner) (n i : ℕ) → Holds n (remove_one i (i ∷ [])) w → Holds n [] w
 none_left w n i was = subst (λ (xs : List ℕ). Holds n xs w) (remove_one-same i i [] refl) was
 
 pub has_it : (i : ℕ) → Contains (i ∷ []) i

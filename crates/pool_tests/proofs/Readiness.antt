@@ -9,7 +9,7 @@ use Rattle.mark_core.specs.World.{Setup}
 use Rattle.mark_core.specs.Events.{CanClaim}
 use Rattle.mark_core.proofs.Sums.{sum_of-append}
 use Rattle.buffer_pool.specs.Book.{Book, claimed}
-use Rattle.buffer_pool.specs.Calls.{HeldBuffer, Holder, Pops}
+use Rattle.buffer_pool.specs.Calls.{HeldBuffer, Owner, Pops}
 use Rattle.buffer_pool.specs.declared.answers.Popped.{Popped}
 use Rattle.buffer_pool.specs.declared.answers.Popped.TheVariants as pop
 use Rattle.work_pair.specs.CallEffects.{CallEffect}
@@ -28,18 +28,18 @@ is_root n o below = (
   omega (arith, get_or-range_with_len 0 n o o below),
 )
 
-pub may_claim : (n o : ℕ) (pool : TableId) (w : Holder) → IsWorker n pool w → o < n
+pub may_claim : (n o : ℕ) (pool : TableId) (w : Owner) → IsWorker n pool w → o < n
     → CanClaim w.book.setup o w.book.account
 may_claim n o pool w worker below = inl (subst (λ (rs : List ℕ). Contains rs o) (sym worker.roots) (is_root n o below))
 
 -- a worker whose setup and idle number stay
-pub still_worker : (n : ℕ) (pool : TableId) (old new : Holder) → IsWorker n pool old → new.pool ≡ old.pool
+pub still_worker : (n : ℕ) (pool : TableId) (old new : Owner) → IsWorker n pool old → new.pool ≡ old.pool
     → new.book.setup ≡ old.book.setup → new.book.account.idle ≡ old.book.account.idle → IsWorker n pool new
 still_worker n pool old new w same setup idle =
     record { same = same ∙ w.same; roots = ap (λ (e : Setup). e.roots) setup ∙ w.roots; idle = idle ∙ w.idle }
 
 -- after one pop
-pub popped_worker : (n : ℕ) (pool : TableId) (q : Which) (old new : Holder) (r : Popped HeldBuffer)
+pub popped_worker : (n : ℕ) (pool : TableId) (q : Which) (old new : Owner) (r : Popped HeldBuffer)
     → IsWorker n pool old → new.pool ≡ old.pool → Pops q old.book new.book r → IsWorker n pool new
 popped_worker n pool q old new (pop.Took h) w same popped =
     let e = move_effect (Took q h) old.book new.book popped in still_worker n pool old new w same e.setup e.idle
@@ -68,7 +68,7 @@ claimed_backed p o found old new is white backed =
     }
 
 -- after a call
-pub ready_after : (n : ℕ) (pool : TableId) (old new : Holder) (p q : PairState) (put got : List ℕ) → IsWorker n pool old
+pub ready_after : (n : ℕ) (pool : TableId) (old new : Owner) (p q : PairState) (put got : List ℕ) → IsWorker n pool old
     → new.pool ≡ old.pool → IsOpen q → CallEffect p old.book put got q new.book → IsReady n pool new q
 ready_after n pool old new p q put got w same going effect =
     record {
@@ -78,7 +78,7 @@ ready_after n pool old new p q put got w same going effect =
     }
 
 -- after a claim
-pub claimed_worker : (n : ℕ) (pool : TableId) (old new : Holder) (o found : ℕ) → IsWorker n pool old
+pub claimed_worker : (n : ℕ) (pool : TableId) (old new : Owner) (o found : ℕ) → IsWorker n pool old
     → new.pool ≡ old.pool
     → new.book ≡ claimed o found old.book → IsWorker n pool new
 claimed_worker n pool old new o found w same is =

@@ -13,7 +13,7 @@ use Rattle.mark_core.specs.Events.{CanClaim, CanFinish}
 use Rattle.mark_core.proofs.Sums.{sum_of-append, only-same, remove_one-same, times-remove_one, times-without}
 use Rattle.mark_core.proofs.Sums.{times_stands}
 use Rattle.buffer_pool.specs.Book.{Book, loaded, link_loaded, failed, claimed, finished}
-use Rattle.buffer_pool.specs.Calls.{Holder, HeldBuffer, MayPush, TriesPop, TriesPush}
+use Rattle.buffer_pool.specs.Calls.{Owner, HeldBuffer, MayPush, TriesPop, TriesPush}
 use Rattle.pool_tests.specs.Rounds.{HasNone, HasOne, HasRoots, IsSameWorker, numbers}
 use Rattle.buffer_pool.specs.declared.answers.TryPopped.TheVariants as try_pop
 use Rattle.buffer_pool.specs.declared.answers.TryPushed.TheVariants as try_push
@@ -31,10 +31,10 @@ is_root n o below = (
   omega (arith, get_or-range_with_len 0 n o o below),
 )
 
-pub same_worker : (w : Holder) → IsSameWorker w w
+pub same_worker : (w : Owner) → IsSameWorker w w
 same_worker w = record { pool = refl; setup = refl; share = refl; idle = refl }
 
-pub same_again : (a b c : Holder) → IsSameWorker a b → IsSameWorker b c → IsSameWorker a c
+pub same_again : (a b c : Owner) → IsSameWorker a b → IsSameWorker b c → IsSameWorker a c
 same_again a b c s t =
     record {
       pool = t.pool ∙ s.pool;
@@ -43,7 +43,7 @@ same_again a b c s t =
       idle = t.idle ∙ s.idle;
     }
 
-pub same_roots : (n : ℕ) (a b : Holder) → IsSameWorker a b → HasRoots n a → HasRoots n b
+pub same_roots : (n : ℕ) (a b : Owner) → IsSameWorker a b → HasRoots n a → HasRoots n b
 same_roots n a b s r =
     record {
       objects = ap (λ (e : Setup). e.objects) s.setup ∙ r.objects;
@@ -79,7 +79,7 @@ charge_white o found xs e = ap (λ t. cond t (xs ++ o ∷ []) xs) (eq-eqb found 
 charge_marked : (o found : ℕ) (xs : List ℕ) → found ≢ 0 → (if found == 0 then xs ++ o ∷ [] else xs) ≡ xs
 charge_marked o found xs n = ap (λ t. cond t (xs ++ o ∷ []) xs) (ne_eqb found 0 n)
 
-module _ (old new : Holder) (pool : new.pool ≡ old.pool) where
+module _ (old new : Owner) (pool : new.pool ≡ old.pool) where
   looked : (b : Book) → IsLook old.book b → new.book ≡ b → IsSameWorker old new
   looked b l is =
       record {
@@ -233,12 +233,12 @@ pub not_white : (b : Bool) (found : ℕ) → (IsTrue b ↔ (found ≡ 0)) → b 
 not_white b found white is zero = false≢true (sym is ∙ white.1 zero)
 
 -- no object has a successor
-no_pair : (n : ℕ) (w : Holder) → HasRoots n w → (o s : ℕ) → Contains w.book.setup.pairs (o, s) → ⊥
+no_pair : (n : ℕ) (w : Owner) → HasRoots n w → (o s : ℕ) → Contains w.book.setup.pairs (o, s) → ⊥
 no_pair n w roots o s pair =
     let k : Contains [] (o, s) = subst (λ (ps : List (ℕ × ℕ)). Contains ps (o, s)) roots.pairs pair in
     omega (arith, k.1)
 
-pub may_finish : (n : ℕ) (w : Holder) (h rest : HeldBuffer) (o : ℕ) → HasRoots n w → HasOne w h
+pub may_finish : (n : ℕ) (w : Owner) (h rest : HeldBuffer) (o : ℕ) → HasRoots n w → HasOne w h
     → h.items ≡ rest.items ++ o ∷ [] → CanFinish w.book.setup o w.book.account
 may_finish n w h rest o roots one last =
     (times_stands w.book.account.charge o here, λ s pair. absurd (no_pair n w roots o s pair))
@@ -249,7 +249,7 @@ may_finish n w h rest o roots one last =
 
 -- an object that was white and is claimed now
 pub claimed_finishable :
-    (n : ℕ) (old new : Holder) (o found : ℕ) → HasRoots n new → new.book ≡ claimed o found old.book → found ≡ 0
+    (n : ℕ) (old new : Owner) (o found : ℕ) → HasRoots n new → new.book ≡ claimed o found old.book → found ≡ 0
     → CanFinish new.book.setup o new.book.account
 claimed_finishable n old new o found roots is white =
     (times_stands new.book.account.charge o here, λ s pair. absurd (no_pair n new roots o s pair))
@@ -264,10 +264,10 @@ claimed_finishable n old new o found roots is white =
           only-same o o refl,
         )
 
-pub may_claim : (n : ℕ) (w : Holder) (o : ℕ) → HasRoots n w → o < n → CanClaim w.book.setup o w.book.account
+pub may_claim : (n : ℕ) (w : Owner) (o : ℕ) → HasRoots n w → o < n → CanClaim w.book.setup o w.book.account
 may_claim n w o roots below = inl (subst (λ (rs : List ℕ). Contains rs o) (sym roots.roots) (is_root n o below))
 
-pub may_push : (q : Which) (w : Holder) (h : HeldBuffer) → HasOne w h → (q ≡ Empty → h.items ≡ []) → MayPush q h w.book
+pub may_push : (q : Which) (w : Owner) (h : HeldBuffer) → HasOne w h → (q ≡ Empty → h.items ≡ []) → MayPush q h w.book
 may_push q w h one bare =
     record {
       held = times_stands w.book.account.held h.index

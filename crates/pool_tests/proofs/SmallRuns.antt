@@ -6,7 +6,7 @@ use Rattle.mark_core.specs.Events.{CanClaim}
 use Rattle.mark_core.specs.Lists.{times, remove_one, without}
 use Rattle.mark_core.specs.World.{Setup}
 use Rattle.buffer_pool.specs.Book.{Book, loaded, link_loaded, failed, popped, pushed, finished}
-use Rattle.buffer_pool.specs.Calls.{Holder, HeldBuffer, LostPops, LostPushes, MayPush, Pops, Pushes}
+use Rattle.buffer_pool.specs.Calls.{Owner, HeldBuffer, LostPops, LostPushes, MayPush, Pops, Pushes}
 use Rattle.buffer_pool.specs.Calls.LostPops.{none as no_pop, more as more_pops}
 use Rattle.buffer_pool.specs.Calls.LostPushes.{none as no_push, more as more_pushes}
 use Rattle.pool_tests.specs.Worked.{Holds, bare, root_finished}
@@ -46,7 +46,7 @@ lost_pushes q h old new (more_pushes a mid b before last) =
     look_then a mid b (lost_pushes q h a mid before)
     (look_failed mid (loaded q last.0 mid) b (look_head q last.0 mid) last.3)
 
-module _ (old new : Holder) (n : ℕ) (list : List ℕ) (was : Holds n list old) where
+module _ (old new : Owner) (n : ℕ) (list : List ℕ) (was : Holds n list old) where
   -- a buffer without items was popped
   pub pops_bare :
       (q : Which) (h : HeldBuffer) (wanted : ℕ) → Pops q old.book new.book (pop.Took h) → h.index ≡ wanted
@@ -107,7 +107,7 @@ module _ (old new : Holder) (n : ℕ) (list : List ℕ) (was : Holds n list old)
       is = p.2.2
 
 pub may_push_bare :
-    (q : Which) (w : Holder) (n : ℕ) (list : List ℕ) (h : HeldBuffer) → Holds n list w → Contains list h.index
+    (q : Which) (w : Owner) (n : ℕ) (list : List ℕ) (h : HeldBuffer) → Holds n list w → Contains list h.index
     → h ≡ bare n h.index → MayPush q h w.book
 may_push_bare q w n list h was here is =
     record {

@@ -3,18 +3,18 @@ use Rattle.std.specs.Prelude.{◌≡◌, ℕ, List, [], ◌∷◌, ◌++◌}
 use Rattle.mark_core.specs.Shares.{whole}
 use Rattle.mark_core.specs.World.{Setup}
 use Rattle.buffer_pool.specs.Book.{Book, new_book, claimed, finished}
-use Rattle.buffer_pool.specs.Calls.{Holder, HeldBuffer}
+use Rattle.buffer_pool.specs.Calls.{Owner, HeldBuffer}
 
 -- the worker holds exactly the buffers of `list`, has nothing in its charge, and is not idle. A buffer of its pool
 -- takes `size` objects
-pub record Holds (size : ℕ) (list : List ℕ) (w : Holder) : Type 0 where
+pub record Holds (size : ℕ) (list : List ℕ) (w : Owner) : Type 0 where
   pub held : w.book.account.held ≡ list
   pub charge : w.book.account.charge ≡ []
   pub room : w.book.setup.size ≡ size
   pub awake : w.book.account.idle ≡ 0
 
 -- the worker has one unit and nothing in its charge, and is not idle
-pub record IsOfOneUnit (w : Holder) : Type 0 where
+pub record IsOfOneUnit (w : Owner) : Type 0 where
   pub share : w.book.account.share ≡ 1
   pub charge : w.book.account.charge ≡ []
   pub awake : w.book.account.idle ≡ 0

@@ -6,7 +6,7 @@ use Rattle.mark_core.specs.declared.which.Which.TheVariants.{Full, Empty}
 use Rattle.std.proofs.lemmas.List.{append-nil}
 use Rattle.atomic_table.specs.Seated.{TableId}
 use Rattle.buffer_pool.specs.Book.{Book}
-use Rattle.buffer_pool.specs.Calls.{HeldBuffer, Holder}
+use Rattle.buffer_pool.specs.Calls.{HeldBuffer, Owner}
 use Rattle.work_pair.specs.CallEffects.{GivesLowerPart, lower_part, push_of}
 use Rattle.work_pair.specs.Moves.{Move, Took, Gave, FoundNone, IsOnFull, HasPushOnFull, WasSeenEmpty}
 use Rattle.work_pair.specs.Moves.{shelf_of, shelving_of}
@@ -117,7 +117,7 @@ pub some_items : (xs : List ℕ) → 0 < length xs → xs ≢ []
 some_items xs some none = omega (arith, some, ap length none)
 
 -- the places of a pair that may be traded may be renewed
-module _ {p : PairState} {w : Holder} {pool : TableId} {besides : List ℕ} (may : MayTrade w pool p besides) where
+module _ {p : PairState} {w : Owner} {pool : TableId} {besides : List ℕ} (may : MayTrade w pool p besides) where
   may_renew : (place : Option HeldBuffer) → IsBackedAt place w.book → MayRenew w pool place p.third
   may_renew place backed = record { same = may.same; vacant = may.third; backed = backed; busy = may.busy }
 
@@ -127,7 +127,7 @@ module _ {p : PairState} {w : Holder} {pool : TableId} {besides : List ℕ} (may
   pub may_renew_second : MayRenew w pool p.second p.third
   may_renew_second = may_renew p.second (second_backed may.backed)
 
-module _ {f s t : Option HeldBuffer} {w : Holder} {pool : TableId} {besides : List ℕ}
+module _ {f s t : Option HeldBuffer} {w : Owner} {pool : TableId} {besides : List ℕ}
     (may : MayTrade w pool (places f s t) besides) where
   -- both buffers were full and exchanged places, and then the first place was renewed
   module _ {p y : Option HeldBuffer} (p_is : p ≡ s) (y_is : y ≡ f) (n third : Option HeldBuffer) (c : Book) where
@@ -239,7 +239,7 @@ module _ {f s t : Option HeldBuffer} {w : Holder} {pool : TableId} {besides : Li
 
     module _ (done : Unit) (first : PublishesAt f w.book n third c (Ok done)) where
       -- after that the second place may be renewed
-      pub may_publish_second : (v : Holder) → v.pool ≡ w.pool → v.book ≡ c → MayRenew v pool s third
+      pub may_publish_second : (v : Owner) → v.pool ≡ w.pool → v.book ≡ c → MayRenew v pool s third
       may_publish_second v same book =
           record {
             same = same ∙ may.same;

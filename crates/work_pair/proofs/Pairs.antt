@@ -8,7 +8,7 @@ use Rattle.mark_core.specs.Lists.{times}
 use Rattle.atomic_table.specs.Seated.{TableId}
 use Rattle.mark_core.specs.Events.{IsBusy}
 use Rattle.buffer_pool.specs.Book.{Book}
-use Rattle.buffer_pool.specs.Calls.{HeldBuffer, Holder}
+use Rattle.buffer_pool.specs.Calls.{HeldBuffer, Owner}
 use Rattle.work_pair.specs.CallEffects.{Balances, CallEffect, Disposes, Gets, GetsBy, PopsNoneFromFull, PublishesBoth}
 use Rattle.work_pair.specs.CallEffects.{Puts, Refills, ShelvesAll}
 use Rattle.work_pair.specs.Moves.{Move, FoundNone, EndAtLastTag, WasSeenEmpty}
@@ -68,7 +68,7 @@ module _ {A : Type 0} {v : PairState} (i : Inside A) (is : seen_as i ≡ v) wher
   pub inner : {put : List ℕ} {b : Book} → IsBacked v put b → IsBacked (as_pair i.buffers) put b
   inner backed = beside refl (seen backed)
 
-  pub may_trade : {w : Holder} {pool : TableId} {put : List ℕ} → w.pool ≡ pool → IsOpen v → IsBacked v put w.book
+  pub may_trade : {w : Owner} {pool : TableId} {put : List ℕ} → w.pool ≡ pool → IsOpen v → IsBacked v put w.book
       → IsBusy w.book.account → MayTrade w pool (as_pair i.buffers) put
   may_trade same going backed busy =
       record {

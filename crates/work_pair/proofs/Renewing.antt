@@ -10,7 +10,7 @@ use Rattle.mark_core.specs.Lists.{times, only, IsPart}
 use Rattle.mark_core.specs.World.{Setup}
 use Rattle.mark_core.proofs.Sums.{only-same, times_stands, sum_of-append}
 use Rattle.buffer_pool.specs.Book.{Book}
-use Rattle.buffer_pool.specs.Calls.{HeldBuffer, Holder}
+use Rattle.buffer_pool.specs.Calls.{HeldBuffer, Owner}
 use Rattle.work_pair.specs.CallEffects.{lower_part, upper_half}
 use Rattle.work_pair.specs.Moves.{Move, Took, Gave, FoundNone, Spent, Moved, Moves, IsFilled, AreFilled, HasPushOnFull}
 use Rattle.work_pair.specs.Moves.{IsFromFull, IsOnFull, HasPopFromFull, popped_items, popped_numbers, pushed_items}
@@ -78,7 +78,7 @@ from_full Full h took = tt
 from_full Empty h none = absurd none
 
 -- a place that may be renewed and is as it was
-module _ {w : Holder} {pool : TableId} {place third : Option HeldBuffer} (may : MayRenew w pool place third) where
+module _ {w : Owner} {pool : TableId} {place third : Option HeldBuffer} (may : MayRenew w pool place third) where
   left_sized : IsOfSize w.book.setup.size third
   left_sized = rw may.vacant tt
 

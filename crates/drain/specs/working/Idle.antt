@@ -2,10 +2,10 @@
 use Rattle.std.specs.Prelude.{false, true, ℕ, ◌+◌, ◌<◌, ◌≡◌, ◌≢◌, ◌⊎◌}
 use Rattle.mark_core.specs.declared.which.Which.TheVariants.{Full}
 use Rattle.buffer_pool.specs.Book.{Book, idle_loaded, idled, woken}
-use Rattle.buffer_pool.specs.Calls.{Holder, Sees}
+use Rattle.buffer_pool.specs.Calls.{Owner, Sees}
 
 -- The worker has the one unit that it was started with, and is not idle.
-pub record IsAwake (w : Holder) : Type 0 where
+pub record IsAwake (w : Owner) : Type 0 where
   pub share : w.book.account.share ≡ 1
   pub idle : w.book.account.idle ≡ 0
 

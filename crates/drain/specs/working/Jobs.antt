@@ -1,6 +1,6 @@
 -- The conditions when a worker begins its job, while it scans, and when a leader runs its workers.
 use Rattle.std.specs.Prelude.{Bool, List, None, [], false, true, ℕ, ◌++◌, ◌<◌, ◌≡◌, ◌≤◌, ◌⊎◌, ◌∷◌}
-use Rattle.buffer_pool.specs.Calls.{Holder}
+use Rattle.buffer_pool.specs.Calls.{Owner}
 use Rattle.work_pair.specs.CallEffects.{Gets, OpensNone, OpensTwo, ShelvesAll}
 use Rattle.drain.specs.declared.job.Job.{Job}
 use Rattle.drain.specs.declared.paired_worker.PairedWorker.{PairedWorker}
@@ -16,7 +16,7 @@ use Rattle.drain.specs.working.Tallying.{AreTalliesOfNone, HasTallied}
 
 -- a worker of the job's pool and graph that has nothing and is not idle, and the tally of what it finished
 pub record MayWork {A V G S : Type 0} (count : V → ℕ) (roots : V → List ℕ) (pairs : V → List (ℕ × ℕ))
-    (measure : V → Measure) (job : Job A V G S) (w : Holder) (t : Tally A) : Type 0 where
+    (measure : V → Measure) (job : Job A V G S) (w : Owner) (t : Tally A) : Type 0 where
   pub pool : w.pool ≡ job.pool.now
   pub setup : IsSetupOf (count job.graph.now) (roots job.graph.now) (pairs job.graph.now) w.book.setup
   pub free : IsFree w
@@ -82,7 +82,7 @@ HasWorkedOff {A} workers old new =
 
 -- the worker opened a pair of two buffers, worked off what it found, and gave the buffers back; or two empty buffers
 -- were not found
-abbrev pub HasWorked : {A : Type 0} → ℕ → Holder → TalliedWorker A → Type 0
+abbrev pub HasWorked : {A : Type 0} → ℕ → Owner → TalliedWorker A → Type 0
 HasWorked {A} workers begun t =
     ((opened : PairedWorker A) × (last : PairedWorker A)
     × OpensTwo begun.book opened.pair opened.worker.book × HasWorkedOff workers opened last
@@ -92,7 +92,7 @@ HasWorked {A} workers begun t =
 -- a leader of the job's pool and graph with more than `job.workers` units. It has room for `job.workers` threads and
 -- for `job.workers` returned workers, has none of either yet, and has at least `job.workers` tallies, all of no object
 pub record MayRun {A V G S : Type 0} (count : V → ℕ) (roots : V → List ℕ) (pairs : V → List (ℕ × ℕ))
-    (measure : V → Measure) (job : Job A V G S) (leader : Holder) (threads space back back_space : ℕ)
+    (measure : V → Measure) (job : Job A V G S) (leader : Owner) (threads space back back_space : ℕ)
     (tallies : List (Tally A)) (made : ℕ) : Type 0 where
   pub pool : leader.pool ≡ job.pool.now
   pub setup : IsSetupOf (count job.graph.now) (roots job.graph.now) (pairs job.graph.now) leader.book.setup

@@ -4,7 +4,7 @@ use Rattle.atomic_table.specs.Seated.{TableId}
 use Rattle.mark_core.specs.Events.{IsBusy}
 use Rattle.mark_core.specs.Lists.{IsPart}
 use Rattle.buffer_pool.specs.Book.{Book}
-use Rattle.buffer_pool.specs.Calls.{HeldBuffer, Holder}
+use Rattle.buffer_pool.specs.Calls.{HeldBuffer, Owner}
 use Rattle.work_pair.specs.PairState.{PairState, items_at, buffer_number, IsOfSize, IsBacked}
 
 -- the worker of the book holds the buffer at a place, which is of its pool's size, and has its items in its charge
@@ -14,7 +14,7 @@ pub record IsBackedAt (place : Option HeldBuffer) (b : Book) : Type 0 where
   pub sized : IsOfSize b.setup.size place
 
 -- a worker of the pool may push the buffer at a place, and the third place is vacant for a buffer that is left over
-pub record MayRenew (w : Holder) (pool : TableId) (place third : Option HeldBuffer) : Type 0 where
+pub record MayRenew (w : Owner) (pool : TableId) (place third : Option HeldBuffer) : Type 0 where
   pub same : w.pool ≡ pool
   pub vacant : third ≡ None
   pub backed : IsBackedAt place w.book
@@ -22,7 +22,7 @@ pub record MayRenew (w : Holder) (pool : TableId) (place third : Option HeldBuff
 
 -- a worker of the pool may push each buffer of a pair, whose third place is vacant, and has also the objects `besides`
 -- in its charge
-pub record MayTrade (w : Holder) (pool : TableId) (p : PairState) (besides : List ℕ) : Type 0 where
+pub record MayTrade (w : Owner) (pool : TableId) (p : PairState) (besides : List ℕ) : Type 0 where
   pub same : w.pool ≡ pool
   pub third : p.third ≡ None
   pub backed : IsBacked p besides w.book

@@ -5,7 +5,7 @@ use Rattle.mark_core.specs.declared.which.Which.{Which}
 use Rattle.mark_core.specs.declared.which.Which.TheVariants.{Full, Empty}
 use Rattle.mark_core.specs.Lists.{times}
 use Rattle.buffer_pool.specs.Book.{Book}
-use Rattle.buffer_pool.specs.Calls.{HeldBuffer, Holder}
+use Rattle.buffer_pool.specs.Calls.{HeldBuffer, Owner}
 use Rattle.work_pair.specs.CallEffects.{FillsNext, FindsNoOwn, GetsBy, Gives, HasMore, Publishes, PublishesPlace}
 use Rattle.work_pair.specs.CallEffects.{TakesOwn, lower_part, upper_half}
 use Rattle.work_pair.specs.Moves.{Move, Took, Gave, FoundNone, Spent, Moved, Moves, popped_items, popped_numbers}
@@ -165,14 +165,14 @@ GetAnswers old before new after (Ok None) =
 GetAnswers old before new after (Err stop) = Ends old before new after stop
 
 -- a put into the buffers, with the effect on the worker, which did nothing if there was room
-pub record PutsObject (there_is_room : Type 0) (object : ℕ) (old : PairState) (before : Holder) (new : PairState)
-    (after : Holder) (result : Result Bool Stop) : Type 0 where
+pub record PutsObject (there_is_room : Type 0) (object : ℕ) (old : PairState) (before : Owner) (new : PairState)
+    (after : Owner) (result : Result Bool Stop) : Type 0 where
   pub pool : after.pool ≡ before.pool
   pub puts : PutAnswers object old before.book new after.book result
   pub room : there_is_room → (after ≡ before) × (result ≡ Ok true)
 
 -- a get from the buffers; if they had an object the worker did nothing
-pub record GetsObject (old : PairState) (before : Holder) (new : PairState) (after : Holder)
+pub record GetsObject (old : PairState) (before : Owner) (new : PairState) (after : Owner)
     (result : Result (Option ℕ) Stop) : Type 0 where
   pub pool : after.pool ≡ before.pool
   pub gets : GetAnswers old before.book new after.book result

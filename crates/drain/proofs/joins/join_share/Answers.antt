@@ -1,6 +1,6 @@
 -- Neither worker finished more objects than the graph has, so no sum overflows. The joined tally is that of the joined
 -- list of finished objects.
-use Rattle.drain.proofs.Words.{Book, Holder, ap, arith, sym, ◌∙◌}
+use Rattle.drain.proofs.Words.{Book, Owner, ap, arith, sym, ◌∙◌}
 use Rattle.drain.proofs.Leading.{joined_free, took_in}
 use Rattle.drain.proofs.Scanning.{same_tally}
 use Rattle.drain.proofs.Tallies.{tally_is_small}
@@ -20,18 +20,18 @@ join-requires-clause-others g c =
 
 pub returns-clause-leads : goal.returns-clause-leads
 returns-clause-leads g c =
-    let pool = ap (λ (h : Holder). h.pool) c.join-worker.ensures.together in
-    let book = ap (λ (h : Holder). h.book) c.join-worker.ensures.together in
+    let pool = ap (λ (h : Owner). h.pool) c.join-worker.ensures.together in
+    let book = ap (λ (h : Owner). h.book) c.join-worker.ensures.together in
     took_in c.args.leader.worker c.args.back.worker c.join-worker.result pool book c.requires.back.free
 
 pub returns-clause-free : goal.returns-clause-free
 returns-clause-free g c =
-    let book = ap (λ (h : Holder). h.book) c.join-worker.ensures.together in
+    let book = ap (λ (h : Owner). h.book) c.join-worker.ensures.together in
     joined_free c.args.leader.worker c.args.back.worker c.join-worker.result book c.requires.free c.requires.back.free
 
 pub returns-clause-share : goal.returns-clause-share
 returns-clause-share g c =
-    let book = ap (λ (h : Holder). h.book) c.join-worker.ensures.together in
+    let book = ap (λ (h : Owner). h.book) c.join-worker.ensures.together in
     omega (arith, ap (λ (b : Book). b.account.share) book, c.requires.back.share)
 
 pub returns-clause-tally : goal.returns-clause-tally
@@ -40,4 +40,4 @@ returns-clause-tally g c =
     let leader = c.args.leader.worker.book.account.finished in
     let back = c.args.back.worker.book.account.finished in
     let both = c.join.ensures m leader back c.requires.tally c.requires.back.tally in
-    same_tally (ap (λ (h : Holder). h.book.account.finished) c.join-worker.ensures.together) both
+    same_tally (ap (λ (h : Owner). h.book.account.finished) c.join-worker.ensures.together) both

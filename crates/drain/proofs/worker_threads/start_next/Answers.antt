@@ -1,6 +1,6 @@
 -- The popped tally is of no object, and its worker has finished none. The thread's duty begins with a worker that was
 -- just split off.
-use Rattle.drain.proofs.Words.{Book, Holder, MayWork, Tallies, [], ap, arith, length, option_to_list, rules, ◌++◌, ◌∙◌}
+use Rattle.drain.proofs.Words.{Book, Owner, MayWork, Tallies, [], ap, arith, length, option_to_list, rules, ◌++◌, ◌∙◌}
 use Rattle.drain.proofs.Each.{last_holds, left_hold}
 use Rattle.drain.proofs.Leading.{new_awake, new_free}
 use Rattle.drain.proofs.Scanning.{same_setup, same_tally}
@@ -15,8 +15,8 @@ start-requires-clause-may g c =
     let is = c.pop.ensures.items ∙ ap (λ r. left ++ option_to_list r) c.in-Some.is in
     let none = last_holds (Tallies m []) c.args.starting.tallies.items left tally is c.requires.tallies.1 in
     let worker = c.split-leader.result.1 in
-    let pool = ap (λ (h : Holder). h.pool) c.split-leader.ensures.second in
-    let book = ap (λ (h : Holder). h.book) c.split-leader.ensures.second in
+    let pool = ap (λ (h : Owner). h.pool) c.split-leader.ensures.second in
+    let book = ap (λ (h : Owner). h.book) c.split-leader.ensures.second in
     let may : MayWork g.V.Edges.count g.V.Edges.roots g.V.Edges.pairs g.V.Measured.measure c.args.job.now worker tally =
     record {
       pool = pool ∙ c.requires.pool;

@@ -1,7 +1,7 @@
 -- What a claim requires of the worker at a position is required of all workers.
 use Rattle.std.proofs.Common.{ap, sym, subst, ◌∙◌}
 use Rattle.pool_bench.specs.declared.workers.NumberedWorker.{NumberedWorker}
-use Rattle.pool_bench.specs.Holders.{AreRoots}
+use Rattle.pool_bench.specs.Owners.{AreRoots}
 use Rattle.pool_bench.proofs.claims.claim_all.Goals as goal
 
 pub map_vec-requires-after_bounds : goal.map_vec-requires-after_bounds

@@ -1,7 +1,7 @@
 -- Each object of the part is a root, and is seen after it was claimed.
 use Rattle.std.proofs.Common.{◌≤◌, ◌+◌, ap, inr, ◌∙◌, arith}
 use Rattle.buffer_pool.specs.Book.{Book}
-use Rattle.pool_bench.proofs.Holders.{may_claim, one_more_seen, same_roots}
+use Rattle.pool_bench.proofs.Owners.{may_claim, one_more_seen, same_roots}
 use Rattle.pool_bench.proofs.claims.claim_part.Goals as goal
 use Rattle.pool_bench.proofs.claims.claim_part.Goals.{then-claim, else-claim}
 

@@ -1,6 +1,6 @@
 -- The worker stays in its pool, and each object so far was claimed.
 use Rattle.std.proofs.Common.{◌+◌, ◌≤◌}
-use Rattle.pool_bench.specs.Holders.{HasSeen, SamePool}
+use Rattle.pool_bench.specs.Owners.{HasSeen, SamePool}
 use Rattle.pool_bench.proofs.claims.claim_part.Given as goal
 
 abbrev pub invariant-loop-object : goal.invariant-loop-object

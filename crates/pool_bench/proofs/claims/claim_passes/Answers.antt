@@ -1,5 +1,5 @@
 -- The roots are those of the pool in each pass.
-use Rattle.pool_bench.proofs.Holders.{same_roots}
+use Rattle.pool_bench.proofs.Owners.{same_roots}
 use Rattle.pool_bench.proofs.claims.claim_passes.Goals as goal
 
 pub claim_rows-requires-clause-roots : goal.claim_rows-requires-clause-roots

@@ -1,6 +1,6 @@
 -- The worker stays in its pool, and each pass so far found at most 4,294,967,295 white objects.
 use Rattle.std.proofs.Common.{◌*◌, ◌≤◌}
-use Rattle.pool_bench.specs.Holders.{SamePool}
+use Rattle.pool_bench.specs.Owners.{SamePool}
 use Rattle.pool_bench.proofs.claims.claim_passes.Given as goal
 
 abbrev pub invariant-loop : goal.invariant-loop

@@ -1,6 +1,6 @@
 -- No row ends after the last object, so its objects are roots.
 use Rattle.std.proofs.Common.{arith}
-use Rattle.pool_bench.proofs.Holders.{same_roots}
+use Rattle.pool_bench.proofs.Owners.{same_roots}
 use Rattle.pool_bench.proofs.claims.claim_rows.Goals as goal
 
 pub claim_part-requires-clause-roots : goal.claim_part-requires-clause-roots

@@ -1,5 +1,5 @@
 -- The worker stays in its pool.
-use Rattle.pool_bench.specs.Holders.{SamePool}
+use Rattle.pool_bench.specs.Owners.{SamePool}
 use Rattle.pool_bench.proofs.claims.claim_rows.Given as goal
 
 abbrev pub invariant-loop-round : goal.invariant-loop-round

@@ -2,7 +2,7 @@
 use Rattle.std.proofs.Common.{Contains, sym, subst}
 use Rattle.std.proofs.lemmas.Result.{MatchResult-weaker}
 use Rattle.buffer_pool.specs.Book.{Book}
-use Rattle.pool_bench.proofs.Holders.{is_number}
+use Rattle.pool_bench.proofs.Owners.{is_number}
 use Rattle.pool_bench.proofs.roots.pool_of_roots.Goals as goal
 
 pub returns-clause-roots : goal.returns-clause-roots

@@ -1,6 +1,6 @@
 -- Each worker is of the pool of the first one, whose objects are all roots, and has its idle number, 0.
 use Rattle.std.proofs.Common.{get_or, ◌∙◌}
-use Rattle.pool_bench.proofs.Holders.{same_roots}
+use Rattle.pool_bench.proofs.Owners.{same_roots}
 use Rattle.pool_bench.proofs.runs.run_claims.Goals as goal
 
 pub claim_all-requires-clause-roots : goal.claim_all-requires-clause-roots

@@ -1,6 +1,6 @@
 -- A turn leaves the pool and the idle number as they were.
 use Rattle.std.proofs.Common.{◌≤◌, ◌+◌, ◌∙◌, arith}
-use Rattle.pool_bench.proofs.Holders.{after_turn}
+use Rattle.pool_bench.proofs.Owners.{after_turn}
 use Rattle.pool_bench.proofs.turns.take_turns.Goals as goal
 use Rattle.pool_bench.proofs.turns.take_turns.Goals.{then-turn, else-turn}
 

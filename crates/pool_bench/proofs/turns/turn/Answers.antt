@@ -1,6 +1,6 @@
 -- A buffer of the empty stack has no items, and a worker with idle number 0 is busy.
 use Rattle.std.proofs.Common.{inr}
-use Rattle.pool_bench.proofs.Holders.{may_push}
+use Rattle.pool_bench.proofs.Owners.{may_push}
 use Rattle.pool_bench.proofs.turns.turn.Goals as goal
 
 pub push-requires-clause-may : goal.push-requires-clause-may

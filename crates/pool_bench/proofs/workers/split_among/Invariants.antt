@@ -1,6 +1,6 @@
 -- So far there is a worker for each unit that the first worker gave away. All are of the first worker's pool.
 use Rattle.std.proofs.Common.{◌≡◌, ◌+◌, All, vec_len}
-use Rattle.pool_bench.specs.Holders.{SamePool}
+use Rattle.pool_bench.specs.Owners.{SamePool}
 use Rattle.pool_bench.proofs.workers.split_among.Given as goal
 
 abbrev pub invariant-loop-number : goal.invariant-loop-number

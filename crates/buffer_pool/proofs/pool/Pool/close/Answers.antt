@@ -2,7 +2,7 @@
 -- finished objects, which has each of them once.
 use Rattle.std.proofs.Common.{◌≡◌, ◌==◌, ◌∙◌, ℕ, ◌+◌, List, ap, arith, count_by, subst, sym}
 use Rattle.std.specs.Slots.{IsFull, slots_items}
-use Rattle.buffer_pool.proofs.Words.{finished_counted, buffer_reading, Book, Holder, IsAtTheEnd, MarksTell, Log}
+use Rattle.buffer_pool.proofs.Words.{finished_counted, buffer_reading, Book, Owner, IsAtTheEnd, MarksTell, Log}
 use Rattle.buffer_pool.proofs.Words.{marks_in, setup_of}
 use Rattle.buffer_pool.proofs.Closes.{ends_of}
 use Rattle.buffer_pool.proofs.pool.Pool.close.Given as given
@@ -34,9 +34,9 @@ told g c =
     ends_of (slots_items c.close_with-closed.result.words) c.mark_word-first_mark.result c.self.inside.objects
     buffer_reading (setup_of c.self.inside.table.shared.key) seat.id seat.me.0
     (slots_items c.close_with-closed.result.slots) (place g c) c.self.invariant.2
-    c.close_with-closed.ensures.values.2 (ap (λ (x : Holder). x.book.account.share) is ∙ c.requires.share)
-    (ap (λ (x : Holder). x.book.account.held) is ∙ c.requires.held)
-    (ap (λ (x : Holder). x.book.account.charge) is ∙ c.requires.charge) c.worker.invariant.0.settled in
+    c.close_with-closed.ensures.values.2 (ap (λ (x : Owner). x.book.account.share) is ∙ c.requires.share)
+    (ap (λ (x : Owner). x.book.account.held) is ∙ c.requires.held)
+    (ap (λ (x : Owner). x.book.account.charge) is ∙ c.requires.charge) c.worker.invariant.0.settled in
     subst (λ (words : List ℕ). Tells seat.me.0.log seat.me.0.book (marks_of g c words))
     (sym (ap slots_items c.empty_slots.ensures.words)) at_close
 
@@ -60,7 +60,7 @@ told_of_it :
     (g : given.Over) (c : After-empty_slots g)
     → Tells c.args.worker.log c.args.worker.book (marks_of g c (slots_items c.empty_slots.new.closed.words))
 told_of_it g c =
-    subst (λ (w : Holder). Tells w.log w.book (marks_of g c (slots_items c.empty_slots.new.closed.words)))
+    subst (λ (w : Owner). Tells w.log w.book (marks_of g c (slots_items c.empty_slots.new.closed.words)))
     c.worker.view_is (told g c)
 
 pub returns : goal.returns

@@ -1,11 +1,11 @@
 -- The worker's account is its seat's. It has finished few objects, so one more can be counted.
-use Rattle.buffer_pool.proofs.Words.{CanFinish, Holder, arith, subst, sym}
+use Rattle.buffer_pool.proofs.Words.{CanFinish, Owner, arith, subst, sym}
 use Rattle.buffer_pool.proofs.Few.{small_count}
 use Rattle.buffer_pool.proofs.pool.Pool.finish.Goals as goal
 
 pub raise_to_finished-requires-clause-can : goal.raise_to_finished-requires-clause-can
 raise_to_finished-requires-clause-can g c =
-    subst (λ (w : Holder). CanFinish w.book.setup c.args.object w.book.account) (sym c.worker.view_is) c.requires.can
+    subst (λ (w : Owner). CanFinish w.book.setup c.args.object w.book.account) (sym c.worker.view_is) c.requires.can
 
 pub overflow_add-worker : goal.overflow_add-worker
 overflow_add-worker g c =

@@ -1,5 +1,5 @@
 -- What was got from the list is put again, and the worker has at hand what it had.
-use Rattle.drain.proofs.Words.{Holder, Some, [], ap, rules, sym, ◌∙◌, ◌∷◌}
+use Rattle.drain.proofs.Words.{Owner, Some, [], ap, rules, sym, ◌∙◌, ◌∷◌}
 use Rattle.std.proofs.lemmas.Option.{same_Some}
 use Rattle.drain.proofs.AtHand.{at_work_after, backs, goes_on_after, goes_on_again, is_put}
 use Rattle.drain.proofs.Outcomes.{at_some}
@@ -58,7 +58,7 @@ returns-in-Ok-clause-again g c =
     (λ o rest is.
     let told = got.last o rest is in
     (same_Some object o (sym c.in-Some.is ∙ same_answer c.in_ok-object.field-0 (Some o) told.0), told.1))
-    (ap (λ (w : Holder). w.book) kept.0) c.in-Ok.ensures.put
+    (ap (λ (w : Owner). w.book) kept.0) c.in-Ok.ensures.put
 
 pub returns-in-Ok-clause-fewer : goal.returns-in-Ok-clause-fewer
 returns-in-Ok-clause-fewer g c = rw c.spilled.ensures (rw c.spilled-spilled.ensures (search rules))

@@ -3,7 +3,7 @@ use Rattle.std.specs.Prelude.{◌≡◌, ◌⊎◌, ℕ, ◌<◌, ◌≤◌, Boo
 use Rattle.std.specs.List.{range_with_len}
 use Rattle.mark_core.specs.declared.which.Which.TheVariants.{Empty}
 use Rattle.buffer_pool.specs.Book.{Book}
-use Rattle.buffer_pool.specs.Calls.{Holder, HeldBuffer, Pops, Pushes}
+use Rattle.buffer_pool.specs.Calls.{Owner, HeldBuffer, Pops, Pushes}
 use Rattle.buffer_pool.specs.declared.answers.Popped.TheVariants as pop
 use Rattle.buffer_pool.specs.declared.answers.TryPushed.TheVariants as try_push
 
@@ -12,15 +12,15 @@ unfoldable pub numbers : ℕ → List ℕ
 numbers n = range_with_len 0 n
 
 -- the numbers below n are roots of the worker's pool
-abbrev pub AreRoots : ℕ → Holder → Type 0
+abbrev pub AreRoots : ℕ → Owner → Type 0
 AreRoots n w = (o : ℕ) → o < n → Contains w.book.setup.roots o
 
 -- the worker saw each object from `from` to `to` - 1 marked
-abbrev pub HasSeen : ℕ → ℕ → Holder → Type 0
+abbrev pub HasSeen : ℕ → ℕ → Owner → Type 0
 HasSeen from to w = (o : ℕ) → from ≤ o → o < to → Contains w.book.account.seen o
 
 -- two workers of one pool, with the same setup and the same idle number
-pub record SamePool (one other : Holder) : Type 0 where
+pub record SamePool (one other : Owner) : Type 0 where
   pub pool : other.pool ≡ one.pool
   pub setup : other.book.setup ≡ one.book.setup
   pub idle : other.book.account.idle ≡ one.book.account.idle

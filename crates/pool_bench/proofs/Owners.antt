@@ -7,14 +7,14 @@ use Rattle.mark_core.specs.declared.which.Which.TheVariants.{Empty}
 use Rattle.mark_core.specs.Lists.{times}
 use Rattle.mark_core.specs.Events.{CanClaim}
 use Rattle.buffer_pool.specs.Book.{Book, claimed}
-use Rattle.buffer_pool.specs.Calls.{Holder, HeldBuffer, LostPops, LostPushes, MayPush, Pops, Pushes}
+use Rattle.buffer_pool.specs.Calls.{Owner, HeldBuffer, LostPops, LostPushes, MayPush, Pops, Pushes}
 use Rattle.buffer_pool.specs.Calls.LostPops.{none as no_pop, more as more_pops}
 use Rattle.buffer_pool.specs.Calls.LostPushes.{none as no_push, more as more_pushes}
 use Rattle.buffer_pool.specs.declared.answers.Popped.{Popped}
 use Rattle.buffer_pool.specs.declared.answers.Popped.TheVariants as pop
 use Rattle.buffer_pool.specs.declared.answers.TryPushed.{TryPushed}
 use Rattle.buffer_pool.specs.declared.answers.TryPushed.TheVariants as try_push
-use Rattle.pool_bench.specs.Holders.{AreRoots, HasSeen, PopsAndPushes, SamePool, numbers}
+use Rattle.pool_bench.specs.Owners.{AreRoots, HasSeen, PopsAndPushes, SamePool, numbers}
 
 pub roots_below : (n : ℕ) → All (λ o. o < n) (numbers n)
 unfolding numbers
@@ -29,14 +29,14 @@ is_number n o below = (
   omega (arith, get_or-range_with_len 0 n o o below),
 )
 
-pub same_roots : (n : ℕ) (a b : Holder) → SamePool a b → AreRoots n a → AreRoots n b
+pub same_roots : (n : ℕ) (a b : Owner) → SamePool a b → AreRoots n a → AreRoots n b
 same_roots n a b s r o below = subst (λ rs. Contains rs o) (ap (λ e. e.roots) (sym s.setup)) (r o below)
 
-pub may_claim : (n o : ℕ) (w : Holder) → AreRoots n w → o < n → CanClaim w.book.setup o w.book.account
+pub may_claim : (n o : ℕ) (w : Owner) → AreRoots n w → o < n → CanClaim w.book.setup o w.book.account
 may_claim n o w r below = inl (r o below)
 
 -- a claim adds one object to those that the worker has seen
-pub one_more_seen : (from o found : ℕ) (old new : Holder) → new.book ≡ claimed o found old.book → HasSeen from o old
+pub one_more_seen : (from o found : ℕ) (old new : Owner) → new.book ≡ claimed o found old.book → HasSeen from o old
     → HasSeen from (o + 1) new
 one_more_seen from o found old new is seen x low high =
     subst (λ (b : Book). Contains b.account.seen x) (sym is) (below_more Now o earlier last x high low)
