@@ -33,10 +33,11 @@ class Parser(argparse.ArgumentParser):
         super().__init__(name, f"{name} {usage}", add_help=False, allow_abbrev=False, **form)
         self.arguments = self.add_argument_group("Arguments")
         self.choices = self.add_argument_group("Options")
+        self._literal = {}
 
     def operand(self, name, help, **more):
         """Adds the operand `name`, which the help shows as `<NAME>`."""
-        self.arguments.add_argument(name, metavar=f"<{name.upper()}>", help=help, **more)
+        self.arguments.add_argument(name, metavar=f"<{name.upper()}>", help=help, type=self._restored, **more)
 
     def flag(self, name, help):
         """Adds an option without a value."""
@@ -50,7 +51,14 @@ class Parser(argparse.ArgumentParser):
         """Reads the words of a command line. Raises `Fault` if they are wrong, or once help or version are written."""
         self.choices.add_argument("-h", "--help", action=_Print, help="Print help")
         self.choices.add_argument("-V", "--version", action=_Print, help="Print version")
-        return self.parse_intermixed_args(words)
+        at = words.index("--") if "--" in words else len(words)
+        self._literal = {f"\0{number}": word for number, word in enumerate(words[at + 1 :])}
+        return self.parse_intermixed_args([*words[:at], *self._literal])
+
+    def _restored(self, word):
+        """Returns the word of the command line for an operand: those after `--` have stand-ins, since an intermixed
+        command line may not have a `--`."""
+        return self._literal.get(word, word)
 
     def error(self, message):
         """Ends the tool, for a wrong command line."""

@@ -4,7 +4,6 @@ import sys
 from typing import List, NamedTuple
 
 from heap_tools.console import is_terminal
-from heap_tools.reports import Amount
 
 
 class Growth(NamedTuple):
@@ -28,20 +27,6 @@ def growths(reports, column="objects", more_than=None):
             found.append(Growth(name, grown.objects, grown.bytes, steps))
     other = {"objects": "bytes", "bytes": "objects"}[column]
     return sorted(found, key=lambda it: (min(it.steps) <= 0, -getattr(it, column), -getattr(it, other), it.name))
-
-
-def in_bytes(name, by_bytes):
-    """Tests whether the share of a class counts in bytes: of arrays, whose sizes differ, and of the whole heap always."""
-    return by_bytes or name is None or name.startswith("[") or name.endswith("[]")
-
-
-def shrunk(before, after):
-    """Returns the objects and bytes that classes have less of in the report `after`, class by class."""
-    lost = Amount()
-    for name, amount in before.families.items():
-        less = amount.minus(after.amount(name))
-        lost = lost.plus(Amount(max(0, less.objects), max(0, less.bytes)))
-    return lost
 
 
 def lines_to_print(found, column="objects", hours=None):

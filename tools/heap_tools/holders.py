@@ -2,10 +2,11 @@
 
 import sys
 
-from heap_tools import holding, names
+from heap_tools import names
 from heap_tools.command import Parser, number
 from heap_tools.console import Progress, is_terminal, say, write
 from heap_tools.faults import NO_SUCH_NAME, NOTHING, UNREADABLE, WEAKLY_HELD, WRONG_USE, Fault
+from heap_tools.holding import Holders
 from heap_tools.program import Heapmark, Runs, is_dump
 from heap_tools.search import Probe, Search
 
@@ -113,11 +114,13 @@ def searched(options, name):
     progress.show("reading the dump")
     try:
         runs = Runs(Heapmark(), options.dump, "holders")
-        known = holding.Holders(runs.dump, options.weak)
-        family = name and family_of(name, runs.dump, runs.report)
-        probe = Probe(runs, known, family, options.bytes)
-        if family:
-            require_objects(family, runs, probe.base)
+        known = Holders(runs.dump, options.weak)
+        runs.cut = known.weak()
+        families = [family_of(name, runs.dump, runs.report)] if name else None
+        in_bytes = options.bytes or not name or names.is_array(families[0])
+        probe = Probe(runs, known, families, "bytes" if in_bytes else "objects")
+        if name:
+            require_objects(families[0], runs, probe.base)
         search = Search(probe, options.at_least or (10 if name else 20), options.top, order, progress)
         search.find(known.fields(probe.base))
     finally:
@@ -157,7 +160,7 @@ def say_rest(search):
     probe, at_least = search.probe, search.at_least
     whole = getattr(probe.whole, probe.column)
     unit = f"{counted(whole, 'object')}" if probe.column == "objects" else f"{whole} bytes"
-    what = f"{unit} of {probe.name}" if probe.name else unit
+    what = f"{unit} of {probe.families[0]}" if probe.families else unit
     rest = whole - getattr(search.statics.amount, probe.column)
     if search.is_cut:
         say("holders: fields with more holders may hold as much: see --top")
@@ -165,7 +168,7 @@ def say_rest(search):
         more = ": see --at-least" if at_least > 1 else ""
         say(f"holders: no field, local variable or thread alone holds {at_least}% of {what}{more}")
     unreachable = probe.runs.report.unreachable.bytes
-    if not probe.name and 100 * unreachable >= MUCH * probe.whole.bytes and unreachable:
+    if not probe.families and 100 * unreachable >= MUCH * probe.whole.bytes and unreachable:
         say(f"holders: {unreachable} bytes more are unreachable: garbage in dumps with -all; in live dumps {OMITTED}")
     cost = f"{counted(search.all, 'field')}, {counted(probe.runs.heapmark.runs, 'run')} of heapmark"
     say(f"holders: threads or the virtual machine hold {rest} of {what} without any static field; {cost}")

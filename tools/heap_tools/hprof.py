@@ -9,7 +9,7 @@ import os
 import struct
 from typing import NamedTuple
 
-from heap_tools.names import PRIMITIVES, shown
+from heap_tools.names import PRIMITIVES, of_dump, shown
 
 MAGIC = b"JAVA PROFILE "
 HEADER_SIZE = 31  # the last 8 bytes are the time
@@ -97,7 +97,7 @@ class Dump:
 
     def _class_name(self, class_id):
         text_id = self._loaded.get(class_id)
-        return self.text(text_id) if text_id in self._texts else f"?0x{class_id:x}"
+        return of_dump(self.bytes[slice(*self._texts[text_id])]) if text_id in self._texts else f"?0x{class_id:x}"
 
     # Records
 

@@ -41,6 +41,11 @@ def package(name):
     return element(name).rpartition("/")[0]
 
 
+def of_dump(raw):
+    """Returns the name of a class in a dump, in bytes, as the report spells it."""
+    return _array(shown(raw))
+
+
 def of_histogram(text):
     """Returns the name of a class in a histogram, in bytes, as the report spells it."""
     return _array(_slashed(shown(re.sub(rb" \([^()]*\)$", b"", text))))
@@ -67,7 +72,7 @@ def alike(text, known):
     """Returns those of the names `known` that have the simple name which the last of `text` is."""
     simple = re.split(r"[./]", _array(text).strip("[;"))[-1]
     ends = tuple(f"{before}{simple}" for before in "/$")
-    return sorted(name for name in known if element(name).endswith(ends))
+    return sorted(name for name in known if name.endswith(ends))
 
 
 def _without_module(text):

@@ -1,7 +1,6 @@
 """Reports of heapmark and histograms of jcmd: their rows and totals."""
 
 import re
-from collections import Counter
 from dataclasses import dataclass, field
 from itertools import islice
 from typing import List, NamedTuple
@@ -52,16 +51,15 @@ class Report:
             self.families[of_family] = self.families.get(of_family, Amount()).plus(amount)
 
     def amount(self, family):
-        """Returns the objects and bytes of a class and of all hidden classes of its name, or of all that is reachable
-        if `family` is None."""
-        return self.reachable if family is None else self.families.get(family, Amount())
+        """Returns the objects and bytes of a class, and of all hidden classes of its name."""
+        return self.families.get(family, Amount())
 
-    def objects(self):
-        """Returns the number of objects by class."""
-        counts = Counter()
-        for name, amount in self.rows:
-            counts[name] += amount.objects
-        return counts
+    def total(self, families):
+        """Returns the objects and bytes of all these families, or of all that is reachable if `families` is None."""
+        if families is None:
+            return self.reachable
+        amounts = [self.amount(family) for family in families]
+        return Amount(sum(each.objects for each in amounts), sum(each.bytes for each in amounts))
 
     def has_nameless(self):
         """Tests whether it shows a class by its identifier."""

@@ -2,16 +2,14 @@
 
 from typing import Dict, List, NamedTuple
 
-from heap_tools import holding
-from heap_tools.growth import in_bytes
-from heap_tools.names import family
+from heap_tools.holding import Holder
 from heap_tools.reports import Amount
 
 
 class Held(NamedTuple):
     """What `holders` hold: how much of what is asked for, how much of the heap, and how much of each family."""
 
-    holders: List[holding.Holder]
+    holders: List[Holder]
     amount: Amount
     heap: Amount
     lost: Dict[str, Amount]
@@ -37,15 +35,14 @@ class Share(NamedTuple):
 
 
 class Probe:
-    """Asks a dump what holders hold of the family `name`, or of all that is reachable if it is None."""
+    """Asks a dump what holders hold of `families`, or of all that is reachable if that is None. `column` is the one by
+    which shares are taken: objects or bytes."""
 
-    def __init__(self, runs, holders, name, by_bytes):
-        self.runs, self.holders, self.name, self.watch = runs, holders, name, lambda: None
-        self.column = "bytes" if in_bytes(name, by_bytes) else "objects"
-        runs.cut = holders.weak()
-        self.base = runs.without({}) if runs.cut else runs.report
-        self.whole = self.base.amount(name)
-        self._known = {}
+    def __init__(self, runs, holders, families, column):
+        self.runs, self.holders, self.families, self.column = runs, holders, families, column
+        self.base = runs.report if not runs.cut else runs.without({})
+        self.whole = self.base.total(families)
+        self._known, self.watch = {}, lambda: None
 
     def held(self, holders):
         """Returns what `holders` hold: the difference that they make to the report. Each group is asked for once."""
@@ -64,7 +61,7 @@ class Probe:
         report = self.runs.without(changes)
         lost = {name: amount.minus(report.amount(name)) for name, amount in self.base.families.items()}
         lost = {name: amount for name, amount in lost.items() if amount.objects > 0}
-        amount = self.whole.minus(report.amount(self.name))
+        amount = self.whole.minus(report.total(self.families))
         return Held(holders, amount, self.base.reachable.minus(report.reachable), lost)
 
     def changes(self, holder):
@@ -85,6 +82,45 @@ class Probe:
         return self.share(group)
 
 
+class Earlier(Probe):
+    """Asks an earlier dump what holders of a later one hold: those that have the same name in it."""
+
+    def changes(self, holder):
+        """Returns the changes by which what has the name of `holder` leads nowhere in this dump."""
+        return self.holders.changes(holder.key)
+
+
+class Gains(Probe):
+    """Asks a later dump what holders hold, and `earlier` how much of it they held before. Shares are of the growth.
+    What holders hold now bounds what they gained. So `earlier` is asked only about what holds `at_least` percent."""
+
+    def __init__(self, earlier, at_least, runs, holders, families, column):
+        super().__init__(runs, holders, families, column)
+        self.earlier, self.at_least = earlier, at_least
+        self.growth = self.whole.minus(earlier.whole)
+
+    def percent(self, amount):
+        """Returns the share of an amount in the growth, in percent."""
+        return 100 * getattr(amount, self.column) / max(1, getattr(self.growth, self.column))
+
+    def gain(self, group):
+        """Returns what a group holds more than before."""
+        return self.held(group).amount.minus(self.earlier.held(group).amount)
+
+    def share(self, group):
+        """Returns the share of a group in the growth, or a bound of it if that is too little."""
+        bound = self.percent(self.held(group).amount)
+        return Share(bound if bound < self.at_least else self.percent(self.gain(group)), bound)
+
+    def part(self, group, whole):
+        """Returns the likely share of a part of a group whose share is `whole`: if the rest of the group holds too
+        little, the part has gained what the group has."""
+        bound = self.percent(self.held(group).amount)
+        if bound >= self.at_least > whole.bound - bound:
+            return Share(whole.percent, bound)
+        return self.share(group)
+
+
 class Search:
     """A search for the `top` first holders of `at_least` percent. `order` says how lines are sorted: a number for what
     was found. `progress` shows how far it is."""
@@ -97,34 +133,37 @@ class Search:
 
     def show(self):
         """Shows how many holders are still to be tried, and what was found last."""
-        text = f"run {self.probe.runs.heapmark.runs + 1}, at most {self.left} of {self.all} fields left"
+        text = f"run {self.probe.runs.heapmark.runs + 1}, {self.left} of {self.all} fields left"
         if self.found:
             holders = self.found[-1].holders
-            text += f"; {len(self.found)} found, the last: {holders[0]}, {self.percent(holders):.0f}%"
+            text += f"; found {holders[0]}, {self.percent(holders):.0f}%"
         self.progress.show(text)
 
     def find(self, fields):
         """Finds static fields, local variables and threads, then `fields`."""
-        statics = self.probe.holders.statics()
-        self.all = self.left = len(statics) + len(fields)
-        self.statics = self.probe.held(statics)
-        if self.is_enough(self.probe.share(statics)):
-            self.look_in_own_first(statics)
-            self.look_together(statics)
-        self.left = len(fields)
-        self.find_threads()
+        self.all = self.left = len(fields)
+        self.find_roots()
         self.look_in_likely(fields)
         self.found.sort(key=self.order)
         self.is_cut |= len(self.found) > self.top
         del self.found[self.top :]
 
-    def find_threads(self):
-        """Finds local variables and threads."""
-        holders = self.probe.holders
+    def find_roots(self):
+        """Finds static fields, local variables and threads."""
+        holders, statics = self.probe.holders, self.probe.holders.statics()
+        self.expect(statics)
+        self.statics = self.probe.held(statics)
+        if self.is_enough(self.probe.share(statics)):
+            self.look_in_own_first(statics)
+            self.look_together(statics)
         if self.is_enough(self.probe.share([holders.all_threads()])):
             for group in holders.locals(), holders.threads():
-                self.all, self.left = self.all + len(group), self.left + len(group)
+                self.expect(group)
                 self.look_in_own_first(group)
+
+    def expect(self, group):
+        """Adds a group to what is to be tried."""
+        self.all, self.left = self.all + len(group), self.left + len(group)
 
     def is_enough(self, share):
         """Tests whether a share is one to be shown."""
