@@ -2,7 +2,7 @@
 //! columns: the ported clap breaks no line.
 
 /// The version, and the logic with which it is proved. The second line is worded like the end of the line that
-/// `rt --version` prints: `tools/statuses` compares the two. The kit, which `rt --version` prints first, is omitted,
+/// `rt --version` prints: `dev/statuses` compares the two. The kit, which `rt --version` prints first, is omitted,
 /// since machines may have different kits with the same logic.
 pub(crate) const VERSION: &str = "\
 0.1.0

@@ -1,5 +1,6 @@
-"""The spelling of heap dumps, and the report that is expected of one, for tools/known_dumps.py."""
+"""Writes heap dumps for tests: `Dump` small ones, `Format` the parts of large ones. `Expected` is the report of one."""
 
+import pathlib
 import struct
 import sys
 from array import array
@@ -7,9 +8,9 @@ from collections import defaultdict
 
 #: The identifier of object 0, and the factor of the permutation of 2^21 numbers that scatters identifiers.
 FIRST_ID, FACTOR = 1 << 20, 1_234_567
-#: Tags and type codes of the format.
-STRING, LOAD_CLASS, HEAP_DUMP, SEGMENT, END = 0x01, 0x02, 0x0C, 0x1C, 0x2C
-ROOT_UNKNOWN, ROOT_JAVA_FRAME, ROOT_STICKY_CLASS = 0xFF, 0x03, 0x05
+#: Tags and type codes of the format. That they are not those of `heap_tools.hprof` is meant: a test must not share them.
+STRING, LOAD_CLASS, FRAME, TRACE, HEAP_DUMP, SEGMENT, END = 0x01, 0x02, 0x04, 0x05, 0x0C, 0x1C, 0x2C
+ROOT_UNKNOWN, ROOT_JAVA_FRAME, ROOT_STICKY_CLASS, ROOT_THREAD_OBJECT = 0xFF, 0x03, 0x05, 0x08
 CLASS, INSTANCE, OBJECT_ARRAY, PRIMITIVE_ARRAY = 0x20, 0x21, 0x22, 0x23
 OBJECT, BYTE, INT, LONG = 2, 8, 10, 11
 VALUE_SIZE = {BYTE: 1, INT: 4, LONG: 8}
@@ -61,9 +62,9 @@ class Format:
             series.byteswap()
         return series.tobytes()
 
-    def header(self):
-        """Returns the header of a file."""
-        return b"JAVA PROFILE 1.0.2\0" + struct.pack(">IQ", self.width, 0)
+    def header(self, time=0):
+        """Returns the header of a file that was written at `time`."""
+        return b"JAVA PROFILE 1.0.2\0" + struct.pack(">IQ", self.width, time)
 
     def record(self, tag, *parts):
         """Returns a record with a body of these parts."""
@@ -81,12 +82,17 @@ class Format:
 
     def class_dump(self, number, parent=0, statics=(), fields=()):
         """Returns the dump of class `number`. `parent` is an identifier, a static field a type code and a value."""
-        held = [parent, 0, 0, 0, 0, 0]
-        head = struct.pack(">B", CLASS) + self.spell([self.id(number)]) + bytes(4) + self.spell(held) + bytes(4 + 2)
-        static = [self.spell([1]) + struct.pack(">B", code) + value for code, value in statics]
-        own = [self.spell([1]) + struct.pack(">B", code) for code in fields]
+        named = [(1, code, value) for code, value in statics]
+        return self.named_class_dump(self.id(number), (parent, 0), named, [(1, code) for code in fields])
+
+    def named_class_dump(self, identifier, parents, statics, fields):
+        """Returns the dump of a class. `parents` are the identifiers of its superclass and its loader, `statics` of each
+        static field the identifier of its name, a type code and a value, `fields` of each field the former two."""
+        head = struct.pack(">B", CLASS) + self.spell([identifier]) + bytes(4) + self.spell([*parents, 0, 0, 0, 0])
+        static = [self.spell([name]) + struct.pack(">B", code) + value for name, code, value in statics]
+        own = [self.spell([name]) + struct.pack(">B", code) for name, code in fields]
         counted = [struct.pack(">H", len(entries)) + b"".join(entries) for entries in (static, own)]
-        return head + b"".join(counted)
+        return head + bytes(4 + 2) + b"".join(counted)
 
     def instances(self, first, count, class_number, references, size):
         """Returns the dumps of `count` instances with `size` bytes of values. The values of an instance begin with one
@@ -134,3 +140,87 @@ def columned(template, count, columns):
         for byte in range(width):
             block[offset + byte :: len(template)] = column[byte::width]
     return block
+
+
+class Dump:
+    """A small dump that is being written. The caller chooses the identifiers: those of classes are below 100."""
+
+    def __init__(self, id_size=8, time=0):
+        self.form, self.time, self.records, self.heap, self._texts, self._serials = Format(id_size), time, b"", b"", {}, {}
+
+    def write(self, path):
+        """Writes the file `path`."""
+        pathlib.Path(path).write_bytes(self.bytes())
+
+    def bytes(self):
+        """Returns the whole dump."""
+        return self.form.header(self.time) + self.records + self.form.record(HEAP_DUMP, self.heap)
+
+    def record(self, tag, *parts):
+        """Writes a record."""
+        self.records += self.form.record(tag, *parts)
+
+    def text(self, name):
+        """Returns the identifier of a string, which is written when it is first asked for."""
+        if name not in self._texts:
+            self._texts[name] = 1000 + len(self._texts)
+            spelt = name if isinstance(name, bytes) else name.encode()
+            self.record(STRING, self.form.spell([self._texts[name]]), spelt)
+        return self._texts[name]
+
+    def loaded(self, number, name):
+        """Writes that a class was loaded. Its serial number is its identifier."""
+        self.record(LOAD_CLASS, word(number), self.form.spell([number]), word(0), self.form.spell([self.text(name)]))
+
+    def of_class(self, number, name, statics=None, fields=(), superclass=0, loader=0):
+        """Writes a class. Its fields are of type object, except `coder` and those whose
+        names begin with `int`."""
+        if name is not None:
+            self.loaded(number, name)
+        static = [(self.text(one), OBJECT, self.form.spell([value])) for one, value in (statics or {}).items()]
+        own = [(self.text(one), kind_of(one)) for one in fields]
+        self.heap += self.form.named_class_dump(number, (superclass, loader), static, own)
+
+    def instance(self, number, of_class, *values):
+        """Writes an instance. Its values are references, or the bytes of numbers."""
+        spelt = b"".join(value if isinstance(value, bytes) else self.form.spell([value]) for value in values)
+        self.heap += struct.pack(">B", INSTANCE) + self.form.spell([number]) + word(0) + self.form.spell([of_class])
+        self.heap += word(len(spelt)) + spelt
+
+    def array(self, number, of_class, *elements):
+        """Writes an array of references."""
+        head = struct.pack(">B", OBJECT_ARRAY) + self.form.spell([number]) + word(0) + word(len(elements))
+        self.heap += head + self.form.spell([of_class, *elements])
+
+    def values(self, number, code, content):
+        """Writes an array of numbers with these bytes."""
+        self.heap += self.form.primitive_head(number, code, len(content) // VALUE_SIZE[code]) + content
+
+    def root(self, *numbers):
+        """Writes roots of unknown kind."""
+        self.heap += b"".join(self.form.root(ROOT_UNKNOWN, number) for number in numbers)
+
+    def thread(self, serial, number, methods=()):
+        """Writes a thread with the identifier `number`, whose stack has these methods, each a class and a name."""
+        frames = []
+        for of_class, method in methods:
+            frames.append(5000 + 100 * serial + len(frames))
+            names = self.form.spell([frames[-1], self.text(method), self.text("()V"), self.text("Source.java")])
+            self.record(FRAME, names, word(of_class), word(1))
+        self.record(TRACE, word(100 + serial), word(serial), word(len(frames)), self.form.spell(frames))
+        self.heap += self.form.root(ROOT_THREAD_OBJECT, number) + word(serial) + word(100 + serial)
+
+    def local(self, serial, frame, *numbers):
+        """Writes that these objects are local variables of a thread's frame."""
+        for number in numbers:
+            self.heap += self.form.root(ROOT_JAVA_FRAME, number) + word(serial) + word(frame)
+
+
+def word(number):
+    """Returns `number` in four bytes."""
+    return struct.pack(">I", number)
+
+
+def kind_of(field):
+    """Returns the type's code of a field by the beginning of its name."""
+    return INT if field.startswith("int") else BYTE if field == "coder" else OBJECT

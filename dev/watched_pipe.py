@@ -1,4 +1,4 @@
-"""A named pipe that sees how often a program opens it, for tools/check."""
+"""A named pipe that finds out whether a program opens it more than once, for tools/check."""
 
 import ctypes
 import os
@@ -7,14 +7,14 @@ import struct
 import threading
 import time
 
-#: inotify's events: a file was opened, and one that was open for reading was closed.
-IN_OPEN, IN_CLOSE_NOWRITE = 0x20, 0x10
-#: Seconds for which a program is given the pipe without a byte in it.
-HELD_BACK = 0.2
+#: The event of inotify for a file that was open for reading and was closed.
+IN_CLOSE_NOWRITE = 0x10
+#: Seconds for which the pipe stays empty after the program has opened it.
+SECONDS_EMPTY = 0.2
 
 
 class WatchedPipe:
-    """A named pipe at `path` with one writer, which gives a process `content`.
+    """A named pipe at `path`, from which one process reads `content`.
 
     Raises `OSError` if the system cannot watch the pipe.
     """
@@ -24,7 +24,7 @@ class WatchedPipe:
         os.mkfifo(path)
         libc = ctypes.CDLL(None, use_errno=True)
         self.events = libc.inotify_init1(os.O_NONBLOCK | os.O_CLOEXEC)
-        if libc.inotify_add_watch(self.events, path.encode(), IN_OPEN | IN_CLOSE_NOWRITE) < 0:
+        if libc.inotify_add_watch(self.events, path.encode(), IN_CLOSE_NOWRITE) < 0:
             raise OSError(ctypes.get_errno(), "inotify cannot watch a pipe")
 
     def close(self):
@@ -32,21 +32,25 @@ class WatchedPipe:
         os.close(self.events)
 
     def feed(self, process, limit):
-        """Gives the process the content, in a thread, once the process has opened the pipe.
+        """Waits until the process opens the pipe, and starts a thread that writes the content.
 
-        Returns whether the process opened the pipe once while there was no byte in it: it must neither open the pipe
-        again nor hold it twice. Returns `False`, too, if the pipe is not opened in `limit` seconds.
+        Returns `True` if the process has opened the pipe once in the `SECONDS_EMPTY` before the first byte: it then
+        holds it once, and has not closed it. Returns `False` otherwise, and if the process does not open the pipe in
+        `limit` seconds.
         """
         opened = self.open_to_write(process, limit)
         if opened is None:
             return False
-        time.sleep(HELD_BACK)
-        is_opened_once = self.times_held(process) <= 1 and IN_CLOSE_NOWRITE not in self.masks()
+        time.sleep(SECONDS_EMPTY)
+        is_opened_once = self.times_held(process) <= 1 and not self.was_closed()
         threading.Thread(target=self.write, args=[opened], daemon=True).start()
         return is_opened_once
 
     def open_to_write(self, process, limit):
-        """Opens the pipe for writing, which is possible as soon as the process has opened it. Returns `None` if not."""
+        """Opens the pipe for writing as soon as the process has opened it for reading.
+
+        Returns `None` if the process ends first, or does not open it in `limit` seconds.
+        """
         ends = time.monotonic() + limit
         while process.poll() is None and time.monotonic() < ends:
             try:
@@ -56,7 +60,7 @@ class WatchedPipe:
         return None
 
     def write(self, opened):
-        """Writes the content, as far as it is read, and closes the pipe."""
+        """Writes the content until the process stops reading, and closes the pipe."""
         os.set_blocking(opened, True)
         try:
             with open(opened, "wb") as file:
@@ -65,16 +69,17 @@ class WatchedPipe:
             pass
 
     def times_held(self, process):
-        """Returns how often the process has the pipe open."""
+        """Returns how many of the process's open files are the pipe."""
         try:
             return sum(os.path.realpath(it) == self.path for it in pathlib.Path(f"/proc/{process.pid}/fd").iterdir())
         except FileNotFoundError:
             return 0
 
-    def masks(self):
-        """Returns the kinds of the events so far."""
+    def was_closed(self):
+        """Tests whether a reader has closed the pipe."""
         try:
             events = os.read(self.events, 4096)
         except BlockingIOError:
-            return []
-        return [struct.unpack_from("iI", events, at)[1] for at in range(0, len(events), 16)]
+            return False
+        masks = (struct.unpack_from("iI", events, at)[1] for at in range(0, len(events), 16))
+        return any(mask & IN_CLOSE_NOWRITE for mask in masks)

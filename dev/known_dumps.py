@@ -6,7 +6,7 @@ Nothing here walks over references: what writes objects says which of them are r
 import os
 import struct
 
-import hprof
+from heap_tools import dump_writer
 
 #: The most bytes and the most objects that a dump may have.
 MOST_BYTES = 1 << 30
@@ -29,7 +29,7 @@ class Mixed:
     ROOT, NODE, BRANCH, LEAF, LEAVES_CLASS, REGISTRY, GARBAGE_CLASS = range(7)
 
     def __init__(self, form):
-        self.form, self.expected = form, hprof.Expected()
+        self.form, self.expected = form, dump_writer.Expected()
         counts = [len(self.NAMES), self.CHAIN, self.TREE, self.LEAVES, self.ARRAYS, self.BUFFERS]
         self.first = [sum(counts[:at]) for at in range(len(counts) + 1)]
         self.garbage = MIXED_OBJECTS - self.first[-1]
@@ -45,14 +45,15 @@ class Mixed:
         form, width = self.form, self.form.width
         root, node = form.id(self.ROOT), form.id(self.NODE)
         kept = form.spell([form.id(self.arrays_at)]) + struct.pack(">I", 7)
+        statics = [(dump_writer.OBJECT, kept[:width]), (dump_writer.INT, kept[width:])]
         dumps = [
             form.class_dump(self.ROOT),
-            form.class_dump(self.NODE, root, fields=[hprof.OBJECT, hprof.INT]),
-            form.class_dump(self.BRANCH, node, fields=[hprof.OBJECT]),
-            form.class_dump(self.LEAF, root, fields=[hprof.OBJECT, hprof.LONG]),
+            form.class_dump(self.NODE, root, fields=[dump_writer.OBJECT, dump_writer.INT]),
+            form.class_dump(self.BRANCH, node, fields=[dump_writer.OBJECT]),
+            form.class_dump(self.LEAF, root, fields=[dump_writer.OBJECT, dump_writer.LONG]),
             form.class_dump(self.LEAVES_CLASS, root),
-            form.class_dump(self.REGISTRY, root, statics=[(hprof.OBJECT, kept[:width]), (hprof.INT, kept[width:])]),
-            form.class_dump(self.GARBAGE_CLASS, root, fields=[hprof.OBJECT, hprof.OBJECT]),
+            form.class_dump(self.REGISTRY, root, statics=statics),
+            form.class_dump(self.GARBAGE_CLASS, root, fields=[dump_writer.OBJECT, dump_writer.OBJECT]),
         ]
         self.expected.add("<class>", len(dumps) - 1, 0)
         self.expected.rows["<class>"][1] += len(kept)
@@ -64,8 +65,8 @@ class Mixed:
         form, arrays = self.form, range(self.arrays_at + 1, self.arrays_at + self.ARRAYS)
         named = map(form.id, [self.chain_at, self.tree_at, *arrays])
         identifiers = self.unresolved([*named, *map(form.missing, range(3))])
-        frames = [form.root(hprof.ROOT_JAVA_FRAME, identifier) + bytes(8) for identifier in identifiers]
-        return form.root(hprof.ROOT_STICKY_CLASS, form.id(self.REGISTRY)) + b"".join(frames)
+        frames = [form.root(dump_writer.ROOT_JAVA_FRAME, identifier) + bytes(8) for identifier in identifiers]
+        return form.root(dump_writer.ROOT_STICKY_CLASS, form.id(self.REGISTRY)) + b"".join(frames)
 
     def chain(self):
         """Returns the list: each node refers to the next one, the last to nothing."""
@@ -107,12 +108,12 @@ class Mixed:
         heads = [form.object_array_head(number, self.LEAVES_CLASS, length) for number in numbers]
         dumps = b"".join(head + elements[at * size : (at + 1) * size] for at, head in enumerate(heads))
         self.expected.add("[Lcheck/Leaf;", self.ARRAYS, size)
-        return hprof.Block(dumps, len(heads[0]) + size)
+        return dump_writer.Block(dumps, len(heads[0]) + size)
 
     def buffers(self):
         """Returns the arrays of bytes."""
         self.expected.add("byte[]", self.BUFFERS, self.BUFFER)
-        return self.form.primitive_arrays(self.buffers_at, self.BUFFERS, hprof.BYTE, self.BUFFER)
+        return self.form.primitive_arrays(self.buffers_at, self.BUFFERS, dump_writer.BYTE, self.BUFFER)
 
     def garbage_list(self):
         """Returns the unreachable list. Each object refers to the next one and to a node; the last names no object."""
@@ -129,25 +130,25 @@ class Mixed:
         for turn in range(max(map(len, pieces))):
             for kind, of_kind in zip(kinds, pieces):
                 if turn < len(of_kind):
-                    yield from hprof.Block(of_kind[turn], kind.size).cut(SEGMENT_SIZE)
+                    yield from dump_writer.Block(of_kind[turn], kind.size).cut(SEGMENT_SIZE)
 
 
 def write_mixed(path, width, scattered, segments):
     """Writes a dump of two million objects, in one heap dump or in `segments`, and returns its report."""
-    form = hprof.Format(width, scattered)
+    form = dump_writer.Format(width, scattered)
     mixed = Mixed(form)
     first = mixed.classes() + mixed.roots()
     blocks = [first, *mixed.blocks()]
     with open(path, "wb") as file:
         file.write(form.header())
-        file.write(form.record(hprof.STRING, form.spell([1]), b"field"))
+        file.write(form.record(dump_writer.STRING, form.spell([1]), b"field"))
         for number, name in enumerate(Mixed.NAMES):
             file.write(form.loaded(number + 2, number, name))
         if segments:
-            file.writelines(form.record(hprof.SEGMENT, block) for block in blocks)
-            file.write(form.record(hprof.END))
+            file.writelines(form.record(dump_writer.SEGMENT, block) for block in blocks)
+            file.write(form.record(dump_writer.END))
         else:
-            file.write(form.record(hprof.HEAP_DUMP, *blocks))
+            file.write(form.record(dump_writer.HEAP_DUMP, *blocks))
     return mixed.expected.report()
 
 
@@ -158,7 +159,7 @@ class Rooted:
     CLASS, ARRAY, FIRST = range(3)
 
     def __init__(self, width, count):
-        self.form, self.count, self.expected = hprof.Format(width), count, hprof.Expected()
+        self.form, self.count, self.expected = dump_writer.Format(width), count, dump_writer.Expected()
         self.expected.add("<class>", 1, 0)
         self.expected.add(self.NAME, 1, count * width)
 
@@ -168,11 +169,11 @@ class Rooted:
 
     def record(self, length):
         """Returns the tag of the heap dump, its time and its length."""
-        return struct.pack(">BII", hprof.HEAP_DUMP, 0, length)
+        return struct.pack(">BII", dump_writer.HEAP_DUMP, 0, length)
 
     def top(self):
         """Returns the first sub-records, up to the elements of the array."""
-        root = self.form.root(hprof.ROOT_UNKNOWN, self.form.id(self.ARRAY))
+        root = self.form.root(dump_writer.ROOT_UNKNOWN, self.form.id(self.ARRAY))
         return self.form.class_dump(self.CLASS) + root + self.form.object_array_head(self.ARRAY, self.CLASS, self.count)
 
     def elements(self, first, count):
@@ -181,7 +182,7 @@ class Rooted:
 
     def head(self, element, code, length):
         """Returns the dump of an element that is an array of the type `code`, up to its own elements."""
-        self.expected.add(f"{hprof.TYPE_NAME[code]}[]", 1, length * hprof.VALUE_SIZE[code])
+        self.expected.add(f"{dump_writer.TYPE_NAME[code]}[]", 1, length * dump_writer.VALUE_SIZE[code])
         return self.form.primitive_head(self.form.id(self.FIRST + element), code, length)
 
 
@@ -189,14 +190,14 @@ def write_largest(path, size=MOST_BYTES):
     """Writes a dump of `size` bytes, all but a few of them zeroes of two arrays, and returns its report."""
     heap, count = Rooted(8, 3), size // 16
     beginning, top = heap.beginning(), heap.top() + heap.elements(0, 3)
-    top += heap.head(0, hprof.LONG, count)
-    middle = heap.head(1, hprof.INT, 5) + bytes(20)
-    last = heap.form.primitive_head(0, hprof.BYTE, 0)
+    top += heap.head(0, dump_writer.LONG, count)
+    middle = heap.head(1, dump_writer.INT, 5) + bytes(20)
+    last = heap.form.primitive_head(0, dump_writer.BYTE, 0)
     record = size - len(beginning) - len(heap.record(0))
     with open(path, "wb") as file:
         file.write(beginning + heap.record(record) + top)
         file.seek(8 * count, os.SEEK_CUR)
-        file.write(middle + heap.head(2, hprof.BYTE, record - len(top) - 8 * count - len(middle) - len(last)))
+        file.write(middle + heap.head(2, dump_writer.BYTE, record - len(top) - 8 * count - len(middle) - len(last)))
         file.truncate(size)
     return heap.expected.report()
 
@@ -204,14 +205,14 @@ def write_largest(path, size=MOST_BYTES):
 def write_most_objects(path):
     """Writes a dump of as many objects as one may have, nearly all of them empty arrays, and returns its report."""
     heap, most = Rooted(4, MOST_OBJECTS - Rooted.FIRST), 1 << 20
-    top, size = heap.top(), len(heap.form.primitive_head(0, hprof.BYTE, 0))
+    top, size = heap.top(), len(heap.form.primitive_head(0, dump_writer.BYTE, 0))
     heap.expected.add("byte[]", heap.count, 0)
     parts = [(first, min(most, heap.count - first)) for first in range(0, heap.count, most)]
     with open(path, "wb") as file:
         file.write(heap.beginning() + heap.record(len(top) + heap.count * (heap.form.width + size)) + top)
         file.writelines(heap.elements(*part) for part in parts)
         for first, count in parts:
-            file.write(heap.form.primitive_arrays(heap.FIRST + first, count, hprof.BYTE, 0).dumps)
+            file.write(heap.form.primitive_arrays(heap.FIRST + first, count, dump_writer.BYTE, 0).dumps)
     return heap.expected.report()
 
 
@@ -219,7 +220,7 @@ def add_an_object(path):
     """Adds an empty array to a dump of `write_most_objects`, and returns its place."""
     heap = Rooted(4, MOST_OBJECTS - Rooted.FIRST)
     at = len(heap.beginning())
-    more = heap.head(heap.count, hprof.BYTE, 0)
+    more = heap.head(heap.count, dump_writer.BYTE, 0)
     with open(path, "r+b") as file:
         place = file.seek(0, os.SEEK_END)
         file.write(more)

@@ -1,0 +1,242 @@
+"""leaks: which fields, static fields, local variables and threads hold what grew between dumps of one program."""
+
+import os
+import shlex
+import sys
+import time
+from typing import List, NamedTuple
+
+from heap_tools import growth, names
+from heap_tools.command import Parser, number
+from heap_tools.console import Progress, is_terminal, say, write
+from heap_tools.faults import NOTHING, UNREADABLE, UNWRITABLE, WRONG_USE, Fault
+from heap_tools.holders import OMITTED, counted, family_of, spelled
+from heap_tools.holding import FIELD, Holder, Holders
+from heap_tools.paths import Paths
+from heap_tools.program import Heapmark, Runs
+from heap_tools.reports import Amount
+from heap_tools.search import Earlier, Gains, Held, Search
+
+ABOUT = """
+Shows what holds the objects that grew between heap dumps of one program: for
+each field, static field, local variable or thread that holds much of the
+growth, a line. The first line is the answer: the one with the fewest holders.
+"""
+NOTES = """
+The columns are the objects and the bytes that are held in the last dump and
+were not in the first, their share of the growth, the bytes that were held in
+the first dump and are in the last (with --objects, objects), the number of
+holders, and the field. The holders of a field are the instances that have it; a
+static field has one holder; those of a local variable are the threads in its
+method. At the same number of holders, fields of the JDK come last, and of those
+that gained as much the one that holds least comes first. Fields above a field,
+from a static field, a local variable or a thread down, stand before it: `A > B`
+means that only A leads to B.
+
+The growth is that of the reachable bytes, or of the objects and bytes of CLASS.
+If no more bytes are reachable than before, it is that of the objects of all
+classes that grew. Names of the last dump are looked up in the first one: hidden
+classes, such as those of lambdas, by what is common to them. Of further dumps
+only the reports are used. For what is held in one dump, see holders, which also
+says how it is found; for which classes grew, see grown.
+
+Exit status:
+  0  done: what holds the growth, if anything, was printed
+  1  a dump cannot be read, was refused, or does not go with the others; nothing
+     was printed
+  2  the command line is wrong
+  3  nothing grew; nothing was printed
+  4  the output or FILE cannot be written
+  5  heapmark cannot be run, or a later run failed; nothing was printed
+  6  no class of the last dump has the name CLASS; nothing was printed
+
+Example:
+  $ leaks monday.hprof friday.hprof
+"""
+#: The most files on a command line: each is read, and each has a place in the page's charts.
+MOST_FILES = 100
+
+
+class Line(NamedTuple):
+    """What was found: what it held, what it holds, the share of the growth in percent, and what is above it."""
+
+    held: Held
+    before: Amount
+    share: float
+    above: List[Holder]
+
+    def path(self):
+        """Returns the way from the top down to what was found."""
+        return " > ".join([*map(str, self.above), spelled(self.held.holders)])
+
+
+def parser():
+    """Returns the options and operands."""
+    it = Parser("leaks", "[OPTIONS] <BEFORE> <AFTER>...", ABOUT, NOTES)
+    it.operand("before", "A heap dump, in a plain file: it is read many times")
+    it.operand("after", "One or more later ones of the same program, the earliest first", nargs="+")
+    text = "Show what holds the growth of a class, as heapmark, grown or jmap shows it, not of the whole heap"
+    it.option("--class", "CLASS", text)
+    it.flag("--objects", "Take shares of objects, not of bytes")
+    text = "Show what holds P percent or more of the growth, 1 to 100 [default: 30]"
+    it.option("--at-least", "P", text, type=number(1, 100), default=30)
+    it.option("--top", "N", "Show at most N lines [default: 10]", type=number(1), default=10)
+    it.option("--html", "FILE", "Also write a page for a browser, with charts, to FILE")
+    it.flag("--weak", "Follow soft, weak, final and phantom references, too")
+    return it
+
+
+class Comparison:
+    """The dumps of a command line, and what is compared."""
+
+    def __init__(self, options, progress):
+        self.options, self.progress, self.heapmark = options, progress, Heapmark()
+        self.began = time.time()
+        paths = [options.before, *options.after]
+        self.dumps = [self._read(path, number) for number, path in enumerate(paths)]
+        self.first, self.last = self.dumps[0], self.dumps[-1]
+        self._require_order()
+        self._require_one_program()
+
+    def _read(self, path, number):
+        self.progress.show(f"reading dump {number + 1} of {len(self.options.after) + 1}")
+        return Runs(self.heapmark, path, "leaks")
+
+    def _require_order(self):
+        for before, after in zip(self.dumps, self.dumps[1:]):
+            if before.dump.time > after.dump.time:
+                text = f"{after.path}: wrong order? it was dumped earlier than {before.path}"
+                raise Fault(UNREADABLE, text)
+
+    def _require_one_program(self):
+        own = [own_classes(each.dump) for each in (self.first, self.last)]
+        common = len(own[0] & own[1])
+        if 2 * common < min(map(len, own)):
+            text = f"another program? it has {common} of the {len(own[0])} own classes of {self.first.path}"
+            raise Fault(UNREADABLE, f"{self.last.path}: {text}")
+
+    def probe(self):
+        """Returns what asks the first and the last dump."""
+        options, known = self.options, [Holders(each.dump, self.options.weak) for each in (self.first, self.last)]
+        for runs, holders in zip((self.first, self.last), known):
+            runs.cut = holders.weak()
+        families, column = None, "objects" if options.objects else "bytes"
+        if getattr(options, "class"):
+            families = [family_of(getattr(options, "class"), self.last.dump, self.last.report)]
+        earlier = Earlier(self.first, known[0], families, column)
+        probe = Gains(earlier, options.at_least, self.last, known[1], families, column)
+        if getattr(probe.growth, column) <= 0:
+            families = self._grown_families(probe)
+            earlier = Earlier(self.first, known[0], families, "objects")
+            probe = Gains(earlier, options.at_least, self.last, known[1], families, "objects")
+        return probe
+
+    def _grown_families(self, probe):
+        """Returns the classes of which there are more objects, if the whole did not grow, and says so."""
+        what = probe.families[0] if probe.families else "reachable"
+        was, now = (getattr(each, probe.column) for each in (probe.earlier.whole, probe.whole))
+        text = f"{what}: {was} {probe.column}, then {now}: no growth"
+        grown = growth.growths([probe.earlier.base, probe.base])
+        families = [each.name for each in grown if each.objects > 0 and not each.name.startswith("<")]
+        if probe.families or not families:
+            raise Fault(NOTHING, text)
+        say(f"leaks: {text}; so these are shares of the objects of the {len(families)} classes that grew")
+        return families
+
+
+def own_classes(dump):
+    """Returns the families of the classes of a dump that are not of the JDK."""
+    return {names.family(name) for name in dump.names.values() if names.is_own(name)}
+
+
+def order(probe):
+    """Returns what lines are sorted by: few holders, own classes, a large share of the growth, little else."""
+
+    def key(held):
+        share = probe.percent(probe.gain(held.holders))
+        return held.count(), not held.is_own(), -round(share / 10), held.heap.bytes, spelled(held.holders)
+
+    return key
+
+
+def lines_of(probe, options, progress):
+    """Searches the dumps, and returns the lines and the search."""
+    search = Search(probe, options.at_least, options.top, order(probe), progress)
+    search.find(probe.holders.fields(probe.base))
+    paths, lines = Paths(probe, search.found, progress), []
+    for number, held in enumerate(search.found):
+        before = probe.earlier.held(held.holders).amount
+        above = paths.above(held) if number else paths.complete(held)
+        lines.append(Line(held, before, probe.percent(held.amount.minus(before)), above))
+    return lines, search
+
+
+def printed(lines, column):
+    """Returns the lines as they are printed."""
+    texts = []
+    for line in lines:
+        gain, now = line.held.amount.minus(line.before), getattr(line.held.amount, column)
+        text = f"{gain.objects:10} {gain.bytes:14} {line.share:4.0f}% {getattr(line.before, column):14} {now:14}"
+        texts.append(f"{text} {line.held.count():9}  {line.path()}\n")
+    return "".join(texts)
+
+
+def heads(comparison, probe):
+    """Returns what stands above the lines on a terminal: how much the heap grew, and the heads of the columns."""
+    was, now = (in_units(each.whole.bytes) for each in (probe.earlier, probe))
+    what = probe.families[0] if probe.families and len(probe.families) == 1 else "reachable"
+    seconds = (comparison.last.dump.time - comparison.first.dump.time) // 1000
+    head = f"{what}: {was} to {now}" + f" in {in_time(seconds)}" * (seconds > 0)
+    return f"{head}\n{'objects':>10} {'bytes':>14} share {'before':>14} {'after':>14} {'holders':>9}  field\n"
+
+
+def in_units(size):
+    """Spells a number of bytes."""
+    for unit in ("bytes", "kB", "MB", "GB"):
+        if size < 1000 or unit == "GB":
+            return f"{size} bytes" if unit == "bytes" else f"{size:.1f} {unit}"
+        size /= 1000
+    return ""
+
+
+def in_time(seconds):
+    """Spells a time."""
+    for unit, length in (("days", 86400), ("h", 3600), ("min", 60)):
+        if seconds >= 2 * length:
+            return f"{seconds // length} {unit}"
+    return f"{seconds} s"
+
+
+def say_rest(lines, search, probe):
+    """Says what the lines do not."""
+    if search.is_cut:
+        say("leaks: fields with more holders may hold as much: see --top")
+    if not lines:
+        more = ": see --at-least" * (search.at_least > 1)
+        say(f"leaks: no field, local variable or thread alone holds {search.at_least}% of the growth{more}")
+    more = probe.runs.report.unreachable.minus(probe.earlier.runs.report.unreachable)
+    if max(more) > 0 and getattr(more, probe.column) > getattr(probe.growth, probe.column):
+        text = f"{more.objects} objects more, {more.bytes} bytes more are unreachable"
+        say(f"leaks: {text}: garbage in dumps with -all; in live dumps {OMITTED}: see grown with jmap -histo:live")
+
+
+def main(words):
+    """Does what the words of the command line ask for, and returns the exit status."""
+    if len([word for word in words if not word.startswith("-")]) == 1 and os.path.isfile(words[-1]):
+        raise Fault(WRONG_USE, f"{words[-1]}: one dump: holders {words[-1]} shows what holds its objects")
+    options = parser().read(words)
+    if 1 + len(options.after) > MOST_FILES:
+        raise Fault(WRONG_USE, f"{1 + len(options.after)} dumps: at most {MOST_FILES}")
+    progress = Progress("leaks")
+    try:
+        comparison = Comparison(options, progress)
+        probe = comparison.probe()
+        lines, search = lines_of(probe, options, progress)
+    finally:
+        progress.clear()
+    top = heads(comparison, probe) if is_terminal(sys.stdout) and lines else ""
+    write(top + printed(lines, probe.column))
+    say_rest(lines, search, probe)
+    cost = f"{counted(search.all, 'field')}, {counted(comparison.heapmark.runs, 'run')} of heapmark"
+    say(f"leaks: {cost}, {time.time() - comparison.began:.1f} s")
+    return 0

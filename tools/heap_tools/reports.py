@@ -1,0 +1,118 @@
+"""Reports of heapmark and histograms of jcmd: their rows and totals."""
+
+import re
+from dataclasses import dataclass, field
+from itertools import islice
+from typing import List, NamedTuple
+
+from heap_tools import names
+from heap_tools.faults import UNREADABLE, Fault
+
+#: The names of the last three rows of a report.
+TOTALS = ["(reachable)", "(unreachable)", "(unresolved)"]
+LONGEST_LINE = 1 << 20  # a name has at most 65,535 bytes, each shown by at most four
+
+
+class Amount(NamedTuple):
+    """Objects and their bytes."""
+
+    objects: int = 0
+    bytes: int = 0
+
+    def minus(self, other):
+        """Returns this amount without `other`."""
+        return Amount(self.objects - other.objects, self.bytes - other.bytes)
+
+    def plus(self, other):
+        """Returns this amount and `other`."""
+        return Amount(self.objects + other.objects, self.bytes + other.bytes)
+
+
+class Row(NamedTuple):
+    """A row of a report: a class, its objects and their bytes."""
+
+    name: str
+    amount: Amount
+
+
+@dataclass
+class Report:
+    """What a report or a histogram says. A histogram has only rows."""
+
+    rows: List[Row] = field(default_factory=list)
+    reachable: Amount = Amount()
+    unreachable: Amount = Amount()
+    unresolved: int = 0
+
+    def __post_init__(self):
+        self.families = {}
+        for name, amount in self.rows:
+            of_family = names.family(name)
+            self.families[of_family] = self.families.get(of_family, Amount()).plus(amount)
+
+    def amount(self, family):
+        """Returns the objects and bytes of a class, and of all hidden classes of its name."""
+        return self.families.get(family, Amount())
+
+    def total(self, families):
+        """Returns the objects and bytes of all these families, or of all that is reachable if `families` is None."""
+        if families is None:
+            return self.reachable
+        amounts = [self.amount(family) for family in families]
+        return Amount(sum(each.objects for each in amounts), sum(each.bytes for each in amounts))
+
+    def has_nameless(self):
+        """Tests whether it shows a class by its identifier."""
+        return any(name.startswith("?0x") for name, _ in self.rows)
+
+
+def lines_of(file):
+    """Yields the lines of `file` without their ends. A line longer than `LONGEST_LINE` comes in parts."""
+    return (line.rstrip(b"\r\n") for line in iter(lambda: file.readline(LONGEST_LINE), b""))
+
+
+def read_report(lines, path):
+    """Reads a report of heapmark. Returns None if `lines` are no whole report, raises `Fault` if they are two."""
+    row = re.compile(rb" *([0-9]{1,19}) +([0-9]{1,19})  ([!-~]+)")
+    rows = []
+    for line in lines:
+        found = row.fullmatch(line)
+        if not found:
+            return None
+        if [each.name for each in rows[-3:]] == TOTALS:
+            raise Fault(UNREADABLE, f"{path}: two reports in one file")
+        rows.append(Row(found[3].decode(), Amount(int(found[1]), int(found[2]))))
+    *rows, reachable, unreachable, unresolved = [*[Row("", Amount())] * 3, *rows]
+    if [reachable.name, unreachable.name, unresolved.name] != TOTALS:
+        return None
+    return Report(rows[3:], reachable.amount, unreachable.amount, unresolved.amount.objects)
+
+
+def read_histogram(lines, path):
+    """Reads a histogram of jcmd. Returns None if `lines` are no whole histogram, raises `Fault` if they are two."""
+    row = re.compile(rb" *[0-9]+: +([0-9]{1,19}) +([0-9]{1,19})  (\S.*)")
+    if not any(re.match(rb" *num +#instances +#bytes  class name", line) for line in islice(lines, 3)):
+        return None
+    next(lines, None)  # the rule below the heads
+    rows, is_whole = [], False
+    for line in lines:
+        found = row.fullmatch(line)
+        if is_whole and line.strip():
+            raise Fault(UNREADABLE, f"{path}: two histograms in one file, or other lines after the first")
+        if found:
+            rows.append(Row(names.of_histogram(found[3]), Amount(int(found[1]), int(found[2]))))
+        elif re.fullmatch(rb"Total +[0-9]+ +[0-9]+", line):
+            is_whole = True
+        elif not is_whole:
+            return None
+    return Report(rows) if is_whole else None
+
+
+def read_text(file, path):
+    """Returns what the open file `path` is, report or histogram, and what it says, or None twice if it is neither."""
+    for kind, read in ("report", read_report), ("histogram", read_histogram):
+        file.seek(0)
+        found = read(lines_of(file), path)
+        if found:
+            return kind, found
+    return None, None
