@@ -33,8 +33,8 @@ def holder(kind, name, holders, before, after, above=()):
     return page.Holder(kind, name, holders, page.Share(*before), page.Share(*after), list(above))
 
 
-def rows():
-    """Returns the rows of a report, with a catalog and a leak."""
+def classes():
+    """Returns the classes of a report, with a catalog and a leak."""
     kinds = [
         ("byte[]", 301_442, 21_033_107),
         ("java/lang/String", 298_117, 7_154_808),
@@ -57,7 +57,7 @@ def rows():
     ]
     many = [(f"jdk/internal/module/Part{number}", 100 - number, 4_000 - 30 * number) for number in range(60)]
     more = [(f"org/slf4j/helpers/Helper{number}", 10, 900 - number) for number in range(30)]
-    return [page.Row(name, objects, size) for name, objects, size in kinds + many + more]
+    return {name: page.Amount(objects, size) for name, objects, size in kinds + many + more}
 
 
 def leak():
@@ -102,7 +102,7 @@ def leak():
                 ],
             ),
         ],
-        last=rows(),
+        last=classes(),
         omitted=["Stacks of virtual threads that wait: JDK 21 omits them. What only they hold is unreachable here."],
         making=making(),
     )

@@ -131,7 +131,7 @@ def hostile_leak(names=HOSTILE, odd=ODD):
         holders=[
             page.Holder(kinds[number % 5], name, 1, share, share, names) for number, name in enumerate(every * 2)
         ],
-        last=[page.Row(name, 10**6, 10**6 - number) for number, name in enumerate(names * 20)],
+        last={f"{name}{number}": page.Amount(10**6, 10**6 - number) for number, name in enumerate(names * 20)},
         omitted=every * 3,
         making=page.Making(" ".join(every), 1, 1.0, 2**63, [(name, name) for name in every * 3]),
         share_of=names[0],
@@ -140,10 +140,12 @@ def hostile_leak(names=HOSTILE, odd=ODD):
 
 def bare_leak(**changes):
     """Returns the sample without what may be missing, and with `changes`."""
-    return dataclasses.replace(page_sample.leak(), **{"grown": [], "holders": [], "last": [], "omitted": [], **changes})
+    return dataclasses.replace(page_sample.leak(), **{"grown": [], "holders": [], "last": {}, "omitted": [], **changes})
 
 
 class WordsTest(unittest.TestCase):
+    """How texts and figures are spelled."""
+
     def check(self, spell, table):
         """Requires of `spell` each result of a table, with plain blanks."""
         for given, wanted in table.items():
@@ -151,30 +153,37 @@ class WordsTest(unittest.TestCase):
                 self.assertEqual(spell(given).replace("\u00a0", " "), wanted)
 
     def test_size(self):
+        """Bytes in words, at the edges of each unit."""
         table = {0: "0 bytes", 1: "1 byte", 999: "999 bytes", 1000: "1.0 kB", 99_949: "99.9 kB", 99_950: "100 kB"}
         more = {999_499: "999 kB", 999_500: "1.0 MB", 41_208_334: "41.2 MB", 587_000_000: "587 MB", 10**12: "1000 GB"}
         self.check(words.size, {**table, **more})
 
     def test_percent(self):
+        """Percentages, with a decimal where it says more."""
         table = {0: "0 %", 0.04: "<0.1 %", 0.06: "0.1 %", 9.73: "9.7 %", 35.04: "35 %", 99.6: "99.6 %", 100: "100 %"}
         self.check(words.percent, table)
 
     def test_duration(self):
+        """How long something took, in two units."""
         table = {0: "0 s", 59_999: "1 min", 754_000: "12 min 34 s", 3_600_000: "1 h", 86_400_000: "1 day"}
         self.check(words.duration, {**table, 273_600_000: "3 days 4 h"})
 
     def test_signed(self):
+        """Differences, with the sign of a minus."""
         self.check(lambda number: words.signed(number, words.size), {5: "+5 bytes", -1000: "−1.0 kB", 0: "±0 bytes"})
 
     def test_visible(self):
+        """Characters that cannot be seen are escaped, all others stay."""
         table = {"a\x00\n": "a\\x00\\x0a", "\u202e": "\\u202e", "\udcff": "\\xff", "\ud800": "\\ud800", "é": "é"}
         self.check(words.visible, {**table, "\U000e0001": "\\U000e0001"})
 
     def test_shortened(self):
+        """A long text keeps its beginning and its end."""
         self.assertEqual(words.shortened("x" * 60, 60), "x" * 60)
         self.assertEqual(words.shortened("a" * 50 + "b" * 50, 60), "a" * 39 + "…" + "b" * 20)
 
     def test_times(self):
+        """Times in UTC, and times that are none."""
         self.assertIn(">1970-01-01 00:00<", words.when(0))
         self.assertEqual(words.when(None), "not known")
         self.assertEqual(words.when(2**64 - 1), "not known")
@@ -184,13 +193,17 @@ class WordsTest(unittest.TestCase):
         self.assertEqual(words.clock([0, 2**64 - 1])[1], "dump 2")
 
     def test_names_are_whole(self):
+        """A name is the same text, whatever stands between its parts."""
         for name in HOSTILE[:8]:
             with self.subTest(name):
                 self.assertEqual(Outline(words.name_of(name, 240)).text(), name)
 
 
 class TreemapTest(unittest.TestCase):
+    """What the last heap is made of."""
+
     def test_packages(self):
+        """The group of a class."""
         table = {
             "com/acme/shop/catalog/Product": "com/acme/shop",
             "[[Ljava/util/HashMap$Node;": "java/util",
@@ -206,22 +219,25 @@ class TreemapTest(unittest.TestCase):
                 self.assertEqual(treemap.package_of(name), package)
 
     def test_short_names(self):
+        """The name of a class in its box."""
         table = {"a/B$C": "B$C", "[[La/B;": "B[][]", "byte[]": "byte[]", "Main": "Main", "<class>": "<class>"}
         for name, short in table.items():
             with self.subTest(name):
                 self.assertEqual(treemap.short_name(name), short)
 
     def test_groups_lose_nothing(self):
-        rows = page_sample.rows()
+        """The groups have all objects, bytes and classes."""
+        classes = page_sample.classes()
+        whole = treemap.total_of(classes.values())
         for most in (1, 2, 3, 50):
             with self.subTest(most):
-                groups = treemap.groups_of(rows, most, most)
+                groups = treemap.groups_of(classes, most, most)
                 self.assertLessEqual(len(groups), most)
-                self.assertEqual(sum(group.bytes for group in groups), sum(row.bytes for row in rows))
-                self.assertEqual(sum(group.objects for group in groups), sum(row.objects for row in rows))
-                self.assertEqual(sum(part.classes for group in groups for part in group.parts), len(rows))
+                self.assertEqual(treemap.total_of(group.amount for group in groups), whole)
+                self.assertEqual(sum(part.classes for group in groups for part in group.parts), len(classes))
 
     def test_boxes_fill_the_box(self):
+        """Each box is as large as its weight, and within the whole."""
         for weights in ([1], [6, 6, 4, 3, 2, 2, 1], [10**12, 1, 1], list(range(100, 0, -1))):
             with self.subTest(len(weights)):
                 boxes = treemap.boxes_of(weights, treemap.Box(0, 0, 600, 400))
@@ -232,10 +248,13 @@ class TreemapTest(unittest.TestCase):
                     self.assertLess(max(box.x + box.width - 600, box.y + box.height - 400), 0.01)
 
     def test_no_box_is_no_fault(self):
+        """A box without room has no boxes."""
         self.assertEqual(treemap.boxes_of([1], treemap.Box(0, 0, 0, 10)), [])
 
 
 class PageTest(unittest.TestCase):
+    """The page as HTML."""
+
     def outline(self, leak):
         """Returns the outline of a page that is well formed and small enough."""
         text = page.html_of(leak)
@@ -245,6 +264,7 @@ class PageTest(unittest.TestCase):
         return outline
 
     def test_figures(self):
+        """The page has each figure, exactly."""
         leak = page_sample.leak()
         outline = self.outline(leak)
         values = {int(attributes["value"]) for attributes in outline.all("data")}
@@ -256,6 +276,7 @@ class PageTest(unittest.TestCase):
         self.assertIn({"value": "58284771", "title": "58,284,771\u00a0bytes"}, outline.all("data"))
 
     def test_texts(self):
+        """What the page says of the sample."""
         text = self.outline(page_sample.leak()).text()
         for wanted in [
             "Static field com/acme/shop/metrics/MetricsService.METERS holds 20.4 MB, up from 4.0 MB",
@@ -271,6 +292,7 @@ class PageTest(unittest.TestCase):
                 self.assertIn(wanted, text)
 
     def test_structure(self):
+        """What a screen reader needs: headings in order, captions, scopes, landmarks, labels that exist."""
         for leak in page_sample.leak(), hostile_leak(), bare_leak():
             outline = self.outline(leak)
             levels = [int(tag[1]) for tag, _ in outline.elements if re.fullmatch("h[1-6]", tag)]
@@ -288,6 +310,7 @@ class PageTest(unittest.TestCase):
             self.assertLessEqual({*labels, *targets}, set(ids))
 
     def test_nothing_active(self):
+        """Nothing in the page fetches or runs something."""
         for leak in page_sample.leak(), hostile_leak():
             outline = self.outline(leak)
             self.assertEqual(ACTIVE & {tag for tag, _ in outline.elements}, set())
@@ -298,6 +321,7 @@ class PageTest(unittest.TestCase):
         self.assertEqual(re.findall(r"url\(|@import|<|\$|expression", style), [])
 
     def test_hostile_names_are_text(self):
+        """Names are text, whatever they are."""
         text = self.outline(hostile_leak()).text()
         escapes = ["\\u202eltr\\u2066", "\\x00\\x07\\x1b[31m\\x0d\\x0a\\x09", "\\xff\\x80", "\\ud800"]
         for name in [*HOSTILE[:7], *escapes]:
@@ -306,11 +330,13 @@ class PageTest(unittest.TestCase):
         self.assertNotIn("\u202e", text)
 
     def test_worst_names(self):
+        """No page is too large, whatever the names."""
         for char in "<\"'&/$.a\u202e\U0001f4a9":
             with self.subTest(char):
                 self.outline(hostile_leak([char * 10_000 + str(number) for number in range(40)], [char * 10_000] * 40))
 
     def test_rows_that_are_left_out(self):
+        """Long lists are cut, and the page says so."""
         leak = page_sample.leak()
         leak = dataclasses.replace(leak, grown=leak.grown * 100, holders=leak.holders * 10, dumps=leak.dumps * 100)
         text = self.outline(leak).text()
@@ -319,11 +345,13 @@ class PageTest(unittest.TestCase):
                 self.assertIn(wanted, text)
 
     def test_nothing_found(self):
+        """A page of a leak of which nothing was found."""
         text = self.outline(bare_leak()).text()
         for wanted in "No class has more", "alone holds", "no reachable bytes":
             self.assertIn(wanted, text)
 
     def test_other_heaps(self):
+        """Heaps that shrank, stayed or were empty, and times in the wrong order."""
         first, _, last = page_sample.leak().dumps
         nothing = page.Amount(0, 0)
         empty = page.Dump("empty", 0, 0, nothing, nothing, 0)
@@ -338,6 +366,7 @@ class PageTest(unittest.TestCase):
                 self.assertIn(wanted, self.outline(dataclasses.replace(page_sample.leak(), dumps=dumps)).text())
 
     def test_by_objects_of_a_class(self):
+        """Objects of one class, in place of bytes of all."""
         name = "com/acme/shop/metrics/MetricsService$Meter"
         leak = dataclasses.replace(page_sample.leak(), by="objects", of_class=name, share_of=f"the objects of {name}")
         text = self.outline(leak).text()
@@ -345,6 +374,7 @@ class PageTest(unittest.TestCase):
         self.assertIn("grew from 702,113 to 1,304,914 objects", text)
 
     def test_colours(self):
+        """The contrast of each text and each graphic with its ground, light and dark."""
         style = (words.FOLDER / "page.css").read_text(encoding="utf-8")
         blocks = re.findall(r":root {(.*?)}", style, re.S)
         light, dark = (dict(re.findall(r"--([\w-]+): (#\w{6});", block)) for block in blocks)
@@ -369,6 +399,8 @@ def contrast(*colours):
 
 
 class WriteTest(unittest.TestCase):
+    """How the page is written into a file."""
+
     def setUp(self):
         room = tempfile.TemporaryDirectory()
         self.addCleanup(room.cleanup)
@@ -380,6 +412,7 @@ class WriteTest(unittest.TestCase):
         return sorted(path.name for path in self.room.iterdir())
 
     def test_writes(self):
+        """A new page, and one in place of another."""
         leak = page_sample.leak()
         for _ in range(2):
             page.write(leak, str(self.file))
@@ -387,12 +420,14 @@ class WriteTest(unittest.TestCase):
             self.assertEqual(self.files(), ["leak.html"])
 
     def test_keeps_a_link(self):
+        """A symbolic link stays one."""
         os.symlink("leak.html", self.room / "link")
         page.write(page_sample.leak(), str(self.room / "link"))
         self.assertTrue((self.room / "link").is_symlink())
         self.assertEqual(self.files(), ["leak.html", "link"])
 
     def test_mode_follows_the_mask(self):
+        """The mode of the file is that of any new file."""
         before = os.umask(0o027)
         try:
             page.write(page_sample.leak(), str(self.file))
@@ -409,6 +444,7 @@ class WriteTest(unittest.TestCase):
         self.assertEqual(self.files(), ["leak.html"])
 
     def test_full_disk(self):
+        """On a full disk nothing changes."""
         soft, hard = resource.getrlimit(resource.RLIMIT_FSIZE)
         resource.setrlimit(resource.RLIMIT_FSIZE, (5000, hard))
         try:
@@ -417,17 +453,20 @@ class WriteTest(unittest.TestCase):
             resource.setrlimit(resource.RLIMIT_FSIZE, (soft, hard))
 
     def test_interrupt(self):
+        """An interrupt changes nothing, whenever it comes."""
         for place in "os.replace", "os.fsync":
             with self.subTest(place), mock.patch(place, side_effect=KeyboardInterrupt):
                 self.check_untouched(KeyboardInterrupt)
 
     def test_refused(self):
+        """Places that no page can be written to."""
         for file in self.room / "no/leak.html", self.room, "/dev/full", self.room / ("x" * 300), "":
             with self.subTest(file), self.assertRaises(OSError):
                 page.write(page_sample.leak(), str(file))
         self.assertEqual(self.files(), [])
 
     def test_no_plain_file(self):
+        """A pipe gets the page itself."""
         reader, writer = os.pipe()
         with open(reader, "rb") as read, contextlib.ExitStack() as stack:
             stack.callback(os.close, writer)
@@ -469,6 +508,7 @@ class BrowserTest(unittest.TestCase):
         return [" ".join(text.replace("\u00a0", " ").split()) for text in found]
 
     def test_figures_of_a_leak(self):
+        """The browser shows the figures of the sample."""
         leak = page_sample.leak()
         self.open(leak)
         name = "com/acme/shop/metrics/MetricsService.METERS"
@@ -485,6 +525,7 @@ class BrowserTest(unittest.TestCase):
         self.assertEqual(self.texts("title")[0], f"{name}: 4.0 MB to 20.4 MB")
 
     def test_each_screen(self):
+        """Wide and narrow, light and dark: all text has contrast, and one of two pictures is shown."""
         for width, dark in [(1280, False), (1280, True), (390, False), (390, True)]:
             for leak in page_sample.leak(), hostile_leak(), bare_leak():
                 with self.subTest(f"{width} {dark}"):
@@ -494,18 +535,21 @@ class BrowserTest(unittest.TestCase):
                     self.assertEqual(self.browser.value(f"{shown}.length"), 2 if leak.last else 1)
 
     def test_paper(self):
+        """On paper the page is light, also for those who have it dark."""
         self.open(page_sample.leak(), width=700, dark=True, media="print")
         self.assertEqual(self.browser.value(LOW_CONTRAST), [])
         self.assertEqual(self.browser.value("getComputedStyle(document.querySelector('h2')).color"), "rgb(21, 25, 30)")
         self.assertTrue(self.browser.printed().startswith(b"%PDF-"))
 
     def test_hostile_names(self):
+        """The browser shows hostile names as text."""
         self.open(hostile_leak())
         self.assertIn(SCRIPT, self.texts("#grown tbody th"))
         self.assertIn("\\u202eltr\\u2066", self.texts("#making tbody th"))
         self.assertEqual(self.browser.value("document.images.length + document.links.length"), 6)
 
     def test_screen_reader(self):
+        """The parts that a screen reader finds have names."""
         self.open(page_sample.leak())
         parts = self.browser.named()
         for role in "banner", "navigation", "main", "contentinfo", "table", "figure":
@@ -518,6 +562,7 @@ class BrowserTest(unittest.TestCase):
         self.assertIn("What holds it", regions)
 
     def test_the_browser_sees_what_is_wrong(self):
+        """These tests would see a page that fetches, runs, overflows or is pale."""
         file = self.room / "wrong.html"
         pale = "<p style='color: #999; width: 2000px'>pale"
         file.write_text(f"{pale}<img src='http://127.0.0.1:9/x'><script>alert(1)</script>")

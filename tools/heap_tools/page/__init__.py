@@ -9,8 +9,9 @@ import os
 import secrets
 import stat
 
-from .leak import FIELD, LOCAL, STATIC, THREAD, TOGETHER, Amount, Dump, GrownClass, Holder, Leak, Making, Row, Share
-from .sections import Limits, page
+from heap_tools.page.leak import FIELD, LOCAL, STATIC, THREAD, TOGETHER, Dump, GrownClass, Holder, Leak, Making, Share
+from heap_tools.page.sections import Limits, page
+from heap_tools.reports import Amount
 
 #: The most bytes of a page.
 MOST_BYTES = 300_000

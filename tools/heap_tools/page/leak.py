@@ -1,18 +1,12 @@
 """What the page of a leak shows. `leaks` fills these; the page writes them. All texts are plain text."""
 
 from dataclasses import dataclass
-from typing import List, Optional, Tuple
+from typing import Dict, List, Optional, Tuple
+
+from heap_tools.reports import Amount
 
 #: The kinds of holders.
 STATIC, FIELD, LOCAL, THREAD, TOGETHER = "static", "field", "local", "thread", "together"
-
-
-@dataclass(frozen=True)
-class Amount:
-    """A number of objects, and their bytes."""
-
-    objects: int
-    bytes: int
 
 
 @dataclass(frozen=True)
@@ -58,15 +52,6 @@ class Holder:
 
 
 @dataclass(frozen=True)
-class Row:
-    """A class in the last report."""
-
-    name: str
-    objects: int
-    bytes: int
-
-
-@dataclass(frozen=True)
 class Making:
     """How the figures were found: the command, the runs of heapmark and the seconds that it took, when that was in
     milliseconds since 1970, and the versions of the programs by their names."""
@@ -81,14 +66,14 @@ class Making:
 @dataclass(frozen=True)
 class Leak:
     """All that the page shows. `dumps`: two or more, the earliest first. `holders`: the first is the headline.
-    `last`: the rows of the last report. `omitted`: sentences on what these dumps do not show. `by`: which figure
+    `last`: the classes of the last report. `omitted`: sentences on what these dumps do not show. `by`: which figure
     counts, "bytes" or "objects". `share_of`: what percents are of. `of_class`: the class whose objects the holders
     hold, if only these count."""
 
     dumps: List[Dump]
     grown: List[GrownClass]
     holders: List[Holder]
-    last: List[Row]
+    last: Dict[str, Amount]
     omitted: List[str]
     making: Making
     by: str = "bytes"

@@ -4,8 +4,8 @@ import math
 from dataclasses import dataclass
 from typing import List, Tuple
 
-from .treemap import Box, boxes_of, short_name
-from .words import Html, clock, counted, fill, joined, percent, plain, size
+from heap_tools.page.treemap import Box, boxes_of, short_name
+from heap_tools.page.words import Html, clock, counted, fill, joined, percent, plain, size
 
 #: The chart and the treemap are drawn twice, for wide and for narrow screens: name, width, height of each.
 CHARTS = [("wide", 1080, 250), ("narrow", 360, 220)]
@@ -220,11 +220,12 @@ def cell(part, box, total):
     """Returns the box of a class in the treemap."""
     name = f"{part.classes:,} more classes" if part.name is None else part.name
     short = f"+{part.classes:,}" if part.name is None else fitted(plain(short_name(name)), box.width)
-    lines = [line for line in (short, size(part.bytes)) if 1 < len(line) <= (box.width - 6) / LETTER]
+    lines = [line for line in (short, size(part.amount.bytes)) if 1 < len(line) <= (box.width - 6) / LETTER]
     lines = lines[: int((box.height - 4) / LINE)]
     texts = [fill("cell_line", y=LINE * at + 12, text=line) for at, line in enumerate(lines)]
-    amount = f"{size(part.bytes)}, {percent(100 * part.bytes / total)}, {counted(part.objects, 'object')}"
-    return fill("cell", description=f"{plain(name, 120)}: {amount}", texts=joined(texts), **place_of(box))
+    amount = part.amount
+    words = f"{size(amount.bytes)}, {percent(100 * amount.bytes / total)}, {counted(amount.objects, 'object')}"
+    return fill("cell", description=f"{plain(name, 120)}: {words}", texts=joined(texts), **place_of(box))
 
 
 def place_of(box):
@@ -236,10 +237,10 @@ def group_box(number, group, box, total):
     """Returns the box of a package in the treemap, with the boxes of its classes."""
     name = plain(group.name or "other packages", 120)
     head = HEAD if box.height >= 3 * HEAD and box.width >= 50 else 0
-    parts = [part for part in group.parts if part.bytes > 0]
-    boxes = boxes_of([part.bytes for part in parts], box.within(1.5, head))
+    parts = [part for part in group.parts if part.amount.bytes > 0]
+    boxes = boxes_of([part.amount.bytes for part in parts], box.within(1.5, head))
     cells = joined(cell(part, place, total) for part, place in zip(parts, boxes))
-    label = f"{name}  {size(group.bytes)}"
+    label = f"{name}  {size(group.amount.bytes)}"
     label = label if len(label) * LETTER < box.width else fitted(name, box.width)
     text = fill("group_name", x=f"{box.x + 5:.1f}", y=f"{box.y + 13:.1f}", text=label) if head else Html()
     colour = number % COLOURS if group.name else "rest"
@@ -248,14 +249,13 @@ def group_box(number, group, box, total):
 
 def treemap(groups):
     """Returns the treemap of the last heap, wide and narrow."""
-    groups = [group for group in groups if group.bytes > 0]
-    total, pictures = sum(group.bytes for group in groups), []
-    largest = ", ".join(
-        f"{plain(group.name or 'other packages', 120)} {percent(100 * group.bytes / total)}" for group in groups
-    )
+    groups = [group for group in groups if group.amount.bytes > 0]
+    sizes, pictures = [group.amount.bytes for group in groups], []
+    named = zip((plain(group.name or "other packages", 120) for group in groups), sizes)
+    largest = ", ".join(f"{name} {percent(100 * number / sum(sizes))}" for name, number in named)
     for kind, width, height in TREEMAPS:
-        boxes = boxes_of([group.bytes for group in groups], Box(0, 0, width, height))
-        drawn = joined(group_box(number, *it, total) for number, it in enumerate(zip(groups, boxes)))
+        boxes = boxes_of(sizes, Box(0, 0, width, height))
+        drawn = joined(group_box(number, *it, sum(sizes)) for number, it in enumerate(zip(groups, boxes)))
         description = f"The bytes of the last dump by package: {largest}. The table below has the same."
         pictures.append(fill("treemap", kind=kind, width=width, height=height, description=description, boxes=drawn))
     return joined(pictures, "\n")

@@ -2,10 +2,10 @@
 
 from dataclasses import dataclass
 
-from . import leak as model
-from .pictures import COLOURS, bar, chart, small_line, spell_of, treemap
-from .treemap import groups_of
-from .words import (
+from heap_tools.page import leak as model
+from heap_tools.page.pictures import COLOURS, bar, chart, small_line, spell_of, treemap
+from heap_tools.page.treemap import groups_of, total_of
+from heap_tools.page.words import (
     FOLDER,
     Html,
     breakable,
@@ -282,29 +282,27 @@ def path_to(holder, limits):
 
 def last(leak, limits):
     """Returns the treemap and the table of the last heap."""
-    whole = sum(row.bytes for row in leak.last)
-    groups, total = groups_of(leak.last, limits.groups, limits.parts), max(1, whole)
+    whole = total_of(leak.last.values())
+    groups, total = groups_of(leak.last, limits.groups, limits.parts), max(1, whole.bytes)
     caption = (
         f"Bytes of the {counted(len(leak.last), 'class', 'classes')} of the last dump. "
         "Each colour is a package, each box a class, as large as its bytes."
     )
     return fill(
         "last",
-        treemap=treemap(groups) if whole else Html(),
-        caption=caption if whole else "The last dump has no reachable bytes.",
+        treemap=treemap(groups) if whole.bytes else Html(),
+        caption=caption if whole.bytes else "The last dump has no reachable bytes.",
         groups=joined((last_group(number, it, total, limits) for number, it in enumerate(groups)), "\n"),
-        objects=figure(sum(group.objects for group in groups), "objects"),
-        bytes=figure(whole, "bytes"),
-        share=share(100 * whole / total, "part"),
+        **amounts_of(whole, total),
     )
 
 
-def amounts_of(it, total):
-    """Returns the cells of a group or of a part of it."""
+def amounts_of(amount, total):
+    """Returns the cells of an amount, and of its share in percent of `total` bytes."""
     return {
-        "objects": figure(it.objects, "objects"),
-        "bytes": figure(it.bytes, "bytes"),
-        "share": share(100 * it.bytes / total, "part"),
+        "objects": figure(amount.objects, "objects"),
+        "bytes": figure(amount.bytes, "bytes"),
+        "share": share(100 * amount.bytes / total, "part"),
     }
 
 
@@ -315,14 +313,14 @@ def last_group(number, group, total, limits):
         colour=number % COLOURS if group.name else "rest",
         name=breakable(plain(group.name or "other packages", limits.name)),
         rows=joined((last_row(part, total, limits) for part in group.parts), "\n"),
-        **amounts_of(group, total),
+        **amounts_of(group.amount, total),
     )
 
 
 def last_row(part, total, limits):
     """Returns the row of a class, or of several small ones."""
     name = name_of(part.name, limits.name) if part.name else f"{part.classes:,} more classes"
-    return fill("last_row", name=name, **amounts_of(part, total))
+    return fill("last_row", name=name, **amounts_of(part.amount, total))
 
 
 def omitted(leak, limits):
@@ -331,9 +329,9 @@ def omitted(leak, limits):
     sentences = [plain(sentence, 3 * limits.name) for sentence in leak.omitted[: limits.sentences]]
     if unreachable.objects > 0:
         sentences.append(
-            f"What holds unreachable objects, of which the last dump has {unreachable.objects:,}. They are garbage in a "
-            "dump of all objects. In a live dump, only what dumps omit holds them: the virtual machine, and some fields "
-            "of class objects."
+            f"What holds unreachable objects, of which the last dump has {unreachable.objects:,}. They are garbage in "
+            "a dump of all objects. In a live dump, only what dumps omit holds them: the virtual machine, and some "
+            "fields of class objects."
         )
     return joined((fill("item", text=sentence) for sentence in sentences + NEVER_SHOWN), "\n")
 

@@ -1,9 +1,13 @@
 """What a heap is made of, by package and class, and the rectangles of its picture."""
 
+import functools
 import re
 from collections import defaultdict
 from dataclasses import dataclass
 from typing import List, Optional
+
+from heap_tools import names
+from heap_tools.reports import Amount
 
 #: How many parts of a package's name make a group.
 DEPTH = 3
@@ -17,8 +21,7 @@ class Part:
 
     name: Optional[str]
     classes: int
-    objects: int
-    bytes: int
+    amount: Amount
 
 
 @dataclass(frozen=True)
@@ -29,14 +32,9 @@ class Group:
     parts: List[Part]
 
     @property
-    def objects(self):
-        """Returns how many objects it has."""
-        return sum(part.objects for part in self.parts)
-
-    @property
-    def bytes(self):
-        """Returns how many bytes they have."""
-        return sum(part.bytes for part in self.parts)
+    def amount(self):
+        """Returns the objects and bytes of its classes."""
+        return total_of(part.amount for part in self.parts)
 
 
 @dataclass(frozen=True)
@@ -54,32 +52,31 @@ class Box:
         return Box(self.x + edge, self.y + edge + head, max(0, width), max(0, height))
 
 
-def element_of(name):
-    """Returns the class of an array's elements, and the name of any other class as it is."""
-    found = re.fullmatch(r"\[+L(.+);", name)
-    return found[1] if found else name
+def total_of(amounts):
+    """Returns the sum of amounts."""
+    return functools.reduce(Amount.plus, amounts, Amount())
 
 
 def package_of(name):
     """Returns the group of a class: the first parts of its package, or what stands for one."""
-    packages = element_of(name).split("/")[:-1]
-    if packages:
-        return "/".join(packages[:DEPTH])
-    if re.fullmatch(r".+\[\]|\[+[BCDFIJSZ]", name):
+    package = names.package(name)
+    if package:
+        return "/".join(package.split("/")[:DEPTH])
+    if names.is_array(names.element(name)):
         return "arrays of numbers"
     return "classes" if name == "<class>" else "no package"
 
 
 def short_name(name):
     """Returns the name of a class without its package, and of an array as Java writes it."""
-    found = re.fullmatch(r"(\[+)L.+;", name)
-    return element_of(name).rsplit("/", 1)[-1] + ("[]" * len(found[1]) if found else "")
+    element = names.element(name)
+    return element.rpartition("/")[2] + ("" if element == name else "[]" * re.match(r"\[*", name).end())
 
 
-def part_of(rows):
-    """Returns rows of a report as one part."""
-    name = rows[0].name if len(rows) == 1 else None
-    return Part(name, len(rows), sum(row.objects for row in rows), sum(row.bytes for row in rows))
+def part_of(classes):
+    """Returns classes with their amounts as one part."""
+    name = classes[0][0] if len(classes) == 1 else None
+    return Part(name, len(classes), total_of(amount for _, amount in classes))
 
 
 def alone(sizes, most, least):
@@ -89,23 +86,24 @@ def alone(sizes, most, least):
     return len(sizes) if len(sizes) <= min(most, large + 1) else min(most - 1, large)
 
 
-def parts_of(rows, most, least):
-    """Returns at most `most` parts of `rows`. The last holds the others."""
-    rows = sorted(rows, key=lambda row: (-row.bytes, -row.objects, row.name))
-    number = alone([row.bytes for row in rows], most, least)
-    return [part_of([row]) for row in rows[:number]] + ([part_of(rows[number:])] if rows[number:] else [])
+def parts_of(classes, most, least):
+    """Returns at most `most` parts of `classes`. The last holds the others."""
+    classes = sorted(classes, key=lambda it: (-it[1].bytes, -it[1].objects, it[0]))
+    number = alone([amount.bytes for _, amount in classes], most, least)
+    return [part_of([it]) for it in classes[:number]] + ([part_of(classes[number:])] if classes[number:] else [])
 
 
-def groups_of(rows, most_groups, most_parts):
-    """Returns the rows of a report by package, the largest first. Small packages are one group at the end."""
-    packages, least = defaultdict(list), SMALL * sum(row.bytes for row in rows)
-    for row in rows:
-        packages[package_of(row.name)].append(row)
-    sizes = {name: sum(row.bytes for row in packages[name]) for name in packages}
+def groups_of(classes, most_groups, most_parts):
+    """Returns the classes of a report, a dict of amounts by name, by package, the largest first. Small packages are one
+    group at the end."""
+    packages, least = defaultdict(list), SMALL * total_of(classes.values()).bytes
+    for name, amount in classes.items():
+        packages[package_of(name)].append((name, amount))
+    sizes = {name: total_of(amount for _, amount in packages[name]).bytes for name in packages}
     order = sorted(packages, key=lambda name: (-sizes[name], name))
     number = alone([sizes[name] for name in order], most_groups, least)
     groups = [Group(name, parts_of(packages[name], most_parts, least)) for name in order[:number]]
-    rest = [row for name in order[number:] for row in packages[name]]
+    rest = [it for name in order[number:] for it in packages[name]]
     return groups + ([Group(None, parts_of(rest, most_parts, least))] if rest else [])
 
 
