@@ -347,7 +347,7 @@ class PageTest(unittest.TestCase):
     def test_nothing_found(self):
         """A page of a leak of which nothing was found."""
         text = self.outline(bare_leak()).text()
-        for wanted in "No class has more", "alone holds", "no reachable bytes":
+        for wanted in "No class has more", "alone holds", "no reachable objects":
             self.assertIn(wanted, text)
 
     def test_other_heaps(self):

@@ -1,7 +1,7 @@
 """The page of `leaks --html`: one HTML file that fetches nothing and runs no script.
 
-`leak.py` has what `leaks` fills, `sections.py` the sections, `pictures.py` and `treemap.py` the pictures, `words.py`
-escapes and spells; `page.html` has all templates, `page.css` the style.
+`leak.py` has what `leaks` fills, `top.py` and `sections.py` the parts of the page, `pictures.py` and `treemap.py` the
+pictures; `words.py` escapes and spells; `page.html` has all templates, `page.css` the style.
 """
 
 import contextlib
@@ -9,9 +9,10 @@ import os
 import secrets
 import stat
 
-from heap_tools.page.leak import FIELD, LOCAL, STATIC, THREAD, TOGETHER, Dump, GrownClass, Holder, Leak, Making, Share
-from heap_tools.page.sections import Limits, page
-from heap_tools.reports import Amount
+from heap_tools.page.leak import FIELD, LOCAL, STATIC, THREAD, TOGETHER  # noqa: F401 (what leaks fills)
+from heap_tools.page.leak import Dump, GrownClass, Holder, Leak, Limits, Making, Share  # noqa: F401
+from heap_tools.page.sections import page_of
+from heap_tools.reports import Amount  # noqa: F401
 
 #: The most bytes of a page.
 MOST_BYTES = 300_000
@@ -26,7 +27,7 @@ LIMITS = [
 def html_of(leak):
     """Returns the page, at most `MOST_BYTES` in UTF-8."""
     for limits in LIMITS:
-        text = page(leak, limits)
+        text = page_of(leak, limits)
         if len(text.encode()) <= MOST_BYTES:
             break
     return str(text)

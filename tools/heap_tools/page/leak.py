@@ -79,3 +79,17 @@ class Leak:
     by: str = "bytes"
     share_of: str = "all reachable bytes"
     of_class: Optional[str] = None
+
+
+@dataclass(frozen=True)
+class Limits:
+    """How much of each list is shown, and how many characters of a name."""
+
+    name: int
+    holders: int
+    steps: int
+    grown: int
+    groups: int
+    parts: int
+    dumps: int
+    sentences: int

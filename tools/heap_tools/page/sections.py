@@ -1,9 +1,7 @@
 """The sections of the page, each a function of the leak and of how much of it is shown."""
 
-from dataclasses import dataclass
-
-from heap_tools.page import leak as model
 from heap_tools.page.pictures import COLOURS, bar, chart, small_line, spell_of, treemap
+from heap_tools.page.top import KINDS, from_to, headline, holder_name, lead, tiles, title
 from heap_tools.page.treemap import groups_of, total_of
 from heap_tools.page.words import (
     FOLDER,
@@ -23,7 +21,6 @@ from heap_tools.page.words import (
     when,
 )
 
-HOUR = 3_600_000
 #: What no dump shows, of whatever program.
 NEVER_SHOWN = [
     "Memory outside of the heap: direct buffers, class metadata, compiled code, and the memory of stacks.",
@@ -33,149 +30,9 @@ NEVER_SHOWN = [
 ]
 
 
-@dataclass(frozen=True)
-class Kind:
-    """The words for a kind of holder: in the table, and in the headline before and after its name."""
-
-    label: str
-    subject: str
-    verb: str
-
-
-KINDS = {
-    model.STATIC: Kind("static field", "Static field", "holds"),
-    model.FIELD: Kind("field", "Field", "holds"),
-    model.LOCAL: Kind("local variable", "Local variables of", "hold"),
-    model.THREAD: Kind("thread", "Thread", "holds"),
-    model.TOGETHER: Kind("static fields together", "Static fields", "together hold"),
-}
-
-
-@dataclass(frozen=True)
-class Limits:
-    """How much of each list is shown, and how many characters of a name."""
-
-    name: int
-    holders: int
-    steps: int
-    grown: int
-    groups: int
-    parts: int
-    dumps: int
-    sentences: int
-
-
 def left_out(number, one, many=None):
     """Returns a line that says how many rows are not shown."""
     return fill("paragraph", text=f"{counted(number, one, many)} more not shown.") if number > 0 else Html()
-
-
-def rise(leak):
-    """Returns how much more is reachable in the last dump than in the first."""
-    return getattr(leak.dumps[-1].reachable, leak.by) - getattr(leak.dumps[0].reachable, leak.by)
-
-
-def span(leak):
-    """Returns the milliseconds between the first and the last dump, or `None` if they are not known or not positive."""
-    first, last = leak.dumps[0].time, leak.dumps[-1].time
-    known = moment(first) is not None and moment(last) is not None
-    return last - first if known and last > first else None
-
-
-# The top of the page
-
-
-def holder_name(holder, limits):
-    """Returns the name of what holds: of a thread in quotes, of all else as a name of Java."""
-    if holder.kind == model.THREAD:
-        return fill("plain_name", text=f'"{plain(holder.name, limits.name)}"')
-    return name_of(holder.name, limits.name)
-
-
-def headline(leak, limits):
-    """Returns the answer: what holds how much, and how much it was."""
-    if not leak.holders:
-        grew = rise(leak) > 0
-        return escaped("No field, local variable or thread alone holds what grew" if grew else "The heap did not grow")
-    first, kind = leak.holders[0], KINDS[leak.holders[0].kind]
-    noun = escaped(" objects" if leak.by == "objects" else "")
-    return fill(
-        "headline",
-        subject=kind.subject,
-        name=holder_name(first, limits),
-        verb=kind.verb,
-        before=joined([figure(getattr(first.before, leak.by), leak.by), noun]),
-        after=joined([figure(getattr(first.after, leak.by), leak.by), noun]),
-        of_class=fill("of_class", name=name_of(leak.of_class, limits.name)) if leak.of_class else Html(),
-    )
-
-
-def title(leak):
-    """Returns the title of the page, which a browser shows in its tab."""
-    spell = spell_of(leak.by)
-    if not leak.holders:
-        first, last = (spell(getattr(leak.dumps[at].reachable, leak.by)) for at in (0, -1))
-        return f"Heap: {first} to {last}"
-    first = leak.holders[0]
-    before, after = (spell(getattr(share, leak.by)) for share in (first.before, first.after))
-    return f"{plain(first.name, 100)}: {before} to {after}"
-
-
-def lead(leak):
-    """Returns how the reachable heap changed."""
-    first, last = (figure(getattr(leak.dumps[at].reachable, leak.by), leak.by) for at in (0, -1))
-    between, change = span(leak), rise(leak)
-    words = {
-        "period": f"In {duration(between)}" if between else "From the first dump to the last",
-        "noun": " objects" if leak.by == "objects" else "",
-        "last": last,
-    }
-    if change == 0:
-        return fill("lead_same", **words)
-    return fill("lead_changed", change="grew" if change > 0 else "shrank", first=first, **words)
-
-
-def tiles(leak):
-    """Returns the figures below the headline."""
-    parts = [heap_tile(leak)]
-    between = span(leak)
-    if between:
-        speed = f"{signed(round(rise(leak) * HOUR / between), spell_of(leak.by))} an hour" if between >= 60_000 else ""
-        parts.append(fill("tile", name="Time between", value=duration(between), note=speed))
-    if leak.holders:
-        first = leak.holders[0]
-        ends = from_to(*(percent(share.percent) for share in (first.before, first.after)))
-        parts.append(fill("tile", name="Its share", value=ends, note=f"of {leak.share_of}"))
-        parts.append(growth_tile(leak, first))
-    return joined(parts, "\n")
-
-
-def heap_tile(leak):
-    """Returns the figure of the reachable heap."""
-    before, after = (getattr(leak.dumps[at].reachable, leak.by) for at in (0, -1))
-    note = signed(after - before, spell_of(leak.by))
-    if before > 0:
-        note += f", {signed(100 * (after - before) / before, percent)}"
-    value = from_to(figure(before, leak.by), figure(after, leak.by))
-    return fill("tile", name="Reachable heap", value=value, note=note)
-
-
-def growth_tile(leak, holder):
-    """Returns the figure of what a holder holds of the growth, or nothing where that says nothing."""
-    growth = rise(leak)
-    if leak.of_class is not None or growth <= 0:
-        return Html()
-    part = 100 * (getattr(holder.after, leak.by) - getattr(holder.before, leak.by)) / growth
-    value = percent(part) if part < 100 else "all of it"
-    return fill("tile", name="Its part of the growth", value=value, note=f"of {signed(growth, spell_of(leak.by))}")
-
-
-def from_to(first, last):
-    """Returns what there was first, and what at last."""
-    return fill("from_to", first=first, last=last)
-
-
-# The sections
 
 
 def legend(kinds, leak, limits):
@@ -194,7 +51,18 @@ def legend(kinds, leak, limits):
 def heap(leak, limits):
     """Returns the chart of the heap over the dumps, and its legend."""
     drawn, kinds = chart(leak)
-    return drawn, legend(kinds, leak, limits)
+    return fill("figure_of", picture=drawn, caption=legend(kinds, leak, limits))
+
+
+def table(kind, caption, heads, parts):
+    """Returns a table of this kind. `heads`: the heads of its columns, each the kind of the column by its text."""
+    shown = joined((fill("head", text=text, kind=of_column) for text, of_column in heads.items()), "\n")
+    return fill("table", kind=kind, caption=caption, heads=shown, body=joined(parts, "\n"))
+
+
+def body(rows):
+    """Returns the rows of a table as its body."""
+    return fill("body", rows=joined(rows, "\n"))
 
 
 def change_of(first, last, unit):
@@ -209,10 +77,11 @@ def grown(leak, limits):
         return fill("paragraph", text="No class has more objects or more bytes in the last dump than in the first.")
     shown = leak.grown[: limits.grown]
     most = max(growth_of(it, leak.by) for it in shown)
-    rows = joined((grown_row(it, leak.by, most, limits) for it in shown), "\n")
+    rows = body(grown_row(it, leak.by, most, limits) for it in shown)
     about = f"Classes that have more objects or bytes in the last dump. Bars and small lines show {leak.by}."
     rest = left_out(len(leak.grown) - len(shown), "class that grew is", "classes that grew are")
-    return fill("grown", about=about, rows=rows, left_out=rest)
+    heads = {"Class": "name", "Growth": "growth", "Over the dumps": "line", "Objects": "number", "Bytes": "number"}
+    return joined([fill("about", text=about), table("grown", "The classes that grew", heads, [rows]), rest])
 
 
 def growth_of(it, unit):
@@ -240,13 +109,15 @@ def holders(leak, limits):
     if not leak.holders:
         return fill("paragraph", text="No field, local variable or thread alone holds much of what grew.")
     shown = leak.holders[: limits.holders]
-    rows = joined((holder_row(it, limits) for it in shown), "\n")
+    rows = body(holder_row(it, limits) for it in shown)
     about = (
         "Without one of these, most of the growth would be unreachable. Those with the fewest holders come first: "
         f"the first line is the answer. Shares are of {leak.share_of}."
     )
     rest = left_out(len(leak.holders) - len(shown), "line is", "lines are")
-    return fill("holders", about=about, rows=rows, left_out=rest)
+    heads = {"Held by": "name", "Holders": "number", "Objects": "number", "Bytes": "number"}
+    heads["Share, before and after"] = "shares"
+    return joined([fill("about", text=about), table("holders", "What holds the growth", heads, [rows]), rest])
 
 
 def holder_row(it, limits):
@@ -284,17 +155,18 @@ def last(leak, limits):
     """Returns the treemap and the table of the last heap."""
     whole = total_of(leak.last.values())
     groups, total = groups_of(leak.last, limits.groups, limits.parts), max(1, whole.bytes)
+    if not groups:
+        return fill("paragraph", text="The last dump has no reachable objects.")
     caption = (
         f"Bytes of the {counted(len(leak.last), 'class', 'classes')} of the last dump. "
         "Each colour is a package, each box a class, as large as its bytes."
     )
-    return fill(
-        "last",
-        treemap=treemap(groups) if whole.bytes else Html(),
-        caption=caption if whole.bytes else "The last dump has no reachable bytes.",
-        groups=joined((last_group(number, it, total, limits) for number, it in enumerate(groups)), "\n"),
-        **amounts_of(whole, total),
-    )
+    picture = fill("figure_of", picture=treemap(groups), caption=caption) if whole.bytes else Html()
+    about = fill("about", text="Packages and classes as a table. Small ones are added together.")
+    heads = {"Package and class": "name", "Objects": "number", "Bytes": "number", "Share": "shares"}
+    parts = [last_group(number, it, total, limits) for number, it in enumerate(groups)]
+    parts.append(fill("total", **amounts_of(whole, total)))
+    return joined([picture, about, table("last", "The last heap by package and class", heads, parts)], "\n")
 
 
 def amounts_of(amount, total):
@@ -345,9 +217,13 @@ def making(leak, limits):
         rows.insert(gap[0], fill("dump_gap", text=f"{len(gap):,} dumps more"))
     runs = f"heapmark ran {counted(made.runs, 'time')}, within {duration(1000 * made.seconds)} in all."
     versions = [[plain(text, limits.name) for text in version] for version in made.versions[: limits.sentences]]
+    heads = {"File": "name", "Taken (UTC)": "time", "Size": "number"}
+    for of in "Reachable", "Unreachable":
+        heads.update({f"{of} objects": "number", f"{of} bytes": "number"})
+    heads["Unresolved"] = "number"
     return fill(
         "making",
-        rows=joined(rows, "\n"),
+        dumps=table("dumps", "The dumps, the earliest first", heads, [body(rows)]),
         command=made.command,
         runs=runs,
         versions=joined((fill("version", name=name, version=version) for name, version in versions), "\n"),
@@ -369,9 +245,8 @@ def dump_row(dump, limits):
     )
 
 
-def page(leak, limits):
+def page_of(leak, limits):
     """Returns the whole page."""
-    drawn, lines = heap(leak, limits)
     return fill(
         "page",
         title=title(leak),
@@ -379,8 +254,7 @@ def page(leak, limits):
         headline=headline(leak, limits),
         lead=lead(leak),
         tiles=tiles(leak),
-        chart=drawn,
-        legend=lines,
+        heap=heap(leak, limits),
         grown=grown(leak, limits),
         holders=holders(leak, limits),
         last=last(leak, limits),
