@@ -60,7 +60,8 @@ class Chromium:
 
     def __init__(self, program):
         self.room = tempfile.TemporaryDirectory()
-        self.number, self.rest, self.events, self.session = 0, b"", [], None
+        self.number, self.rest, self.events = 0, b"", []
+        self.target = self.session = None
         theirs, self.into = pipe()
         self.out, theirs_too = pipe()
         words = [sys.executable, "-c", START, str(theirs), str(theirs_too), program, *OPTIONS]
@@ -131,18 +132,24 @@ class Chromium:
 
     def open(self, url, width=1280, height=900, dark=False, media="screen"):
         """Opens a page in a window of this size, in the dark or not, on a screen or as printed (`media`)."""
-        self.session, self.events = None, []
-        target = self.call("Target.createTarget", url="about:blank")["targetId"]
-        self.session = self.call("Target.attachToTarget", targetId=target, flatten=True)["sessionId"]
+        self.session = None
+        if self.target:
+            self.call("Target.closeTarget", targetId=self.target)
+        self.target = self.call("Target.createTarget", url="about:blank")["targetId"]
+        self.session = self.call("Target.attachToTarget", targetId=self.target, flatten=True)["sessionId"]
+        self.events = []
         for domain in "Page", "Network", "Log", "Runtime", "Accessibility":
             self.call(f"{domain}.enable")
+        self.call("Page.setLifecycleEventsEnabled", enabled=True)
         self.call(
             "Emulation.setDeviceMetricsOverride", width=width, height=height, deviceScaleFactor=1, mobile=False
         )
         scheme = {"name": "prefers-color-scheme", "value": "dark" if dark else "light"}
         self.call("Emulation.setEmulatedMedia", media=media, features=[scheme])
-        self.call("Page.navigate", url=url)
-        self.wait_for(lambda message: message.get("method") == "Page.loadEventFired")
+        loader = self.call("Page.navigate", url=url)["loaderId"]
+        loaded = {"name": "load", "loaderId": loader}
+        while not any(loaded.items() <= event["params"].items() for event in self.events):
+            self.wait_for(lambda message: "method" in message)
         self.value(FRAME)
 
     def value(self, expression):

@@ -111,7 +111,7 @@ def holders(leak, limits):
     shown = leak.holders[: limits.holders]
     rows = body(holder_row(it, limits) for it in shown)
     about = (
-        "Without one of these, most of the growth would be unreachable. Those with the fewest holders come first: "
+        "Without one of these, much of what grew would be unreachable. Those with the fewest holders come first: "
         f"the first line is the answer. Shares are of {leak.share_of}."
     )
     rest = left_out(len(leak.holders) - len(shown), "line is", "lines are")
