@@ -1,0 +1,60 @@
+"""The page of `leaks --html`: one HTML file that fetches nothing and runs no script.
+
+`leak.py` has what `leaks` fills, `top.py` and `sections.py` the parts of the page, `pictures.py` and `treemap.py` the
+pictures; `words.py` escapes and spells; `page.html` has all templates, `page.css` the style.
+"""
+
+import contextlib
+import os
+import secrets
+import stat
+
+from heap_tools.page.leak import FIELD, LOCAL, STATIC, THREAD, TOGETHER  # noqa: F401 (what leaks fills)
+from heap_tools.page.leak import Dump, GrownClass, Holder, Leak, Limits, Making, Share  # noqa: F401
+from heap_tools.page.sections import page_of
+from heap_tools.reports import Amount  # noqa: F401
+
+#: The most bytes of a page.
+MOST_BYTES = 300_000
+#: How much is shown. The first that gives a page of at most `MOST_BYTES` is taken; only odd names need the later ones.
+LIMITS = [
+    Limits(name=240, holders=20, steps=6, grown=30, groups=8, parts=9, dumps=40, sentences=30),
+    Limits(name=120, holders=12, steps=5, grown=20, groups=8, parts=6, dumps=20, sentences=20),
+    Limits(name=60, holders=10, steps=4, grown=10, groups=6, parts=4, dumps=10, sentences=10),
+]
+
+
+def html_of(leak):
+    """Returns the page, at most `MOST_BYTES` in UTF-8."""
+    for limits in LIMITS:
+        text = page_of(leak, limits)
+        if len(text.encode()) <= MOST_BYTES:
+            break
+    return str(text)
+
+
+def write(leak, file):
+    """Writes the page into the file at the path `file`. Raises `OSError` if it cannot be written. A plain file then is
+    as it was before, and never has a part of the page."""
+    content = html_of(leak).encode()
+    if os.path.exists(file) and not stat.S_ISREG(os.stat(file).st_mode):
+        write_into(os.open(file, os.O_WRONLY), content)
+        return
+    place = os.path.realpath(file)
+    part = os.path.join(os.path.dirname(place), f".leaks-{secrets.token_hex(8)}.part")
+    try:
+        write_into(os.open(part, os.O_WRONLY | os.O_CREAT | os.O_EXCL, 0o666), content, os.fsync)
+        os.replace(part, place)
+    except BaseException:
+        with contextlib.suppress(FileNotFoundError):
+            os.unlink(part)
+        raise
+
+
+def write_into(descriptor, content, finish=lambda descriptor: None):
+    """Writes all of `content`, calls `finish`, and closes the descriptor."""
+    with open(descriptor, "wb", buffering=0) as file:
+        rest = memoryview(content)
+        while rest:
+            rest = rest[file.write(rest) :]
+        finish(descriptor)

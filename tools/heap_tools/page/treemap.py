@@ -1,0 +1,145 @@
+"""What a heap is made of, by package and class, and the rectangles of its picture."""
+
+import functools
+import re
+from collections import defaultdict
+from dataclasses import dataclass
+from typing import List, Optional
+
+from heap_tools import names
+from heap_tools.reports import Amount
+
+#: How many parts of a package's name make a group.
+DEPTH = 3
+#: A package or class of less than this part of the heap is added to others.
+SMALL = 1 / 500
+
+
+@dataclass(frozen=True)
+class Part:
+    """A class of a group, or several small ones: then `name` is None and `classes` their number."""
+
+    name: Optional[str]
+    classes: int
+    amount: Amount
+
+
+@dataclass(frozen=True)
+class Group:
+    """The classes of a package, the largest first. `name` is None if it is all smaller packages."""
+
+    name: Optional[str]
+    parts: List[Part]
+
+    @property
+    def amount(self):
+        """Returns the objects and bytes of its classes."""
+        return total_of(part.amount for part in self.parts)
+
+
+@dataclass(frozen=True)
+class Box:
+    """A rectangle."""
+
+    x: float
+    y: float
+    width: float
+    height: float
+
+    def within(self, edge, head):
+        """Returns the box without an `edge` on each side and a `head`."""
+        width, height = self.width - 2 * edge, self.height - 2 * edge - head
+        return Box(self.x + edge, self.y + edge + head, max(0, width), max(0, height))
+
+
+def total_of(amounts):
+    """Returns the sum of amounts."""
+    return functools.reduce(Amount.plus, amounts, Amount())
+
+
+def package_of(name):
+    """Returns the group of a class: the first parts of its package, or what stands for one."""
+    package = names.package(name)
+    if package:
+        return "/".join(package.split("/")[:DEPTH])
+    if names.is_array(names.element(name)):
+        return "arrays of numbers"
+    return "classes" if name == "<class>" else "no package"
+
+
+def short_name(name):
+    """Returns the name of a class without its package, and of an array as Java writes it."""
+    element = names.element(name)
+    return element.rpartition("/")[2] + ("" if element == name else "[]" * re.match(r"\[*", name).end())
+
+
+def part_of(classes):
+    """Returns classes with their amounts as one part."""
+    name = classes[0][0] if len(classes) == 1 else None
+    return Part(name, len(classes), total_of(amount for _, amount in classes))
+
+
+def alone(sizes, most, least):
+    """Returns how many of `sizes`, the largest first, stand alone, so that there are at most `most` with all others as
+    one. Those below `least` do not, unless it is a single one."""
+    large = sum(size >= least for size in sizes)
+    return len(sizes) if len(sizes) <= min(most, large + 1) else min(most - 1, large)
+
+
+def parts_of(classes, most, least):
+    """Returns at most `most` parts of `classes`. The last holds the others."""
+    classes = sorted(classes, key=lambda it: (-it[1].bytes, -it[1].objects, it[0]))
+    number = alone([amount.bytes for _, amount in classes], most, least)
+    return [part_of([it]) for it in classes[:number]] + ([part_of(classes[number:])] if classes[number:] else [])
+
+
+def groups_of(classes, most_groups, most_parts):
+    """Returns the classes of a report, a dict of amounts by name, by package, the largest first. Small packages are one
+    group at the end."""
+    packages, least = defaultdict(list), SMALL * total_of(classes.values()).bytes
+    for name, amount in classes.items():
+        packages[package_of(name)].append((name, amount))
+    sizes = {name: total_of(amount for _, amount in packages[name]).bytes for name in packages}
+    order = sorted(packages, key=lambda name: (-sizes[name], name))
+    number = alone([sizes[name] for name in order], most_groups, least)
+    groups = [Group(name, parts_of(packages[name], most_parts, least)) for name in order[:number]]
+    rest = [it for name in order[number:] for it in packages[name]]
+    return groups + ([Group(None, parts_of(rest, most_parts, least))] if rest else [])
+
+
+def worst_ratio(areas, side):
+    """Returns the ratio of the sides of the longest rectangle, if rectangles of `areas` fill a strip along `side`."""
+    thickness = sum(areas) / side
+    return max(max(thickness / (area / thickness), (area / thickness) / thickness) for area in areas)
+
+
+def strip_length(areas, side):
+    """Returns how many of `areas` belong in the next strip: more, as long as the rectangles become more square."""
+    number = 1
+    while number < len(areas) and worst_ratio(areas[: number + 1], side) <= worst_ratio(areas[:number], side):
+        number += 1
+    return number
+
+
+def boxes_of(weights, box):
+    """Returns a box within `box` for each of `weights`, which are positive, the largest first. It is the squarified
+    layout of Bruls, Huizing and van Wijk."""
+    scale, boxes = box.width * box.height / max(1, sum(weights)), []
+    areas = [weight * scale for weight in weights]
+    while areas and min(box.width, box.height) > 0:
+        side = min(box.width, box.height)
+        number = strip_length(areas, side)
+        strip, areas = areas[:number], areas[number:]
+        thickness, at = sum(strip) / side, 0
+        for area in strip:
+            length = area / thickness
+            if box.width >= box.height:
+                boxes.append(Box(box.x, box.y + at, thickness, length))
+            else:
+                boxes.append(Box(box.x + at, box.y, length, thickness))
+            at += length
+        if box.width >= box.height:
+            box = Box(box.x + thickness, box.y, box.width - thickness, box.height)
+        else:
+            box = Box(box.x, box.y + thickness, box.width, box.height - thickness)
+    return boxes
