@@ -6,6 +6,7 @@ use Rattle.atomic_table.specs.Seated.{TableId}
 use Rattle.tagged_index.specs.Head.{Head, last_tag}
 use Rattle.mark_core.specs.declared.which.Which.{Which}
 use Rattle.mark_core.specs.declared.which.Which.TheVariants.{Full, Empty}
+use Rattle.mark_core.specs.Account.{look_of}
 use Rattle.mark_core.specs.Lists.{IsPart}
 use Rattle.mark_core.specs.World.{Setup, Marking}
 use Rattle.mark_core.specs.Events.{Event, IsBusy}
@@ -74,6 +75,10 @@ TriesPush q h old new (try_push.Lost back) =
     (head : Head) × (back ≡ h) × (head.tag < last_tag) × After old (loaded q head ∷ failed ∷ []) new
 TriesPush q h old new (try_push.Spent back) =
     (head : Head) × (back ≡ h) × (head.tag ≡ last_tag) × After old (loaded q head ∷ []) new
+
+-- one of the two heads that the worker loaded last has the last tag
+abbrev pub HasLoadedLastTag : Book → Type 0
+HasLoadedLastTag b = (q : Which) × (head : Head) × ((look_of b.account q).head ≡ Some head) × (head.tag ≡ last_tag)
 
 -- any number of tries of a pop, all lost, that lead from one book to another
 pub data LostPops (q : Which) : Book → Book → Type 0 where

@@ -53,12 +53,13 @@ impl<A: Allocator> Pair<A> {
     ghost use Rattle.std.specs.Prelude.{IfErr, IfNone, IfOk, IfSome, IsOk, OnOk, length};
     ghost use Rattle.mark_core.specs.Events.{IsBusy};
     ghost use Rattle.mark_core.specs.declared.which.Which.TheVariants.{Empty, Full};
-    ghost use Rattle.work_pair.specs.CallEffects.{Balances, CallEffect, Disposes, Gets, HasMore, OpensNone, OpensTwo};
-    ghost use Rattle.work_pair.specs.CallEffects.{PopsNoneFromFull, PublishesBoth, Puts, ShelvesAll, TouchesNoFull};
+    ghost use Rattle.work_pair.specs.CallEffects.{Balances, CallEffect, Disposes, Gets, HasMore, IsTagSpent, OpensNone};
+    ghost use Rattle.work_pair.specs.CallEffects.{OpensTwo, PopsNoneFromFull, PublishesBoth, Puts, ShelvesAll};
+    ghost use Rattle.work_pair.specs.CallEffects.{TouchesNoFull};
     ghost use Rattle.work_pair.specs.Moves.{FoundNone, WasSeenEmpty};
     ghost use Rattle.work_pair.specs.PairState.{AreAlike, HasRoom, HasStopped, IsBacked, IsNew, IsOpen, PairState};
     ghost use Rattle.work_pair.specs.PairState.{buffered_items, count_at, pair_items, empty_pair};
-    ghost use Rattle.work_pair.specs.declared.stop.Stop.TheVariants.{OutOfMemory, TagSpent};
+    ghost use Rattle.work_pair.specs.declared.stop.Stop.TheVariants.{OutOfMemory};
 
     /// Creates a pair with the buffers `first` and `second`, and nothing spilled.
     fn of(alloc: A, first: Option<Held<A>>, second: Option<Held<A>>) -> Self
@@ -104,7 +105,7 @@ impl<A: Allocator> Pair<A> {
         ensures none { IfOk result (λ r. IfNone r (TouchesNoFull empty_pair worker.old.book empty_pair worker.new.book
             × WasSeenEmpty Empty worker.old.book worker.new.book)) }
         ensures not_found { IfOk result (λ r. IfNone r (OpensNone worker.old.book worker.new.book)) }
-        ensures spent { IfErr result (λ s. (s ≡ TagSpent) × ((left : PairState) × (left.stopped ≡ true)
+        ensures spent { IfErr result (λ s. IsTagSpent s × ((left : PairState) × (left.stopped ≡ true)
             × TouchesNoFull empty_pair worker.old.book left worker.new.book)) }
     {
         let Some(first) = pop_one(rt, pool, worker, Which::Empty)? else {
@@ -145,7 +146,7 @@ impl<A: Allocator> Pair<A> {
         ensures no_memory { IfErr result (λ e. e.1 ≡ OutOfMemory → IsOpen self.new × AreAlike self.old self.new
             × (self.new.starved ≡ true) × ((effect : CallEffect self.old worker.old.book [] [] self.new worker.new.book)
             × (effect.moves ≡ FoundNone Empty ∷ []))) }
-        ensures spent { IfErr result (λ e. e.1 ≡ TagSpent → (self.new.stopped ≡ true) × (self.new.starved
+        ensures spent { IfErr result (λ e. IsTagSpent e.1 → (self.new.stopped ≡ true) × (self.new.starved
             ≡ self.old.starved)) }
     {
         if put_at(&mut self.buffers.first, object) {
@@ -191,7 +192,7 @@ impl<A: Allocator> Pair<A> {
         ensures closed { IfOk result (λ r. IfNone r (worker.new.book.account.open_push ≡ false)) }
         ensures found { IfOk result (λ r. IfNone r (worker.new.book.account.found ≡ true)) }
         ensures going { OnOk result (IsOpen self.new) }
-        ensures spent { IfErr result (λ s. (s ≡ TagSpent) × (self.new.stopped ≡ true) × CallEffect self.old
+        ensures spent { IfErr result (λ s. IsTagSpent s × (self.new.stopped ≡ true) × CallEffect self.old
             worker.old.book [] [] self.new worker.new.book) }
     {
         if let Some(object) = self.spill.pop() {
@@ -223,7 +224,7 @@ impl<A: Allocator> Pair<A> {
         ensures few { (HasMore self.old → ⊥) → (self.new ≡ self.old) × (worker.new ≡ worker.old) × IsOk result }
         ensures spill { (self.new.spill ≡ self.old.spill) × (self.new.starved ≡ self.old.starved) }
         ensures going { OnOk result (IsOpen self.new) }
-        ensures spent { IfErr result (λ s. (s ≡ TagSpent) × (self.new.stopped ≡ true) × PopsNoneFromFull self.old
+        ensures spent { IfErr result (λ s. IsTagSpent s × (self.new.stopped ≡ true) × PopsNoneFromFull self.old
             worker.old.book self.new worker.new.book) }
     {
         let result = self.buffers.balance(rt, pool, worker);
@@ -252,7 +253,7 @@ impl<A: Allocator> Pair<A> {
             × IsOk result }
         ensures spill { (self.new.spill ≡ self.old.spill) × (self.new.starved ≡ self.old.starved) }
         ensures going { OnOk result (IsOpen self.new) }
-        ensures spent { IfErr result (λ s. (s ≡ TagSpent) × (self.new.stopped ≡ true) × PopsNoneFromFull self.old
+        ensures spent { IfErr result (λ s. IsTagSpent s × (self.new.stopped ≡ true) × PopsNoneFromFull self.old
             worker.old.book self.new worker.new.book) }
     {
         let result = self.buffers.publish(rt, pool, worker);
@@ -276,7 +277,7 @@ impl<A: Allocator> Pair<A> {
         ensures pool { worker.new.pool ≡ worker.old.pool }
         ensures gone { OnOk result (Disposes self worker.old.book empty_pair worker.new.book) }
         ensures shelved { OnOk result (ShelvesAll self worker.old.book worker.new.book) }
-        ensures spent { IfErr result (λ e. (e.1 ≡ TagSpent) × (e.0.stopped ≡ true) × (e.0.spill ≡ [])
+        ensures spent { IfErr result (λ e. IsTagSpent e.1 × (e.0.stopped ≡ true) × (e.0.spill ≡ [])
             × Disposes self worker.old.book e.0 worker.new.book) }
     {
         let Pair {
