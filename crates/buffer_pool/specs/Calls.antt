@@ -1,4 +1,4 @@
--- What a pop, a push and a look at a head do to the book of the worker that makes the call, and what a load of the idle
+-- What a pop, a push and a load of a head do to the book of the worker that makes the call, and what a load of the idle
 -- word shows. For the other calls see Book.antt.
 use Rattle.std.specs.Prelude.{◌≡◌, ◌↔◌, ℕ, ◌<◌, List, [], ◌∷◌, Option, Some, None, Result, Ok, Err, Contains, IsTrue}
 use Rattle.std.specs.Prelude.{Bool}

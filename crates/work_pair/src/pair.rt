@@ -19,8 +19,9 @@ use spill_list::SpillList;
 /// others go to its empty stack and come from that. An object for which no empty buffer is found goes to the pair's
 /// spill list, which takes 4 bytes an object, and doubles when it has no room.
 ///
-/// A call that returns [`Stop::TagSpent`] stops the pair. Then the pair holds each buffer that it had or took and did
-/// not push, and can only be disposed of. After [`Stop::OutOfMemory`] the pair stays usable.
+/// A call that returns [`Stop::TagSpent`] stops the pair. Then the pair has each buffer that it had or took and did not
+/// push. It can be disposed of, measured, or taken apart, but makes no other call. After [`Stop::OutOfMemory`] the pair
+/// stays usable.
 #[derive(Drop)]
 pub struct Pair<A: Allocator> {
     buffers: Buffers<A>,
@@ -232,8 +233,8 @@ impl<A: Allocator> Pair<A> {
         result
     }
 
-    /// Gives the work of the pair's buffers to others: pushes each one that has items on the full stack. A buffer stays
-    /// if no empty one was found to take its place. The spill list stays.
+    /// Gives the work of the pair's buffers to others: pushes each buffer that has items on the full stack, if an empty
+    /// one was found to take its place. Otherwise the buffer stays. The spill list stays.
     pub fn publish<R: Wait>(
         &mut self,
         rt: &R,
@@ -263,7 +264,8 @@ impl<A: Allocator> Pair<A> {
 
     /// Disposes of the pair: pushes the buffers with items on the full stack and the others on the empty one. If a last
     /// tag was loaded, returns a pair with the buffers that were not pushed. A spill list with objects is given up,
-    /// which is allowed only after a stop: its objects stay in the worker's charge, and the pool cannot be closed.
+    /// which is allowed only after a stop: its objects stay in the worker's charge, and the pool cannot be closed before
+    /// they are finished.
     pub fn dispose<R: Wait>(
         self,
         rt: &R,
