@@ -173,7 +173,8 @@ module _ {B : Type 0} (r : Reading B) (e : Setup) (slots id : ℕ) (me : Me (Opt
   -- a load shows that the account has each thing once, and only things of the pool
   pub catches_up : (word : ℕ) → Carries me → 0 < me.0.book.account.share
       → Allows (Rule r e) slots id me word (λ n. n) (caught_up (step slots word 0 0 none) me)
-  catches_up word carries there = freed r e slots id word (λ n. n) (caught_up (step slots word 0 0 none) me) me carries there
+  catches_up word carries there =
+      freed r e slots id word (λ n. n) (caught_up (step slots word 0 0 none) me) me carries there
       (λ s at.
       let v : SeatView = free me.0 in
       let w : SeatView = logged (log_now at) v in

@@ -3,8 +3,8 @@
 use crate::worker::Worker;
 use std::alloc::Allocator;
 
-/// A token that a worker loaded a head with the last tag. Only [`Worker::spent_tag`] makes one. So a crate that uses the
-/// pool cannot report a spent tag that no worker loaded.
+/// A token that a worker loaded a head with the last tag. Only [`Worker::spent_tag`] makes one. So a crate that uses
+/// the pool cannot report a spent tag that no worker loaded.
 #[derive(Clone, Copy, Debug, PartialEq, Eq)]
 pub struct SpentTag(());
 

@@ -6,7 +6,7 @@ use Rattle.mark_core.proofs.Places.{set_here, set_else}
 
 module _
     (buffers : ℕ) (slots : List (Option (List ℕ))) (stack new : Which → List ℕ) (i : ℕ) (was x : Option (List ℕ)) where
-  -- `AreInSlots` holds after the slot of the buffer i changed, if the stacks change only in i and the new slot fits them
+  -- `AreInSlots` holds after the slot of the buffer i changed, if the stacks change only in i, and the new slot fits
   pub in_slots_set :
       AreInSlots buffers slots stack → StandsAt slots i was
       → ((p : Which) (b : ℕ) → b ≢ i → times b (new p) ≡ times b (stack p))

@@ -115,7 +115,8 @@ module _ (b : Book) where
     second_stopped c OutOfMemory none = absurd none
     second_stopped c (TagSpent token) moved =
         let last : Trades just mid [] [] just c = spent_at Empty moved (sized_after one) in
-        stops_with (on_and_on one last) (TagSpent token) tt (quiet_on one.moves last.moves (took_quiet h) (spent_quiet Empty))
+        stops_with (on_and_on one last) (TagSpent token) tt
+        (quiet_on one.moves last.moves (took_quiet h) (spent_quiet Empty))
         (end_on one.moves last.moves ([], Empty, refl))
 
     -- a second buffer was found
@@ -197,5 +198,6 @@ module _ (b : Book) where
         back_stopped OutOfMemory none_such = absurd none_such
         back_stopped (TagSpent token) told =
             let last : Trades just c [] [] just d = spent_at told.1.0 told.1.1 all_backed.sized in
-            stops_with (on_and_on two last) (TagSpent token) tt (quiet_on two.moves last.moves two_quiet (spent_quiet told.1.0))
+            stops_with (on_and_on two last) (TagSpent token) tt
+            (quiet_on two.moves last.moves two_quiet (spent_quiet told.1.0))
             (end_on two.moves last.moves ([], told.1.0, refl))

@@ -264,8 +264,8 @@ impl<A: Allocator> Pair<A> {
 
     /// Disposes of the pair: pushes the buffers with items on the full stack and the others on the empty one. If a last
     /// tag was loaded, returns a pair with the buffers that were not pushed. A spill list with objects is given up,
-    /// which is allowed only after a stop: its objects stay in the worker's charge, and the pool cannot be closed before
-    /// they are finished.
+    /// which is allowed only after a stop: its objects stay in the worker's charge, and the pool cannot be closed
+    /// before they are finished.
     pub fn dispose<R: Wait>(
         self,
         rt: &R,

@@ -1,5 +1,5 @@
--- The slots of the pool's table, one for each buffer. A seat takes out at most one at a time: that of the buffer which it
--- pops or pushes. All other slots are at home, that is in the table.
+-- The slots of the pool's table, one for each buffer. A seat takes out at most one at a time: that of the buffer that
+-- it pops or pushes. All other slots are at home, that is in the table.
 use Rattle.std.specs.Prelude.{◌≡◌, ℕ, zero, suc, ◌<◌, List, [], ◌∷◌, Option, Some, None, slice_index}
 use mathlib.Core.Option.{none, some}
 use mathlib.Core.Option as maybe
@@ -14,7 +14,7 @@ pub record Reading (B : Type 0) : Type 0 where
   pub items : B → List ℕ
   pub size : B → ℕ
 
--- the slots that are out with a seat between two calls, by the view's `out`: none if it is 0, and slot i if it is i + 1.
+-- the slots that are out with a seat between two calls, by the view's `out`: none if it is 0, slot i if it is i + 1.
 -- The slot has no buffer: the caller has it, as a `Held`
 abbrev pub slots_of : {B : Type 0} → ℕ → List (ℕ × Option B)
 slots_of zero = []

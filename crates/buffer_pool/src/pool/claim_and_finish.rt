@@ -9,7 +9,7 @@ ghost use Rattle.buffer_pool.specs.working.Plays.{RestsWith};
 ghost use Rattle.buffer_pool.specs.WorkerLog.{Did};
 
 use crate::layout::mark_word;
-use crate::mark_bits::{CLAIMED, FINISHED, mark_place, mark_bits};
+use crate::mark_bits::{CLAIMED, FINISHED, mark_bits, mark_place};
 use crate::plays::{Claim, Finish};
 use crate::pool::Pool;
 use crate::rules::{Token, Words};

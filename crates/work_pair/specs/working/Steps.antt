@@ -199,5 +199,6 @@ pub record Clears (old : PairState) (before : Book) (new : PairState) (after : B
 abbrev pub ClearAnswers : PairState → Book → PairState → Book → Result Unit Stop → Type 0
 ClearAnswers old before new after (Ok done) = (c : Clears old before empty_pair after)
     × (c.trades.moves ≡ shelving_of old.first ++ shelving_of old.second ++ shelving_of old.third)
-ClearAnswers old before new after (Err (TagSpent token)) = (c : Clears old before new after) × EndAtLastTag c.trades.moves
+ClearAnswers old before new after (Err (TagSpent token)) =
+    (c : Clears old before new after) × EndAtLastTag c.trades.moves
 ClearAnswers old before new after (Err OutOfMemory) = ⊥

@@ -1,5 +1,5 @@
--- The buffer that was at the place is pushed, so what is known of the place holds of the buffer. A push that returned it
--- loaded the last tag.
+-- The buffer that was at the place is pushed, so what is known of the place holds of the buffer. A push that returned
+-- it loaded the last tag.
 use Rattle.std.proofs.Common.{ap, sym, ◌∙◌}
 use Rattle.work_pair.specs.Moves.{shelf_of}
 use Rattle.work_pair.specs.PairState.{items_at}
