@@ -42,7 +42,7 @@ fn boxes_made<A: Allocator + Copy>(heap: A, tries: u32) -> u32 {
 }
 
 #[test]
-fn two_threads_share_the_grants(rt: HostRuntime) -> Result<(), Fail> {
+fn two_threads_draw_on_one_limit(rt: HostRuntime) -> Result<(), Fail> {
     let heap = LimitedHeap::new(rt.alloc(), 700);
     let shared = &heap;
     let (one, other) = join(
@@ -71,7 +71,7 @@ fn one_request_is_refused_alone(rt: HostRuntime) -> Result<(), Fail> {
 }
 
 #[test]
-fn two_threads_share_the_refusal(rt: HostRuntime) -> Result<(), Fail> {
+fn two_threads_meet_one_refusal(rt: HostRuntime) -> Result<(), Fail> {
     let heap = LimitedHeap::refusing(rt.alloc(), 700);
     let shared = &heap;
     let (one, other) = join(

@@ -36,7 +36,8 @@ fn is_right(heap: &LimitedHeap<Global>, requests: u32, wrong: Wrong) -> bool {
     !matches!(&wrong, Wrong::InFull)
 }
 
-/// The number of requests of a call, when its result is wrong, and what `requests_of` returns.
+/// The number of requests that a call makes if none is refused, when its result is wrong, and what `requests_of`
+/// returns.
 const CALLS: [(u32, Wrong, Option<u64>); 8] = [
     (0, Wrong::Never, Some(0)),
     (1, Wrong::Never, Some(1)),

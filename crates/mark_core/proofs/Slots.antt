@@ -1,20 +1,20 @@
 -- The effect of a pop and a push on the slots.
 use Rattle.std.proofs.Common.{◌≡◌, ◌≢◌, ℕ, ◌<◌, List, [], Option, Some, None, set, sym, subst, ◌∙◌, length-set, arith}
 use native.Mathlib.Decide.{ℕ_discrete}
-use Rattle.mark_core.proofs.Words.{Which, Full, Empty, StandsAt, times, IsShelved}
+use Rattle.mark_core.proofs.Words.{Which, Full, Empty, StandsAt, times, AreInSlots}
 use Rattle.mark_core.proofs.Places.{set_here, set_else}
 
 module _
     (buffers : ℕ) (slots : List (Option (List ℕ))) (stack new : Which → List ℕ) (i : ℕ) (was x : Option (List ℕ)) where
-  -- `IsShelved` holds after the slot of the buffer i changed, if the stacks change only in i and the new slot fits them
-  pub shelved_set :
-      IsShelved buffers slots stack → StandsAt slots i was
+  -- `AreInSlots` holds after the slot of the buffer i changed, if the stacks change only in i, and the new slot fits
+  pub in_slots_set :
+      AreInSlots buffers slots stack → StandsAt slots i was
       → ((p : Which) (b : ℕ) → b ≢ i → times b (new p) ≡ times b (stack p))
       → ((p : Which) → 0 < times i (new p) → (items : List ℕ) × (x ≡ Some items))
       → (0 < times i (new Empty) → x ≡ Some [])
       → (times i (new Full) ≡ 0 → times i (new Empty) ≡ 0 → x ≡ None)
-      → IsShelved buffers (set slots i x) new
-  shelved_set s at others stacked bare away =
+      → AreInSlots buffers (set slots i x) new
+  in_slots_set s at others stacked bare away =
       record { places = length-set slots i x ∙ s.places; stacked = in_slots; bare = in_bare; away = in_away }
     where
       -- what is at b after the write
