@@ -41,7 +41,7 @@ impl<A: Allocator> PairedWorker<A> {
     ghost use Rattle.drain.specs.working.AtWork.{AreClaimed, GoesOn, HasAtHand, HasNoneLeft, HasOpened, IsAtWork};
     ghost use Rattle.drain.specs.working.AtWork.{IsClaimed, IsFree, IsPut, IsThrough, MayClaim};
     ghost use Rattle.drain.specs.working.RecentlySeen.{HasSeenAll, IsNoted};
-    ghost use Rattle.drain.specs.working.Sharing.{GivesSome, PutsAgain, SharesWork, Unspills};
+    ghost use Rattle.drain.specs.working.Giving.{GivesSome, Offers, PutsAgain, Unspills};
     ghost use Rattle.drain.specs.working.Walk.{HasEnded};
 
     /// Opens a pair for `worker`, which has none yet. Returns `Unpaired` if there are not two empty buffers.
@@ -265,8 +265,7 @@ impl<A: Allocator> PairedWorker<A> {
         requires at_work { IsAtWork self.old.pair [] self.old.worker }
         ensures goes_on { OnOk result (GoesOn self.old.worker self.new.worker) }
         ensures at_work { OnOk result (IsAtWork self.new.pair [] self.new.worker) }
-        ensures shares { OnOk result (SharesWork self.old.pair self.old.worker.book
-            self.new.pair self.new.worker.book) }
+        ensures offers { OnOk result (Offers self.old.pair self.old.worker.book self.new.pair self.new.worker.book) }
     {
         if !self.others_want(pool) {
             return Ok(());

@@ -8,6 +8,7 @@ ghost use Rattle.drain.specs.working.Scans.{MatchesMeasure};
 
 use crate::scanned_object::ScannedObject;
 use crate::sum::Sum;
+use buffer_pool::Worker;
 use std::alloc::{AllocError, Allocator};
 
 /// The counts of some objects: for each row their number and their bytes, and how many identifiers of all are other
@@ -71,4 +72,13 @@ impl<A: Allocator> Tally<A> {
             None => (0, 0),
         }
     }
+}
+
+/// A worker before or after its work, and the tally of the objects that it finished.
+#[derive(Drop)]
+pub struct TalliedWorker<A: Allocator> {
+    /// The worker, which has no buffer and no charge.
+    pub worker: Worker<A>,
+    /// The tally of the objects that the worker finished.
+    pub tally: Tally<A>,
 }

@@ -8,16 +8,14 @@ ghost use Rattle.drain.specs.working.Duties.{AreBackUnder, HasStarted, IsDutyUnd
 ghost use Rattle.drain.specs.working.Jobs.{HasWorked, MayRun, MayWork};
 ghost use Rattle.drain.specs.working.Tallying.{AreTalliesOfNone, HasTallied, Tallies};
 
-use crate::gate::Gate;
+use crate::hooks::{Gate, StartHook};
 use crate::job::Job;
 use crate::marked::RunFault;
 use crate::measured::Measured;
 use crate::paired_worker::{Opened, PairedWorker};
 use crate::prepared_leader::PreparedLeader;
-use crate::start_hook::StartHook;
 use crate::supplies::Supplies;
-use crate::tallied_worker::TalliedWorker;
-use crate::tally::Tally;
+use crate::tally::{TalliedWorker, Tally};
 use crate::walk::Walk;
 use buffer_pool::{Pool, Worker};
 use std::alloc::Allocator;

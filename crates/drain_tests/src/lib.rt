@@ -2,8 +2,8 @@
 //! what callers may call, and `drain::inside`. The crate exports nothing.
 //!
 //! `dumps` has the dumps that are marked. `refused_threads` refuses threads, and `several_refused_workers` stops
-//! several workers. `gate_calls` and `leading` test who calls the gate and when. `memory` has failing allocations.
-//! `tallies` and `sums` test what is counted, `sums` at its bounds. `texts` tests the texts of the faults.
+//! several workers. `gate_calls` and `leading` test who calls the hook before a scan, and when. `memory` has failing
+//! allocations. `tallies` and `sums` test what is counted, `sums` at its bounds. `texts` tests the texts of the faults.
 
 #![tactic(auto)]
 
