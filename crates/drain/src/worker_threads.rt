@@ -1,8 +1,10 @@
 //! A thread for each worker: its work, its start and its join.
 
-ghost use Rattle.std.specs.Prelude.{◌≡◌, ◌<◌, ◌≤◌, ◌+◌, ◌⊎◌, ℕ, IfErr, IfOk, get_or, vec_capacity, vec_len};
+ghost use Rattle.std.specs.Prelude.{◌≡◌, ◌<◌, ◌≤◌, ◌+◌, ℕ, IfErr, IfOk, get_or, vec_capacity, vec_len};
 ghost use Rattle.drain.specs.declared.marked.RunFault.TheVariants as fault;
 ghost use Rattle.buffer_pool.specs.Calls.{Owner};
+ghost use Rattle.work_pair.specs.declared.stop.Stop.{Stop};
+ghost use Rattle.drain.specs.Stops.{stopped};
 ghost use Rattle.drain.specs.working.AtWork.{HasGiven, IsSetupOf, IsThrough, Leads};
 ghost use Rattle.drain.specs.working.Duties.{AreBackUnder, HasStarted, IsDutyUnder};
 ghost use Rattle.drain.specs.working.Jobs.{HasWorked, MayRun, MayWork};
@@ -207,7 +209,7 @@ pub fn join_all<T: Threads, A: Allocator, V: Measured>(
     ensures back { IfOk result (λ l. (graph : _) (leader : Owner) → ((number : ℕ) (t : _) → number < vec_len threads
         → IsDutyUnder graph leader (get_or threads.items number t).promise)
         → AreBackUnder (V.measure graph) leader l.items) }
-    ensures refused { IfErr result (λ e. (e ≡ fault.TagSpent) ⊎ (e ≡ fault.OutOfMemory)) }
+    ensures refused { IfErr result (λ e. (stop : Stop) × (e ≡ stopped stop)) }
 {
     let mut back = back;
     for thread in threads {
