@@ -55,7 +55,7 @@ puts_again old middle new before between after object some got same puts =
     let then = subst (λ (b : Book). Puts middle b last.1 new after) same its in
     (last.0, last.1, last.2, subst (λ (p : PairState). Puts p before last.1 new after) is.1 then)
 
--- if the look found a buffer, the worker does nothing more
+-- if the full stack had a buffer, the worker does nothing more
 pub needs_none : {p q : PairState} {before looked : Book} {none : Bool} → none ≡ false → q ≡ p
     → Sees Full before looked none → Offers p before q looked
 needs_none {looked = looked} {none} some same sees =

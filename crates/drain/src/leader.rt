@@ -50,8 +50,8 @@ where
     Ok(gather(rt, job, ran)?)
 }
 
-/// Marks the objects that a path of references joins to a root, with a thread for each worker, and calls the hook `gate`
-/// before each object is scanned.
+/// Marks the objects that a path of references joins to a root, with a thread for each worker, and calls the hook
+/// `gate` before each object is scanned.
 ///
 /// `Err(RunFault::OutOfMemory)` if an allocation fails: before any thread is started, or for the spill list of a worker
 /// or the leader. `Err(RunFault::TagSpent)` if a stack's last tag is loaded when an exchange is due. If several workers

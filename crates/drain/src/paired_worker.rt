@@ -246,7 +246,7 @@ impl<A: Allocator> PairedWorker<A> {
     }
 
     /// Tests whether the full stack is seen empty: then others may have nothing to scan.
-    // Inlined: only this look is made in each turn of the worker's loop. It does not wait, so the toolchain tests no
+    // Inlined: only this load is made in each turn of the worker's loop. It does not wait, so the toolchain tests no
     // byte after it.
     #[inline(always)]
     fn others_want(&mut self, pool: &Pool<A>) -> bool

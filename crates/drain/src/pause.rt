@@ -1,4 +1,4 @@
-//! The pause of a worker between two looks, while it waits for others.
+//! The pause of a worker between two turns, while it waits for others.
 
 ghost use Rattle.std.specs.Prelude.{◌≤◌};
 ghost use Rattle.std.specs.Duration.{as_nanos};

@@ -15,7 +15,7 @@ use std::alloc::{AllocError, Allocator};
 /// than 0 and name no object.
 #[derive(Drop)]
 pub struct Tally<A: Allocator> {
-    /// The sums of the rows, by their places.
+    /// The sums of the rows, by their numbers.
     pub rows: Vec<Sum, A>,
     /// The number of the objects' identifiers that are other than 0 and name no object.
     pub unresolved: u64,
@@ -62,12 +62,12 @@ impl<A: Allocator> Tally<A> {
         self.unresolved += other.unresolved;
     }
 
-    /// Returns the number of objects of the row at `place` and their bytes together, or (0, 0) if there is no row at
-    /// `place`.
-    pub fn told_at(&self, place: usize) -> (u64, u64)
-        ensures { result ≡ sum_at self.now.rows.items place }
+    /// Returns the number of objects of row `number` and their bytes together, or (0, 0) if there is no row of this
+    /// number.
+    pub fn told_at(&self, number: usize) -> (u64, u64)
+        ensures { result ≡ sum_at self.now.rows.items number }
     {
-        match self.rows.get(place) {
+        match self.rows.get(number) {
             Some(sum) => (sum.count, sum.bytes),
             None => (0, 0),
         }

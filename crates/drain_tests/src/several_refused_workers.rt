@@ -91,8 +91,8 @@ fn answer<'s, E, V: Measured + Sync>(
     }
 }
 
-/// Splits a worker off `leader` for each of `stops`, and starts a thread that returns the worker, or is stopped if there
-/// is a fault. `token` is that of a spent tag. Returns the leader and the threads.
+/// Splits a worker off `leader` for each of `stops`, and starts a thread that returns the worker, or is stopped if
+/// there is a fault. `token` is that of a spent tag. Returns the leader and the threads.
 fn answer_all<'s, E, V: Measured + Sync>(
     scope: &'s Scope<'s, E>,
     alloc: Global,

@@ -1,4 +1,4 @@
--- The look at the full stack comes first, and what `give` does is stated from the book after that look.
+-- The load of the full head comes first, and what `give` does is stated from the book after that load.
 use Rattle.drain.proofs.Giving.{gives_some, needs_none}
 use Rattle.drain.proofs.Outcomes.{on_ok}
 use Rattle.drain.proofs.paired_worker.PairedWorker.offer.Goals as goal
