@@ -1,5 +1,5 @@
--- How a worker shares: it looks at the full stack once, and gives some of its objects to others if that stack has no
--- buffer and the worker has enough objects.
+-- How a worker gives to others: it loads the full head once, and gives some of its objects if that stack has no buffer
+-- and the worker has enough objects.
 use Rattle.std.specs.Prelude.{Bool, List, [], false, length, true, ℕ, ◌++◌, ◌<◌, ◌≡◌, ◌≤◌, ◌∷◌}
 use Rattle.mark_core.specs.declared.which.Which.TheVariants.{Full}
 use Rattle.buffer_pool.specs.Book.{Book}
@@ -28,9 +28,9 @@ abbrev pub GivesSome : PairState → Book → PairState → Book → Type 0
 GivesSome old before new after =
     (middle : PairState) × (between : Book) × Unspills old before middle between × Balances middle between new after
 
--- the full stack was looked at once: if it had a buffer nothing else was done, otherwise the spilled objects were put
--- again and the pair was balanced
-abbrev pub SharesWork : PairState → Book → PairState → Book → Type 0
-SharesWork old before new after =
+-- the full head was loaded once: if the stack had a buffer nothing else was done, otherwise the spilled objects were
+-- put again and the pair was balanced
+abbrev pub Offers : PairState → Book → PairState → Book → Type 0
+Offers old before new after =
     (none : Bool) × (looked : Book) × Sees Full before looked none
     × (none ≡ false → (new ≡ old) × (after ≡ looked)) × (none ≡ true → GivesSome old looked new after)

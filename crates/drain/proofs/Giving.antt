@@ -4,7 +4,7 @@ use Rattle.drain.proofs.Words.{[], ap, arith, buffered_items, false, false≢tru
 use Rattle.drain.proofs.Words.{subst, sym, true, ℕ, ◌++◌, ◌<◌, ◌∙◌, ◌∷◌, ◌≡◌, ◌≢◌, ◌≤◌}
 use Rattle.mark_core.specs.declared.which.Which.TheVariants.{Full}
 use Rattle.work_pair.specs.declared.stop.Stop.{Stop}
-use Rattle.drain.specs.working.Sharing.{GivesSome, SharesWork}
+use Rattle.drain.specs.working.Giving.{GivesSome, Offers}
 
 -- a list that is not empty has a last object
 pub last_of : (xs : List ℕ) → 0 < length xs → (rest : List ℕ) × (object : ℕ) × (xs ≡ rest ++ object ∷ [])
@@ -55,15 +55,15 @@ puts_again old middle new before between after object some got same puts =
     let then = subst (λ (b : Book). Puts middle b last.1 new after) same its in
     (last.0, last.1, last.2, subst (λ (p : PairState). Puts p before last.1 new after) is.1 then)
 
--- if the look found a buffer, sharing does nothing more
+-- if the full stack had a buffer, the worker does nothing more
 pub needs_none : {p q : PairState} {before looked : Book} {none : Bool} → none ≡ false → q ≡ p
-    → Sees Full before looked none → SharesWork p before q looked
+    → Sees Full before looked none → Offers p before q looked
 needs_none {looked = looked} {none} some same sees =
     (none, looked, sees, λ _. (same, refl), λ empty. absurd (false≢true (sym some ∙ empty)))
 
 -- if it found none, the worker gave some objects
 pub gives_some : {p q r : PairState} {before looked after : Book} {none : Bool} → none ≡ true → q ≡ p
-    → Sees Full before looked none → GivesSome q looked r after → SharesWork p before r after
+    → Sees Full before looked none → GivesSome q looked r after → Offers p before r after
 gives_some {p} {q} {r} {looked = looked} {after} {none} empty same sees gives = (
   none,
   looked,
