@@ -11,8 +11,8 @@ ghost use Rattle.heap_graph.specs.Whole.{IsRowIn, IsWhole, held_by, unresolved_a
 ghost use Rattle.heap_graph.specs.Walks.{ids_in, unresolved_left, references_in, step_in};
 ghost use Rattle.heap_graph.specs.working.GraphOf.{GraphOf, GraphOf-prop};
 
-use crate::class_entry::ClassEntry;
 use crate::objects::Objects;
+use crate::objects::class_entries::ClassEntry;
 use crate::plan::Plan;
 use crate::row::{FIXED_ROWS, RowKey};
 use crate::skip::SkipEntry;

@@ -3,7 +3,7 @@
 mod bytes;
 mod check;
 mod check_parts;
-mod class_entries;
+pub(crate) mod class_entries;
 mod class_of;
 mod class_plans;
 pub(crate) mod class_table;

@@ -11,8 +11,8 @@ ghost use Rattle.heap_graph.specs.working.GraphParts.{AreNamedOf, ArePartsOf, Ar
 ghost use Rattle.heap_graph.specs.working.HeldIds.{AreLinkedOf};
 ghost use Rattle.heap_graph.specs.working.PlacedNames.{AreNamesByIdOf, AreNamesOf};
 
-use crate::class_entry::ClassEntry;
 use crate::names::{Names, NamesById};
+use crate::objects::class_entries::ClassEntry;
 use crate::objects::{Objects, read_ids};
 use crate::plan::Plan;
 use crate::resolving::resolve;

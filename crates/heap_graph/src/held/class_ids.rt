@@ -4,8 +4,7 @@ ghost use Rattle.std.specs.Prelude.{length, ◌<◌, ◌^◌, ◌≡◌, ◌≤�
 ghost use Rattle.std.specs.Iterator.{YieldsFirst};
 ghost use Rattle.heap_graph.specs.working.Values.{AreClassValues, values_ids};
 
-use crate::types::OBJECT_TYPE;
-use hprof_grammar::{Ids, Values, View, number_at};
+use hprof_grammar::{Ids, OBJECT_TYPE, Values, View, number_at};
 use std::marker::Model;
 
 /// The remaining identifiers of those that a class holds.

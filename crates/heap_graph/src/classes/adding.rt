@@ -1,4 +1,4 @@
-//! Fills the table of classes.
+//! Creates an empty table of classes, and adds a class to it.
 
 ghost use Rattle.std.specs.Prelude.{Contains, IfOk, OnOk, [], length, ◌<◌, ◌^◌, ◌≡◌};
 ghost use Rattle.heap_graph.specs.working.ClassList.{ids_of};
