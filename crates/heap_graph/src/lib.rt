@@ -19,9 +19,9 @@
 
 mod classes;
 mod graph;
-mod held;
 mod laws;
 mod names;
+mod object_ids;
 mod objects;
 mod plan;
 mod refusal;

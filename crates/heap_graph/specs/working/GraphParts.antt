@@ -16,7 +16,7 @@ use Rattle.heap_graph.specs.declared.objects.Objects.{Objects}
 use Rattle.heap_graph.specs.declared.plan.Plan.{Plan}
 use Rattle.heap_graph.specs.working.ClassFates.{HaveFatesOf}
 use Rattle.heap_graph.specs.working.ClassPlans.{IsPlanOf}
-use Rattle.heap_graph.specs.working.HeldIds.{AreLinkedOf}
+use Rattle.heap_graph.specs.working.ObjectIds.{AreLinkedOf}
 use Rattle.heap_graph.specs.working.PlacedNames.{AreNamesOf}
 use Rattle.heap_graph.specs.working.Refinement.{named_class}
 

@@ -8,7 +8,7 @@ ghost use Rattle.hprof_grammar.specs.SubRecord.{SubRecord};
 ghost use Rattle.heap_graph.specs.Heap.{heap_of};
 ghost use Rattle.heap_graph.specs.working.ClassFates.{HaveFatesOf};
 ghost use Rattle.heap_graph.specs.working.GraphParts.{AreNamedOf, ArePartsOf, AreRootsOf, MayHaveParts};
-ghost use Rattle.heap_graph.specs.working.HeldIds.{AreLinkedOf};
+ghost use Rattle.heap_graph.specs.working.ObjectIds.{AreLinkedOf};
 ghost use Rattle.heap_graph.specs.working.PlacedNames.{AreNamesByIdOf, AreNamesOf};
 
 use crate::names::{Names, NamesById};

@@ -19,7 +19,7 @@ pub(crate) struct ClassEntry<'a> {
 }
 
 impl<'d, A: Allocator> Objects<'d, A> {
-    ghost use Rattle.heap_graph.specs.working.HeldIds.{AreLinkedOf};
+    ghost use Rattle.heap_graph.specs.working.ObjectIds.{AreLinkedOf};
     ghost use Rattle.heap_graph.specs.working.PlacedNames.{AreNamesByIdOf};
     ghost use Rattle.heap_graph.specs.working.Refinement.{named_class};
     ghost use Rattle.heap_graph.specs.working.ClassFates.{HaveFatesOf};

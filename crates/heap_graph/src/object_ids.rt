@@ -30,11 +30,11 @@ pub(crate) enum Rest<'g, A: Allocator> {
 
 /// The remaining identifiers of those that an object holds.
 #[derive(Drop)]
-pub struct HeldIds<'g, A: Allocator> {
+pub struct ObjectIds<'g, A: Allocator> {
     pub(crate) rest: Rest<'g, A>,
 }
 
-impl<'g, A: Allocator> Model for HeldIds<'g, A> {
+impl<'g, A: Allocator> Model for ObjectIds<'g, A> {
     ghost use Rattle.std.specs.Prelude.{List, length, ℕ, ◌^◌, ◌≤◌};
     ghost use Rattle.heap_graph.specs.working.Rests.{rest_ids};
 
@@ -45,7 +45,7 @@ impl<'g, A: Allocator> Model for HeldIds<'g, A> {
     ghost invariant = { λ h. length (rest_ids h.rest) ≤ 2 ^ 33 };
 }
 
-impl<'g, A: Allocator> HeldIds<'g, A> {
+impl<'g, A: Allocator> ObjectIds<'g, A> {
     ghost use Rattle.std.specs.Prelude.{length, ◌≡◌};
 
     /// Returns the number of remaining identifiers.
@@ -63,7 +63,7 @@ impl<'g, A: Allocator> HeldIds<'g, A> {
     }
 }
 
-impl<'g, A: Allocator> Iterator for HeldIds<'g, A> {
+impl<'g, A: Allocator> Iterator for ObjectIds<'g, A> {
     ghost use Rattle.std.specs.Iterator.{YieldsFirst, item_count};
 
     type Item = u64;
@@ -87,7 +87,7 @@ impl<'g, A: Allocator> Iterator for HeldIds<'g, A> {
     }
 }
 
-impl<'g, A: Allocator> HeldIds<'g, A> {
+impl<'g, A: Allocator> ObjectIds<'g, A> {
     ghost use Rattle.std.specs.Iterator.{YieldsFirst};
 
     /// Returns the next identifier, whatever the kind of the object.

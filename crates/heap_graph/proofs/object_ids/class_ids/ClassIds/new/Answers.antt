@@ -1,7 +1,7 @@
 -- The dump of a class is formed, which bounds its parts. Read one after another they are what the class holds.
 use Rattle.heap_graph.proofs.Words.{ap, arith, bounds, length}
-use Rattle.heap_graph.proofs.HeldLaws.{class_constants, class_parts, class_statics}
-use Rattle.heap_graph.proofs.held.class_ids.ClassIds.new.Goals as goal
+use Rattle.heap_graph.proofs.ObjectIdLaws.{class_constants, class_parts, class_statics}
+use Rattle.heap_graph.proofs.object_ids.class_ids.ClassIds.new.Goals as goal
 
 pub invariant_of-result : goal.invariant_of-result
 invariant_of-result c =

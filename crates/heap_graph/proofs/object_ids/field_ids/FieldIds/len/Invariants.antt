@@ -1,7 +1,7 @@
 -- The identifiers counted so far and those of the classes above are all remaining ones.
 use Rattle.std.proofs.Common.{length}
 use Rattle.heap_graph.proofs.FieldsLeft.{IsCounted, steps_up}
-use Rattle.heap_graph.proofs.held.field_ids.FieldIds.len.Given as goal
+use Rattle.heap_graph.proofs.object_ids.field_ids.FieldIds.len.Given as goal
 
 abbrev pub invariant-loop-above : goal.invariant-loop-above
 invariant-loop-above g l =

@@ -7,9 +7,9 @@ use Rattle.heap_graph.proofs.Words.{position, primitive_array_dump, refl, root, 
 use Rattle.heap_graph.proofs.Words.{◌<◌, ◌==◌, ◌∙◌, ◌∷◌, ◌≡◌, ◌≤◌}
 use Rattle.std.proofs.lemmas.Option.{slice_get_within as slice_get_below}
 use Rattle.heap_graph.specs.References.{class_ids}
-use Rattle.heap_graph.specs.working.HeldIds.{IsFirstOfInstance}
+use Rattle.heap_graph.specs.working.ObjectIds.{IsFirstOfInstance}
 use Rattle.heap_graph.proofs.ClassTableLaws.{not_found}
-use Rattle.heap_graph.proofs.HeldLaws.{array_holds, class_holds, instance_holds, nothing_held}
+use Rattle.heap_graph.proofs.ObjectIdLaws.{array_holds, class_holds, instance_holds, no_ids}
 use Rattle.heap_graph.proofs.InstanceLaws.{linked_whole, right_size}
 use Rattle.heap_graph.proofs.Linking.{no_unknown}
 use Rattle.heap_graph.proofs.RuleLaws.{IsFateFound, fate_found}
@@ -67,9 +67,10 @@ module _ (v : Sight) (heap : List SubRecord) (entries : List TableEntry) (known 
         instance_holds skips found.1 i.class fields i.values low (bounds stands.is.formed).values refl refl refl,
       )
   ids_here skips low n at (object_array_dump a) is stands =
-      (a.class ∷ a.elements, array_holds skips v.id_size heap a a.class a.elements (bounds stands.is.formed).count refl refl)
+      let few = (bounds stands.is.formed).count in
+      (a.class ∷ a.elements, array_holds skips v.id_size heap a a.class a.elements few refl refl)
   ids_here skips low n at (primitive_array_dump a) is stands =
-      ([], nothing_held skips v.id_size heap a)
+      ([], no_ids skips v.id_size heap a)
 
 -- ---- the identifiers of all objects
 
@@ -97,15 +98,15 @@ chosen {O} {X} P (o ∷ os) each = put (each 0 o refl) (chosen P os (λ n x e. e
         here (suc n) y x e h = rest.2 n y x e h
 
 -- for each object the list of the identifiers that it holds
-pub record HoldLists (skips : Class → Member → Bool) (s : ℕ) (heap : List SubRecord) : Type 0 where
+pub record HaveIdLists (skips : Class → Member → Bool) (s : ℕ) (heap : List SubRecord) : Type 0 where
   pub lists : List (List ℕ)
   pub one_each : length lists ≡ length (objects heap)
   pub each : (n : ℕ) (o : SubRecord) (ids : List ℕ) → slice_get (objects heap) n ≡ Some o → slice_get lists n ≡ Some ids
       → AreIdsOf skips s heap o ids
 
-pub held_lists : {A : Type 0} (skips : Class → Member → Bool) (o : Objects A) (heap : List SubRecord)
-    → AreLinkedOf o heap → HaveFatesOf o heap → HoldLists skips o.view.id_size heap
-held_lists skips o heap linked told = all (chosen (AreIdsOf skips o.view.id_size heap) (objects heap) here)
+pub have_id_lists : {A : Type 0} (skips : Class → Member → Bool) (o : Objects A) (heap : List SubRecord)
+    → AreLinkedOf o heap → HaveFatesOf o heap → HaveIdLists skips o.view.id_size heap
+have_id_lists skips o heap linked told = all (chosen (AreIdsOf skips o.view.id_size heap) (objects heap) here)
   where
     here : (n : ℕ) (x : SubRecord) → slice_get (objects heap) n ≡ Some x
         → (ids : List ℕ) × AreIdsOf skips o.view.id_size heap x ids
@@ -121,9 +122,9 @@ held_lists skips o heap linked told = all (chosen (AreIdsOf skips o.view.id_size
 
     all : ((lists : List (List ℕ)) × (length lists ≡ length (objects heap))
         × ((n : ℕ) (x : SubRecord) (ids : List ℕ) → slice_get (objects heap) n ≡ Some x → slice_get lists n ≡ Some ids
-        → AreIdsOf skips o.view.id_size heap x ids)) → HoldLists skips o.view.id_size heap
+        → AreIdsOf skips o.view.id_size heap x ids)) → HaveIdLists skips o.view.id_size heap
     all c = record { lists = c.0; one_each = c.1; each = c.2 }
 
-pub are_lists : (skips : Class → Member → Bool) (s : ℕ) (heap : List SubRecord) (held : HoldLists skips s heap)
-    → AreIdLists skips s heap held.lists
-are_lists skips s heap held = record { one_each = held.one_each; each = λ n o ids e h. (held.each n o ids e h).are }
+pub are_lists : (skips : Class → Member → Bool) (s : ℕ) (heap : List SubRecord) (have : HaveIdLists skips s heap)
+    → AreIdLists skips s heap have.lists
+are_lists skips s heap have = record { one_each = have.one_each; each = λ n o ids e h. (have.each n o ids e h).are }

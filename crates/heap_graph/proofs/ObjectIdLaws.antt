@@ -9,7 +9,7 @@ use Rattle.hprof_grammar.specs.FormedParts.{IsClass, IsConstant}
 use Rattle.hprof_grammar.specs.SubRecord.{PrimitiveArray}
 use Rattle.hprof_grammar.specs.Series.{of_constant}
 use Rattle.heap_graph.specs.References.{class_ids, constant_ids, static_ids}
-use Rattle.heap_graph.specs.working.HeldIds.{IsFirstOfInstance, IsLayoutFrom}
+use Rattle.heap_graph.specs.working.ObjectIds.{IsFirstOfInstance, IsLayoutFrom}
 use Rattle.heap_graph.specs.working.Values.{AreClassValues, AreIdValues, IsIdValue}
 use Rattle.heap_graph.proofs.FieldLaws.{size_of_id_type}
 use Rattle.heap_graph.proofs.InstanceLaws.{few_fields}
@@ -157,19 +157,19 @@ array_holds skips s heap a class elements few ec ee = record {
   few = omega (arith, few, ap length ee);
 }
 
--- the identifiers of an object: `class` and then `ids` if `behind` is true, else `ids` only
-pub held_behind : (skips : Class → Member → Bool) (s : ℕ) (heap : List SubRecord) (o : SubRecord) (class : ℕ)
-    (ids : List ℕ) (behind : Bool) → behind ≡ true → AreIdsOf skips s heap o (class ∷ ids)
-    → AreIdsOf skips s heap o (with_class behind class ids)
-held_behind skips s heap o class ids behind is are =
+-- the identifiers of an object: `class` and then `ids` if `class_is_known` is true, else `ids` only
+pub with_known_class : (skips : Class → Member → Bool) (s : ℕ) (heap : List SubRecord) (o : SubRecord) (class : ℕ)
+    (ids : List ℕ) (class_is_known : Bool) → class_is_known ≡ true → AreIdsOf skips s heap o (class ∷ ids)
+    → AreIdsOf skips s heap o (with_class class_is_known class ids)
+with_known_class skips s heap o class ids class_is_known is are =
     subst (λ (b : Bool). AreIdsOf skips s heap o (with_class b class ids)) (sym is) are
 
-pub held_whole : (skips : Class → Member → Bool) (s : ℕ) (heap : List SubRecord) (o : SubRecord) (class : ℕ)
-    (ids : List ℕ) (behind : Bool) → behind ≡ false → AreIdsOf skips s heap o ids
-    → AreIdsOf skips s heap o (with_class behind class ids)
-held_whole skips s heap o class ids behind is are =
+pub with_read_class : (skips : Class → Member → Bool) (s : ℕ) (heap : List SubRecord) (o : SubRecord) (class : ℕ)
+    (ids : List ℕ) (class_is_known : Bool) → class_is_known ≡ false → AreIdsOf skips s heap o ids
+    → AreIdsOf skips s heap o (with_class class_is_known class ids)
+with_read_class skips s heap o class ids class_is_known is are =
     subst (λ (b : Bool). AreIdsOf skips s heap o (with_class b class ids)) (sym is) are
 
-pub nothing_held : (skips : Class → Member → Bool) (s : ℕ) (heap : List SubRecord) (a : PrimitiveArray)
+pub no_ids : (skips : Class → Member → Bool) (s : ℕ) (heap : List SubRecord) (a : PrimitiveArray)
     → AreIdsOf skips s heap (primitive_array_dump a) []
-nothing_held skips s heap a = record { are = refl; few = omega arith }
+no_ids skips s heap a = record { are = refl; few = omega arith }

@@ -2,7 +2,7 @@
 use Rattle.std.proofs.Common.{arith}
 use Rattle.heap_graph.proofs.FieldsLeft.{IsLeft, all_counted, counted_fits, fewer_steps, more_counted, next_counted}
 use Rattle.heap_graph.proofs.FieldsLeft.{none_counted}
-use Rattle.heap_graph.proofs.held.field_ids.FieldIds.len.Goals as goal
+use Rattle.heap_graph.proofs.object_ids.field_ids.FieldIds.len.Goals as goal
 
 pub loop-above-init : goal.loop-above-init
 loop-above-init g c =

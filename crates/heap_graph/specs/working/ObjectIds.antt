@@ -36,9 +36,9 @@ pub record AreIdsOf (skips : Class → Member → Bool) (s : ℕ) (heap : List S
   pub are : AreIdsIn skips s heap o ids
   pub few : length ids ≤ 2 ^ 33
 
--- all identifiers of an object: `class` and then `ids`, if `behind` says that `ids` begin after the class, else `ids`
+-- all identifiers of an object: `class` and then `ids`, if the class is known apart from `ids`, else `ids`
 abbrev pub with_class : Bool → ℕ → List ℕ → List ℕ
-with_class behind class ids = if behind then class ∷ ids else ids
+with_class class_is_known class ids = if class_is_known then class ∷ ids else ids
 
 -- the first class that declares fields in the layout of the instance is `first`, and its values have the layout's size
 pub record IsFirstOfInstance (s : ℕ) (heap : List SubRecord) (ids : List ℕ) (i : Instance)

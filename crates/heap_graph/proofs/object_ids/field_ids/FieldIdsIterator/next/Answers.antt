@@ -2,7 +2,7 @@
 use Rattle.std.proofs.Common.{rules}
 use Rattle.heap_graph.proofs.FieldsLeft.{fewer_above, fewer_left, first_given, first_gone, first_read, first_room}
 use Rattle.heap_graph.proofs.FieldsLeft.{has_next, next_left, none_left}
-use Rattle.heap_graph.proofs.held.field_ids.FieldIdsIterator.next.Goals as goal
+use Rattle.heap_graph.proofs.object_ids.field_ids.FieldIdsIterator.next.Goals as goal
 
 pub identifier_at-requires : goal.identifier_at-requires
 identifier_at-requires g c = record {

@@ -4,10 +4,10 @@ use Rattle.heap_graph.proofs.Words.{AreIdsOf, List, ap, class_dump, class_number
 use Rattle.heap_graph.proofs.Words.{object_array_dump, primitive_array_dump, refl, subst, sym, ℕ, ◌<◌, ◌∙◌}
 use Rattle.heap_graph.specs.declared.row.RowKey.TheVariants as keys
 use Rattle.heap_graph.proofs.FirstNamed.{array_planned, instance_planned, known_class, known_first, known_named}
-use Rattle.heap_graph.proofs.HeldLaws.{nothing_held}
+use Rattle.heap_graph.proofs.ObjectIdLaws.{no_ids}
 use Rattle.heap_graph.proofs.Linking.{no_unknown_array}
 use Rattle.heap_graph.proofs.Standings.{array_at, class_at, instance_at, primitives_at, there_at}
-use Rattle.heap_graph.proofs.objects.Objects.scan.Goals as goal
+use Rattle.heap_graph.proofs.objects.Objects.visit_of.Goals as goal
 
 pub kind-requires : goal.kind-requires
 kind-requires g c =
@@ -35,7 +35,7 @@ returns-in-Class g c = λ skips heap linked told plan.
       row_is = refl;
       bytes_is = c.class_bytes-bytes.ensures o.0 o.1.stands;
       named = tt;
-      held = c.ids_of_class.ensures skips heap o.0 o.1.stands;
+      ids_are = c.ids_of_class.ensures skips heap o.0 o.1.stands;
     }
 
 -- ---- an instance
@@ -85,7 +85,7 @@ returns-in-Instance g c = λ skips heap linked told plan.
       row_is = row;
       bytes_is = ap length (c.instance_values.ensures o.0 o.1.stands);
       named = known_named c.args.self.now.index o.0.class _ known;
-      held = subst (λ (ids : List ℕ). AreIdsOf skips c.args.self.now.view.id_size heap (instance_dump o.0) ids)
+      ids_are = subst (λ (ids : List ℕ). AreIdsOf skips c.args.self.now.view.id_size heap (instance_dump o.0) ids)
           (known_first c.args.self.now.index _ o.0.class _ _ known c.is_some.ensures)
           (c.ids_of_instance-ids.ensures skips heap c.args.number o.0 linked told plan o.1 id first);
     }
@@ -142,7 +142,7 @@ returns-in-ObjectArray g c = λ skips heap linked told plan.
       row_is = row;
       bytes_is = c.array_bytes-bytes.ensures o.0 o.1.stands;
       named = known_named c.args.self.now.index o.0.class _ known;
-      held = subst (λ (ids : List ℕ). AreIdsOf skips c.args.self.now.view.id_size heap (object_array_dump o.0) ids)
+      ids_are = subst (λ (ids : List ℕ). AreIdsOf skips c.args.self.now.view.id_size heap (object_array_dump o.0) ids)
           (known_first c.args.self.now.index _ o.0.class _ _ known c.is_some-in-ObjectArray.ensures)
           (c.ids_of_array-ids.ensures skips heap o.0 o.1.stands id);
     }
@@ -172,5 +172,5 @@ returns-in-PrimitiveArray g c = λ skips heap linked told plan.
       row_is = ap (λ (t : ℕ). keys.Primitive t) code;
       bytes_is = c.primitive_bytes-bytes.ensures o.0 o.1.stands code;
       named = tt;
-      held = nothing_held skips c.args.self.now.view.id_size heap o.0;
+      ids_are = no_ids skips c.args.self.now.view.id_size heap o.0;
     }

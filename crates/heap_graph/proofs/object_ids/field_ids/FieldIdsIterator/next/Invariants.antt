@@ -1,7 +1,7 @@
 -- The remaining identifiers are those of the call, since going up a class returns none.
 use Rattle.std.proofs.Common.{length}
 use Rattle.heap_graph.proofs.FieldsLeft.{IsLeft}
-use Rattle.heap_graph.proofs.held.field_ids.FieldIdsIterator.next.Given as goal
+use Rattle.heap_graph.proofs.object_ids.field_ids.FieldIdsIterator.next.Given as goal
 
 abbrev pub invariant-loop-place : goal.invariant-loop-place
 invariant-loop-place g l =

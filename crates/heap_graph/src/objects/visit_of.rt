@@ -3,7 +3,7 @@
 ghost use Rattle.std.specs.Prelude.{Bool, List, length, ◌<◌};
 ghost use Rattle.hprof_grammar.specs.SubRecord.{Class, Member, SubRecord};
 
-use crate::held::{HeldIds, Rest};
+use crate::object_ids::{ObjectIds, Rest};
 use crate::objects::Objects;
 use crate::objects::bytes::{array_bytes, class_bytes, primitive_bytes};
 use crate::plan::Plan;
@@ -14,8 +14,8 @@ use std::alloc::Allocator;
 impl<'d, A: Allocator> Objects<'d, A> {
     ghost use Rattle.heap_graph.specs.working.ClassFates.{HaveFatesOf};
     ghost use Rattle.heap_graph.specs.working.ClassPlans.{IsPlanOf};
-    ghost use Rattle.heap_graph.specs.working.HeldIds.{AreLinkedOf};
-    ghost use Rattle.heap_graph.specs.working.Scans.{IsScanOf};
+    ghost use Rattle.heap_graph.specs.working.ObjectIds.{AreLinkedOf};
+    ghost use Rattle.heap_graph.specs.working.ObjectVisits.{IsVisitOf};
 
     /// Returns four things of object `number`: its row, its bytes, the number of the object that is its class, and the
     /// identifiers that it holds. The third is `None` for a class and for a primitive array. If the third is a number,
@@ -23,17 +23,17 @@ impl<'d, A: Allocator> Objects<'d, A> {
     /// at most once.
     // Inlined, so that a visit is built in place.
     #[inline(always)]
-    pub(crate) fn scan<'g>(
+    pub(crate) fn visit_of<'g>(
         &'g self,
         plan: &'g Plan<A>,
         number: usize,
-    ) -> (RowKey, u64, Option<u32>, HeldIds<'g, A>)
+    ) -> (RowKey, u64, Option<u32>, ObjectIds<'g, A>)
         requires below { number < length self.now.places.items }
         requires heap { (skips : Class → Member → Bool) × (heap : List SubRecord) × AreLinkedOf self.now heap
             × HaveFatesOf self.now heap × IsPlanOf skips self.now heap plan.now }
         ensures { (skips : Class → Member → Bool) (heap : List SubRecord) → AreLinkedOf self.now heap
             → HaveFatesOf self.now heap → IsPlanOf skips self.now heap plan.now
-            → IsScanOf skips self.now heap number result.0 result.1 result.2 result.3 }
+            → IsVisitOf skips self.now heap number result.0 result.1 result.2 result.3 }
     {
         let place = self.places[number];
         match self.view.kind(place) {
@@ -59,7 +59,7 @@ impl<'d, A: Allocator> Objects<'d, A> {
             ObjectKind::PrimitiveArray => {
                 let code = self.view.element_type(place);
                 let bytes = primitive_bytes(&self.view, place, code);
-                let none = HeldIds {
+                let none = ObjectIds {
                     rest: Rest::Nothing,
                 };
                 return (RowKey::Primitive(code), bytes, None, none);

@@ -2,7 +2,7 @@
 use Rattle.std.proofs.Common.{rules}
 use Rattle.heap_graph.proofs.FieldsLeft.{nothing_stands}
 use Rattle.heap_graph.proofs.FieldsUpLaws.{have_fields, ids_up_are, up_from}
-use Rattle.heap_graph.proofs.held.field_ids.FieldIds.new.Goals as goal
+use Rattle.heap_graph.proofs.object_ids.field_ids.FieldIds.new.Goals as goal
 
 pub invariant_of-result : goal.invariant_of-result
 invariant_of-result g c =

@@ -65,7 +65,7 @@ impl<'g, A: Allocator> FieldIds<'g, A> {
     ghost use Rattle.hprof_grammar.specs.SubRecord.{Class, Member, SubRecord};
     ghost use Rattle.heap_graph.specs.Fields.{field_ids};
     ghost use Rattle.heap_graph.specs.working.ClassPlans.{IsPlanOf};
-    ghost use Rattle.heap_graph.specs.working.HeldIds.{IsLayoutFrom};
+    ghost use Rattle.heap_graph.specs.working.ObjectIds.{IsLayoutFrom};
     ghost use Rattle.heap_graph.specs.working.ClassFates.{HaveFatesOf};
 
     /// Returns the identifiers in the followed fields of an instance with the values `values`. `first` is the first
