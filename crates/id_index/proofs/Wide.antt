@@ -1,7 +1,7 @@
 -- Entries of full width: their order, searching them by halving, and the identifiers that agree with them.
 use Rattle.std.specs.List.Sorted.{IsNonDecreasingBy}
 use Rattle.id_index.specs.working.WideEntries.{AreDistinct, AreEntriesOf, AreNumbered, AreOrdered, IsBefore}
-use Rattle.id_index.specs.working.WideEntries.{IsFirstFrom, IsLeastRepeat, IsRepeatAt, entry_in, entry_of, id_numbered}
+use Rattle.id_index.specs.working.WideEntries.{IsBetween, IsFirstFrom, IsLeastRepeat, IsRepeatAt, entry_in, entry_of, id_numbered}
 use Rattle.id_index.specs.working.WideEntries.{id_of, ids_of_entries, is_numbered, key_of}
 use Rattle.id_index.specs.declared.wide_entries.WideEntry.{WideEntry}
 use Rattle.id_index.proofs.Words.{All-from_get_or, All-permutation, Bool, Contains, Contains-get_or}
@@ -26,13 +26,6 @@ stands entries x h = (h.0, h.1, sym (get_or_read entries h.0 x h.1 (sym h.2) no_
 
 -- ---- searching by halving
 
--- the first entry whose identifier is not below `id` is at `low` or later, and at `high` or earlier
-pub record IsBetween (entries : List WideEntry) (id low high : ℕ) : Type 0 where
-  pub order : low ≤ high
-  pub within : high ≤ length entries
-  pub before : (k : ℕ) → k < low → id_of (entry_in entries k) < id
-  pub from : (k : ℕ) → high ≤ k → k < length entries → id ≤ id_of (entry_in entries k)
-
 ids_rise : (entries : List WideEntry) → AreOrdered entries → (i j : ℕ) → i ≤ j → j < length entries
     → id_of (entry_in entries i) ≤ id_of (entry_in entries j)
 ids_rise entries up i j le h =
@@ -43,6 +36,23 @@ ids_rise entries up i j le h =
         | inr later ↦ omega (arith, later.0)
       ]
     ]
+
+-- the entries beside two ends show that the ends are right
+pub ends_right : (entries : List WideEntry) (id begin end : ℕ) → AreOrdered entries → begin ≤ end → end ≤ length entries
+    → (0 < begin → id_of (entry_in entries (begin - 1)) < id)
+    → (end < length entries → id ≤ id_of (entry_in entries end)) → IsBetween entries id begin end
+ends_right entries id begin end up order within low high = record {
+  order = order;
+  within = within;
+  before = λ k h.
+      let last = low (omega (arith, h)) in
+      let rise = ids_rise entries up k (begin - 1) (omega (arith, h)) (omega (arith, h, order, within)) in
+      omega (arith, last, rise);
+  from = λ k from h.
+      let next = high (omega (arith, from, h)) in
+      let rise = ids_rise entries up end k from h in
+      omega (arith, next, rise);
+}
 
 module _ (entries : List WideEntry) (up : AreOrdered entries) (id low high middle : ℕ)
     (between : IsBetween entries id low high) (after : low ≤ middle) (inside : middle < high) where

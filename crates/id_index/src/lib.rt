@@ -25,6 +25,7 @@
 
 mod beginnings;
 mod builder;
+mod entry_guesses;
 mod id_pairs;
 mod id_places;
 mod index;

@@ -3,13 +3,17 @@
 
 ghost use Rattle.std.specs.Prelude.{IfOk, [], length, ◌+◌, ◌++◌, ◌<◌, ◌^◌, ◌∷◌, ◌≡◌, ◌≤◌};
 
+use crate::entry_guesses::EntryGuesses;
 use crate::index::{Form, IdIndex, LowBits};
 use crate::wide_entries::{WideEntry, WideIndex, least_repeat};
 use std::alloc::{AllocError, Allocator};
 use std::marker::Model;
 
+/// No lowest bits: entries have whole identifiers.
+const ALL_BITS: LowBits = LowBits { shift: 0, low: 0 };
+
 /// The identifiers of objects in the order of the file. They may be any: an index of whole identifiers and numbers is
-/// made of them, which takes 12 bytes an object. There are at most 2^32 - 1 objects.
+/// made of them, which takes at most 13 bytes an object. There are at most 2^32 - 1 objects.
 #[derive(Drop)]
 pub struct WideEntriesBuilder<A: Allocator> {
     /// An entry for each object, in the order of the file.
@@ -51,14 +55,20 @@ impl<A: Allocator> WideEntriesBuilder<A> {
         Ok(())
     }
 
-    /// Returns the index of the added objects. Allocates nothing.
-    pub fn finish(self) -> IdIndex<A>
-        ensures { result ≡ self }
+    /// Returns the index of the added objects. `AllocError` if the allocation from `alloc` fails: for the table of where
+    /// entries begin.
+    pub fn finish(self, alloc: A) -> Result<IdIndex<A>, AllocError>
+        ensures { IfOk result (λ index. index ≡ self) }
     {
         let mut entries = self.entries;
         entries.sort_unstable_by_key(|entry| entry.key());
         let repeat = least_repeat(&entries);
-        let bits = LowBits { shift: 0, low: 0 };
-        IdIndex::of(Form::Wide(WideIndex { entries, repeat }), bits)
+        let guesses = EntryGuesses::of(alloc, &entries)?;
+        let index = WideIndex {
+            entries,
+            guesses,
+            repeat,
+        };
+        Ok(IdIndex::of(Form::Wide(index), ALL_BITS))
     }
 }

@@ -2,8 +2,10 @@
 
 ghost use Rattle.std.specs.Prelude.{length, position, ◌==◌, ◌≡◌};
 ghost use Rattle.id_index.specs.Repeats.{IsFirstRepeat};
-ghost use Rattle.id_index.specs.working.WideEntries.{AreOrdered, IsFirstFrom, IsLeastRepeat, id_of, key_of};
+ghost use Rattle.id_index.specs.working.WideEntries.{AreOrdered, IsBetween, IsFirstFrom, IsLeastRepeat};
+ghost use Rattle.id_index.specs.working.WideEntries.{id_of, key_of};
 
+use crate::entry_guesses::EntryGuesses;
 use std::alloc::Allocator;
 use std::marker::Model;
 
@@ -34,7 +36,7 @@ impl WideEntry {
     /// Returns the identifier.
     // Inlined, as `key` is: a search and a sort call them at each step.
     #[inline(always)]
-    fn id(self) -> u64
+    pub(crate) fn id(self) -> u64
         ensures { result ≡ id_of self }
     {
         u64::from(self.high) * (1 << 32) + u64::from(self.low)
@@ -49,13 +51,35 @@ impl WideEntry {
     }
 }
 
+/// Returns the guessed ends `begin` and `end` if the first entry whose identifier is not below `id` is at `begin` or
+/// later and at `end` or earlier: the entries beside the ends show it. Otherwise returns the ends of all `entries`.
+// Inlined, as the guess is.
+#[inline(always)]
+fn right_ends(entries: &[WideEntry], id: u64, begin: usize, end: usize) -> (usize, usize)
+    requires { AreOrdered entries.now }
+    ensures { IsBetween entries.now id result.0 result.1 }
+{
+    let all = (0, entries.len());
+    if begin > end || end > entries.len() {
+        return all;
+    }
+    if begin > 0 && entries[begin - 1].id() >= id {
+        return all;
+    }
+    if end < entries.len() && entries[end].id() < id {
+        return all;
+    }
+    (begin, end)
+}
+
 /// Returns the index of the first entry whose identifier is not below `id`, or the number of `entries` if all
-/// identifiers are below `id`.
-fn first_from(entries: &[WideEntry], id: u64) -> usize
+/// identifiers are below `id`. It is the same whatever `guesses` has; with good guesses the search takes fewer steps.
+fn first_from<A: Allocator>(entries: &[WideEntry], guesses: &EntryGuesses<A>, id: u64) -> usize
     requires { AreOrdered entries.now }
     ensures { IsFirstFrom entries.now id result }
 {
-    let (mut low, mut high) = (0, entries.len());
+    let (begin, end) = guesses.around(id).unwrap_or((0, entries.len()));
+    let (mut low, mut high) = right_ends(entries, id, begin, end);
     while low < high {
         let middle = low + (high - low) / 2;
         if entries[middle].id() < id {
@@ -86,6 +110,7 @@ pub(crate) fn least_repeat(entries: &[WideEntry]) -> usize
 pub(crate) struct WideIndex<A: Allocator> {
     /// An entry for each object, ordered by identifier. Entries with the same identifier are ordered by number.
     pub(crate) entries: Vec<WideEntry, A>,
+    pub(crate) guesses: EntryGuesses<A>,
     /// The number of the first object whose identifier an earlier one bears, or the number of objects if there is none.
     pub(crate) repeat: usize,
 }
@@ -113,7 +138,7 @@ impl<A: Allocator> WideIndex<A> {
     pub(crate) fn find(&self, id: u64) -> Option<u32>
         ensures { result ≡ position (λ x. x == id) self.now }
     {
-        let at = first_from(&self.entries, id);
+        let at = first_from(&self.entries, &self.guesses, id);
         if at < self.entries.len() && self.entries[at].id() == id {
             return Some(self.entries[at].number);
         }

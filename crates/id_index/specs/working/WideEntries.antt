@@ -32,6 +32,13 @@ pub record IsFirstFrom (entries : List WideEntry) (id at : ℕ) : Type 0 where
   pub before : (k : ℕ) → k < at → id_of (entry_in entries k) < id
   pub from : (k : ℕ) → at ≤ k → k < length entries → id ≤ id_of (entry_in entries k)
 
+-- the first entry whose identifier is not below `id` is at `low` or later, and at `high` or earlier
+pub record IsBetween (entries : List WideEntry) (id low high : ℕ) : Type 0 where
+  pub order : low ≤ high
+  pub within : high ≤ length entries
+  pub before : (k : ℕ) → k < low → id_of (entry_in entries k) < id
+  pub from : (k : ℕ) → high ≤ k → k < length entries → id ≤ id_of (entry_in entries k)
+
 -- ---- the identifiers
 
 -- the entries are those of the objects with the identifiers `ids`

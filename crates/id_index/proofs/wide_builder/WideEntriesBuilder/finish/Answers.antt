@@ -9,8 +9,8 @@ use Rattle.id_index.proofs.Aligning.{whole_same}
 use Rattle.id_index.proofs.Wide.{entries_are, first_repeat, given_back, ordered}
 use Rattle.id_index.proofs.wide_builder.WideEntriesBuilder.finish.Goals as goal
 
-pub invariant_of-of : goal.invariant_of-of
-invariant_of-of g c =
+pub invariant_of-index : goal.invariant_of-index
+invariant_of-index g c =
     let entries : List WideEntry = c.self.inside.entries.items in
     let now : List WideEntry = c.sort_unstable_by_key.new.self.items in
     let same = c.sort_unstable_by_key.ensures.permutation in
@@ -37,7 +37,7 @@ returns g c =
     let entries : List WideEntry = c.self.inside.entries.items in
     let now : List WideEntry = c.sort_unstable_by_key.new.self.items in
     let same = c.sort_unstable_by_key.ensures.permutation in
-    c.of.ensures ∙ whole_same (ids_of_entries now)
+    c.of-2.ensures ∙ whole_same (ids_of_entries now)
     ∙ sym (given_back now (map id_of entries) (entries_are entries now same c.self.invariant.numbered)
     (length-map entries id_of ∙ sym (length_permutation entries now same)))
     ∙ c.self.view_is
