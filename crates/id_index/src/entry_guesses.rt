@@ -8,6 +8,9 @@ use std::alloc::{AllocError, Allocator};
 /// A bucket of identifiers for every `ENTRIES_EACH` entries, or fewer buckets: at most one byte of the table an entry.
 const ENTRIES_EACH: u64 = 4;
 
+/// Fewer entries have no table: they take at most 48 KiB, which stay in a processor's cache while it halves.
+const MANY_ENTRIES: usize = 4096;
+
 /// The beginnings of buckets in ordered entries. The bucket of an identifier is its distance from the least one,
 /// shifted right by `shift`. No clause says that they are right: nothing but time rests on a guess.
 #[derive(Drop)]
@@ -16,16 +19,8 @@ pub(crate) struct EntryGuesses<A: Allocator> {
     least: u64,
     shift: u32,
     /// For each bucket the index of the first entry that is not in a bucket before it, and at the end the number of
-    /// entries.
+    /// entries. Empty if there are few entries.
     starts: Vec<u32, A>,
-}
-
-/// Returns the least and the greatest identifier of ordered entries, or 0 for both if there is no entry.
-fn ends_of(entries: &[WideEntry]) -> (u64, u64) {
-    match entries.len() {
-        0 => return (0, 0),
-        count => return (entries[0].id(), entries[count - 1].id()),
-    }
 }
 
 /// Returns the index of the first entry from index `from` on that is not in a bucket before `bucket`, or the number of
@@ -40,10 +35,23 @@ fn start_of(entries: &[WideEntry], least: u64, shift: u32, from: usize, bucket: 
 }
 
 impl<A: Allocator> EntryGuesses<A> {
-    /// Creates the table of ordered `entries`. `AllocError` if the allocation fails.
+    /// Creates a table that guesses nothing. Allocates nothing.
+    fn none(alloc: A) -> Self {
+        EntryGuesses {
+            least: 0,
+            shift: 0,
+            starts: Vec::new(alloc),
+        }
+    }
+
+    /// Creates the table of ordered `entries`, or one that guesses nothing if there are few. `AllocError` if the
+    /// allocation fails.
     pub(crate) fn of(alloc: A, entries: &[WideEntry]) -> Result<Self, AllocError> {
-        let (least, greatest) = ends_of(entries);
-        let span = greatest.wrapping_sub(least);
+        if entries.len() < MANY_ENTRIES {
+            return Ok(EntryGuesses::none(alloc));
+        }
+        let least = entries[0].id();
+        let span = entries[entries.len() - 1].id().wrapping_sub(least);
         let shift = shift_for(span, (entries.len() as u64 / ENTRIES_EACH).max(2));
         let count = (span >> shift) + 2;
         let mut starts = Vec::with_capacity(alloc, count as usize)?;

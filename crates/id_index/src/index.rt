@@ -93,15 +93,15 @@ impl<A: Allocator> IdIndex<A> {
         }
     }
 
-    /// Tests whether an object bears `id` and is found by a guess, without a search. For tests: only time rests on
-    /// guesses.
+    /// Tests whether an object bears `id` and is found by a guess: without a search, or among entries of whole
+    /// identifiers by a short one. For tests: only time rests on guesses.
     pub fn is_guessed(&self, id: u64) -> bool
         ensures { IsTrue result → Contains self.now id }
     {
         let guessed = match &self.form {
             Form::Runs(runs) => runs.is_guessed(id >> self.bits.shift),
             Form::Pairs(pairs) => pairs.is_guessed(id >> self.bits.shift),
-            Form::Wide(_) => false,
+            Form::Wide(entries) => entries.is_guessed(id >> self.bits.shift),
         };
         match self.find(id) {
             Some(_) => return guessed,

@@ -9,6 +9,9 @@ use crate::entry_guesses::EntryGuesses;
 use std::alloc::Allocator;
 use std::marker::Model;
 
+/// A search between ends that are at most this far apart takes few steps.
+const FEW_ENTRIES: usize = 16;
+
 /// An object's identifier and the object's number.
 // Three words of 32 bits, 12 bytes: with the identifier in one word, an entry would take 16.
 #[derive(Clone, Copy)]
@@ -143,6 +146,17 @@ impl<A: Allocator> WideIndex<A> {
             return Some(self.entries[at].number);
         }
         None
+    }
+
+    /// Tests whether the ends that are guessed for `id` are right and near each other, so that `find` takes few steps.
+    pub(crate) fn is_guessed(&self, id: u64) -> bool {
+        match self.guesses.around(id) {
+            Some((begin, end)) => {
+                let ends = right_ends(&self.entries, id, begin, end);
+                return ends == (begin, end) && end <= begin.saturating_add(FEW_ENTRIES);
+            }
+            None => return false,
+        }
     }
 
     /// Returns the number of the first object whose identifier an earlier one bears, or the number of objects if there
