@@ -6,6 +6,7 @@ pub mod Bearers
 pub mod Numbering
 pub mod Extending
 pub mod Built
+pub mod Swapped
 pub mod Apart
 pub mod Seen
 pub mod Settled
@@ -15,3 +16,4 @@ pub mod Aligning
 pub mod Joining
 pub mod Pairing
 pub mod Placing
+pub mod Wide

@@ -5,3 +5,4 @@ pub mod Building
 pub mod Settling
 pub mod Pairs
 pub mod RunRepeats
+pub mod WideEntries

@@ -25,6 +25,7 @@
 
 mod beginnings;
 mod builder;
+mod entry_guesses;
 mod id_pairs;
 mod id_places;
 mod index;
@@ -39,7 +40,10 @@ mod run_index;
 mod runs;
 mod settling;
 mod sorting;
+mod wide_builder;
+mod wide_entries;
 
 pub use id_pairs::IdPairsBuilder;
 pub use id_places::{IdPlaces, are_close};
 pub use index::{IdIndex, IdIndexBuilder, LowBits};
+pub use wide_builder::WideEntriesBuilder;
