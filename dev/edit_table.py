@@ -1,8 +1,8 @@
-"""The table of docs/EDITS.md: what refuses each must-fail edit, in the prover's words."""
+"""The table of dev/EDITS.md: what refuses each must-fail edit, in the prover's words."""
 
 import re
 
-PAGE = "docs/EDITS.md"
+PAGE = "dev/EDITS.md"
 
 
 def refused_by(said):
