@@ -115,7 +115,7 @@ def searched(options, name):
     try:
         runs = Runs(Heapmark(), options.dump, "holders")
         known = Holders(runs.dump, options.weak)
-        runs.cut = known.weak()
+        known.prepare(runs)
         families = [family_of(name, runs.dump, runs.report)] if name else None
         in_bytes = options.bytes or not name or names.is_array(families[0])
         probe = Probe(runs, known, families, "bytes" if in_bytes else "objects")

@@ -11,7 +11,7 @@ from heap_tools.command import Parser, number
 from heap_tools.console import Progress, is_terminal, say, write
 from heap_tools.faults import NOTHING, UNREADABLE, UNWRITABLE, WRONG_USE, Fault
 from heap_tools.holders import OMITTED, counted, family_of, spelled
-from heap_tools.holding import FIELD, Holder, Holders
+from heap_tools.holding import Holders
 from heap_tools.paths import Paths
 from heap_tools.program import Heapmark, Runs
 from heap_tools.reports import Amount
@@ -63,11 +63,11 @@ class Line(NamedTuple):
     held: Held
     before: Amount
     share: float
-    above: List[Holder]
+    above: List[Held]
 
     def path(self):
         """Returns the way from the top down to what was found."""
-        return " > ".join([*map(str, self.above), spelled(self.held.holders)])
+        return " > ".join(spelled(each.holders) for each in [*self.above, self.held])
 
 
 def parser():
@@ -80,7 +80,7 @@ def parser():
     it.flag("--objects", "Take shares of objects, not of bytes")
     text = "Show what holds P percent or more of the growth, 1 to 100 [default: 30]"
     it.option("--at-least", "P", text, type=number(1, 100), default=30)
-    it.option("--top", "N", "Show at most N lines [default: 10]", type=number(1), default=10)
+    it.option("--top", "N", "Show at most N lines [default: 5]", type=number(1), default=5)
     it.option("--html", "FILE", "Also write a page for a browser, with charts, to FILE")
     it.flag("--weak", "Follow soft, weak, final and phantom references, too")
     return it
@@ -119,7 +119,7 @@ class Comparison:
         """Returns what asks the first and the last dump."""
         options, known = self.options, [Holders(each.dump, self.options.weak) for each in (self.first, self.last)]
         for runs, holders in zip((self.first, self.last), known):
-            runs.cut = holders.weak()
+            holders.prepare(runs)
         families, column = None, "objects" if options.objects else "bytes"
         if getattr(options, "class"):
             families = [family_of(getattr(options, "class"), self.last.dump, self.last.report)]
@@ -154,7 +154,8 @@ def order(probe):
 
     def key(held):
         share = probe.percent(probe.gain(held.holders))
-        return held.count(), not held.is_own(), -round(share / 10), held.heap.bytes, spelled(held.holders)
+        least = held.heap.bytes if held.is_own() else -held.heap.bytes
+        return held.count(), not held.is_own(), -round(share / 10), least, spelled(held.holders)
 
     return key
 

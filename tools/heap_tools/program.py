@@ -141,11 +141,11 @@ def is_dump(path):
 
 class Runs:
     """A dump in a plain file, and the runs of heapmark on it for a tool. `report` is that of the dump as it is. `cut`
-    are changes that each later run makes."""
+    are changes that each later run makes, and `roots` are objects that are roots in it."""
 
     def __init__(self, heapmark, path, tool):
         require_plain_dump(path, tool)
-        self.heapmark, self.path, self.cut = heapmark, path, {}
+        self.heapmark, self.path, self.cut, self.roots = heapmark, path, {}, []
         self.report = heapmark.first_report(path)
         try:
             self.dump = Dump(_opened(path), self.report.has_nameless())
@@ -155,4 +155,4 @@ class Runs:
     def without(self, changes):
         """Returns the report of the dump with these changes."""
         changes = {**self.cut, **changes}
-        return self.heapmark.later_report(self.path, lambda pipe: self.dump.send(pipe, changes))
+        return self.heapmark.later_report(self.path, lambda pipe: self.dump.send(pipe, changes, self.roots))

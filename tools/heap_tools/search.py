@@ -40,7 +40,7 @@ class Probe:
 
     def __init__(self, runs, holders, families, column):
         self.runs, self.holders, self.families, self.column = runs, holders, families, column
-        self.base = runs.report if not runs.cut else runs.without({})
+        self.base = runs.without({}) if runs.cut or runs.roots else runs.report
         self.whole = self.base.total(families)
         self._known, self.watch = {}, lambda: None
 
