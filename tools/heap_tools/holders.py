@@ -138,7 +138,7 @@ def print_found(search):
     lines = []
     if is_terminal(sys.stdout) and search.found:
         lines.append(f"{'objects':>10} {'bytes':>14} share   holders  field\n")
-    for held in search.found:
+    for held in search.first():
         share = search.probe.percent(held.amount)
         amount = held.amount
         lines.append(f"{amount.objects:10} {amount.bytes:14} {share:4.0f}% {held.count():9}  {spelled(held.holders)}\n")

@@ -19,7 +19,7 @@ class Paths:
     def __init__(self, probe, found, progress):
         self.probe, self.progress = probe, progress
         self.found = sorted(found, key=lambda held: (held.heap.objects, held.heap.bytes))
-        self._above = {}
+        self._above, self._tops = {}, {}
 
     def above(self, held):
         """Returns what is above `held`, from the top down. What a static field is above counts only if it is known to
@@ -40,10 +40,12 @@ class Paths:
 
     def complete(self, held):
         """Returns what is above `held`, with what is above its top if all threads lead nowhere: worker threads hold
-        their executor, too."""
+        their executor, too. That takes some runs, so only what is above the first top is looked for."""
         path = self.above(held)
         top = path[0] if path else held
-        return path if is_root(top) else [*self._without_threads(top), *path]
+        if not self._tops:
+            self._tops[id(top)] = [] if is_root(top) else self._without_threads(top)
+        return [*self._tops.get(id(top), []), *path]
 
     def _without_threads(self, held):
         """Returns what is above the holders of a field if all local variables and threads lead nowhere. Returns the

@@ -63,6 +63,12 @@ class Heapmark:
         finally:
             _unblock()
 
+    def version(self):
+        """Returns the version that heapmark prints, or nothing if it prints none."""
+        status, printed = self.run(["--version"])
+        line = printed.split(b"\n")[0].decode(errors="replace")
+        return line.partition(" ")[2] if status == 0 else ""
+
     def check_fields(self, fields):
         """Raises `Fault` if `fields` is no list. heapmark refuses such a text before it opens a file: with refusal 21,
         or with status 2 if the text is not UTF-8."""
