@@ -115,7 +115,7 @@ def searched(options, name):
     try:
         runs = Runs(Heapmark(), options.dump, "holders")
         known = Holders(runs.dump, options.weak)
-        runs.cut = known.weak()
+        known.prepare(runs)
         families = [family_of(name, runs.dump, runs.report)] if name else None
         in_bytes = options.bytes or not name or names.is_array(families[0])
         probe = Probe(runs, known, families, "bytes" if in_bytes else "objects")
@@ -138,7 +138,7 @@ def print_found(search):
     lines = []
     if is_terminal(sys.stdout) and search.found:
         lines.append(f"{'objects':>10} {'bytes':>14} share   holders  field\n")
-    for held in search.found:
+    for held in search.first():
         share = search.probe.percent(held.amount)
         amount = held.amount
         lines.append(f"{amount.objects:10} {amount.bytes:14} {share:4.0f}% {held.count():9}  {spelled(held.holders)}\n")

@@ -9,8 +9,8 @@ from heap_tools.names import family, is_own
 
 STATIC, FIELD, LOCAL, THREAD, THREADS = "static", "field", "local", "thread", "threads"
 WEAK = "java/lang/ref/Reference.referent"
-#: A loader holds its classes, and so all that their static fields hold: that is no answer.
-LOADED_CLASSES = "java/lang/ClassLoader.classes"
+#: The list of the threads of a group, up to JDK 18, and that of the classes of a loader.
+GROUP, LOADED_CLASSES = "java/lang/ThreadGroup.threads", "java/lang/ClassLoader.classes"
 
 
 @dataclass(frozen=True, eq=False)
@@ -38,7 +38,7 @@ class Holder:
     def __str__(self):
         if self.kind == THREAD:
             return f'thread "{self.name}"'
-        return self.name if self.kind == FIELD else f"{self.kind} {self.name}"
+        return self.name if self.kind == FIELD else f"{self.kind} {self.name}".strip()
 
 
 class Part(NamedTuple):
@@ -74,9 +74,14 @@ class Holders:
         code = self.dump.number_code()
         return {part.place: code for part in parts}
 
-    def weak(self):
-        """Returns the changes by which weak references lead nowhere: none if they are followed."""
-        return {} if self._is_weak else self.changes((FIELD, WEAK))
+    def prepare(self, runs):
+        """Lets later runs follow weak references only if that is asked for. Two lists hold what is held anyway, and do
+        not count: that of a group's threads, since each thread is a root, and that of a loader's classes. So classes
+        that are never unloaded become roots, too."""
+        runs.cut = dict(self.changes((FIELD, GROUP)))
+        if not self._is_weak:
+            runs.cut.update(self.changes((FIELD, WEAK)))
+        runs.roots = self.dump.lasting_classes()
 
     def statics(self):
         """Returns the static fields that are not null. Those that the virtual machine keeps with a class, such as
@@ -92,7 +97,7 @@ class Holders:
         """Returns the fields of classes with reachable instances. Those with few holders come first."""
         heirs, found = self._heirs(), []
         for key, parts in self._parts.items():
-            if key[0] != FIELD or key[1] == LOADED_CLASSES or key[1] == WEAK and not self._is_weak:
+            if key[0] != FIELD or key[1] in (LOADED_CLASSES, GROUP) or key[1] == WEAK and not self._is_weak:
                 continue
             classes = frozenset().union(*(heirs[part.class_id] for part in parts))
             count = sum(report.amount(each).objects for each in classes)

@@ -27,6 +27,15 @@ COUNT = struct.Struct(">I")
 OBJECT, CHAR, BYTE, INT, LONG = 2, 5, 8, 10, 11  # codes of types
 #: Changes of a dump that are this near are written as one.
 NEAR = 1 << 13
+#: The static fields that hold the loaders of the JDK and of the class path.
+LASTING_LOADERS = frozenset(
+    f"{owner}.{field}"
+    for owner, fields in (
+        ("java/lang/ClassLoader", ["scl"]),
+        ("jdk/internal/loader/ClassLoaders", ["BOOT_LOADER", "PLATFORM_LOADER", "APP_LOADER"]),
+    )
+    for field in fields
+)
 
 
 class Field(NamedTuple):
@@ -41,10 +50,10 @@ class Field(NamedTuple):
 
 
 class Class(NamedTuple):
-    """A class dump: its superclass, whether it has a loader other than the virtual machine's own, and its fields."""
+    """A class dump: its superclass, its loader, 0 if that is the virtual machine's own, and its fields."""
 
     superclass: int
-    has_loader: bool
+    loader: int
     fields: list
 
 
@@ -186,14 +195,23 @@ class Dump:
                 if part != "constants":
                     is_null = part == "statics" and kind == OBJECT and id_at(data, place + 1)[0] == 0
                     fields.append(Field(self._field_name(id_at(data, name)[0]), kind, part == "statics", is_null, place))
-        has_loader = self.id(begin + 5 + 2 * size) != 0
-        self.classes[self.id(begin + 1)] = Class(self.id(begin + 5 + size), has_loader, fields)
+        self.classes[self.id(begin + 1)] = Class(self.id(begin + 5 + size), self.id(begin + 5 + 2 * size), fields)
         return at
 
     def _field_name(self, text_id):
         if text_id not in self._field_names:
             self._field_names[text_id] = self.text(text_id)
         return self._field_names[text_id]
+
+    def lasting_classes(self):
+        """Returns the identifiers of the classes that are never unloaded: those of the loaders that the JDK itself keeps
+        in static fields."""
+        loaders = {0}
+        for class_id, name in self.names.items():
+            for field in self.classes[class_id].fields:
+                if field.is_static and f"{name}.{field.name}" in LASTING_LOADERS:
+                    loaders.add(self.id(field.place + 1))
+        return [class_id for class_id, each in self.classes.items() if each.loader in loaders]
 
     # Objects
 
@@ -270,16 +288,25 @@ class Dump:
         """Returns the type's code of a number as long as an identifier: a field of it leads nowhere."""
         return bytes([LONG if self.id_size == 8 else INT])
 
-    def send(self, pipe, changes):
-        """Writes the dump into `pipe`, but at each place of `changes` its bytes. Raises `EOFError` if the file became
-        shorter."""
+    def send(self, pipe, changes, roots=()):
+        """Writes the dump into `pipe`, but at each place of `changes` its bytes, and with `roots`, further objects that
+        are roots. Raises `EOFError` if the file became shorter."""
+        added = b"".join(bytes([UNKNOWN]) + root.to_bytes(self.id_size, "big") for root in roots)
         begin = 0
-        for place, changed in self._stretches(changes):
+        if added:
+            begin, end = self._segments[0]
+            self._send_changed(pipe, 0, begin, {**changes, begin - 4: COUNT.pack(end - begin + len(added))})
+            _write_all(pipe, added)
+        self._send_changed(pipe, begin, self.size, changes)
+        pipe.close()
+
+    def _send_changed(self, pipe, begin, end, changes):
+        """Writes the dump from `begin` to `end` into `pipe` with those of `changes` that are there."""
+        for place, changed in self._stretches({at: new for at, new in changes.items() if begin <= at < end}):
             self._send_part(pipe, begin, place)
             _write_all(pipe, changed)
             begin = place + len(changed)
-        self._send_part(pipe, begin, self.size)
-        pipe.close()
+        self._send_part(pipe, begin, end)
 
     def _stretches(self, changes):
         """Yields the places and the bytes of the parts of the dump that change. Changes near each other are one part."""

@@ -1,17 +1,18 @@
 """leaks: which fields, static fields, local variables and threads hold what grew between dumps of one program."""
 
 import os
+import platform
 import shlex
 import sys
 import time
 from typing import List, NamedTuple
 
-from heap_tools import growth, names
+from heap_tools import VERSION, growth, names, page
 from heap_tools.command import Parser, number
 from heap_tools.console import Progress, is_terminal, say, write
 from heap_tools.faults import NOTHING, UNREADABLE, UNWRITABLE, WRONG_USE, Fault
 from heap_tools.holders import OMITTED, counted, family_of, spelled
-from heap_tools.holding import FIELD, Holder, Holders
+from heap_tools.holding import Holders
 from heap_tools.paths import Paths
 from heap_tools.program import Heapmark, Runs
 from heap_tools.reports import Amount
@@ -63,24 +64,24 @@ class Line(NamedTuple):
     held: Held
     before: Amount
     share: float
-    above: List[Holder]
+    above: List[Held]
 
     def path(self):
         """Returns the way from the top down to what was found."""
-        return " > ".join([*map(str, self.above), spelled(self.held.holders)])
+        return " > ".join(spelled(each.holders) for each in [*self.above, self.held])
 
 
 def parser():
     """Returns the options and operands."""
     it = Parser("leaks", "[OPTIONS] <BEFORE> <AFTER>...", ABOUT, NOTES)
     it.operand("before", "A heap dump, in a plain file: it is read many times")
-    it.operand("after", "One or more later ones of the same program, the earliest first", nargs="+")
+    it.operand("after", "One or more later ones of the same program, the earliest first", nargs="*")
     text = "Show what holds the growth of a class, as heapmark, grown or jmap shows it, not of the whole heap"
-    it.option("--class", "CLASS", text)
+    it.option("--class", "CLASS", text, dest="of_class")
     it.flag("--objects", "Take shares of objects, not of bytes")
     text = "Show what holds P percent or more of the growth, 1 to 100 [default: 30]"
     it.option("--at-least", "P", text, type=number(1, 100), default=30)
-    it.option("--top", "N", "Show at most N lines [default: 10]", type=number(1), default=10)
+    it.option("--top", "N", "Show at most N lines [default: 5]", type=number(1), default=5)
     it.option("--html", "FILE", "Also write a page for a browser, with charts, to FILE")
     it.flag("--weak", "Follow soft, weak, final and phantom references, too")
     return it
@@ -89,8 +90,8 @@ def parser():
 class Comparison:
     """The dumps of a command line, and what is compared."""
 
-    def __init__(self, options, progress):
-        self.options, self.progress, self.heapmark = options, progress, Heapmark()
+    def __init__(self, options, words, progress):
+        self.options, self.words, self.progress, self.heapmark = options, words, progress, Heapmark()
         self.began = time.time()
         paths = [options.before, *options.after]
         self.dumps = [self._read(path, number) for number, path in enumerate(paths)]
@@ -119,10 +120,10 @@ class Comparison:
         """Returns what asks the first and the last dump."""
         options, known = self.options, [Holders(each.dump, self.options.weak) for each in (self.first, self.last)]
         for runs, holders in zip((self.first, self.last), known):
-            runs.cut = holders.weak()
+            holders.prepare(runs)
         families, column = None, "objects" if options.objects else "bytes"
-        if getattr(options, "class"):
-            families = [family_of(getattr(options, "class"), self.last.dump, self.last.report)]
+        if options.of_class:
+            families = [family_of(options.of_class, self.last.dump, self.last.report)]
         earlier = Earlier(self.first, known[0], families, column)
         probe = Gains(earlier, options.at_least, self.last, known[1], families, column)
         if getattr(probe.growth, column) <= 0:
@@ -154,7 +155,8 @@ def order(probe):
 
     def key(held):
         share = probe.percent(probe.gain(held.holders))
-        return held.count(), not held.is_own(), -round(share / 10), held.heap.bytes, spelled(held.holders)
+        least = held.heap.bytes if held.is_own() else -held.heap.bytes
+        return held.count(), not held.is_own(), -round(share / 10), least, spelled(held.holders)
 
     return key
 
@@ -164,10 +166,9 @@ def lines_of(probe, options, progress):
     search = Search(probe, options.at_least, options.top, order(probe), progress)
     search.find(probe.holders.fields(probe.base))
     paths, lines = Paths(probe, search.found, progress), []
-    for number, held in enumerate(search.found):
+    for held in search.first():
         before = probe.earlier.held(held.holders).amount
-        above = paths.above(held) if number else paths.complete(held)
-        lines.append(Line(held, before, probe.percent(held.amount.minus(before)), above))
+        lines.append(Line(held, before, probe.percent(held.amount.minus(before)), paths.complete(held)))
     return lines, search
 
 
@@ -220,22 +221,104 @@ def say_rest(lines, search, probe):
         say(f"leaks: {text}: garbage in dumps with -all; in live dumps {OMITTED}: see grown with jmap -histo:live")
 
 
-def main(words):
-    """Does what the words of the command line ask for, and returns the exit status."""
-    if len([word for word in words if not word.startswith("-")]) == 1 and os.path.isfile(words[-1]):
-        raise Fault(WRONG_USE, f"{words[-1]}: one dump: holders {words[-1]} shows what holds its objects")
-    options = parser().read(words)
-    if 1 + len(options.after) > MOST_FILES:
-        raise Fault(WRONG_USE, f"{1 + len(options.after)} dumps: at most {MOST_FILES}")
+def page_of(comparison, probe, lines):
+    """Returns what the page of `--html` shows."""
+    options, dumps = comparison.options, [dump_of(runs) for runs in comparison.dumps]
+    reports = [runs.report for runs in comparison.dumps]
+    grown = [each for each in growth.growths(reports, probe.column) if not each.name.startswith("<")]
+    of_class = probe.families[0] if options.of_class else None
+    whole = "all reachable bytes" if probe.column == "bytes" else "all reachable objects"
+    if probe.families:
+        whole = f"the {probe.column} of {of_class or 'the classes that grew'}"
+    return page.Leak(
+        dumps=dumps,
+        grown=[page.GrownClass(each.name, [report.amount(each.name) for report in reports]) for each in grown],
+        holders=[holder_of(line, probe) for line in lines],
+        last=reports[-1].families,
+        omitted=omitted(probe),
+        making=making(comparison),
+        by=probe.column,
+        share_of=whole,
+        of_class=of_class,
+    )
+
+
+def dump_of(runs):
+    """Returns what the page shows of a dump."""
+    report = runs.report
+    size, made = os.path.getsize(runs.path), runs.dump.time
+    return page.Dump(runs.path, size, made, report.reachable, report.unreachable, report.unresolved)
+
+
+def holder_of(line, probe):
+    """Returns what the page shows of a line."""
+    holders = line.held.holders
+    kind = page.TOGETHER if len(holders) > 1 else holders[0].kind
+    name = ", ".join(sorted(holder.name for holder in holders))
+    shares = []
+    for each, amount in ((probe.earlier, line.before), (probe, line.held.amount)):
+        percent = 100 * getattr(amount, probe.column) / max(1, getattr(each.whole, probe.column))
+        shares.append(page.Share(amount.objects, amount.bytes, percent))
+    return page.Holder(kind, name, line.held.count(), *shares, [spelled(each.holders) for each in line.above])
+
+
+def omitted(probe):
+    """Returns what these dumps do not show, in sentences."""
+    more = probe.runs.report.unreachable.minus(probe.earlier.runs.report.unreachable)
+    if max(more) <= 0:
+        return []
+    what = f"{more.objects:,} objects more ({more.bytes:,} bytes) are unreachable in the last dump"
+    return [f"{what}: garbage if it was made with -all; in a live dump, {OMITTED}."]
+
+
+def making(comparison):
+    """Returns how the figures were found."""
+    command = " ".join(map(shlex.quote, ["leaks", *comparison.words]))
+    versions = [("leaks", VERSION), ("heapmark", comparison.heapmark.version()), ("Python", platform.python_version())]
+    now = time.time()
+    return page.Making(command, comparison.heapmark.runs, now - comparison.began, int(1000 * now), versions)
+
+
+def write_page(path, leak):
+    """Writes the page into the file `path`."""
+    try:
+        page.write(leak, path)
+    except OSError as fault:
+        raise Fault(UNWRITABLE, f"{path}: the page cannot be written: {fault.strerror}") from None
+
+
+def require_folder(path):
+    """Raises `Fault` if a page cannot be written into the file `path`, before the dumps are searched."""
+    folder = os.path.dirname(os.path.realpath(path))
+    if os.path.isdir(path) or not os.access(path if os.path.exists(path) else folder, os.W_OK):
+        raise Fault(UNWRITABLE, f"{path}: the page cannot be written")
+
+
+def compared(options, words):
+    """Compares the dumps. Returns the comparison, its probe, the lines and the search."""
     progress = Progress("leaks")
     try:
-        comparison = Comparison(options, progress)
+        comparison = Comparison(options, words, progress)
         probe = comparison.probe()
-        lines, search = lines_of(probe, options, progress)
+        return (comparison, probe, *lines_of(probe, options, progress))
     finally:
         progress.clear()
+
+
+def main(words):
+    """Does what the words of the command line ask for, and returns the exit status."""
+    options = parser().read(words)
+    if not options.after:
+        raise Fault(WRONG_USE, f"one dump: holders {options.before} shows what holds its objects")
+    if 1 + len(options.after) > MOST_FILES:
+        raise Fault(WRONG_USE, f"{1 + len(options.after)} dumps: at most {MOST_FILES}")
+    if options.html:
+        require_folder(options.html)
+    comparison, probe, lines, search = compared(options, words)
     top = heads(comparison, probe) if is_terminal(sys.stdout) and lines else ""
     write(top + printed(lines, probe.column))
+    if options.html:
+        write_page(options.html, page_of(comparison, probe, lines))
     say_rest(lines, search, probe)
     cost = f"{counted(search.all, 'field')}, {counted(comparison.heapmark.runs, 'run')} of heapmark"
     say(f"leaks: {cost}, {time.time() - comparison.began:.1f} s")

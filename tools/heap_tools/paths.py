@@ -2,7 +2,15 @@
 thread."""
 
 from heap_tools.holding import FIELD
+from heap_tools.reports import Amount
 from heap_tools.search import Probe, Search
+
+NONE = Amount()
+
+
+def is_root(held):
+    """Tests whether what holds is no field of instances."""
+    return all(holder.kind != FIELD for holder in held.holders)
 
 
 class Paths:
@@ -11,55 +19,57 @@ class Paths:
     def __init__(self, probe, found, progress):
         self.probe, self.progress = probe, progress
         self.found = sorted(found, key=lambda held: (held.heap.objects, held.heap.bytes))
-        self._above = {}
+        self._above, self._tops = {}, {}
 
     def above(self, held):
-        """Returns what is above `held`, from the top down. A holder is above another if it holds all that the other
-        does: without both, no more is unreachable than without the first."""
+        """Returns what is above `held`, from the top down. What a static field is above counts only if it is known to
+        the top."""
         if id(held) not in self._above:
             parent = next((each for each in self.found if self._is_above(each, held)), None)
-            path = [*self.above(parent), *parent.holders] if parent else []
-            self._above[id(held)] = path
+            path = [*self.above(parent), parent] if parent else []
+            self._above[id(held)] = path if path and is_root(path[0]) or not is_root(held) else []
         return self._above[id(held)]
 
     def _is_above(self, upper, lower):
-        if upper.heap.objects <= lower.heap.objects or len(upper.holders) > 1:
+        """Tests whether `upper` holds all that `lower` does: without both, no more is unreachable than without it."""
+        if upper.heap.objects <= lower.heap.objects:
             return False
-        if any(amount.objects > upper.lost.get(name, amount).objects for name, amount in lower.lost.items()):
+        if any(amount.objects > upper.lost.get(name, NONE).objects for name, amount in lower.lost.items()):
             return False
         return self.probe.held([*upper.holders, *lower.holders]).heap == upper.heap
 
     def complete(self, held):
-        """Returns what is above `held`, with the fields above it that only together with threads hold it."""
+        """Returns what is above `held`, with what is above its top if all threads lead nowhere: worker threads hold
+        their executor, too. That takes some runs, so only what is above the first top is looked for."""
         path = self.above(held)
-        top = path[0] if path else held.holders[0]
-        if top.kind != FIELD or len(held.holders) > 1:
-            return path
-        return [*self._without_threads(top), *path]
+        top = path[0] if path else held
+        if not self._tops:
+            self._tops[id(top)] = [] if is_root(top) else self._without_threads(top)
+        return [*self._tops.get(id(top), []), *path]
 
-    def _without_threads(self, field):
-        """Returns what is above `field` if all local variables and threads lead nowhere: worker threads hold their
-        executor, too. Returns the threads if it is unreachable then."""
-        runs, holders = self.probe.runs, self.probe.holders
-        threads, kept = holders.all_threads(), runs.cut
+    def _without_threads(self, held):
+        """Returns what is above the holders of a field if all local variables and threads lead nowhere. Returns the
+        threads if the holders are unreachable then."""
+        runs, holders, kept = self.probe.runs, self.probe.holders, self.probe.runs.cut
+        threads, classes = holders.all_threads(), held.holders[0].classes
         if not threads.changes:
             return []
         runs.cut = {**kept, **threads.changes}
         try:
-            probe = Probe(runs, holders, sorted(field.classes), "objects")
-            before = self.probe.base.total(field.classes).objects
-            if probe.whole.objects < before:
-                return [threads] if probe.whole.objects == 0 else []
-            return self._search(probe, field)
+            probe = Probe(runs, holders, sorted(classes), "objects")
+            if probe.whole.objects == 0:
+                return [self.probe.held([threads])]
+            is_whole = probe.whole.objects == self.probe.base.total(classes).objects
+            return self._search(probe, held.holders[0]) if is_whole else []
         finally:
             runs.cut = kept
 
     def _search(self, probe, field):
         """Returns the path to all instances that have `field`."""
         search = Search(probe, 100, 4, lambda held: -held.heap.objects, self.progress)
-        near = [each for each in probe.holders.fields(probe.base) if each.count <= field.count and each.key != field.key]
         search.find_roots()
         lost = set().union(*(held.lost for held in search.found))
+        near = probe.holders.fields(probe.base)
+        near = [each for each in near if each.count <= field.count and each.key != field.key]
         search.look_in([each for each in near if not lost.isdisjoint(each.classes)])
-        search.found.sort(key=search.order)
-        return [holder for held in search.found for holder in held.holders]
+        return sorted(search.found, key=search.order)

@@ -63,6 +63,12 @@ class Heapmark:
         finally:
             _unblock()
 
+    def version(self):
+        """Returns the version that heapmark prints, or nothing if it prints none."""
+        status, printed = self.run(["--version"])
+        line = printed.split(b"\n")[0].decode(errors="replace")
+        return line.partition(" ")[2] if status == 0 else ""
+
     def check_fields(self, fields):
         """Raises `Fault` if `fields` is no list. heapmark refuses such a text before it opens a file: with refusal 21,
         or with status 2 if the text is not UTF-8."""
@@ -141,11 +147,11 @@ def is_dump(path):
 
 class Runs:
     """A dump in a plain file, and the runs of heapmark on it for a tool. `report` is that of the dump as it is. `cut`
-    are changes that each later run makes."""
+    are changes that each later run makes, and `roots` are objects that are roots in it."""
 
     def __init__(self, heapmark, path, tool):
         require_plain_dump(path, tool)
-        self.heapmark, self.path, self.cut = heapmark, path, {}
+        self.heapmark, self.path, self.cut, self.roots = heapmark, path, {}, []
         self.report = heapmark.first_report(path)
         try:
             self.dump = Dump(_opened(path), self.report.has_nameless())
@@ -155,4 +161,4 @@ class Runs:
     def without(self, changes):
         """Returns the report of the dump with these changes."""
         changes = {**self.cut, **changes}
-        return self.heapmark.later_report(self.path, lambda pipe: self.dump.send(pipe, changes))
+        return self.heapmark.later_report(self.path, lambda pipe: self.dump.send(pipe, changes, self.roots))

@@ -40,7 +40,7 @@ class Probe:
 
     def __init__(self, runs, holders, families, column):
         self.runs, self.holders, self.families, self.column = runs, holders, families, column
-        self.base = runs.report if not runs.cut else runs.without({})
+        self.base = runs.without({}) if runs.cut or runs.roots else runs.report
         self.whole = self.base.total(families)
         self._known, self.watch = {}, lambda: None
 
@@ -131,6 +131,10 @@ class Search:
         self.all = self.left = 0
         probe.watch = self.show
 
+    def first(self):
+        """Returns the `top` first of what was found."""
+        return self.found[: self.top]
+
     def show(self):
         """Shows how many holders are still to be tried, and what was found last."""
         text = f"run {self.probe.runs.heapmark.runs + 1}, {self.left} of {self.all} fields left"
@@ -146,7 +150,6 @@ class Search:
         self.look_in_likely(fields)
         self.found.sort(key=self.order)
         self.is_cut |= len(self.found) > self.top
-        del self.found[self.top :]
 
     def find_roots(self):
         """Finds static fields, local variables and threads."""

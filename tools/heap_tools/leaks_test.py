@@ -1,0 +1,328 @@
+"""Runs leaks on small dumps of services that leak beside a catalog, and compares what it prints."""
+
+import os
+import pathlib
+import re
+import shutil
+import unittest
+
+from heap_tools.dump_writer import BYTE, Dump, word
+from heap_tools.testing import ToolTest, histogram
+
+MINUTE = 60000
+
+# Dumps
+
+
+class Service(Dump):
+    """A service with a static field that holds a catalog: an array of 100 products with 20 bytes each."""
+
+    def __init__(self, minutes=0, id_size=8):
+        super().__init__(id_size, MINUTE * minutes)
+        self.of_class(1, "shop/Catalog", {"ALL": 1000})
+        self.of_class(2, "[Lshop/Product;")
+        self.of_class(3, "shop/Product", fields=["picture"])
+        self.of_class(4, "[Ljava/lang/Object;")
+        self.array(1000, 2, *range(1001, 1101))
+        for number in range(1001, 1101):
+            self.instance(number, 3, number + 1000)
+            self.values(number + 1000, BYTE, bytes(20))
+        self.root(1)
+
+    def orders(self, count, array=5000, name="shop/Order"):
+        """Writes an array of `count` orders with 20 bytes each."""
+        self.of_class(5, name, fields=["text"])
+        self.array(array, 4, *range(array + 1, array + 1 + count))
+        for number in range(array + 1, array + 1 + count):
+            self.instance(number, 5, number + 1000)
+            self.values(number + 1000, BYTE, bytes(20))
+
+
+def cache(count, minutes=0, id_size=8):
+    """A static field holds a cache, which has an array of orders."""
+    dump = Service(minutes, id_size)
+    dump.of_class(6, "shop/Service", {"CACHE": 600})
+    dump.of_class(7, "shop/Cache", fields=["table", "intSize"])
+    dump.instance(600, 7, 5000, word(count))
+    dump.orders(count)
+    dump.root(6)
+    return dump
+
+
+def uploads(count):
+    """A field of the only upload has an array of `count` arrays of 200 bytes; a static field names the upload."""
+    dump = Service()
+    dump.of_class(6, "shop/Upload", {"UPLOAD": 600}, fields=["chunks"])
+    dump.array(601, 4, *range(5001, 5001 + count))
+    dump.instance(600, 6, 601)
+    for number in range(5001, 5001 + count):
+        dump.values(number, BYTE, bytes(200))
+    dump.root(6)
+    return dump
+
+
+def lambdas(count, address):
+    """A lambda, whose class has this address, holds the orders. With no orders, there is no lambda."""
+    dump = Service()
+    if count:
+        dump.of_class(6, f"shop/Bus$$Lambda$14+0x{address}", fields=["arg$1"])
+        dump.of_class(7, "shop/Bus", {"LISTENER": 600})
+        dump.instance(600, 6, 5000)
+        dump.orders(count)
+        dump.root(7)
+    return dump
+
+
+def worker(count):
+    """A static field and a worker thread have an executor, whose queue has an array of orders."""
+    dump = Service()
+    dump.of_class(6, "shop/Service", {"TIMER": 600})
+    dump.of_class(7, "java/util/Executor", fields=["queue"])
+    dump.of_class(8, "java/util/Queue", fields=["table"])
+    dump.of_class(9, "java/lang/Thread", fields=["name"])
+    dump.thread(1, 700, [(8, "take")])
+    dump.local(1, 0, 600)
+    dump.instance(600, 7, 601)
+    dump.instance(601, 8, 5000)
+    dump.instance(700, 9, 0)
+    dump.orders(count)
+    dump.root(6)
+    return dump
+
+
+def handler(count, name="http-0"):
+    """A local variable of a thread with this name holds the orders."""
+    dump = Service()
+    dump.of_class(6, "java/lang/Thread", fields=["name"])
+    dump.of_class(7, "java/lang/String", fields=["value", "coder"])
+    dump.of_class(8, "shop/Handler")
+    dump.thread(1, 700, [(8, "handle")])
+    dump.local(1, 0, 5000)
+    dump.instance(700, 6, 701)
+    dump.instance(701, 7, 702, b"\0")
+    dump.values(702, BYTE, name.encode())
+    dump.orders(count)
+    return dump
+
+
+def journal(count):
+    """Two static fields of different classes hold the orders, only together."""
+    dump = Service()
+    dump.of_class(6, "shop/Journal", {"EVENTS": 5000})
+    dump.of_class(7, "shop/Screen", {"SHOWN": 5000})
+    dump.orders(count)
+    dump.root(6, 7)
+    return dump
+
+
+def moved(count):
+    """The catalog has 100 products in all: those that are not sold; the sold ones are in another static field."""
+    dump = Dump()
+    dump.of_class(1, "shop/Catalog", {"ALL": 1000, "SOLD": 1001})
+    dump.of_class(2, "shop/Product")
+    dump.of_class(3, "shop/Sold")
+    dump.of_class(4, "[Ljava/lang/Object;")
+    numbers = list(range(2000, 2100))
+    dump.array(1000, 4, *numbers[count:])
+    dump.array(1001, 4, *numbers[:count])
+    for at, number in enumerate(numbers):
+        dump.instance(number, 3 if at < count else 2)
+    dump.root(1)
+    return dump
+
+
+# What is compared
+
+
+def line(objects, size, share, before, after, holders, path):
+    """Returns a line of the output."""
+    return f"{objects:10} {size:14} {share:4}% {before:14} {after:14} {holders:9}  {path}\n"
+
+
+class LeaksTest(ToolTest):
+    """leaks on services."""
+
+    tool = "leaks"
+    COST = "leaks: * fields, * runs of heapmark, * s"
+
+    def setUp(self):
+        super().setUp()
+        cache(20).write("monday")
+        cache(80, minutes=12).write("friday")
+
+    def found(self, before, after, *words):
+        """Writes two dumps, and returns the columns of the lines that leaks prints for them."""
+        before.write("before")
+        after.write("after")
+        ended = self.ran("before", "after", *words)
+        self.assertEqual(ended.status, 0, ended.said)
+        return [each.split(None, 6) for each in ended.out.splitlines()]
+
+    def test_cache(self):
+        """The field that holds the growth, by identifiers of both sizes; not the catalog, which holds more."""
+        lines = line(120, 2160, 100, 720, 2880, 1, "static shop/Service.CACHE > shop/Cache.table")
+        lines += line(120, 2160, 100, 732, 2892, 1, "static shop/Service.CACHE")
+        lines += line(60, 1200, 56, 400, 1600, 80, "static shop/Service.CACHE > shop/Cache.table > shop/Order.text")
+        self.expect(["monday", "friday"], lines, self.COST)
+        self.assertNotIn("Catalog", lines)
+        rows = self.found(cache(20, id_size=4), cache(80, id_size=4))
+        self.assertEqual([rows[0][0], rows[0][1], rows[0][6]], ["120", "1680", "static shop/Service.CACHE > shop/Cache.table"])
+        first = self.ran("--top=1", "monday", "friday")
+        self.assertEqual(first.out, lines.splitlines(True)[0])
+        self.assertIn("fields with more holders may hold as much: see --top", first.said)
+
+    def test_class(self):
+        """The growth of a class, and a class that did not grow."""
+        for name in ("shop/Order", "shop.Order"):
+            first = self.ran("--class", name, "monday", "friday").out.splitlines(True)[0]
+            path = "static shop/Service.CACHE > shop/Cache.table"
+            self.assertEqual(first, line(60, 480, 100, 160, 640, 1, path))
+        said = "leaks: shop/Product: 800 bytes, then 800: no growth"
+        self.expect(["--class=shop/Product", "monday", "friday"], said=said, status=3)
+        said = "leaks: Order: no class of the dump has this name: did you mean shop/Order?"
+        self.expect(["--class=Order", "monday", "friday"], said=said, status=6)
+
+    def test_objects(self):
+        """Shares of objects, in which small ones count as much as large ones."""
+        rows = self.found(cache(20), cache(80), "--objects")
+        self.assertEqual(rows[0], ["120", "2160", "100%", "41", "161", "1", "static shop/Service.CACHE > shop/Cache.table"])
+
+    def test_arrays(self):
+        """By bytes, large arrays count more than many small ones of the catalog."""
+        for words in ([], ["--class", "byte[]"]):
+            rows = self.found(uploads(1), uploads(10), *words)
+            self.assertEqual(rows[0][-1], "static shop/Upload.UPLOAD > shop/Upload.chunks")
+
+    def test_hidden_classes(self):
+        """Names of hidden classes differ, and BEFORE may lack a class."""
+        for before in (lambdas(20, "00aa"), lambdas(0, "")):
+            rows = self.found(before, lambdas(80, "00bb"))
+            self.assertEqual(rows[0][-1], "static shop/Bus.LISTENER > shop/Bus$$Lambda.arg$1")
+        self.assertEqual(rows[0][3], "0")
+
+    def test_threads(self):
+        """A local variable of a thread, also if the thread of BEFORE is another one."""
+        path = 'thread "http-0" > local shop/Handler.handle'
+        rows = self.found(handler(20), handler(80))
+        self.assertEqual([row[-1] for row in rows[:2]], [path, 'thread "http-0"'])
+        self.assertEqual([row[3] for row in rows[:2]], ["720", "743"])
+        rows = self.found(handler(20, "http-7"), handler(80))
+        self.assertEqual([(row[3], row[-1]) for row in rows[:2]], [("0", 'thread "http-0"'), ("720", path)])
+
+    def test_together(self):
+        """Static fields that hold the growth only together."""
+        rows = self.found(journal(20), journal(80))
+        self.assertEqual(rows[0][-1], "together static shop/Journal.EVENTS, static shop/Screen.SHOWN")
+
+    def test_executor(self):
+        """Who owns the queue, of which a worker thread knows, too."""
+        rows = self.found(worker(20), worker(80))
+        path = "static shop/Service.TIMER > java/util/Executor.queue"
+        self.assertEqual([row[-1] for row in rows[:2]], [path, f"{path} > java/util/Queue.table"])
+
+    def test_no_growth(self):
+        """The whole did not grow, or nothing did."""
+        moved(10).write("before")
+        moved(60).write("after")
+        said = "leaks: reachable: 816 bytes, then 816: no growth; so these are shares of the objects of the 1 class*"
+        ended = self.ran("before", "after")
+        self.assertEqual(ended.out, line(50, 0, 100, 10, 60, 1, "static shop/Catalog.SOLD"), ended.said)
+        self.assertTrue(ended.said.startswith(said.partition(" 1 ")[0]), ended.said)
+        said = "leaks: reachable: 5668 bytes, then 5668: no growth"
+        self.assertEqual(self.ran("monday", "monday").status, 3)
+        self.expect(["friday", "friday"], said="leaks: reachable: * bytes, then *: no growth", status=3)
+
+    def test_several(self):
+        """Further dumps, up to 30 and too many."""
+        cache(50, minutes=6).write("tuesday")
+        ended = self.ran("monday", "tuesday", "friday")
+        self.assertEqual(ended.out, self.ran("monday", "friday").out)
+        names = [f"day{number}" for number in range(30)]
+        for number, name in enumerate(names):
+            cache(20 + number, minutes=number).write(name)
+        ended = self.ran("--html", "page.html", *names)
+        self.assertEqual((ended.status, ended.out.split()[-1]), (0, "shop/Order.text"), ended.said)
+        self.assertTrue(os.path.getsize("page.html"))
+        self.expect(["monday", *["friday"] * 100], said="leaks: 101 dumps: at most 100", status=2)
+
+    def test_refused(self):
+        """Files that do not go together, or cannot be read."""
+        pathlib.Path("cut").write_bytes(pathlib.Path("friday").read_bytes()[:-1])
+        pathlib.Path("histogram").write_text(histogram((1, 16, "Order")))
+        pathlib.Path("other").write_bytes(pathlib.Path("friday").read_bytes().replace(b"shop/", b"bank/"))
+        os.mkfifo("pipe")
+        for words, said in (
+            (["friday", "monday"], "leaks: monday: wrong order? it was dumped earlier than friday"),
+            (["monday", "other"], "leaks: other: another program? it has 0 of the * own classes of monday"),
+            (["monday", "cut"], "heapmark: refused 3 Truncated at *\nleaks: cut: not read: no dump that heapmark accepts"),
+            (["cut", "friday"], "heapmark: refused 3 Truncated at *\nleaks: cut: not read: no dump that heapmark accepts"),
+            (["monday", "nowhere"], "leaks: nowhere: no such file"),
+            (["monday", "histogram"], "leaks: histogram: a histogram: leaks needs a dump"),
+            (["monday", "pipe"], "leaks: pipe: no plain file, and leaks reads it more than once"),
+            (["/dev/stdin", "friday"], "leaks: /dev/stdin: no plain file, and leaks reads it more than once"),
+        ):
+            self.expect(["--html", "page.html", *words], said=said, status=1)
+            self.assertEqual(sorted(name for name in os.listdir() if "page" in name), [])
+
+    def test_words(self):
+        """The help, wrong words, and one dump."""
+        self.check_help("Shows what holds the objects that grew between heap dumps of one program: ")
+        self.check_wrong_words([], ["--all", "monday", "friday"], ["monday", "friday", "--top", "0"], ["--class"])
+        said = "leaks: one dump: holders monday shows what holds its objects"
+        self.expect(["monday"], said=said, status=2)
+
+    def test_names_of_files(self):
+        """Names that a tool or a shell may take for something else."""
+        out = self.ran("monday", "friday").out
+        for name in ("day=2", "two words", "*", "line\nbreak", os.fsdecode(b"\xff")):
+            shutil.copy("friday", name)
+            self.assertEqual(self.ran("monday", name).out, out, name)
+        for name in ("--class", "-dash"):
+            shutil.copy("friday", name)
+            self.assertEqual(self.ran("--", "monday", name).out, out, name)
+
+    def test_page(self):
+        """The page has the figures of the lines. If it cannot be written, a line says so, and nothing is left of it."""
+        out = self.ran("monday", "friday").out
+        self.assertEqual(self.ran("--html", "page.html", "monday", "friday").out, out)
+        page = pathlib.Path("page.html").read_text(encoding="utf-8")
+        text = re.sub("<[^>]*>", "", page)
+        for part in ("shop/Cache.table", "shop/Service.CACHE", "leaks --html page.html monday friday"):
+            self.assertIn(part, text)
+        self.assertIn('"2880"', page)
+        said = "leaks: /dev/full: the page cannot be written: No space left on device"
+        self.expect(["--html", "/dev/full", "monday", "friday"], out, said, 4)
+        for path in ("no/page.html", "."):
+            self.expect(["--html", path, "monday", "friday"], said=f"leaks: {path}: the page cannot be written", status=4)
+
+    def test_output(self):
+        """What cannot be written, and an interrupt, which leaves no page."""
+        self.check_output(["monday", "friday"], self.ran("monday", "friday").out)
+        self.check_interrupt("--html", "page.html", "monday", "friday")
+        self.assertFalse(os.path.exists("page.html"))
+
+    def test_heapmark(self):
+        """A heapmark that fails later."""
+        later = self.program('[ "$(wc -l < runs)" -lt 6 ] || kill -9 $$\nexec HEAPMARK "$@"')
+        said = "leaks: *: run 6 on * failed: signal 9"
+        self.expect(["--html", "page.html", "monday", "friday"], said=said, status=5, heapmark=later)
+        self.assertFalse(os.path.exists("page.html"))
+        said = "leaks: /nowhere cannot be run: No such file or directory"
+        self.expect(["monday", "friday"], said=said, status=5, heapmark="/nowhere")
+
+    def test_terminal(self):
+        """A terminal shows the growth and the heads of the columns, and how far the search is."""
+        ended, seen = self.on_terminal("monday", "friday", stream="stdout")
+        top, heads, first = seen.splitlines()[:3]
+        self.assertEqual((ended.status, top), (0, "reachable: 4.3 kB to 6.5 kB in 12 min"))
+        self.assertEqual(heads.split(), ["objects", "bytes", "share", "before", "after", "holders", "field"])
+        self.assertTrue(first.endswith("shop/Cache.table"), seen)
+        _, seen = self.on_terminal("monday", "friday")
+        parts = seen.split("\r")
+        self.assertEqual(parts[0], "leaks: reading dump 1 of 2")
+        self.assertTrue(any(" fields left; found static shop/Service.CACHE, 100%" in part for part in parts), seen)
+        self.assertTrue(parts[-1].startswith("leaks: "), seen)
+
+
+if __name__ == "__main__":
+    unittest.main()
