@@ -84,6 +84,15 @@ LOW_CONTRAST = """
 """
 
 
+#: Adds an element to the page, and returns which rule of its policy refuses that.
+REFUSED = """
+new Promise(done => {
+  document.addEventListener('securitypolicyviolation', event => done(event.effectiveDirective));
+  document.body.append(Object.assign(document.createElement('%s'), {%s}));
+})
+"""
+
+
 class Outline(html.parser.HTMLParser):
     """What a page has: its elements and their attributes, its headings, and its text without that of the style."""
 
@@ -560,6 +569,17 @@ class BrowserTest(unittest.TestCase):
         regions = [name for role, name in parts if role == "region"]
         self.assertTrue(all(regions))
         self.assertIn("What holds it", regions)
+
+    def test_policy(self):
+        """If a name ever were more than text, the policy of the page would still refuse to fetch or to run it."""
+        for tag, attributes, rule in [
+            ("img", "src: 'http://127.0.0.1:9/x'", "img-src"),
+            ("script", "textContent: 'alert(1)'", "script-src-elem"),
+            ("iframe", "src: 'http://127.0.0.1:9/x'", "frame-src"),
+        ]:
+            with self.subTest(tag):
+                self.open(page_sample.leak())
+                self.assertEqual(self.browser.value(REFUSED % (tag, attributes)), rule)
 
     def test_the_browser_sees_what_is_wrong(self):
         """These tests would see a page that fetches, runs, overflows or is pale."""
