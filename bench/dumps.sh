@@ -18,7 +18,7 @@
 #   ids        6,000,000 instances with IDs at random, made by hostile.rs: 290 MB, without a histogram
 #   odd        no compressed references, no class archive, a dump written at an OutOfMemoryError
 #   refused    a dump compressed by the virtual machine, which heapmark refuses
-#   newer      for a JDK of any version: Filler with 40 MB by each collector and mode that it has, live, all and, from 21
+#   newer      for a JDK of any version: Filler with 40 MB by each collector and mode that it has, live, all and, from 22
 #              on, written by four threads; with compact object headers, and without compressed references; from 21 on,
 #              3,000 parked virtual threads, also interpreted only. The names begin with the version, as in j25-z-live
 # Java is that of JAVA_HOME, else that of PATH; bench/debian_jdk.sh unpacks others. Files that exist are made again.
@@ -119,10 +119,11 @@ map() {
 
 # accepts OPTION..: tests whether the virtual machine takes these options without a word.
 accepts() {
-    ! "${java}java" "$@" -version 2>&1 | grep -qiE 'warning|error|unrecognized'
+    local told
+    told=$("${java}java" "$@" -version 2>&1) && ! grep -q warning <<< "$told"
 }
 
-# each_way NAME WORD..: starts the Java program WORD.. and dumps all objects, the live ones, and from Java 21 on the live
+# each_way NAME WORD..: starts the Java program WORD.. and dumps all objects, the live ones, and from Java 22 on the live
 # ones by four threads.
 each_way() {
     local name
@@ -131,7 +132,7 @@ each_way() {
     started "${java}java" -cp "$room/classes" -Xmx700m "$@"
     moment "$PROGRAM_PID" "$name-all" -all
     moment "$PROGRAM_PID" "$name-live"
-    if [ "$(version)" -ge 21 ]; then
+    if [ "$(version)" -ge 22 ]; then
         rm -f "$room/$name-parallel.hprof"
         "${java}jcmd" "$PROGRAM_PID" GC.heap_dump -parallel=4 "$room/$name-parallel.hprof" > "$room/request"
         ls -l "$room/$name-parallel.hprof"

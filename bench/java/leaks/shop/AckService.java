@@ -14,14 +14,14 @@ import java.util.concurrent.Executors;
 final class AckService {
     static final int MESSAGES_A_DAY = 1_000 * Service.SCALE;
 
-    record Delivery(String address, byte[] text, CountDownLatch acknowledged) {
+    record Delivery(String address, byte[] head, byte[] text, CountDownLatch acknowledged) {
     }
 
     static final ExecutorService DELIVERIES = Executors.newVirtualThreadPerTaskExecutor();
     static int messages;
 
     static int deliver(int number, CountDownLatch begun) throws InterruptedException {
-        Delivery delivery = new Delivery("customer " + number, new byte[250], new CountDownLatch(1));
+        Delivery delivery = new Delivery("customer " + number, new byte[120], new byte[130], new CountDownLatch(1));
         begun.countDown();
         delivery.acknowledged().await();
         return delivery.text().length + delivery.address().length();

@@ -5,7 +5,7 @@ import java.util.Map;
 
 /** The steady neighbour of each leak: it is three times as large as what leaks, and does not grow. */
 final class Catalog {
-    static final int SIZE = 36_000 * Service.SCALE;
+    static final int SIZE = 44_000 * Service.SCALE;
 
     record Product(int number, String name, String description, byte[] picture, long price) {
     }

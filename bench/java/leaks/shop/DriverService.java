@@ -5,7 +5,7 @@ import java.util.List;
 
 /** Loads its database driver anew at each change, by another class loader. A registry keeps all the drivers. */
 final class DriverService {
-    static final int CHANGES_A_DAY = 95 * Service.SCALE;
+    static final int CHANGES_A_DAY = 90 * Service.SCALE;
 
     /** Loaded by each loader for itself. */
     public static final class Driver {

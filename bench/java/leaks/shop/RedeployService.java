@@ -2,7 +2,7 @@ package shop;
 
 /** Deploys its application anew at each change, by another class loader. Each adds a shutdown hook and removes none. */
 final class RedeployService {
-    static final int CHANGES_A_DAY = 40 * Service.SCALE;
+    static final int CHANGES_A_DAY = 37 * Service.SCALE;
 
     /** Loaded by each loader for itself. */
     public static final class Application {
