@@ -4,7 +4,7 @@ ghost use Rattle.heap_graph.specs.ByKind.{AreByKind};
 
 use crate::object_ids::{ObjectIds, Rest};
 use crate::row::RowKey;
-use crate::targets::{ElementTargets, FieldTargets, ObjectTargets, NoIds, NoTargets, Targets};
+use crate::targets::{ElementTargets, FieldTargets, NoIds, NoTargets, ObjectTargets, Targets};
 use id_index::IdIndex;
 use std::alloc::Allocator;
 use std::marker::Model;

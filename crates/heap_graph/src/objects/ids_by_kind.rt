@@ -76,7 +76,7 @@ impl<'d, A: Allocator> Objects<'d, A> {
         ensures { (skips : Class → Member → Bool) (heap : List SubRecord) (a : ObjectArray)
             → Stands self.now.view at (object_array_dump a) → class ≡ a.class
             → AreIdsOf skips self.now.view.id_size heap (object_array_dump a)
-                (with_class class_is_known a.class result) }
+            (with_class class_is_known a.class result) }
     {
         let elements = self.view.array_elements(at);
         if class_is_known {
