@@ -1,7 +1,6 @@
 """grown: which classes grew between dumps, reports or histograms of one program."""
 
 import os
-import sys
 from typing import NamedTuple, Optional
 
 from heap_tools import growth, names

@@ -75,7 +75,7 @@ class Frame(NamedTuple):
 
 
 class Dump:
-    """The records of the dump in the plain file `file`. `nameless` says that it has classes that no LOAD CLASS names."""
+    """The records of the dump in the plain file `file`. `nameless`: it has classes that no LOAD CLASS names."""
 
     def __init__(self, file, nameless=False):
         self.file = file
@@ -193,8 +193,9 @@ class Dump:
                 kind, name = data[place], at
                 at = place + 1 + (0 if part == "instances" else sizes[kind])
                 if part != "constants":
-                    is_null = part == "statics" and kind == OBJECT and id_at(data, place + 1)[0] == 0
-                    fields.append(Field(self._field_name(id_at(data, name)[0]), kind, part == "statics", is_null, place))
+                    is_static, text = part == "statics", self._field_name(id_at(data, name)[0])
+                    is_null = is_static and kind == OBJECT and id_at(data, place + 1)[0] == 0
+                    fields.append(Field(text, kind, is_static, is_null, place))
         self.classes[self.id(begin + 1)] = Class(self.id(begin + 5 + size), self.id(begin + 5 + 2 * size), fields)
         return at
 
@@ -204,8 +205,8 @@ class Dump:
         return self._field_names[text_id]
 
     def lasting_classes(self):
-        """Returns the identifiers of the classes that are never unloaded: those of the loaders that the JDK itself keeps
-        in static fields."""
+        """Returns the identifiers of the classes that are never unloaded: those of loaders that the JDK itself keeps in
+        static fields."""
         loaders = {0}
         for class_id, name in self.names.items():
             for field in self.classes[class_id].fields:
@@ -309,7 +310,7 @@ class Dump:
         self._send_part(pipe, begin, end)
 
     def _stretches(self, changes):
-        """Yields the places and the bytes of the parts of the dump that change. Changes near each other are one part."""
+        """Yields the places and the bytes of the parts of the dump that change. Changes that are near are one part."""
         begin, changed = 0, bytearray()
         for place, new in sorted(changes.items()):
             end = begin + len(changed)
@@ -323,7 +324,7 @@ class Dump:
             yield begin, changed
 
     def _copy(self, begin, end):
-        """Returns the dump from `begin` to `end`, read from the file: a mapping of a shorter file would end the tool."""
+        """Returns the dump from `begin` to `end`, read from the file: a mapping that became shorter ends the tool."""
         copied = os.pread(self.file.fileno(), end - begin, begin)
         if len(copied) < end - begin:
             raise EOFError
