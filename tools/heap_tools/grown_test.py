@@ -240,10 +240,11 @@ class GrownTest(ToolTest):
         self.assertEqual(ended.status, 0)
 
     def test_own(self):
-        """Only own classes."""
+        """Only own classes, and only the first lines."""
         own = [(3, 30, "[Lcom/shop/Order;"), (2, 20, "Shop$$Lambda")]
         write("mixed", *own, (9, 90, "java/lang/String"), (9, 90, "byte[]"), (1, 2, "<class>"))
         self.expect(["--own", "none", "mixed"], grew(*own))
+        self.expect(["--own", "--top=1", "none", "mixed"], grew(own[0]))
 
     def test_more_than(self):
         """A limit, for a script."""

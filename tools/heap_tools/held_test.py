@@ -38,8 +38,8 @@ def cache():
 
 def statics(id_size):
     """The static field `all` of class Größe has an item. Class plain/Other has four static fields: `list` has an
-    item, `first` and `second` share an item, and `all` is null. Two hidden classes of one name have an instance each, whose
-    `arg$1` is an item. The last class dumps come after the instances."""
+    item, `first` and `second` share an item, and `all` is null. Two hidden classes of one name have an instance each,
+    whose `arg$1` is an item. The last class dumps come after the instances."""
     dump = Dump(id_size)
     dump.of_class(20, "Größe", {"all": 201})
     dump.of_class(21, "plain/Other", {"first": 202, "second": 202, "list": 204, "all": 0})
@@ -149,7 +149,8 @@ class HeldTest(ToolTest):
 
     def test_heapmark(self):
         """heapmark runs on the dump and on a pipe. It may end early, or be missing."""
-        other, huge = self.program(f"cat <<'END'\n{report((1, 8, 'A'))}END"), {"GLIBC_TUNABLES": "glibc.malloc.hugetlb=1"}
+        other = self.program(f"cat <<'END'\n{report((1, 8, 'A'))}END")
+        huge = {"GLIBC_TUNABLES": "glibc.malloc.hugetlb=1"}
         said = "held: nothing hangs by *"
         self.expect(["cache.hprof", VALUE], said=said, heapmark=other, variables=huge)
         words = (f"--skip={VALUE} -- /dev/null", "-- cache.hprof", "-- /dev/stdin")

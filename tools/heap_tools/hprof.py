@@ -10,6 +10,7 @@ import struct
 from typing import NamedTuple
 
 from heap_tools.names import PRIMITIVES, of_dump, shown
+from heap_tools.processes import shared
 
 MAGIC = b"JAVA PROFILE "
 HEADER_SIZE = 31  # the last 8 bytes are the time
@@ -24,6 +25,8 @@ ROOT_SIZES.update({JNI_LOCAL: 8, JAVA_FRAME: 8, THREAD_OBJECT: 8})
 #: The roots that name their thread.
 THREAD_ROOTS = frozenset((JNI_LOCAL, JAVA_FRAME, NATIVE_STACK, THREAD_BLOCK, THREAD_OBJECT))
 COUNT = struct.Struct(">I")
+#: The fewest segments for which a process of its own pays. Those of a virtual machine have a million bytes each.
+FEWEST_SEGMENTS = 64
 OBJECT, CHAR, BYTE, INT, LONG = 2, 5, 8, 10, 11  # codes of types
 #: Changes of a dump that are this near are written as one.
 NEAR = 1 << 13
@@ -147,7 +150,7 @@ class Dump:
         roots of all threads that have a trace, then the objects. So this ends at an object once it has met all of them.
         It walks over all objects if it cannot know that, as if a class was unloaded or is `nameless`."""
         classes, threads = set(self._loaded), set(self._traces) - {0}
-        for at, tag in self._sub_records():
+        for at, tag in self._sub_records(self._segments):
             if tag in OBJECTS:
                 if not (classes or threads or nameless):
                     return
@@ -158,11 +161,11 @@ class Dump:
                 if tag == THREAD_OBJECT:
                     threads.discard(self.roots[-1].thread)
 
-    def _sub_records(self):
-        """Yields the place and the tag of each sub-record. Reads class dumps on the way."""
+    def _sub_records(self, segments):
+        """Yields the place and the tag of each sub-record of `segments`. Reads class dumps on the way."""
         data, size, sizes, count = self.bytes, self.id_size, self._value_sizes, COUNT.unpack_from
         head = 9 + 2 * size
-        for at, end in self._segments:
+        for at, end in segments:
             while at < end:
                 begin, tag = at, data[at]
                 if tag == INSTANCE:
@@ -232,26 +235,36 @@ class Dump:
 
     def _instances(self, identifiers):
         """Returns where the objects with these identifiers are."""
-        missing, found, id_at, data = {each for each in identifiers if each}, {}, self._id, self.bytes
-        for at, tag in self._sub_records() if missing else ():
-            if id_at(data, at + 1)[0] in missing and tag in OBJECTS:
-                found[self.id(at + 1)] = at
-                missing.discard(self.id(at + 1))
-                if not missing:
-                    break
-        return found
+        wanted = {each for each in identifiers if each}
+
+        def found_in(segments):
+            found, id_at, data = {}, self._id, self.bytes
+            for at, tag in self._sub_records(segments):
+                if id_at(data, at + 1)[0] in wanted and tag in OBJECTS:
+                    found[id_at(data, at + 1)[0]] = at
+                    if len(found) == len(wanted):
+                        break
+            return found
+
+        parts = shared(found_in, self._segments, FEWEST_SEGMENTS) if wanted else []
+        return {key: at for part in parts for key, at in part.items()}
 
     def count(self, names):
         """Returns how many objects of the classes with these names, as reports have them, the dump has."""
         classes = {class_id for class_id, name in self.names.items() if name in names}
         codes = {code for code, letter in zip(range(4, 12), "ZCFDBSIJ") if f"{PRIMITIVES[letter]}[]" in names}
-        places, found = {INSTANCE: 5 + self.id_size, OBJECT_ARRAY: 9 + self.id_size}, 0
-        for at, tag in self._sub_records():
-            if tag in places:
-                found += self.id(at + places[tag]) in classes
-            elif tag == PRIMITIVE_ARRAY:
-                found += self.bytes[at + 9 + self.id_size] in codes
-        return found
+        places = {INSTANCE: 5 + self.id_size, OBJECT_ARRAY: 9 + self.id_size}
+
+        def count_in(segments):
+            found = 0
+            for at, tag in self._sub_records(segments):
+                if tag in places:
+                    found += self.id(at + places[tag]) in classes
+                elif tag == PRIMITIVE_ARRAY:
+                    found += self.bytes[at + 9 + self.id_size] in codes
+            return found
+
+        return sum(shared(count_in, self._segments, FEWEST_SEGMENTS))
 
     def _value_at(self, at, class_name, field):
         """Returns where the value of an instance's field is that the class `class_name` declares, or None."""
