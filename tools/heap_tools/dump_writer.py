@@ -8,7 +8,7 @@ from collections import defaultdict
 
 #: The identifier of object 0, and the factor of the permutation of 2^21 numbers that scatters identifiers.
 FIRST_ID, FACTOR = 1 << 20, 1_234_567
-#: Tags and type codes of the format. That they are not those of `heap_tools.hprof` is meant: a test must not share them.
+#: Tags and type codes of the format. They are not taken from `heap_tools.hprof`, which is tested with them.
 STRING, LOAD_CLASS, FRAME, TRACE, HEAP_DUMP, SEGMENT, END = 0x01, 0x02, 0x04, 0x05, 0x0C, 0x1C, 0x2C
 ROOT_UNKNOWN, ROOT_JAVA_FRAME, ROOT_STICKY_CLASS, ROOT_THREAD_OBJECT = 0xFF, 0x03, 0x05, 0x08
 CLASS, INSTANCE, OBJECT_ARRAY, PRIMITIVE_ARRAY = 0x20, 0x21, 0x22, 0x23
@@ -86,8 +86,8 @@ class Format:
         return self.named_class_dump(self.id(number), (parent, 0), named, [(1, code) for code in fields])
 
     def named_class_dump(self, identifier, parents, statics, fields):
-        """Returns the dump of a class. `parents` are the identifiers of its superclass and its loader, `statics` of each
-        static field the identifier of its name, a type code and a value, `fields` of each field the former two."""
+        """Returns the dump of a class. `parents` are the identifiers of its superclass and its loader. `statics` has of
+        each static field the identifier of its name, a type code and a value, `fields` of each field the former two."""
         head = struct.pack(">B", CLASS) + self.spell([identifier]) + bytes(4) + self.spell([*parents, 0, 0, 0, 0])
         static = [self.spell([name]) + struct.pack(">B", code) + value for name, code, value in statics]
         own = [self.spell([name]) + struct.pack(">B", code) for name, code in fields]
@@ -146,7 +146,7 @@ class Dump:
     """A small dump that is being written. The caller chooses the identifiers: those of classes are below 100."""
 
     def __init__(self, id_size=8, time=0):
-        self.form, self.time, self.records, self.heap, self._texts, self._serials = Format(id_size), time, b"", b"", {}, {}
+        self.form, self.time, self.records, self.heap, self._texts = Format(id_size), time, b"", b"", {}
 
     def write(self, path):
         """Writes the file `path`."""

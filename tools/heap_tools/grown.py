@@ -1,7 +1,6 @@
 """grown: which classes grew between dumps, reports or histograms of one program."""
 
 import os
-import sys
 from typing import NamedTuple, Optional
 
 from heap_tools import growth, names
@@ -50,7 +49,7 @@ Exit status:
   5  heapmark cannot be run, or was ended by a signal
 
 Example:
-  $ grown monday.hprof friday.hprof | head -20
+  $ grown --top 20 monday.hprof friday.hprof
 """
 #: Of how many own classes of the smaller of two files the other must have one, if both are of one program.
 COMMON = 2
@@ -158,6 +157,7 @@ def parser():
     text = "Show the growth an hour, too; the first and the last file must be dumps, since only a dump has its time"
     it.flag("--per-hour", text)
     it.flag("--own", "Show only classes that are not of the JDK")
+    it.option("--top", "N", "Show at most N lines", type=number(1))
     it.option("--skip", "LIST", "Fields that are not followed in dumps, as heapmark takes them")
     return it
 
@@ -173,7 +173,7 @@ def main(words):
     if options.own:
         found = [each for each in found if names.is_own(each.name)]
     try:
-        write(growth.lines_to_print(found, column, hours))
+        write(growth.lines_to_print(found[: options.top], column, hours))
     finally:
         say_order(snapshots)
         say_unreachable(first.report, last.report)

@@ -6,7 +6,7 @@ import shutil
 import subprocess
 import unittest
 
-from heap_tools.testing import HEAPMARK, TOOLS, TOP, ToolTest, histogram, report
+from heap_tools.testing import TOP, ToolTest, histogram, report
 
 TWO_OBJECTS = TOP / "crates/heapmark/data/two_objects.hprof"
 HOUR = 3600000
@@ -47,8 +47,9 @@ class GrownTest(ToolTest):
 
     def setUp(self):
         super().setUp()
-        write("monday", (5, 50, "Same"), (4, 40, "Fewer"), (2, 20, "Twice"), (1, 10, "Twice"), (1, 8, "Gone"), (3, 30, "Longer"))
-        write("friday", (5, 50, "Same"), (3, 30, "Fewer"), (4, 41, "Twice"), (7, 70, "New"), (3, 99, "Longer"), (2, 20, "Twice"))
+        same, twice = (5, 50, "Same"), (2, 20, "Twice")
+        write("monday", same, (4, 40, "Fewer"), twice, (1, 10, "Twice"), (1, 8, "Gone"), (3, 30, "Longer"))
+        write("friday", same, (3, 30, "Fewer"), (4, 41, "Twice"), (7, 70, "New"), (3, 99, "Longer"), twice)
         write("none")
         shutil.copy(TWO_OBJECTS, "dump")
 
@@ -80,7 +81,8 @@ class GrownTest(ToolTest):
         days = ["day1", "day2", "day3"]
         self.expect(days, grew(leak, cache, falls, late, table))
         by_bytes = [(5, 50, 20, 30, "Leak"), (0, 3, 1, 2, "Table"), (85, 850, 850, 0, "Cache")]
-        self.expect(["day1", "--bytes", "day2", "day3"], grew(*by_bytes, (1, 10, 80, -70, "Falls"), (1, 8, 0, 8, "Late")))
+        by_bytes += [(1, 10, 80, -70, "Falls"), (1, 8, 0, 8, "Late")]
+        self.expect(["day1", "--bytes", "day2", "day3"], grew(*by_bytes))
         self.expect(["--more-than", "4", *days], grew(leak, cache), status=3)
         alike = [(85, 850, 85, 0, 0, "Cache"), (5, 50, 2, 0, 3, "Leak"), (1, 10, 8, 0, -7, "Falls")]
         self.expect(["day1", "day2", "day2", "day3"], grew(*alike, (1, 8, 0, 0, 1, "Late"), (0, 3, 0, 0, 0, "Table")))
@@ -130,7 +132,8 @@ class GrownTest(ToolTest):
     def test_histograms(self):
         """Histograms of jcmd and jmap, with names as the report has them."""
         rows = [(2, 64, "[B (java.base@17)"), (3, 72, "java.lang.String (java.base@17)")]
-        rows += [(1, 16, "Shop$$Lambda$14/0x00000008000c0a08"), (1, 40, "[Ljava.lang.Object; (java.base@17)"), (4, 40, "Fewer")]
+        rows += [(1, 16, "Shop$$Lambda$14/0x00000008000c0a08"), (1, 40, "[Ljava.lang.Object; (java.base@17)")]
+        rows.append((4, 40, "Fewer"))
         pathlib.Path("before").write_text(histogram(*rows))
         rows = [(9, 640, "[B (java.base@17)"), (4, 96, "java.lang.String (java.base@17)")]
         rows += [(3, 48, "Shop$$Lambda$15/0x00000008000d0a08"), (2, 90, "[Ljava.lang.Object; (java.base@17)")]
@@ -237,10 +240,11 @@ class GrownTest(ToolTest):
         self.assertEqual(ended.status, 0)
 
     def test_own(self):
-        """Only own classes."""
+        """Only own classes, and only the first lines."""
         own = [(3, 30, "[Lcom/shop/Order;"), (2, 20, "Shop$$Lambda")]
         write("mixed", *own, (9, 90, "java/lang/String"), (9, 90, "byte[]"), (1, 2, "<class>"))
         self.expect(["--own", "none", "mixed"], grew(*own))
+        self.expect(["--own", "--top=1", "none", "mixed"], grew(own[0]))
 
     def test_more_than(self):
         """A limit, for a script."""
@@ -271,8 +275,8 @@ class RecipesTest(ToolTest):
 
     def recipe(self, heading, **reports):
         """Runs the code that follows this heading, with these reports of dumps. Returns what it prints."""
-        pages = [path.read_text(encoding="utf-8") for path in sorted(TOP.glob("docs/*.md"))]
-        code = next(filter(None, (re.search(rf"^#+ {heading}\n.*?((?:^    [^\n]*\n)+)", page, re.M | re.S) for page in pages)))[1]
+        page = (TOP / "docs/HISTOGRAM.md").read_text(encoding="utf-8")
+        code = re.search(rf"^#+ {heading}\n.*?((?:^    [^\n]*\n)+)", page, re.M | re.S)[1]
         program = pathlib.Path("bin/heapmark")
         program.parent.mkdir(exist_ok=True)
         cases = "--skip*' friday.hprof') cat skipped ;;\nmonday.hprof | friday.hprof) cat \"${1%.hprof}\" ;;"
@@ -288,7 +292,8 @@ class RecipesTest(ToolTest):
         """The first recipe prints what grown prints."""
         hidden = "Shop$$Lambda$14+0x00007fee61009210"
         before = report((5, 50, "Same"), (4, 40, "Fewer"), (2, 20, "Twice"), (1, 10, "Twice"), (9, 90, hidden))
-        after = report((5, 50, "Same"), (3, 30, "Fewer"), (6, 61, "Twice"), (7, 70, "New"), (9, 99, hidden.replace("14", "15")))
+        hidden = hidden.replace("14", "15")
+        after = report((5, 50, "Same"), (3, 30, "Fewer"), (6, 61, "Twice"), (7, 70, "New"), (9, 99, hidden))
         printed = self.recipe("Which classes grew", monday=before, friday=after)
         self.assertEqual(printed, self.ran("monday", "friday").out)
         self.assertEqual(len(printed.splitlines()), 3)

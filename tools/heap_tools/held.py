@@ -1,6 +1,7 @@
 """held: what hangs by some fields of a dump."""
 
 import os
+import re
 
 from heap_tools import growth, names
 from heap_tools.command import Parser, number
@@ -55,8 +56,7 @@ def parser():
 
 def entries_of(text):
     """Returns the entries of a list of fields, which may be a line of holders."""
-    text = text[len("together ") :] if text.startswith("together ") else text
-    return [entry[len("static ") :] if entry.startswith("static ") else entry for entry in text.replace(", ", ",").split(",")]
+    return [re.sub("^static ", "", entry) for entry in re.sub("^together ", "", text).replace(", ", ",").split(",")]
 
 
 def classes_named(text, dump):

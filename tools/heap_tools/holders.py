@@ -5,7 +5,7 @@ import sys
 from heap_tools import names
 from heap_tools.command import Parser, number
 from heap_tools.console import Progress, is_terminal, say, write
-from heap_tools.faults import NO_SUCH_NAME, NOTHING, UNREADABLE, WEAKLY_HELD, WRONG_USE, Fault
+from heap_tools.faults import NO_SUCH_NAME, NOTHING, WEAKLY_HELD, WRONG_USE, Fault
 from heap_tools.holding import Holders
 from heap_tools.program import Heapmark, Runs, is_dump
 from heap_tools.search import Probe, Search

@@ -178,7 +178,8 @@ def line(objects, size, share, holders, text):
 
 def without_statics(rest, whole, what, fields="*"):
     """Returns a pattern for the last message."""
-    return f"holders: threads or the virtual machine hold {rest} of {whole} {what} without any static field; {fields} of heapmark"
+    hold = f"threads or the virtual machine hold {rest} of {whole} {what} without any static field"
+    return f"holders: {hold}; {fields} of heapmark"
 
 
 class HoldersTest(ToolTest):
@@ -208,7 +209,7 @@ class HoldersTest(ToolTest):
             (["shop4.hprof"], half, without_statics(48, 156, "bytes")),
             (["shop.hprof", "--at-least", "10"], smaller, of_bytes),
             (["--at-least", "70", "shop.hprof"], first, of_bytes),
-            (["shop.hprof", "--top=1"], first, f"holders: fields with more holders may hold as much: see --top\n{of_bytes}"),
+            (["shop.hprof", "--top=1"], first, f"holders: fields with more holders *: see --top\n{of_bytes}"),
             (["shop.hprof", "--at-least=90"], "", f"{none}90% of 308 bytes: see --at-least\n{of_bytes}"),
             (["journal.hprof", "Event"], both, without_statics(0, 10, "objects of Event")),
             (["none.hprof"], "", f"{none}20% of 0 bytes*\n{without_statics(0, 0, 'bytes', '0 fields, *')}"),
@@ -229,7 +230,8 @@ class HoldersTest(ToolTest):
     def test_arrays(self):
         """Shares of arrays are those of bytes: by number, the catalog would hold 90 %."""
         upload = line(10, 10000, 92, 1, "static Upload.CHUNKS")
-        self.expect(["--at-least", "50", "arrays.hprof", "byte[]"], upload, without_statics(0, 10900, "bytes of byte[[]]"))
+        said = without_statics(0, 10900, "bytes of byte[[]]")
+        self.expect(["--at-least", "50", "arrays.hprof", "byte[]"], upload, said)
         ended = self.ran("--at-least", "50", "--bytes", "arrays.hprof", "[[B")
         self.assertEqual(ended.out.splitlines()[0], line(1, 720, 90, 1, "static Catalog.ALL").rstrip())
 
@@ -250,7 +252,8 @@ class HoldersTest(ToolTest):
         dump.array(601, 11, 600)
         dump.write("lost.hprof")
         for name in ("Lost", "[LLost;"):
-            said = f"holders: {name.replace('[', '[[]')}: no object of it is reachable, but 1 are in the dump: *waiting virtual threads*"
+            why = "no object of it is reachable, but 1 are in the dump: *waiting virtual threads*"
+            said = f"holders: {name.replace('[', '[[]')}: {why}"
             self.expect(["lost.hprof", name], said=said, status=3)
 
     def test_unreachable(self):
@@ -258,8 +261,8 @@ class HoldersTest(ToolTest):
         dump = shop()
         dump.values(700, BYTE, bytes(100))
         dump.write("lost.hprof")
-        said = f"holders: 100 bytes more are unreachable: *waiting virtual threads*\n{without_statics(92, 308, 'bytes')}"
-        self.expect(["lost.hprof"], self.WHOLE, said)
+        said = "holders: 100 bytes more are unreachable: *waiting virtual threads*"
+        self.expect(["lost.hprof"], self.WHOLE, f"{said}\n{without_statics(92, 308, 'bytes')}")
 
     def test_no_class(self):
         """No class has the name, and what may have been meant."""
@@ -274,7 +277,8 @@ class HoldersTest(ToolTest):
         dump = Dump()
         dump.of_class(1, "com/shop/Cache$Order")
         dump.write("inner.hprof")
-        said = "holders: com.shop.Cache: no class of the dump has this name: did the shell take a $ away? quote the name"
+        why = "no class of the dump has this name: did the shell take a $ away? quote the name"
+        said = f"holders: com.shop.Cache: {why}"
         self.expect(["inner.hprof", "com.shop.Cache"], said=said, status=6)
 
     def test_names(self):
@@ -347,7 +351,8 @@ class HoldersTest(ToolTest):
             ["--at-least", "010", "--", "shop.hprof", "Order"],
         ):
             self.expect(words, self.ORDERS, said)
-        self.check_wrong_words([], ["a", "b", "c"], ["--all", "shop.hprof"], ["--weak=yes", "shop.hprof"], ["--at-least"])
+        self.check_wrong_words([], ["a", "b", "c"], ["--all", "shop.hprof"], ["--at-least"])
+        self.check_wrong_words(["--weak=yes", "shop.hprof"])
         numbers = ("0", "101", "", "-1", "1_0", " 5", "ten", "\u0665")
         self.check_wrong_words(*(["shop.hprof", "--at-least", wrong] for wrong in numbers))
         self.check_wrong_words(["shop.hprof", "--top=0"], ["shop.hprof", "--top", "2.5"])
@@ -414,7 +419,8 @@ class HoldersTest(ToolTest):
                 objects, size, _, _, field = row.split(None, 4)
                 if not field.startswith(("static ", "local ", "thread ")) and "\\" not in field and "$$" not in field:
                     rest = totals(dump, "--skip", field)
-                    self.assertEqual([before - after for before, after in zip(whole, rest)], [int(objects), int(size)], row)
+                    lost = [before - after for before, after in zip(whole, rest)]
+                    self.assertEqual(lost, [int(objects), int(size)], row)
 
 
 def totals(dump, *words):

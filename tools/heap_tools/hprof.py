@@ -10,6 +10,7 @@ import struct
 from typing import NamedTuple
 
 from heap_tools.names import PRIMITIVES, of_dump, shown
+from heap_tools.processes import shared
 
 MAGIC = b"JAVA PROFILE "
 HEADER_SIZE = 31  # the last 8 bytes are the time
@@ -24,6 +25,8 @@ ROOT_SIZES.update({JNI_LOCAL: 8, JAVA_FRAME: 8, THREAD_OBJECT: 8})
 #: The roots that name their thread.
 THREAD_ROOTS = frozenset((JNI_LOCAL, JAVA_FRAME, NATIVE_STACK, THREAD_BLOCK, THREAD_OBJECT))
 COUNT = struct.Struct(">I")
+#: The fewest segments for which a process of its own pays. Those of a virtual machine have a million bytes each.
+FEWEST_SEGMENTS = 64
 OBJECT, CHAR, BYTE, INT, LONG = 2, 5, 8, 10, 11  # codes of types
 #: Changes of a dump that are this near are written as one.
 NEAR = 1 << 13
@@ -75,7 +78,7 @@ class Frame(NamedTuple):
 
 
 class Dump:
-    """The records of the dump in the plain file `file`. `nameless` says that it has classes that no LOAD CLASS names."""
+    """The records of the dump in the plain file `file`. `nameless`: it has classes that no LOAD CLASS names."""
 
     def __init__(self, file, nameless=False):
         self.file = file
@@ -147,7 +150,7 @@ class Dump:
         roots of all threads that have a trace, then the objects. So this ends at an object once it has met all of them.
         It walks over all objects if it cannot know that, as if a class was unloaded or is `nameless`."""
         classes, threads = set(self._loaded), set(self._traces) - {0}
-        for at, tag in self._sub_records():
+        for at, tag in self._sub_records(self._segments):
             if tag in OBJECTS:
                 if not (classes or threads or nameless):
                     return
@@ -158,11 +161,11 @@ class Dump:
                 if tag == THREAD_OBJECT:
                     threads.discard(self.roots[-1].thread)
 
-    def _sub_records(self):
-        """Yields the place and the tag of each sub-record. Reads class dumps on the way."""
+    def _sub_records(self, segments):
+        """Yields the place and the tag of each sub-record of `segments`. Reads class dumps on the way."""
         data, size, sizes, count = self.bytes, self.id_size, self._value_sizes, COUNT.unpack_from
         head = 9 + 2 * size
-        for at, end in self._segments:
+        for at, end in segments:
             while at < end:
                 begin, tag = at, data[at]
                 if tag == INSTANCE:
@@ -193,8 +196,9 @@ class Dump:
                 kind, name = data[place], at
                 at = place + 1 + (0 if part == "instances" else sizes[kind])
                 if part != "constants":
-                    is_null = part == "statics" and kind == OBJECT and id_at(data, place + 1)[0] == 0
-                    fields.append(Field(self._field_name(id_at(data, name)[0]), kind, part == "statics", is_null, place))
+                    is_static, text = part == "statics", self._field_name(id_at(data, name)[0])
+                    is_null = is_static and kind == OBJECT and id_at(data, place + 1)[0] == 0
+                    fields.append(Field(text, kind, is_static, is_null, place))
         self.classes[self.id(begin + 1)] = Class(self.id(begin + 5 + size), self.id(begin + 5 + 2 * size), fields)
         return at
 
@@ -204,8 +208,8 @@ class Dump:
         return self._field_names[text_id]
 
     def lasting_classes(self):
-        """Returns the identifiers of the classes that are never unloaded: those of the loaders that the JDK itself keeps
-        in static fields."""
+        """Returns the identifiers of the classes that are never unloaded: those of loaders that the JDK itself keeps in
+        static fields."""
         loaders = {0}
         for class_id, name in self.names.items():
             for field in self.classes[class_id].fields:
@@ -231,26 +235,36 @@ class Dump:
 
     def _instances(self, identifiers):
         """Returns where the objects with these identifiers are."""
-        missing, found, id_at, data = {each for each in identifiers if each}, {}, self._id, self.bytes
-        for at, tag in self._sub_records() if missing else ():
-            if id_at(data, at + 1)[0] in missing and tag in OBJECTS:
-                found[self.id(at + 1)] = at
-                missing.discard(self.id(at + 1))
-                if not missing:
-                    break
-        return found
+        wanted = {each for each in identifiers if each}
+
+        def found_in(segments):
+            found, id_at, data = {}, self._id, self.bytes
+            for at, tag in self._sub_records(segments):
+                if id_at(data, at + 1)[0] in wanted and tag in OBJECTS:
+                    found[id_at(data, at + 1)[0]] = at
+                    if len(found) == len(wanted):
+                        break
+            return found
+
+        parts = shared(found_in, self._segments, FEWEST_SEGMENTS) if wanted else []
+        return {key: at for part in parts for key, at in part.items()}
 
     def count(self, names):
         """Returns how many objects of the classes with these names, as reports have them, the dump has."""
         classes = {class_id for class_id, name in self.names.items() if name in names}
         codes = {code for code, letter in zip(range(4, 12), "ZCFDBSIJ") if f"{PRIMITIVES[letter]}[]" in names}
-        places, found = {INSTANCE: 5 + self.id_size, OBJECT_ARRAY: 9 + self.id_size}, 0
-        for at, tag in self._sub_records():
-            if tag in places:
-                found += self.id(at + places[tag]) in classes
-            elif tag == PRIMITIVE_ARRAY:
-                found += self.bytes[at + 9 + self.id_size] in codes
-        return found
+        places = {INSTANCE: 5 + self.id_size, OBJECT_ARRAY: 9 + self.id_size}
+
+        def count_in(segments):
+            found = 0
+            for at, tag in self._sub_records(segments):
+                if tag in places:
+                    found += self.id(at + places[tag]) in classes
+                elif tag == PRIMITIVE_ARRAY:
+                    found += self.bytes[at + 9 + self.id_size] in codes
+            return found
+
+        return sum(shared(count_in, self._segments, FEWEST_SEGMENTS))
 
     def _value_at(self, at, class_name, field):
         """Returns where the value of an instance's field is that the class `class_name` declares, or None."""
@@ -309,7 +323,7 @@ class Dump:
         self._send_part(pipe, begin, end)
 
     def _stretches(self, changes):
-        """Yields the places and the bytes of the parts of the dump that change. Changes near each other are one part."""
+        """Yields the places and the bytes of the parts of the dump that change. Changes that are near are one part."""
         begin, changed = 0, bytearray()
         for place, new in sorted(changes.items()):
             end = begin + len(changed)
@@ -323,7 +337,7 @@ class Dump:
             yield begin, changed
 
     def _copy(self, begin, end):
-        """Returns the dump from `begin` to `end`, read from the file: a mapping of a shorter file would end the tool."""
+        """Returns the dump from `begin` to `end`, read from the file: a mapping that became shorter ends the tool."""
         copied = os.pread(self.file.fileno(), end - begin, begin)
         if len(copied) < end - begin:
             raise EOFError

@@ -1,22 +1,18 @@
 """leaks: which fields, static fields, local variables and threads hold what grew between dumps of one program."""
 
-import os
-import platform
-import shlex
 import sys
 import time
 from typing import List, NamedTuple
 
-from heap_tools import VERSION, growth, names, page
 from heap_tools.command import Parser, number
+from heap_tools.comparison import Comparison
 from heap_tools.console import Progress, is_terminal, say, write
-from heap_tools.faults import NOTHING, UNREADABLE, UNWRITABLE, WRONG_USE, Fault
-from heap_tools.holders import OMITTED, counted, family_of, spelled
-from heap_tools.holding import Holders
+from heap_tools.faults import WRONG_USE, Fault
+from heap_tools.holders import OMITTED, counted, spelled
+from heap_tools.leaks_page import page_of, require_folder, write_page
 from heap_tools.paths import Paths
-from heap_tools.program import Heapmark, Runs
 from heap_tools.reports import Amount
-from heap_tools.search import Earlier, Gains, Held, Search
+from heap_tools.search import Held, Search
 
 ABOUT = """
 Shows what holds the objects that grew between heap dumps of one program: for
@@ -85,69 +81,6 @@ def parser():
     it.option("--html", "FILE", "Also write a page for a browser, with charts, to FILE")
     it.flag("--weak", "Follow soft, weak, final and phantom references, too")
     return it
-
-
-class Comparison:
-    """The dumps of a command line, and what is compared."""
-
-    def __init__(self, options, words, progress):
-        self.options, self.words, self.progress, self.heapmark = options, words, progress, Heapmark()
-        self.began = time.time()
-        paths = [options.before, *options.after]
-        self.dumps = [self._read(path, number) for number, path in enumerate(paths)]
-        self.first, self.last = self.dumps[0], self.dumps[-1]
-        self._require_order()
-        self._require_one_program()
-
-    def _read(self, path, number):
-        self.progress.show(f"reading dump {number + 1} of {len(self.options.after) + 1}")
-        return Runs(self.heapmark, path, "leaks")
-
-    def _require_order(self):
-        for before, after in zip(self.dumps, self.dumps[1:]):
-            if before.dump.time > after.dump.time:
-                text = f"{after.path}: wrong order? it was dumped earlier than {before.path}"
-                raise Fault(UNREADABLE, text)
-
-    def _require_one_program(self):
-        own = [own_classes(each.dump) for each in (self.first, self.last)]
-        common = len(own[0] & own[1])
-        if 2 * common < min(map(len, own)):
-            text = f"another program? it has {common} of the {len(own[0])} own classes of {self.first.path}"
-            raise Fault(UNREADABLE, f"{self.last.path}: {text}")
-
-    def probe(self):
-        """Returns what asks the first and the last dump."""
-        options, known = self.options, [Holders(each.dump, self.options.weak) for each in (self.first, self.last)]
-        for runs, holders in zip((self.first, self.last), known):
-            holders.prepare(runs)
-        families, column = None, "objects" if options.objects else "bytes"
-        if options.of_class:
-            families = [family_of(options.of_class, self.last.dump, self.last.report)]
-        earlier = Earlier(self.first, known[0], families, column)
-        probe = Gains(earlier, options.at_least, self.last, known[1], families, column)
-        if getattr(probe.growth, column) <= 0:
-            families = self._grown_families(probe)
-            earlier = Earlier(self.first, known[0], families, "objects")
-            probe = Gains(earlier, options.at_least, self.last, known[1], families, "objects")
-        return probe
-
-    def _grown_families(self, probe):
-        """Returns the classes of which there are more objects, if the whole did not grow, and says so."""
-        what = probe.families[0] if probe.families else "reachable"
-        was, now = (getattr(each, probe.column) for each in (probe.earlier.whole, probe.whole))
-        text = f"{what}: {was} {probe.column}, then {now}: no growth"
-        grown = growth.growths([probe.earlier.base, probe.base])
-        families = [each.name for each in grown if each.objects > 0 and not each.name.startswith("<")]
-        if probe.families or not families:
-            raise Fault(NOTHING, text)
-        say(f"leaks: {text}; so these are shares of the objects of the {len(families)} classes that grew")
-        return families
-
-
-def own_classes(dump):
-    """Returns the families of the classes of a dump that are not of the JDK."""
-    return {names.family(name) for name in dump.names.values() if names.is_own(name)}
 
 
 def order(probe):
@@ -219,79 +152,6 @@ def say_rest(lines, search, probe):
     if max(more) > 0 and getattr(more, probe.column) > getattr(probe.growth, probe.column):
         text = f"{more.objects} objects more, {more.bytes} bytes more are unreachable"
         say(f"leaks: {text}: garbage in dumps with -all; in live dumps {OMITTED}: see grown with jmap -histo:live")
-
-
-def page_of(comparison, probe, lines):
-    """Returns what the page of `--html` shows."""
-    options, dumps = comparison.options, [dump_of(runs) for runs in comparison.dumps]
-    reports = [runs.report for runs in comparison.dumps]
-    grown = [each for each in growth.growths(reports, probe.column) if not each.name.startswith("<")]
-    of_class = probe.families[0] if options.of_class else None
-    whole = "all reachable bytes" if probe.column == "bytes" else "all reachable objects"
-    if probe.families:
-        whole = f"the {probe.column} of {of_class or 'the classes that grew'}"
-    return page.Leak(
-        dumps=dumps,
-        grown=[page.GrownClass(each.name, [report.amount(each.name) for report in reports]) for each in grown],
-        holders=[holder_of(line, probe) for line in lines],
-        last=reports[-1].families,
-        omitted=omitted(probe),
-        making=making(comparison),
-        by=probe.column,
-        share_of=whole,
-        of_class=of_class,
-    )
-
-
-def dump_of(runs):
-    """Returns what the page shows of a dump."""
-    report = runs.report
-    size, made = os.path.getsize(runs.path), runs.dump.time
-    return page.Dump(runs.path, size, made, report.reachable, report.unreachable, report.unresolved)
-
-
-def holder_of(line, probe):
-    """Returns what the page shows of a line."""
-    holders = line.held.holders
-    kind = page.TOGETHER if len(holders) > 1 else holders[0].kind
-    name = ", ".join(sorted(holder.name for holder in holders))
-    shares = []
-    for each, amount in ((probe.earlier, line.before), (probe, line.held.amount)):
-        percent = 100 * getattr(amount, probe.column) / max(1, getattr(each.whole, probe.column))
-        shares.append(page.Share(amount.objects, amount.bytes, percent))
-    return page.Holder(kind, name, line.held.count(), *shares, [spelled(each.holders) for each in line.above])
-
-
-def omitted(probe):
-    """Returns what these dumps do not show, in sentences."""
-    more = probe.runs.report.unreachable.minus(probe.earlier.runs.report.unreachable)
-    if max(more) <= 0:
-        return []
-    what = f"{more.objects:,} objects more ({more.bytes:,} bytes) are unreachable in the last dump"
-    return [f"{what}: garbage if it was made with -all; in a live dump, {OMITTED}."]
-
-
-def making(comparison):
-    """Returns how the figures were found."""
-    command = " ".join(map(shlex.quote, ["leaks", *comparison.words]))
-    versions = [("leaks", VERSION), ("heapmark", comparison.heapmark.version()), ("Python", platform.python_version())]
-    now = time.time()
-    return page.Making(command, comparison.heapmark.runs, now - comparison.began, int(1000 * now), versions)
-
-
-def write_page(path, leak):
-    """Writes the page into the file `path`."""
-    try:
-        page.write(leak, path)
-    except OSError as fault:
-        raise Fault(UNWRITABLE, f"{path}: the page cannot be written: {fault.strerror}") from None
-
-
-def require_folder(path):
-    """Raises `Fault` if a page cannot be written into the file `path`, before the dumps are searched."""
-    folder = os.path.dirname(os.path.realpath(path))
-    if os.path.isdir(path) or not os.access(path if os.path.exists(path) else folder, os.W_OK):
-        raise Fault(UNWRITABLE, f"{path}: the page cannot be written")
 
 
 def compared(options, words):

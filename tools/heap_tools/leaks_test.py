@@ -144,6 +144,7 @@ class LeaksTest(ToolTest):
 
     tool = "leaks"
     COST = "leaks: * fields, * runs of heapmark, * s"
+    PATH = "static shop/Service.CACHE > shop/Cache.table"
 
     def setUp(self):
         super().setUp()
@@ -160,13 +161,13 @@ class LeaksTest(ToolTest):
 
     def test_cache(self):
         """The field that holds the growth, by identifiers of both sizes; not the catalog, which holds more."""
-        lines = line(120, 2160, 100, 720, 2880, 1, "static shop/Service.CACHE > shop/Cache.table")
+        lines = line(120, 2160, 100, 720, 2880, 1, self.PATH)
         lines += line(120, 2160, 100, 732, 2892, 1, "static shop/Service.CACHE")
-        lines += line(60, 1200, 56, 400, 1600, 80, "static shop/Service.CACHE > shop/Cache.table > shop/Order.text")
+        lines += line(60, 1200, 56, 400, 1600, 80, f"{self.PATH} > shop/Order.text")
         self.expect(["monday", "friday"], lines, self.COST)
         self.assertNotIn("Catalog", lines)
         rows = self.found(cache(20, id_size=4), cache(80, id_size=4))
-        self.assertEqual([rows[0][0], rows[0][1], rows[0][6]], ["120", "1680", "static shop/Service.CACHE > shop/Cache.table"])
+        self.assertEqual([rows[0][0], rows[0][1], rows[0][6]], ["120", "1680", self.PATH])
         first = self.ran("--top=1", "monday", "friday")
         self.assertEqual(first.out, lines.splitlines(True)[0])
         self.assertIn("fields with more holders may hold as much: see --top", first.said)
@@ -175,8 +176,7 @@ class LeaksTest(ToolTest):
         """The growth of a class, and a class that did not grow."""
         for name in ("shop/Order", "shop.Order"):
             first = self.ran("--class", name, "monday", "friday").out.splitlines(True)[0]
-            path = "static shop/Service.CACHE > shop/Cache.table"
-            self.assertEqual(first, line(60, 480, 100, 160, 640, 1, path))
+            self.assertEqual(first, line(60, 480, 100, 160, 640, 1, self.PATH))
         said = "leaks: shop/Product: 800 bytes, then 800: no growth"
         self.expect(["--class=shop/Product", "monday", "friday"], said=said, status=3)
         said = "leaks: Order: no class of the dump has this name: did you mean shop/Order?"
@@ -185,7 +185,7 @@ class LeaksTest(ToolTest):
     def test_objects(self):
         """Shares of objects, in which small ones count as much as large ones."""
         rows = self.found(cache(20), cache(80), "--objects")
-        self.assertEqual(rows[0], ["120", "2160", "100%", "41", "161", "1", "static shop/Service.CACHE > shop/Cache.table"])
+        self.assertEqual(rows[0], ["120", "2160", "100%", "41", "161", "1", self.PATH])
 
     def test_arrays(self):
         """By bytes, large arrays count more than many small ones of the catalog."""
@@ -224,12 +224,8 @@ class LeaksTest(ToolTest):
         """The whole did not grow, or nothing did."""
         moved(10).write("before")
         moved(60).write("after")
-        said = "leaks: reachable: 816 bytes, then 816: no growth; so these are shares of the objects of the 1 class*"
-        ended = self.ran("before", "after")
-        self.assertEqual(ended.out, line(50, 0, 100, 10, 60, 1, "static shop/Catalog.SOLD"), ended.said)
-        self.assertTrue(ended.said.startswith(said.partition(" 1 ")[0]), ended.said)
-        said = "leaks: reachable: 5668 bytes, then 5668: no growth"
-        self.assertEqual(self.ran("monday", "monday").status, 3)
+        said = f"leaks: reachable: 816 bytes, then 816: no growth; so the shares are of the objects of *\n{self.COST}"
+        self.expect(["before", "after"], line(50, 0, 100, 10, 60, 1, "static shop/Catalog.SOLD"), said)
         self.expect(["friday", "friday"], said="leaks: reachable: * bytes, then *: no growth", status=3)
 
     def test_several(self):
@@ -254,8 +250,8 @@ class LeaksTest(ToolTest):
         for words, said in (
             (["friday", "monday"], "leaks: monday: wrong order? it was dumped earlier than friday"),
             (["monday", "other"], "leaks: other: another program? it has 0 of the * own classes of monday"),
-            (["monday", "cut"], "heapmark: refused 3 Truncated at *\nleaks: cut: not read: no dump that heapmark accepts"),
-            (["cut", "friday"], "heapmark: refused 3 Truncated at *\nleaks: cut: not read: no dump that heapmark accepts"),
+            (["monday", "cut"], "heapmark: refused 3 Truncated at *\nleaks: cut: not read: *"),
+            (["cut", "friday"], "heapmark: refused 3 Truncated at *\nleaks: cut: not read: *"),
             (["monday", "nowhere"], "leaks: nowhere: no such file"),
             (["monday", "histogram"], "leaks: histogram: a histogram: leaks needs a dump"),
             (["monday", "pipe"], "leaks: pipe: no plain file, and leaks reads it more than once"),
@@ -293,7 +289,8 @@ class LeaksTest(ToolTest):
         said = "leaks: /dev/full: the page cannot be written: No space left on device"
         self.expect(["--html", "/dev/full", "monday", "friday"], out, said, 4)
         for path in ("no/page.html", "."):
-            self.expect(["--html", path, "monday", "friday"], said=f"leaks: {path}: the page cannot be written", status=4)
+            said = f"leaks: {path}: the page cannot be written"
+            self.expect(["--html", path, "monday", "friday"], said=said, status=4)
 
     def test_output(self):
         """What cannot be written, and an interrupt, which leaves no page."""

@@ -5,8 +5,8 @@ import re
 
 #: The types of primitive elements by their letter in the name of an array.
 PRIMITIVES = dict(B="byte", C="char", D="double", F="float", I="int", J="long", S="short", Z="boolean")
-#: The packages of the JDK, and of libraries that come with it.
-JDK = ("java/", "javax/", "jdk/", "sun/", "com/sun/", "org/graalvm/", "netscape/", "org/ietf/jgss/", "org/w3c/", "org/xml/")
+#: The packages of the JDK.
+JDK = ("java/", "javax/", "jdk/", "sun/", "com/sun/", "netscape/", "org/ietf/jgss/", "org/w3c/dom/", "org/xml/sax/")
 
 
 def shown(raw):
@@ -80,7 +80,7 @@ def _without_module(text):
 
 
 def _slashed(name):
-    """Returns a name with slashes for dots, and `+` before the address of a hidden class, as the virtual machine has."""
+    """Returns a name with slashes for dots, and with `+` before the address of a hidden class."""
     return re.sub(r"/(0x[0-9a-f]+)", r"+\1", name).replace(".", "/")
 
 

@@ -1,4 +1,4 @@
-"""Tests that grown, holders, held and leaks agree on the names of classes, as reports show them and as users write them."""
+"""Tests that grown, holders, held and leaks agree on names of classes, as reports show and as users write them."""
 
 import unittest
 
@@ -8,7 +8,7 @@ from heap_tools.testing import ToolTest
 
 #: Names in a dump, what the tools call them, and how a user may write them.
 ODD = [
-    ("a/L$$Lambda$14+0x00000008000c0a08", "a/L$$Lambda", ["a.L$$Lambda$14/0x00000008000c0a08", "a/L$$Lambda$15", "a.L$$Lambda"]),
+    ("a/L$$Lambda$14+0x00000008000c0a08", "a/L$$Lambda", ["a/L$$Lambda$15", "a.L$$Lambda$14/0x00000008000c0a08"]),
     ("b/L$$Lambda+0x00007f85e0007680", "b/L$$Lambda", ["b.L$$Lambda/0x00007f85e0007680", "b/L$$Lambda+0x1"]),
     ("c/L$$Lambda/0x000000002a001400", "c/L$$Lambda/0x000000002a001400", ["c/L$$Lambda/0x000000002a001400"]),
     ("d/Hidden+0x0000000800c03000", "d/Hidden", ["d.Hidden/0x0000000800c03000", "d.Hidden"]),

@@ -1,4 +1,4 @@
-"""What the tests of the tools share: a folder for each test, runs of a tool as a process, and stand-ins for heapmark."""
+"""What the tests of the tools share: a folder for each test, runs of a tool, and stand-ins for heapmark."""
 
 import contextlib
 import fnmatch
@@ -59,7 +59,8 @@ class ToolTest(unittest.TestCase):
     def program(self, text):
         """Makes a program to run in place of heapmark, and returns its path. It notes each run in the file `runs`."""
         path = pathlib.Path("other")
-        path.write_text(f"#!/bin/sh\necho \"${{GLIBC_TUNABLES-unset}} $*\" >> runs\n{text.replace('HEAPMARK', HEAPMARK)}\n")
+        note = 'echo "${GLIBC_TUNABLES-unset} $*" >> runs'
+        path.write_text(f"#!/bin/sh\n{note}\n{text.replace('HEAPMARK', HEAPMARK)}\n")
         path.chmod(0o755)
         with contextlib.suppress(FileNotFoundError):
             os.remove("runs")
@@ -104,7 +105,8 @@ class ToolTest(unittest.TestCase):
         """Tests that a signal ends the tool and the heapmark that it runs, and that it then prints nothing."""
         for number in ENDING:
             environment = {**os.environ, "HEAPMARK": self.program("echo $$ > pid\nexec sleep 50")}
-            kept = {"stdout": subprocess.PIPE, "stderr": subprocess.PIPE, "env": environment, "preexec_fn": heed_signals}
+            kept = {"stdout": subprocess.PIPE, "stderr": subprocess.PIPE, "env": environment}
+            kept["preexec_fn"] = heed_signals
             with subprocess.Popen([str(TOOLS / self.tool), *words], **kept) as child:
                 pid = when_written("pid")
                 time.sleep(0.2)  # until it waits for what heapmark prints
@@ -128,8 +130,8 @@ class ToolTest(unittest.TestCase):
 
 
 def heed_signals():
-    """Makes a program heed the signals in ENDING, which it would ignore if this test was started in the background or by
-    nohup."""
+    """Makes a program heed the signals in ENDING, which it would ignore if this test was started in the background or
+    by nohup."""
     for number in ENDING:
         signal.signal(number, signal.SIG_DFL)
 

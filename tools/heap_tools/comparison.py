@@ -1,0 +1,74 @@
+"""The dumps that leaks compares: they are read, they go together, and it is known what grew."""
+
+import time
+
+from heap_tools import growth, names
+from heap_tools.console import say
+from heap_tools.faults import NOTHING, UNREADABLE, Fault
+from heap_tools.holders import family_of
+from heap_tools.holding import Holders
+from heap_tools.program import Heapmark, Runs
+from heap_tools.search import Earlier, Gains
+
+
+class Comparison:
+    """The dumps of a command line, and what is compared."""
+
+    def __init__(self, options, words, progress):
+        self.options, self.words, self.progress, self.heapmark = options, words, progress, Heapmark()
+        self.began = time.time()
+        paths = [options.before, *options.after]
+        self.dumps = [self._read(path, number) for number, path in enumerate(paths)]
+        self.first, self.last = self.dumps[0], self.dumps[-1]
+        self._require_order()
+        self._require_one_program()
+
+    def _read(self, path, number):
+        self.progress.show(f"reading dump {number + 1} of {len(self.options.after) + 1}")
+        return Runs(self.heapmark, path, "leaks")
+
+    def _require_order(self):
+        for before, after in zip(self.dumps, self.dumps[1:]):
+            if before.dump.time > after.dump.time:
+                text = f"{after.path}: wrong order? it was dumped earlier than {before.path}"
+                raise Fault(UNREADABLE, text)
+
+    def _require_one_program(self):
+        own = [own_classes(each.dump) for each in (self.first, self.last)]
+        common = len(own[0] & own[1])
+        if 2 * common < min(map(len, own)):
+            text = f"another program? it has {common} of the {len(own[0])} own classes of {self.first.path}"
+            raise Fault(UNREADABLE, f"{self.last.path}: {text}")
+
+    def probe(self):
+        """Returns what asks the first and the last dump."""
+        options, known = self.options, [Holders(each.dump, self.options.weak) for each in (self.first, self.last)]
+        for runs, holders in zip((self.first, self.last), known):
+            holders.prepare(runs)
+        families, column = None, "objects" if options.objects else "bytes"
+        if options.of_class:
+            families = [family_of(options.of_class, self.last.dump, self.last.report)]
+        earlier = Earlier(self.first, known[0], families, column)
+        probe = Gains(earlier, options.at_least, self.last, known[1], families, column)
+        if getattr(probe.growth, column) <= 0:
+            families = self._grown_families(probe)
+            earlier = Earlier(self.first, known[0], families, "objects")
+            probe = Gains(earlier, options.at_least, self.last, known[1], families, "objects")
+        return probe
+
+    def _grown_families(self, probe):
+        """Returns the classes of which there are more objects, if the whole did not grow, and says so."""
+        what = probe.families[0] if probe.families else "reachable"
+        was, now = (getattr(each, probe.column) for each in (probe.earlier.whole, probe.whole))
+        text = f"{what}: {was} {probe.column}, then {now}: no growth"
+        grown = growth.growths([probe.earlier.base, probe.base])
+        families = [each.name for each in grown if each.objects > 0 and not each.name.startswith("<")]
+        if probe.families or not families:
+            raise Fault(NOTHING, text)
+        say(f"leaks: {text}; so the shares are of the objects of the classes that grew")
+        return families
+
+
+def own_classes(dump):
+    """Returns the families of the classes of a dump that are not of the JDK."""
+    return {names.family(name) for name in dump.names.values() if names.is_own(name)}

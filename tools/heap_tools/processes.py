@@ -1,0 +1,46 @@
+"""Work that is shared out to processes, one for each processor."""
+
+import os
+import pickle
+import signal
+
+
+def shared(function, items, least):
+    """Calls `function` with parts of the list `items`, each in a process of its own, and returns the results. There are
+    as many parts as processors, but each has at least `least` items."""
+    count = max(1, min(len(os.sched_getaffinity(0)), len(items) // least))
+    if count == 1:
+        return [function(items)]
+    bounds = [len(items) * number // count for number in range(count + 1)]
+    children = []
+    try:
+        for begin, end in zip(bounds, bounds[1:]):
+            children.append(_started(function, items[begin:end]))
+        return [pickle.loads(_all_of(stream)) for _, stream in children]
+    finally:
+        for child, stream in children:
+            stream.close()
+            os.kill(child, signal.SIGKILL)
+            os.waitpid(child, 0)
+
+
+def _started(function, items):
+    """Starts a process that calls `function`. Returns its number, and the stream that its result comes from."""
+    reads, writes = os.pipe()
+    child = os.fork()
+    if child == 0:
+        try:
+            with open(writes, "wb") as stream:
+                pickle.dump(function(items), stream)
+        finally:
+            os._exit(0)
+    os.close(writes)
+    return child, open(reads, "rb")
+
+
+def _all_of(stream):
+    """Returns the whole result. Raises `EOFError` if the process ended without one."""
+    content = stream.read()
+    if not content:
+        raise EOFError("a process ended early")
+    return content
