@@ -1,14 +1,18 @@
-"""Small heap dumps of virtual machines, for tools/check: those of bench/real, and what others count in them."""
+"""The small heap dumps of virtual machines in bench/real, for tools/check, and what others count in them."""
 
 import collections
-import lzma
 import pathlib
 import re
 
+try:
+    import lzma
+except ImportError:  # a Python that was built without it
+    lzma = None
+
 ROOM = pathlib.Path(__file__).resolve().parent.parent / "bench/real"
-#: What a histogram calls the rows of a report that it names otherwise.
-OTHER_NAMES = {"<class>": "java/lang/Class"}
-OTHER_NAMES.update(zip("boolean[] char[] float[] double[] byte[] short[] int[] long[]".split(), "[Z [C [F [D [B [S [I [J".split()))
+#: What a histogram calls the rows that a report names otherwise.
+OTHER_NAMES = {"<class>": "java/lang/Class", "boolean[]": "[Z", "char[]": "[C", "float[]": "[F", "double[]": "[D"}
+OTHER_NAMES.update({"byte[]": "[B", "short[]": "[S", "int[]": "[I", "long[]": "[J"})
 
 
 class Miscounted(Exception):
@@ -27,7 +31,7 @@ def unpack(name, path):
     return (ROOM / f"{name}.report").read_bytes()
 
 
-def escaped(name):
+def report_name(name):
     """Returns the name of a class in a histogram as a report shows it."""
     name = re.sub(r"/(?=0x)", "+", name).replace(".", "/")
     return "".join(f"\\x{byte:02x}" if byte > 0x7E else chr(byte) for byte in name.encode())
@@ -36,7 +40,7 @@ def escaped(name):
 def histogram_counts(histogram):
     """Returns the number of objects by class that the virtual machine counted."""
     rows = re.findall(r"^ *\d+: +(\d+) +\d+  (\S+)", histogram, re.MULTILINE)
-    return collections.Counter({escaped(name): int(count) for count, name in rows})
+    return collections.Counter({report_name(name): int(count) for count, name in rows})
 
 
 def report_counts(report):
@@ -50,11 +54,11 @@ def report_counts(report):
 
 
 def require_counts(name):
-    """Requires that the report of a dump has, for each class, no more objects than the histogram, and that it calls as
-    many unreachable as it has less in all. Returns the number of classes that have the same count in both."""
+    """Requires that a report has no more objects of a class than the histogram, and that those that it has less of all
+    classes are those that it calls unreachable. Returns the number of classes that have the same count in both."""
     machine = histogram_counts((ROOM / f"{name}.histogram").read_text(encoding="utf-8"))
-    counts, unreachable = report_counts((ROOM / f"{name}.report").read_text())
+    counts, unreachable = report_counts((ROOM / f"{name}.report").read_text(encoding="ascii"))
     less = {one: machine[one] - counts[one] for one in {*machine, *counts} if machine[one] != counts[one]}
     if min(less.values(), default=0) < 0 or sum(less.values()) != unreachable:
-        raise Miscounted(f"{name}: {unreachable} unreachable, and in the histogram there are more of {less}")
+        raise Miscounted(f"{name}: {unreachable} are unreachable; the histogram has more by {less}")
     return len(machine) - len(less)
