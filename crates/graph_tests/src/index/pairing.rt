@@ -3,7 +3,7 @@
 ghost use Rattle.std.specs.Prelude.{IfOk, IfSome, length, ◌<◌, ◌^◌, ◌≡◌};
 
 use super::beside::answers_all;
-use id_index::{IdIndex, IdPairsBuilder, IdPlaces, LowBits, are_close};
+use id_index::{IdIndex, IdPairsBuilder, LowBits, UsedIds, are_close};
 use limited_heap::{LimitedHeap, requests_of};
 use std::alloc::{AllocError, Allocator, Global};
 use std::sync::atomic::{AtomicU64, Ordering};
@@ -41,7 +41,7 @@ fn paired_between<T: Threads + Sync, A: Allocator + Copy>(
     if !are_close(bits, least, greatest, count) {
         return Ok(None);
     }
-    let mut places = IdPlaces::new(alloc, bits, least, greatest, count, parts)?;
+    let mut places = UsedIds::new(alloc, bits, least, greatest, count, parts)?;
     let id_of = |number: usize| -> u64
         requires { number < length ids.now }
     { ids[number] };
@@ -142,7 +142,7 @@ fn ids_read<T: Threads + Sync>(
 ) -> Result<u64, AllocError> {
     let bits = LowBits { shift: 3, low: 0 };
     let greatest = 8 * (u64::from(count).max(1) - 1);
-    let mut places = IdPlaces::new(alloc, bits, 0, greatest, count, parts)?;
+    let mut places = UsedIds::new(alloc, bits, 0, greatest, count, parts)?;
     let read = AtomicU64::new(0);
     let id_of = |number: usize| -> u64 {
         read.fetch_add(1, Ordering::SeqCst);
