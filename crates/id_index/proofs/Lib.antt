@@ -9,7 +9,7 @@ pub mod Built
 pub mod Swapped
 pub mod Apart
 pub mod Seen
-pub mod Settled
+pub mod Pruned
 pub mod Telling
 pub mod Repeating
 pub mod Aligning

@@ -16,7 +16,7 @@ ghost use Rattle.heap_graph.specs.working.GatheredParts.{MayGather, MayIndex};
 use crate::objects::gathering::note_class;
 use crate::objects::indexing::Indexed;
 use hprof_grammar::{Team, View};
-use id_index::{IdPairsBuilder, IdPlaces, LowBits, WideEntriesBuilder, are_close};
+use id_index::{IdPairsBuilder, LowBits, UsedIds, WideEntriesBuilder, are_close};
 use std::alloc::{AllocError, Allocator};
 use std::thread;
 use std::thread::Threads;
@@ -200,12 +200,12 @@ fn noted_places<T: Threads + Sync, B: Allocator>(
     places: &[u32],
     bits: LowBits,
     ends: Ends,
-) -> Result<IdPlaces<B>, AllocError>
+) -> Result<UsedIds<B>, AllocError>
     requires { MayGather view.now places.now bits 0 places.now }
 {
     let count = places.len();
     let parts = parts_of(team, count);
-    let mut noted = IdPlaces::new(alloc, bits, ends.least, ends.greatest, count as u32, parts)?;
+    let mut noted = UsedIds::new(alloc, bits, ends.least, ends.greatest, count as u32, parts)?;
     let id_of = |number: usize| -> u64
         requires { (number < length places.now) × MayIndex view.now places.now }
     { view.object_id(places[number]) };
@@ -221,7 +221,7 @@ fn placed<B: Allocator + Copy>(
     view: &View<'_>,
     places: &[u32],
     bits: LowBits,
-    noted: IdPlaces<B>,
+    noted: UsedIds<B>,
 ) -> Result<Option<Indexed<B>>, AllocError>
     requires { MayGather view.now places.now bits 0 places.now }
     ensures { IfOk result (λ found. IfSome found (λ indexed. (heap : List SubRecord)

@@ -1,6 +1,6 @@
 -- Bits of two words fit a word.
 use Rattle.std.proofs.lemmas.Nat.{or_lt}
-use Rattle.id_index.proofs.settling.take_run.Goals as goal
+use Rattle.id_index.proofs.pruning.take_run.Goals as goal
 
 pub returns-then-places-seen-clause-fits : goal.returns-then-places-seen-clause-fits
 returns-then-places-seen-clause-fits g c =

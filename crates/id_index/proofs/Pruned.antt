@@ -1,5 +1,5 @@
--- One more run is settled.
-use Rattle.id_index.proofs.Words.{AreAscending, AreFewSeen, AreKept, AreSeen, AreSettledBefore, AreSorted, HasBearer}
+-- One more run is pruned.
+use Rattle.id_index.proofs.Words.{AreAscending, AreFewSeen, AreKept, AreSeen, ArePrunedBefore, AreSorted, HasBearer}
 use Rattle.id_index.proofs.Words.{IsKeptIfNew, IsPermutation-swap, IsPermutation-trans, List, Run, [], and_comm, ap}
 use Rattle.id_index.proofs.Words.{arith, bit_and, bit_at, bit_at-lt, bit_at_and, bit_or, count_ones, end_of, ext_get_or}
 use Rattle.id_index.proofs.Words.{get_or-take, inl, inr, length, length-swap, length-take-le, min, no_run, number_in}
@@ -185,7 +185,7 @@ moved now kept at le below =
     rw (take_more (swap now kept at) kept no_run (omega (arith, le, below, len)), front, both.0)
 
 module _ (runs now now' : List Run) (at kept kept' page seen before : ℕ) (sorted : AreSorted runs)
-    (below : at < length runs) (it : AreSettledBefore runs now at kept) (had : AreSeen runs at page seen)
+    (below : at < length runs) (it : ArePrunedBefore runs now at kept) (had : AreSeen runs at page seen)
     (same : page_in runs at ≡ page → before ≡ seen) (other : (page_in runs at ≡ page → ⊥) → before ≡ 0)
     (fits : bit_or before (run_in runs at).places < 2 ^ 64) (few : AreFewSeen runs at page seen (take kept now)) where
   abbrev places : ℕ
@@ -203,8 +203,8 @@ module _ (runs now now' : List Run) (at kept kept' page seen before : ℕ) (sort
       → take kept' now' ≡ take kept now ++ run_in runs at ∷ []
   grown e is = rw (e, is, moved now kept at it.order (omega (arith, below, it.long)), it.rest at (omega arith))
 
-  pub settled_more : IsKeptIfNew now now' kept at places before kept' → AreSettledBefore runs now' (at + 1) kept'
-  settled_more (inl new) =
+  pub pruned_more : IsKeptIfNew now now' kept at places before kept' → ArePrunedBefore runs now' (at + 1) kept'
+  pruned_more (inl new) =
       let is : now' ≡ swap now kept at = new.1.0 in
       let in_kept : kept < length now = omega (arith, it.order, below, it.long) in
       let in_at : at < length now = omega (arith, below, it.long) in
@@ -216,21 +216,21 @@ module _ (runs now now' : List Run) (at kept kept' page seen before : ℕ) (sort
             both.2 k (λ e. omega (arith, e, from, it.order)) (λ e. omega (arith, e, from))
             ∙ it.rest k (omega (arith, from));
         order = omega (arith, new.1.1, it.order);
-        settled = rw (grown new.1.1 is) (added runs at (take kept now) sorted below it.settled);
+        pruned = rw (grown new.1.1 is) (added runs at (take kept now) sorted below it.pruned);
       }
-  settled_more (inr none) = rw (none.1.0, none.1.1) (record {
+  pruned_more (inr none) = rw (none.1.0, none.1.1) (record {
     same = it.same;
     long = it.long;
     rest = λ k from. it.rest k (omega (arith, from));
     order = omega (arith, it.order);
-    settled = dropped runs at (take kept now) sorted below it.settled (all_seen none.0);
+    pruned = dropped runs at (take kept now) sorted below it.pruned (all_seen none.0);
   })
 
   pub few_more : IsKeptIfNew now now' kept at places before kept'
       → AreFewSeen runs (at + 1) (page_in runs at) (bit_or before places) (take kept' now')
   few_more (inl new) =
       rw (grown new.1.1 new.1.0)
-      (few_added runs at (take kept now) sorted below it.settled page seen before same other had few fits new.0)
+      (few_added runs at (take kept now) sorted below it.pruned page seen before same other had few fits new.0)
   few_more (inr none) =
       rw (none.1.0, none.1.1)
-      (few_dropped runs at (take kept now) sorted below it.settled page seen before same other had few none.0)
+      (few_dropped runs at (take kept now) sorted below it.pruned page seen before same other had few none.0)

@@ -1,7 +1,7 @@
 -- The run at `at` shows on which side of it the first run of a page is.
 use Rattle.std.proofs.Common.{arith}
 use Rattle.id_index.proofs.Halving.{lower_half, upper_half}
-use Rattle.id_index.proofs.pages.after_look.Goals as goal
+use Rattle.id_index.proofs.pages.after_probe.Goals as goal
 
 pub returns-then-page-clause-around : goal.returns-then-page-clause-around
 returns-then-page-clause-around c =

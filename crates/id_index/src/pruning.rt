@@ -1,9 +1,9 @@
-//! Sorted runs are settled: those that have an object at a place where no earlier run of their page has one are kept in
+//! Sorted runs are pruned: those that have an object at a place where no earlier run of their page has one are kept in
 //! front of the others.
 
 ghost use Rattle.std.specs.Prelude.{bit_or, length, take, ◌<◌, ◌^◌, ◌≡◌, ◌≤◌};
 ghost use Rattle.id_index.specs.working.Runs.{AreFewAPage};
-ghost use Rattle.id_index.specs.working.Settling.{AreSettledBefore, AreSorted, IsKeptIfNew};
+ghost use Rattle.id_index.specs.working.Pruning.{ArePrunedBefore, AreSorted, IsKeptIfNew};
 
 use crate::runs::Run;
 use std::alloc::Allocator;
@@ -43,9 +43,9 @@ fn take_run<A: Allocator>(
 
 /// Moves runs to the back if earlier runs of their page have objects at all their places. Returns how many runs are
 /// kept in front. The kept runs still ascend, and at most 64 of them are of one page.
-pub(crate) fn settle<A: Allocator>(runs: &mut Vec<Run, A>) -> usize
+pub(crate) fn prune<A: Allocator>(runs: &mut Vec<Run, A>) -> usize
     requires { AreSorted runs.old.items }
-    ensures settled { AreSettledBefore runs.old.items runs.new.items (length runs.old.items) result }
+    ensures pruned { ArePrunedBefore runs.old.items runs.new.items (length runs.old.items) result }
     ensures few { AreFewAPage (take result runs.new.items) }
 {
     let (mut page, mut seen, mut kept) = (0, 0, 0);

@@ -1,4 +1,4 @@
--- Settled runs: first the kept runs, in ascending order, then the runs that add nothing to the kept ones.
+-- Pruned runs: first the kept runs, in ascending order, then the runs that add nothing to the kept ones.
 use Rattle.std.specs.Prelude.{IsPermutation, IsSorted, List, bit_and, count_ones, length, take, ◌+◌, ◌-◌, ◌<◌, ◌^◌}
 use Rattle.std.specs.Prelude.{◌%◌, ◌≡◌, ◌≤◌, ◌⊎◌, ℕ}
 use Rattle.std.specs.List.{swap}
@@ -26,13 +26,13 @@ pub record AreKept (runs : List Run) (at : ℕ) (kept : List Run) : Type 0 where
   pub covered : (i id : ℕ) → i < at → HasBearer (run_in runs i) id → (k : ℕ) × (k < length kept)
       × HasBearer (run_in kept k) id × (number_in (run_in kept k) (id % 64) ≤ number_in (run_in runs i) (id % 64))
 
--- the runs before index `at` are settled, the first `kept` of them are kept, and those from `at` on are as they were
-pub record AreSettledBefore (runs now : List Run) (at kept : ℕ) : Type 0 where
+-- the runs before index `at` are pruned, the first `kept` of them are kept, and those from `at` on are as they were
+pub record ArePrunedBefore (runs now : List Run) (at kept : ℕ) : Type 0 where
   pub same : IsPermutation runs now
   pub long : length now ≡ length runs
   pub rest : (k : ℕ) → at ≤ k → run_in now k ≡ run_in runs k
   pub order : kept ≤ at
-  pub settled : AreKept runs at (take kept now)
+  pub pruned : AreKept runs at (take kept now)
 
 -- `page` is that of the last run before index `at`. From a kept run of `page` on, at most as many runs are kept as
 -- `seen` has places. Of each page at most 64 runs are kept.

@@ -1,6 +1,6 @@
 -- The two ends come nearer to one another within the pages.
 use Rattle.std.proofs.Common.{length, ◌-◌, ◌≤◌}
-use Rattle.id_index.proofs.id_places.trimmed.Given as goal
+use Rattle.id_index.proofs.used_ids.trimmed.Given as goal
 
 abbrev pub invariant-loop-begin : goal.invariant-loop-begin
 invariant-loop-begin l = l.begin ≤ length l.pages

@@ -1,6 +1,6 @@
 //! The places that the identifiers of objects in no order take. They are noted before the pairs are placed.
 
-ghost use Rattle.std.specs.Prelude.{IfOk, ◌*◌, ◌<◌, ◌^◌, ◌≡◌, ℕ};
+ghost use Rattle.std.specs.Prelude.{IfOk, length, ◌*◌, ◌<◌, ◌≤◌, ◌^◌, ◌≡◌, ℕ};
 
 use crate::index::LowBits;
 use crate::page_words::PageWords;
@@ -46,7 +46,9 @@ fn join_page(page: &mut Pair, more: Pair) {
 
 /// Returns how many of `pages` come before the first one on which a place is taken, and the pages from that one to the
 /// last one on which a place is taken. If no place is taken, returns the number of `pages`, and no page.
-fn trimmed(pages: &[Pair]) -> (usize, &[Pair]) {
+fn trimmed(pages: &[Pair]) -> (usize, &[Pair])
+    ensures { length result.1.now ≤ length pages.now }
+{
     let mut begin = 0;
     while begin < pages.len() && pages[begin].at == 0 && pages[begin].number == 0 {
         begin += 1;
@@ -56,6 +58,21 @@ fn trimmed(pages: &[Pair]) -> (usize, &[Pair]) {
         end -= 1;
     }
     (begin, &pages[begin..end])
+}
+
+/// Returns how many pages of the first part come before the first one on which a place is taken, and the page words from
+/// that page to the last one on which a place is taken. The first part has the first `span` of `pages`. `AllocError` if
+/// the allocation fails.
+fn words_of<A: Allocator>(
+    alloc: A,
+    pages: &[Pair],
+    span: usize,
+) -> Result<(usize, PageWords<A>), AllocError>
+    ensures { IfOk result (λ made. length made.1.pages.items ≤ span) }
+{
+    let (before, taken) = trimmed(&pages[..span.min(pages.len())]);
+    let words = PageWords::of(alloc, taken)?;
+    Ok((before, words))
 }
 
 /// How the place of an identifier follows from the identifier.
@@ -93,13 +110,13 @@ impl Numbering {
 }
 
 /// The pages around the identifiers of objects, with a bit for each place: it is set if an object's identifier is noted
-/// there. To a contract an `IdPlaces` is the number of objects.
+/// there. To a contract an `UsedIds` is the number of objects.
 // No clause says which bits are set. The bits only say where pairs are placed, and all pairs are tested afterwards.
 // Each part of the objects has pages of its own, so that threads can note several parts at the same time. The bits of a
 // page are kept in a `Pair`: those of the first 32 places in `at`, the others in `number`. The pairs later take the
 // same memory.
 #[derive(Drop)]
-pub struct IdPlaces<A: Allocator> {
+pub struct UsedIds<A: Allocator> {
     numbering: Numbering,
     /// The number of objects.
     pub(crate) count: u32,
@@ -109,7 +126,7 @@ pub struct IdPlaces<A: Allocator> {
     pub(crate) pages: Vec<Pair, A>,
 }
 
-impl<A: Allocator> Model for IdPlaces<A> {
+impl<A: Allocator> Model for UsedIds<A> {
     ghost use Rattle.std.specs.Prelude.{ℕ, ◌<◌};
 
     ghost Value = { ℕ };
@@ -119,7 +136,7 @@ impl<A: Allocator> Model for IdPlaces<A> {
     ghost invariant = { λ p. 0 < p.span };
 }
 
-impl<A: Allocator> IdPlaces<A> {
+impl<A: Allocator> UsedIds<A> {
     /// Creates pages for `count` objects, on which no place is taken: those from `least` to `greatest`, and on either
     /// side a sixteenth as many. There are at most `parts` parts, but at least one. `AllocError` if an allocation
     /// fails.
@@ -142,7 +159,7 @@ impl<A: Allocator> IdPlaces<A> {
         let parts = parts.min(count as usize / span).max(1);
         let mut pages = Vec::with_capacity(alloc, count as usize)?;
         pages.resize(span.saturating_mul(parts), EMPTY)?;
-        Ok(IdPlaces {
+        Ok(UsedIds {
             numbering: Numbering {
                 lowest: first.saturating_sub(margin as u64) * PLACES,
                 shift: bits.shift,
@@ -194,9 +211,7 @@ impl<A: Allocator> IdPlaces<A> {
         ensures { self.new ≡ self.old }
     {
         self.join();
-        let end = self.span.min(self.pages.len());
-        let (before, taken) = trimmed(&self.pages[..end]);
-        let words = PageWords::of(alloc, taken)?;
+        let (before, words) = words_of(alloc, &self.pages, self.span)?;
         let lowest = self
             .numbering
             .lowest
