@@ -4,7 +4,7 @@
 # usage: bench/compare.sh DUMP HISTOGRAM REPORTER..
 #
 # REPORTER..: a command, such as crates/heapmark/out/heapmark, that is run with DUMP as its last argument and prints the
-# report. To count all objects of the dump, the plain marker is built and run.
+# report. To count all objects of the dump, the plain marker is run: what the variable PLAIN names, else it is built.
 #
 # For each class whose counts differ, prints the number of its objects in the histogram, in the dump and in the report.
 # After these lines come the totals, the number of classes with equal counts, and the report's last line. The report
@@ -18,12 +18,23 @@ shift 2
 room=$(mktemp -d)
 trap 'rm -rf "$room"' EXIT
 
-rustc --edition 2024 -O -o "$room/plain" "$top/bench/plain/main.rs"
+plain=${PLAIN:-$room/plain}
+[ -n "${PLAIN:-}" ] || rustc --edition 2024 -O -o "$plain" "$top/bench/plain/main.rs"
 
-# of_histogram and of_report: print lines "COUNT NAME". Classes have the names of the report, with `/` for dots.
-# Primitive arrays and class objects have those of the histogram: `[B`, `java/lang/Class`.
+# of_histogram and of_report: print lines "COUNT NAME". Classes have the names of the report, with `/` for dots and
+# `\x..` for letters beyond ASCII. Primitive arrays and class objects have those of the histogram: `[B`,
+# `java/lang/Class`.
 of_histogram() {
-    awk '$1 ~ /^[0-9]+:$/ { name = $4; sub(/\/0x/, "+0x", name); gsub(/\./, "/", name); print $2, name }' "$1"
+    LC_ALL=C awk '
+        BEGIN { for (code = 128; code < 256; code++) escaped[sprintf("%c", code)] = sprintf("\\x%02x", code) }
+        function spelled(name,  at, text) {
+            for (at = 1; at <= length(name); at++) {
+                text = text (substr(name, at, 1) in escaped ? escaped[substr(name, at, 1)] : substr(name, at, 1))
+            }
+            return text
+        }
+        $1 ~ /^[0-9]+:$/ { name = $4; sub(/\/0x/, "+0x", name); gsub(/\./, "/", name); print $2, spelled(name) }
+    ' "$1"
 }
 
 of_report() {
@@ -36,7 +47,7 @@ of_report() {
 }
 
 "$@" "$dump" > "$room/report"
-"$room/plain" "$dump" --count all > "$room/all" 2> "$room/told" || { cat "$room/told" >&2; exit 1; }
+"$plain" "$dump" --count all > "$room/all" 2> "$room/told" || { cat "$room/told" >&2; exit 1; }
 of_histogram "$histogram" > "$room/1"
 of_report "$room/all" > "$room/2"
 of_report "$room/report" > "$room/3"

@@ -3,8 +3,8 @@
 #
 # usage: bench/dumps.sh [DIR [GROUP..]]
 #
-# Writes NAME.hprof and NAME.histogram into DIR (/tmp/heapmark-bench if it is not given). The groups, all of them if
-# none is given:
+# Writes NAME.hprof and NAME.histogram into DIR (/tmp/heapmark-bench if it is not given). The groups, all of them but
+# `newer` if none is given:
 #   small      Filler with 5 MB, by each collector, live and all
 #   medium     Filler with 100 MB, by G1, Serial, ZGC and Shenandoah, live and all
 #   large      Filler with 600 MB, by G1, live
@@ -18,7 +18,10 @@
 #   ids        6,000,000 instances with IDs at random, made by hostile.rs: 290 MB, without a histogram
 #   odd        no compressed references, no class archive, a dump written at an OutOfMemoryError
 #   refused    a dump compressed by the virtual machine, which heapmark refuses
-# Java is that of JAVA_HOME, else that of PATH. Files that exist are made again.
+#   newer      for a JDK of any version: Filler with 40 MB by each collector and mode that it has, live, all and, from 22
+#              on, written by four threads; with compact object headers, and without compressed references; from 21 on,
+#              3,000 parked virtual threads, also interpreted only. The names begin with the version, as in j25-z-live
+# Java is that of JAVA_HOME, else that of PATH; bench/debian_jdk.sh unpacks others. Files that exist are made again.
 set -euo pipefail
 
 top=$(cd "$(dirname "$0")/.." && pwd)
@@ -114,6 +117,59 @@ map() {
     shaped map-g1-live LargeMap 4000000
 }
 
+# accepts OPTION..: tests whether the virtual machine takes these options without a word.
+accepts() {
+    local told
+    told=$("${java}java" "$@" -version 2>&1) && ! grep -q warning <<< "$told"
+}
+
+# each_way NAME WORD..: starts the Java program WORD.. and dumps all objects, the live ones, and from Java 22 on the live
+# ones by four threads.
+each_way() {
+    local name
+    name=j$(version)-$1
+    shift
+    started "${java}java" -cp "$room/classes" -Xmx700m "$@"
+    moment "$PROGRAM_PID" "$name-all" -all
+    moment "$PROGRAM_PID" "$name-live"
+    if [ "$(version)" -ge 22 ]; then
+        rm -f "$room/$name-parallel.hprof"
+        "${java}jcmd" "$PROGRAM_PID" GC.heap_dump -parallel=4 "$room/$name-parallel.hprof" > "$room/request"
+        ls -l "$room/$name-parallel.hprof"
+    fi
+    ended
+}
+
+# if_accepted NAME OPTION..: dumps Filler in each way, if the virtual machine takes the options.
+if_accepted() {
+    local name=$1
+    shift
+    if accepts "$@"; then each_way "$name" "$@" Filler 40; fi
+}
+
+# parked NAME OPTION..: dumps parked virtual threads.
+parked() {
+    local name=$1
+    shift
+    [ "$(version)" -ge 21 ] || return 0
+    "${java}javac" -encoding UTF-8 -d "$room/classes" "$top/bench/java/newer/Virtual.java"
+    each_way "$name" "$@" Virtual 3000
+}
+
+newer() {
+    if_accepted g1 -XX:+UseG1GC
+    if_accepted serial -XX:+UseSerialGC
+    if_accepted parallel-gc -XX:+UseParallelGC
+    if_accepted z -XX:+UseZGC
+    if_accepted generational-z -XX:+UseZGC -XX:+ZGenerational
+    if_accepted shenandoah -XX:+UseShenandoahGC
+    if_accepted generational-shenandoah -XX:+UseShenandoahGC -XX:ShenandoahGCMode=generational
+    if_accepted compact -XX:+UseCompactObjectHeaders
+    if_accepted uncompressed -XX:-UseCompressedOops
+    parked virtual
+    parked virtual-interpreted -Xint
+}
+
 # No machine writes such a dump, so there is no histogram of it.
 ids() {
     rustc --edition 2024 -O -o "$room/hostile" "$top/bench/hostile.rs"
@@ -179,7 +235,8 @@ mkdir -p "$room"
 [ $# -gt 0 ] || set -- small medium large big garbage tools scattered random list map ids odd refused
 for group; do
     case $group in
-        small | medium | large | big | garbage | tools | scattered | random | list | map | ids | odd | refused) "$group" ;;
+        small | medium | large | big | garbage | tools | scattered | random | list | map | ids | odd | refused | newer)
+            "$group" ;;
         *) echo "no such group: $group" >&2; exit 2 ;;
     esac
 done

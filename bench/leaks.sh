@@ -1,168 +1,131 @@
 #!/usr/bin/env bash
-# Tries the README's advice about leaks on programs that leak. Takes two dumps of each program, and tests whether the
-# recipe of docs/RECIPES.md and tools/grown print the class that leaks, and whether the first line of tools/holders is
-# what holds it.
+# Tests whether the first line of tools/leaks names what holds a leak, on services that leak beside a steady catalog.
 #
-# usage: bench/leaks.sh
+# usage: bench/leaks.sh [SERVICE..]
 #
-# The programs are those of bench/java whose names end in Leak. tools/holders is tried with the class that leaks and
-# without a class. Some cases differ:
+# SERVICE..: all of the table below if none is given. Each is a program of bench/java/leaks/shop that dumps itself
+# before and after its leak grew. The catalog is three times as large as the leak in the second dump. Java is that of
+# JAVA_HOME, else that of PATH; a service that needs a later version is left out.
 #
-# - No class of ThreadLocalLeak grows: tools/held has to find what the values of thread locals keep.
-# - What ClassValueLeak keeps is in no row: tools/grown has to say that more is unreachable.
-# - Between two runs of one program no class of it grows, though its lambdas have other names.
-# - If a dump is cut, the recipe has to end with a status other than 0 and to print nothing.
+# Prints a Markdown table: for each service the megabytes of its dumps, how many megabytes grew, how many the catalog
+# has, the seconds that tools/leaks took without a class, and its first line. A line is right if its field is the holder
+# of the table below, and the catalog is not in it; after a wrong line comes the whole output. The last line is
+# `N right, M wrong, K left out`. Exit status 1 if a line was wrong.
 #
-# heapmark is the binary of crates/heapmark/out, or what the variable HEAPMARK names.
+# heapmark is the binary of crates/heapmark/out, or what the variable HEAPMARK names. LEAKS: a command in place of
+# tools/leaks. KEPT: a folder in which the dumps stay, NAME-before.hprof and NAME-after.hprof. SCALE: how many times as
+# large as usual catalog and leak are (1); with 24, the second dump has some 600 MB.
 set -euo pipefail
 
 top=$(cd "$(dirname "$0")/.." && pwd)
 # shellcheck source=bench/machine.sh
 . "$top/bench/machine.sh"
-heapmark=${HEAPMARK:-$top/crates/heapmark/out/heapmark}
+export HEAPMARK=${HEAPMARK:-$top/crates/heapmark/out/heapmark}
+read -r -a leaks <<< "${LEAKS:-$top/tools/leaks}"
+scale=${SCALE:-1}
 room=$(mktemp -d)
 trap 'rm -rf "$room"' EXIT
-failed=0
+dumps=${KEPT:-$room}
+right=0 wrong=0 omitted=0
 
-# recipe: prints the first indented lines of the section "Which classes grew".
-recipe() {
-    awk '/^## Which classes grew/ { found = 1 }
-        found && /^    / { begun = 1; print substr($0, 5); next }
-        begun { exit }' "$top/docs/RECIPES.md"
+# services: prints a line for each service: its name, the version of Java that it needs, and its holder. Between holders
+# of which any is right stands ` | `.
+services() {
+    cat << 'SERVICES'
+MetricsService 17 shop/MetricsService$Metrics.meters
+QuoteService 17 shop/QuoteService$Bus.listeners
+TracingService 17 shop/TracingService$Trace.spans
+DriverService 17 static shop/DriverService$Registry.DRIVERS
+RedeployService 17 static java/lang/ApplicationShutdownHooks.hooks
+PaymentService 17 static shop/PaymentService.PENDING
+PriceService 17 static shop/PriceService.RECENT
+TagService 17 static vendor/text/Interner.POOL
+TimeoutService 17 java/util/concurrent/ScheduledThreadPoolExecutor$DelayedWorkQueue.queue
+UploadService 17 shop/UploadService.chunks
+SizeService 17 static shop/SizeService$Gr\xc3\xb6\xc3\x9fentabelle.NACH_L\xc3\x84NGE
+AuditService 17 local shop/AuditService.collect | thread "audit"
+MailService 17 shop/MailService$Mailer.waiting
+JournalService 17 together static shop/JournalService$Journal.events, static shop/JournalService$Screen.shown
+AckService 21 static shop/AckService.DELIVERIES | local shop/AckService.deliver
+ScopeService 25 shop/ScopeService$Context.answered
+SERVICES
 }
 
-# pasted: runs the recipe in the folder of the dumps, in a shell that finds heapmark by PATH.
-pasted() {
-    (cd "$room" && PATH=$room/bin:$PATH bash recipe)
+# megabytes FILE: prints the size of FILE.
+megabytes() {
+    awk '{ printf "%.1f", $1 / 1e6 }' <<< "$(stat -c %s "$1")"
 }
 
-# dumped NAME: dumps the live objects of the program that was started.
-dumped() {
-    rm -f "$room/$1"
-    "${java}jcmd" "$PROGRAM_PID" GC.heap_dump "$room/$1" > "$room/told"
+# reachable DUMP: prints the reachable bytes of DUMP.
+reachable() {
+    "$HEAPMARK" "$1" | awk '$3 == "(reachable)" { print $2 }'
 }
 
-# dumped_twice PROGRAM: takes two dumps of PROGRAM, between which it leaks.
+# catalog DUMP: prints how many bytes the catalog holds in DUMP.
+catalog() {
+    "$top/tools/held" "$1" shop/Catalog.PRODUCTS | awk '{ bytes += $2 } END { print bytes }'
+}
+
+# dumped_twice SERVICE: compiles the service and runs it, which dumps itself to NAME-before.hprof and NAME-after.hprof.
 dumped_twice() {
-    started "${java}java" -cp "$room/classes" -Xmx60m "$1"
-    dumped monday.hprof
-    told 'once more'
-    dumped friday.hprof
-    ended
+    "${java}javac" -encoding UTF-8 -sourcepath "$top/bench/java/leaks" -d "$room/classes" \
+        "$top/bench/java/leaks/shop/$1.java"
+    rm -f "$dumps/$1-before.hprof" "$dumps/$1-after.hprof"
+    "${java}java" -cp "$room/classes" "-Xmx$((64 + 64 * scale))m" "-Dscale=$scale" "shop.$1" \
+        "$dumps/$1-before.hprof" "$dumps/$1-after.hprof" > "$room/told" 2>&1 || { cat "$room/told" >&2; exit 1; }
 }
 
-# judge NAME STATUS: prints whether STATUS is 0, and the lines if it is not.
-judge() {
-    if [ "$2" = 0 ]; then
-        echo "ok: $1"
-    else
-        echo "FAILED: $1:"
-        cat "$room/lines"
-        failed=1
-    fi
-}
-
-# among NAME CLASS: tests whether CLASS is among the lines.
-among() {
-    local place
-    place=$(awk -v class="$2" '$3 == class { print NR }' "$room/lines")
-    judge "$1: line ${place:-none} of $(wc -l < "$room/lines") is $2" "$([ -n "$place" ]; echo $?)"
-}
-
-# hanging PROGRAM FIELD CLASS: tests whether CLASS is among what FIELD holds in the second dump.
-hanging() {
-    HEAPMARK=$heapmark "$top/tools/held" "$room/friday.hprof" "$2" > "$room/lines" || true
-    among "$1, by $2" "$3"
-}
-
-# holding PROGRAM HOLDER [CLASS]: tests whether the first line of tools/holders on the second dump names HOLDER.
-holding() {
-    local program=$1 holder=$2 first
-    shift 2
-    HEAPMARK=$heapmark "$top/tools/holders" "$room/friday.hprof" "$@" > "$room/lines" 2> "$room/told" || true
-    first=$(sed -n '1s/^ *[0-9]* *[0-9]* *[0-9]*% *[0-9]*  //p' "$room/lines")
-    cat "$room/told" >> "$room/lines"
-    judge "$program${1:+, $1}: the first holder is $holder" "$([ "$first" = "$holder" ]; echo $?)"
-}
-
-# leaking PROGRAM CLASS HOLDER: tests whether PROGRAM is seen to leak CLASS, which the field HOLDER holds.
-leaking() {
-    dumped_twice "$1"
-    pasted > "$room/lines" || true
-    among "$1, by the recipe" "$2"
-    HEAPMARK=$heapmark "$top/tools/grown" "$room/monday.hprof" "$room/friday.hprof" > "$room/lines" 2> "$room/told"
-    among "$1, by tools/grown" "$2"
-    holding "$1" "$3" "$2"
-    holding "$1" "$3"
-}
-
-# leaking_by_thread PROGRAM CLASS: tests whether no class of PROGRAM grows, and whether its thread locals keep CLASS.
-leaking_by_thread() {
-    dumped_twice "$1"
-    pasted > "$room/lines"
-    judge "$1: no class of its own grew" "$(! grep -q "  $1" "$room/lines"; echo $?)"
-    # shellcheck disable=SC2016 # names of Java have dollars
-    hanging "$1" 'java/lang/ThreadLocal$ThreadLocalMap$Entry.value' "$2"
-}
-
-# leaking_by_class PROGRAM COUNT: tests whether at least COUNT objects more are unreachable in the second dump.
-leaking_by_class() {
-    local objects
-    dumped_twice "$1"
-    HEAPMARK=$heapmark "$top/tools/grown" "$room/monday.hprof" "$room/friday.hprof" > "$room/grown" 2> "$room/lines"
-    objects=$(sed -n 's/^grown: unreachable: \([0-9]*\) objects more.*/\1/p' "$room/lines")
-    judge "$1: ${objects:-no} objects more are unreachable" "$([ "${objects:-0}" -ge "$2" ]; echo $?)"
-    cat "$room/grown" >> "$room/lines"
-    judge "$1: no class of its own grew" "$(! grep -q "  $1" "$room/lines"; echo $?)"
-}
-
-# run_twice PROGRAM: tests whether no class of PROGRAM grows between two runs that differ only in the names of lambdas.
-run_twice() {
-    local dump
-    for dump in monday friday; do
-        started "${java}java" -cp "$room/classes" -Xmx60m "$1"
-        dumped $dump.hprof
-        ended
+# named LINE HOLDERS: tests whether the last field of LINE, to which fields above it may lead, is one of HOLDERS, and
+# whether LINE says nothing of the catalog.
+named() {
+    local found=${1##*  } holders=$2 holder
+    found=${found##* > }
+    [[ $1 != *shop/Catalog* ]] || return 1
+    until [ -z "$holders" ]; do
+        holder=${holders%% | *}
+        [ "$found" != "$holder" ] || return 0
+        holders=${holders#"$holder"}
+        holders=${holders# | }
     done
-    pasted > "$room/lines"
-    judge "$1, two runs: nothing of its own grew" "$(! grep -q "  $1" "$room/lines"; echo $?)"
-    HEAPMARK=$heapmark "$top/tools/grown" "$room/monday.hprof" "$room/friday.hprof" > "$room/lines" 2> "$room/told"
-    judge "$1, two runs: so says tools/grown" "$(! grep -q "  $1" "$room/lines"; echo $?)"
+    return 1
 }
 
-# cut_short NAME: cuts off the end of dump NAME, and tests whether the recipe then fails and prints nothing.
-cut_short() {
-    truncate -s -1000 "$room/$1"
-    if pasted > "$room/lines" 2> "$room/told" || [ -s "$room/lines" ]; then
-        echo "FAILED: $1 is cut, and the recipe printed $(wc -l < "$room/lines") lines"
-        failed=1
+# try SERVICE HOLDERS: dumps the service twice, runs tools/leaks on the dumps, and prints the row of the table.
+try() {
+    local before=$dumps/$1-before.hprof after=$dumps/$1-after.hprof start line
+    dumped_twice "$1"
+    start=${EPOCHREALTIME/./}
+    "${leaks[@]}" "$before" "$after" > "$room/lines" 2> "$room/told" < /dev/null || true
+    start=$((${EPOCHREALTIME/./} - start))
+    line=$(head -n 1 "$room/lines")
+    awk -v service="$1" -v sizes="$(megabytes "$before"), $(megabytes "$after")" -v before="$(reachable "$before")" \
+        -v after="$(reachable "$after")" -v catalog="$(catalog "$after")" -v seconds=$start '{
+            printf "| %s | %s | %.1f | %.1f | %.1f | `%s` |\n", service, sizes, (after - before) / 1e6, catalog / 1e6,
+                seconds / 1e6, $0
+        }' <<< "$line"
+    if named "$line" "$2"; then
+        right=$((right + 1))
     else
-        echo "ok: $1 is cut: $(head -n 1 "$room/told")"
+        wrong=$((wrong + 1))
+        printf 'WRONG: line 1 does not name %s:\n' "$2"
+        cat "$room/lines" "$room/told"
     fi
+    [ -n "${KEPT:-}" ] || rm "$before" "$after"
 }
 
-mkdir "$room/bin"
-ln -s "$(realpath "$heapmark")" "$room/bin/heapmark"
-recipe > "$room/recipe"
-"${java}javac" -d "$room/classes" "$top"/bench/java/*Leak.java
-# shellcheck disable=SC2016 # names of Java have dollars
-while read -r program class holder; do
-    leaking "$program" "$class" "$holder"
-done << 'PROGRAMS'
-CacheLeak CacheLeak$Order static CacheLeak.CACHE
-ListenerLeak ListenerLeak$View static ListenerLeak.PRICES
-LoaderLeak LoaderLeak$PluginLoader static LoaderLeak.STARTED
-BusLeak BusLeak$$Lambda static BusLeak.CONFIG
-SessionLeak SessionLeak$Session static SessionLeak$Sessions.BY_KEY
-QueueLeak QueueLeak$Letter QueueLeak$Mailer.waiting
-RedeployLeak RedeployLeak$ApplicationLoader static java/lang/ApplicationShutdownHooks.hooks
-TwoStaticsLeak TwoStaticsLeak$Event together static TwoStaticsLeak$Journal.EVENTS, static TwoStaticsLeak$Screen.SHOWN
-PROGRAMS
-# shellcheck disable=SC2016
-leaking_by_thread ThreadLocalLeak 'ThreadLocalLeak$Scratch'
-holding ThreadLocalLeak 'java/lang/ThreadLocal$ThreadLocalMap.table' java.lang.String
-leaking_by_class ClassValueLeak 10000
-run_twice ListenerLeak
-cut_short friday.hprof
-cut_short monday.hprof
-exit $failed
+[ $# -gt 0 ] || mapfile -t all < <(services | cut -d ' ' -f 1)
+[ $# -gt 0 ] || set -- "${all[@]}"
+mkdir -p "$dumps"
+echo "| Service | Dumps, MB | Grew, MB | Catalog, MB | Seconds | First line, on Java $(version) |"
+echo '|---|---|---|---|---|---|'
+for service; do
+    read -r _ needed holders < <(services | grep "^$service ") || { echo "no such service: $service" >&2; exit 2; }
+    if [ "$needed" -gt "$(version)" ]; then
+        omitted=$((omitted + 1))
+        echo "| $service | | | | | left out: it needs Java $needed |"
+    else
+        try "$service" "$holders"
+    fi
+done
+echo "$right right, $wrong wrong, $omitted left out"
+[ "$wrong" -eq 0 ]

@@ -12,7 +12,7 @@ import tempfile
 import unittest
 from unittest import mock
 
-from heap_tools import chromium, page, page_sample
+from heap_tools import chromium, figures, page, page_sample
 from heap_tools.page import pictures, treemap, words
 
 SCRIPT = "<script>alert(1)</script>"
@@ -81,6 +81,15 @@ LOW_CONTRAST = """
   }
   return low;
 })()
+"""
+
+
+#: Adds an element to the page, and returns which rule of its policy refuses that.
+REFUSED = """
+new Promise(done => {
+  document.addEventListener('securitypolicyviolation', event => done(event.effectiveDirective));
+  document.body.append(Object.assign(document.createElement('%s'), {%s}));
+})
 """
 
 
@@ -166,7 +175,7 @@ class WordsTest(unittest.TestCase):
     def test_duration(self):
         """How long something took, in two units."""
         table = {0: "0 s", 59_999: "1 min", 754_000: "12 min 34 s", 3_600_000: "1 h", 86_400_000: "1 day"}
-        self.check(words.duration, {**table, 273_600_000: "3 days 4 h"})
+        self.check(figures.duration, {**table, 273_600_000: "3 days 4 h"})
 
     def test_signed(self):
         """Differences, with the sign of a minus."""
@@ -340,7 +349,7 @@ class PageTest(unittest.TestCase):
         leak = page_sample.leak()
         leak = dataclasses.replace(leak, grown=leak.grown * 100, holders=leak.holders * 10, dumps=leak.dumps * 100)
         text = self.outline(leak).text()
-        for wanted in "670 classes that grew are more not shown", "30 lines are more not shown", "260 dumps more":
+        for wanted in "Not shown: 670 rows more", "Not shown: 30 rows more", "260 dumps more":
             with self.subTest(wanted):
                 self.assertIn(wanted, text)
 
@@ -560,6 +569,17 @@ class BrowserTest(unittest.TestCase):
         regions = [name for role, name in parts if role == "region"]
         self.assertTrue(all(regions))
         self.assertIn("What holds it", regions)
+
+    def test_policy(self):
+        """If a name ever were more than text, the policy of the page would still refuse to fetch or to run it."""
+        for tag, attributes, rule in [
+            ("img", "src: 'http://127.0.0.1:9/x'", "img-src"),
+            ("script", "textContent: 'alert(1)'", "script-src-elem"),
+            ("iframe", "src: 'http://127.0.0.1:9/x'", "frame-src"),
+        ]:
+            with self.subTest(tag):
+                self.open(page_sample.leak())
+                self.assertEqual(self.browser.value(REFUSED % (tag, attributes)), rule)
 
     def test_the_browser_sees_what_is_wrong(self):
         """These tests would see a page that fetches, runs, overflows or is pale."""

@@ -1,10 +1,10 @@
--- Pairs of bits of a word, and what setting one pair changes.
+-- The marks in a word, of two bits each, and what setting the bits of one changes.
 use Rattle.std.proofs.Common.{◌≡◌, ◌≢◌, ◌⊎◌, ◌↔◌, ℕ, suc, ◌+◌, ◌-◌, ◌*◌, ◌/◌, ◌%◌, ◌^◌, ◌<◌, ◌≤◌, ◌==◌, max, IsTrue}
 use Rattle.std.proofs.Common.{if◌then◌else◌, bit_and, bit_or, ap, sym, ◌∙◌, inl, inr, ⊎_elim, eq-eqb, eqb-true, lt-ltb}
 use Rattle.std.proofs.Common.{le-ltb, pow_pos, pow_mono, pow-add, shr-shr, mod-eq_of_lt, mul-le-mul_right, suc-mul, w64}
 use Rattle.std.proofs.Common.{arith}
 use Rattle.buffer_pool.proofs.Words.{cases_lt, bit_at_or, bit_at_cat_low, bit_at_cat_high, bit_at_above, bit_at-zero}
-use Rattle.buffer_pool.proofs.Words.{bit_at-lt, bit_at_not, shr_and_one, ℕ_discrete, cut_marks, mark_of, pair_mark}
+use Rattle.buffer_pool.proofs.Words.{bit_at-lt, bit_at_not, shr_and_one, ℕ_discrete, cut_marks, mark_of, mark_at}
 use Rattle.std.specs.Int.{bit_at, bit_not}
 
 no_more : (x : ℕ) → x ≡ x + 0
@@ -17,7 +17,7 @@ moved_below c k i low = ap (λ x. bit_at x i) (no_more (c * 2 ^ k)) ∙ bit_at_c
 moved_up : (c k i : ℕ) → k ≤ i → bit_at (c * 2 ^ k) i ≡ bit_at c (i - k)
 moved_up c k i from = ap (λ x. bit_at x i) (no_more (c * 2 ^ k)) ∙ bit_at_cat_high c k 0 i (pow_pos k) from
 
--- the two places of pair j have the two low bits of c
+-- the two bits of mark j are the two low bits of c
 moved_low : (c j : ℕ) → bit_at (c * 2 ^ (2 * j)) (2 * j) ≡ bit_at c 0
 moved_low c j =
     let same : 2 * j - 2 * j ≡ 0 = omega arith in
@@ -28,7 +28,7 @@ moved_high c j =
     let same : 2 * j + 1 - 2 * j ≡ 1 = omega arith in
     moved_up c (2 * j) (2 * j + 1) (omega arith) ∙ ap (bit_at c) same
 
--- a place outside pair j, such as each place of another pair
+-- a bit outside mark j, such as each bit of another mark
 abbrev Beside : ℕ → ℕ → Type 0
 Beside j k = (k < 2 * j) ⊎ (2 * j + 2 ≤ k)
 
@@ -41,7 +41,7 @@ moved_beside c j k small (inl low) = moved_below c (2 * j) k low
 moved_beside c j k small (inr high) =
     moved_up c (2 * j) k (omega (arith, high)) ∙ bit_at_above c 2 (k - 2 * j) small (omega (arith, high))
 
--- setting the bits of c at pair j raises that pair and leaves the places outside
+-- setting the bits of c at mark j raises that mark and leaves the bits outside
 module _ (n c j : ℕ) where
   set_beside : (k : ℕ) → c < 4 → Beside j k → bit_at (bit_or n (c * 2 ^ (2 * j))) k ≡ bit_at n k
   set_beside k small apart = omega (arith, bit_at_or n (c * 2 ^ (2 * j)) k, moved_beside c j k small apart)
@@ -52,22 +52,22 @@ module _ (n c j : ℕ) where
   set_high : bit_at (bit_or n (c * 2 ^ (2 * j))) (2 * j + 1) ≡ max (bit_at n (2 * j + 1)) (bit_at c 1)
   set_high = bit_at_or n (c * 2 ^ (2 * j)) (2 * j + 1) ∙ ap (max (bit_at n (2 * j + 1))) (moved_high c j)
 
-  -- the mark of another pair is as it was
-  pub mark_beside : (i : ℕ) → c < 4 → i ≢ j → pair_mark (bit_or n (c * 2 ^ (2 * j))) i ≡ pair_mark n i
+  -- another mark is as it was
+  pub mark_beside : (i : ℕ) → c < 4 → i ≢ j → mark_at (bit_or n (c * 2 ^ (2 * j))) i ≡ mark_at n i
   mark_beside i small other =
       λ t. mark_of (set_beside (2 * i) small (beside i j (2 * i) other (omega arith)) t)
       (set_beside (2 * i + 1) small (beside i j (2 * i + 1) other (omega arith)) t)
 
 -- setting the low bit is a claim, setting both is a finish
-pub mark_claimed : (n j : ℕ) → pair_mark n j ≤ 2 → pair_mark (bit_or n (1 * 2 ^ (2 * j))) j ≡ max (pair_mark n j) 1
+pub mark_claimed : (n j : ℕ) → mark_at n j ≤ 2 → mark_at (bit_or n (1 * 2 ^ (2 * j))) j ≡ max (mark_at n j) 1
 mark_claimed n j known = omega (arith, known, set_low n 1 j, set_high n 1 j)
 
-pub mark_finished : (n j : ℕ) → pair_mark (bit_or n (3 * 2 ^ (2 * j))) j ≡ 2
+pub mark_finished : (n j : ℕ) → mark_at (bit_or n (3 * 2 ^ (2 * j))) j ≡ 2
 mark_finished n j = omega (arith, set_low n 3 j, set_high n 3 j)
 
--- if the lowest bit of c is set, c at pair i equals c at pair j only if i is j
-pub one_pair : (c i j : ℕ) → c < 4 → bit_at c 0 ≡ 1 → c * 2 ^ (2 * i) ≡ c * 2 ^ (2 * j) → i ≡ j
-one_pair c i j small odd same = go (ℕ_discrete i j)
+-- if the lowest bit of c is set, c at mark i equals c at mark j only if i is j
+pub one_mark : (c i j : ℕ) → c < 4 → bit_at c 0 ≡ 1 → c * 2 ^ (2 * i) ≡ c * 2 ^ (2 * j) → i ≡ j
+one_mark c i j small odd same = go (ℕ_discrete i j)
   where
     go : Dec (i ≡ j) → i ≡ j
     go (yes e) = e
@@ -76,10 +76,10 @@ one_pair c i j small odd same = go (ℕ_discrete i j)
         let there = moved_beside c j (2 * i) small (beside i j (2 * i) n (omega arith)) in
         absurd (omega (arith, here, ap (λ x. bit_at x (2 * i)) same, there))
 
--- the low bit of a pair is 0 exactly if its mark is white, for a mark of at most 2
+-- the low bit of a mark of at most 2 is 0 exactly if the mark is white
 pub low_tells :
-    (n j place : ℕ) → place ≡ 2 * j → pair_mark n j ≤ 2
-    → IsTrue (bit_and (n / 2 ^ place) 1 == 0) ↔ (pair_mark n j ≡ 0)
+    (n j place : ℕ) → place ≡ 2 * j → mark_at n j ≤ 2
+    → IsTrue (bit_and (n / 2 ^ place) 1 == 0) ↔ (mark_at n j ≡ 0)
 low_tells n j place is known = (
   (λ h. omega (arith, known, low, eqb-true (bit_and (n / 2 ^ place) 1) 0 h)),
   (λ h. eq-eqb (bit_and (n / 2 ^ place) 1) 0 (omega (arith, low, h))),
@@ -88,7 +88,7 @@ low_tells n j place is known = (
     low : bit_and (n / 2 ^ place) 1 ≡ bit_at n (2 * j)
     low = ap (λ p. bit_and (n / 2 ^ p) 1) is ∙ shr_and_one n (2 * j)
 
--- two bits at a pair fit into a word of 64 bits
+-- two bits at a mark fit into a word of 64 bits
 pub bits_fit : (c j : ℕ) → c < 4 → j < 32 → c * 2 ^ (2 * j) % 2 ^ 64 ≡ c * 2 ^ (2 * j)
 bits_fit c j small low =
     mod-eq_of_lt
@@ -105,9 +105,9 @@ bits_fit c j small low =
     less : (x y z : ℕ) → x + y ≤ 4 * y → z ≡ 4 * y → 0 < y → z ≤ 2 ^ 64 → x < 2 ^ 64
     less x y z a b d e = omega (arith, a, b, d, e)
 
--- two bits read at a pair are its mark
-pub pair_read : (n j bits : ℕ) → bits ≡ n / 2 ^ (2 * j) % 4 → pair_mark n j ≡ mark_of (bits % 2) (bits / 2)
-pair_read n j bits read = λ t. mark_of (low t) (high t)
+-- the two bits read at a mark spell it
+pub mark_read : (n j bits : ℕ) → bits ≡ n / 2 ^ (2 * j) % 4 → mark_at n j ≡ mark_of (bits % 2) (bits / 2)
+mark_read n j bits read = λ t. mark_of (low t) (high t)
   where
     low : bit_at n (2 * j) ≡ bits % 2
     low = omega (arith, read)
@@ -130,14 +130,14 @@ marked_object objects f o some =
     ⊎_elim (λ below. below) (λ past. absurd (omega (arith, some, cut_past objects f o past))) (cases_lt o objects)
 
 -- all marks of the word 0 are white
-pub white_pair : (j : ℕ) → pair_mark 0 j ≡ 0
-white_pair j = omega (arith, bit_at-zero (2 * j), bit_at-zero (2 * j + 1))
+pub white_mark : (j : ℕ) → mark_at 0 j ≡ 0
+white_mark j = omega (arith, bit_at-zero (2 * j), bit_at-zero (2 * j + 1))
 
 pub cut_white : (objects : ℕ) (f : ℕ → ℕ) (o : ℕ) → f o ≡ 0 → cut_marks objects f o ≡ 0
 cut_white objects f o h =
     ⊎_elim (λ below. cut_object objects f o below ∙ h) (cut_past objects f o) (cases_lt o objects)
 
--- the bits that are not set in a word, from a pair on
+-- the bits that are not set in a word, from mark j on
 abbrev pub unset_from : ℕ → ℕ → ℕ
 unset_from w j = bit_not w64 w / 2 ^ (2 * j)
 
@@ -157,11 +157,11 @@ module _ (w j : ℕ) (fits : w < 2 ^ 64) where
   unset_in_word : (i : ℕ) → 2 * j + i < 64 → bit_at (unset_from w j) i ≡ 1 - bit_at w (2 * j + i)
   unset_in_word i below = unset_bit w j i ∙ bit_at_not w64 w (2 * j + i) fits below
 
-  -- a pair is finished if both its bits are set, and is not if one of them is not set
-  pub pair_finished :
+  -- a mark is that of a finished object if both its bits are set, and is not if one of them is not set
+  pub mark_is_finished :
       (k : ℕ) → j ≤ k → k < 32 → bit_at (unset_from w j) (2 * (k - j)) ≡ 0
-      → bit_at (unset_from w j) (2 * (k - j) + 1) ≡ 0 → pair_mark w k ≡ 2
-  pair_finished k from below low high =
+      → bit_at (unset_from w j) (2 * (k - j) + 1) ≡ 0 → mark_at w k ≡ 2
+  mark_is_finished k from below low high =
       let a : 2 * j + 2 * (k - j) ≡ 2 * k = omega (arith, from) in
       let b : 2 * j + (2 * (k - j) + 1) ≡ 2 * k + 1 = omega (arith, from) in
       let unset_low = unset_in_word (2 * (k - j)) (omega (arith, from, below)) in
@@ -171,8 +171,8 @@ module _ (w j : ℕ) (fits : w < 2 ^ 64) where
       omega (arith, high, unset_high, ap (bit_at w) b, bit_at-lt w (2 * k + 1)) in
       omega (arith, one_low, one_high)
 
-  pub pair_unfinished : (i : ℕ) → bit_at (unset_from w j) i ≡ 1 → pair_mark w (j + i / 2) ≢ 2
-  pair_unfinished i is two = ⊎_elim even odd (cases_lt (i % 2) 1)
+  pub mark_unfinished : (i : ℕ) → bit_at (unset_from w j) i ≡ 1 → mark_at w (j + i / 2) ≢ 2
+  mark_unfinished i is two = ⊎_elim even odd (cases_lt (i % 2) 1)
     where
       k : ℕ
       k = j + i / 2

@@ -5,11 +5,11 @@ use Rattle.buffer_pool.proofs.Words.{All-contains, none, TableId, State, Me, Ste
 use Rattle.buffer_pool.proofs.Words.{index_of, Account, after_claim, Setup, Marking, put, Kind, Claim, Finish, CanClaim}
 use Rattle.buffer_pool.proofs.Words.{CanFinish, IsBusy, effect, counted, linear, SeatView, claimed, finished, RestsWith}
 use Rattle.buffer_pool.proofs.Words.{claim_made, finish_made, IsLaid, IsSound, SitsAt, setup_of, Key, Seat, Shared}
-use Rattle.buffer_pool.proofs.Words.{mark_in, pair_bits, pair_mark, first_mark, link_word, mark_word, Reading, free}
+use Rattle.buffer_pool.proofs.Words.{mark_in, mark_bits, mark_at, first_mark, link_word, mark_word, Reading, free}
 use Rattle.buffer_pool.proofs.Words.{Rule, marking_of, view_counts, logged, has_each_once}
 use Rattle.std.specs.Int.{bit_at}
 use Rattle.mark_core.specs.Events as may
-use Rattle.buffer_pool.proofs.Bits.{cut_object, mark_claimed, mark_finished, one_pair}
+use Rattle.buffer_pool.proofs.Bits.{cut_object, mark_claimed, mark_finished, one_mark}
 use Rattle.buffer_pool.proofs.States.{Seated, left, agrees, lawful, cut_same, accounts_set, counts_same, rests_after}
 use Rattle.buffer_pool.proofs.States.{log_after, own_setup, seat_has, stands, freed}
 use Rattle.buffer_pool.proofs.Loads.{noted}
@@ -27,9 +27,9 @@ module _
         accounts = set (marking_of r e s).accounts id a;
       }
 
-  -- the rule holds after the bits of c were set at the pair of an object and the account of the seat changed
+  -- the rule holds after the bits of c were set at the mark of an object and the account of the seat changed
   marked :
-      (o c x : ℕ) (u : SeatView) (kind : Kind) → c < 4 → o < e.objects → pair_mark (raised e s.words o c) (o % 32) ≡ x
+      (o c x : ℕ) (u : SeatView) (kind : Kind) → c < 4 → o < e.objects → mark_at (raised e s.words o c) (o % 32) ≡ x
       → u.out ≡ 0 → u.book.account.held ≡ v.book.account.held → u.book.setup ≡ v.book.setup
       → view_counts u ≡ view_counts v → may.Allows e (marking_of r e s) id v.book.account kind
       → effect (marking_of r e s) id v.book.account kind ≡ marked_now o x u.book.account
@@ -58,32 +58,32 @@ module _
           (marks_after e s.words o c x small below (omega (arith, at.rule.word_count, below)) becomes) refl
           (idle_beside_mark e s.words o c) (accounts_set s.views id w)
 
--- the pair of an object is its mark, so it is not 10
+-- an object has a mark, so its two bits are not 10
 pub mark_known :
     {B : Type 0} {r : Reading B} {e : Setup} {s : State (Option B) SeatView} (rule : Rule r e s) (o : ℕ) → o < e.objects
-    → pair_mark (slice_index s.words (mark_word e o)) (o % 32) ≤ 2
+    → mark_at (slice_index s.words (mark_word e o)) (o % 32) ≤ 2
 mark_known {r = r} {e = e} {s = s} rule o below =
     let m = marking_of r e s in
     let seen = cut_object e.objects (mark_in s.words (first_mark e)) o below in
     omega (arith, seen, linear e m.mark m.slots m.accounts (lawful rule).coloured o)
 
--- the word and the bits of a pair determine the object
+-- the word and the bits of a mark determine the object
 one_object :
-    (first o p c : ℕ) → c < 4 → bit_at c 0 ≡ 1 → first + o / 32 ≡ first + p / 32 → pair_bits c o ≡ pair_bits c p → o ≡ p
+    (first o p c : ℕ) → c < 4 → bit_at c 0 ≡ 1 → first + o / 32 ≡ first + p / 32 → mark_bits c o ≡ mark_bits c p → o ≡ p
 one_object first o p c small odd word bits =
-    let place : o % 32 ≡ p % 32 = one_pair c (o % 32) (p % 32) small odd bits in omega (arith, place, word)
+    let place : o % 32 ≡ p % 32 = one_mark c (o % 32) (p % 32) small odd bits in omega (arith, place, word)
 
 module _ {B : Type 0} (r : Reading B) (e : Setup) (slots id : ℕ) (me : Me (Option B) SeatView) where
   pub claims :
       {t : TableId} (sound : IsSound t me) (o : ℕ) → CanClaim me.0.book.setup o me.0.book.account
       → IsBusy me.0.book.account → o < me.0.book.setup.objects
-      → Allows (Rule r e) slots id me (mark_word e o) (λ n. bit_or n (pair_bits 1 o))
-      (claim_made (step slots (mark_word e o) (pair_bits 1 o) 0 none) me)
+      → Allows (Rule r e) slots id me (mark_word e o) (λ n. bit_or n (mark_bits 1 o))
+      (claim_made (step slots (mark_word e o) (mark_bits 1 o) 0 none) me)
   claims sound o can busy within =
-      let made = claim_made (step slots (mark_word e o) (pair_bits 1 o) 0 none) me in
-      freed r e slots id (mark_word e o) (λ n. bit_or n (pair_bits 1 o)) made me sound.carries sound.share (λ s at.
+      let made = claim_made (step slots (mark_word e o) (mark_bits 1 o) 0 none) me in
+      freed r e slots id (mark_word e o) (λ n. bit_or n (mark_bits 1 o)) made me sound.carries sound.share (λ s at.
       let n = slice_index s.words (mark_word e o) in
-      let found : ℕ = pair_mark n (o % 32) in
+      let found : ℕ = mark_at n (o % 32) in
       let u : SeatView = record (free me.0) { book = claimed o found me.0.book } in
       let m = marking_of r e s in
       let a = me.0.book.account in
@@ -103,19 +103,19 @@ module _ {B : Type 0} (r : Reading B) (e : Setup) (slots id : ℕ) (me : Me (Opt
         (λ p h bits.
             let b : me.0.book.setup.buffers ≡ e.buffers = ap (λ (x : Setup). x.buffers) (own_setup at) in
             let k : o ≡ p = one_object (32 + e.buffers) o p 1 (omega arith) refl (omega (arith, h, b)) bits in
-            subst (λ x. RestsWith me (claimed x (pair_mark n (x % 32)) me.0.book) (Claim x ∷ [])
-            (logged (log_after at (Claim o)) u, []) × (pair_mark n (x % 32) ≤ 2)) k
-            (rests_after me at sound.settled (Claim o) u.book words at.there rule, known)),
+            subst (λ x. RestsWith me (claimed x (mark_at n (x % 32)) me.0.book) (Claim x ∷ [])
+            (logged (log_after at (Claim o)) u, []) × (mark_at n (x % 32) ≤ 2)) k
+            (rests_after me at sound.all_said (Claim o) u.book words at.there rule, known)),
       ))
 
   pub finishes :
       {t : TableId} (sound : IsSound t me) (o : ℕ) → CanFinish me.0.book.setup o me.0.book.account
       → o < me.0.book.setup.objects
-      → Allows (Rule r e) slots id me (mark_word e o) (λ n. bit_or n (pair_bits 3 o))
-      (finish_made (step slots (mark_word e o) (pair_bits 3 o) 0 none) me)
+      → Allows (Rule r e) slots id me (mark_word e o) (λ n. bit_or n (mark_bits 3 o))
+      (finish_made (step slots (mark_word e o) (mark_bits 3 o) 0 none) me)
   finishes sound o can within =
-      let made = finish_made (step slots (mark_word e o) (pair_bits 3 o) 0 none) me in
-      freed r e slots id (mark_word e o) (λ n. bit_or n (pair_bits 3 o)) made me sound.carries sound.share (λ s at.
+      let made = finish_made (step slots (mark_word e o) (mark_bits 3 o) 0 none) me in
+      freed r e slots id (mark_word e o) (λ n. bit_or n (mark_bits 3 o)) made me sound.carries sound.share (λ s at.
       let n = slice_index s.words (mark_word e o) in
       let u : SeatView = record (free me.0) { book = finished o me.0.book } in
       let w : SeatView = logged (log_after at (Finish o)) u in
@@ -136,7 +136,7 @@ module _ {B : Type 0} (r : Reading B) (e : Setup) (slots id : ℕ) (me : Me (Opt
             let b : me.0.book.setup.buffers ≡ e.buffers = ap (λ (x : Setup). x.buffers) (own_setup at) in
             let k : o ≡ p = one_object (32 + e.buffers) o p 3 (omega arith) refl (omega (arith, h, b)) bits in (
               subst (λ x. RestsWith me (finished x me.0.book) (Finish x ∷ []) (w, [])) k
-                  (rests_after me at sound.settled (Finish o) u.book words at.there rule),
+                  (rests_after me at sound.all_said (Finish o) u.book words at.there rule),
               (λ x. omega (arith, once.objects x)),
             )),
       ))
@@ -151,20 +151,20 @@ module _
       omega (arith, slots, sits.laid.slots, sound.laid.slots, is, at)
 
   -- so a step may set bits there
-  pub sets_pair :
-      (r : Reading B) (bits set : ℕ) → set ≡ pair_bits bits o → o < seat.me.0.book.setup.objects
+  pub sets_mark :
+      (r : Reading B) (bits set : ℕ) → set ≡ mark_bits bits o → o < seat.me.0.book.setup.objects
       → (made : Step (Option B) → Me (Option B) SeatView → ℕ → Me (Option B) SeatView → Type 0)
       → Allows (Rule r (setup_of words.key)) words.table_id.slots seat.id seat.me (mark_word (setup_of words.key) o)
-      (λ n. bit_or n (pair_bits bits o))
-      (made (step words.table_id.slots (mark_word (setup_of words.key) o) (pair_bits bits o) 0 none) seat.me)
+      (λ n. bit_or n (mark_bits bits o))
+      (made (step words.table_id.slots (mark_word (setup_of words.key) o) (mark_bits bits o) 0 none) seat.me)
       → (seat.table_id ≡ words.table_id) × (word < words.table_id.words)
       × Allows (Rule r (setup_of words.key)) words.table_id.slots seat.id seat.me word (λ n. bit_or n set)
       (made (step words.table_id.slots word set 0 none) seat.me)
-  sets_pair r bits set is_pair below made may = (
+  sets_mark r bits set is_bits below made may = (
     sits.same,
     omega (arith, own_word, below, sound.laid.words, ap (λ (x : TableId). x.words) sits.same),
     subst₂ (λ x y. Allows (Rule r (setup_of words.key)) words.table_id.slots seat.id seat.me x (λ n. bit_or n y)
-        (made (step words.table_id.slots x y 0 none) seat.me)) (sym (omega (arith, is, at))) (sym is_pair) may,
+        (made (step words.table_id.slots x y 0 none) seat.me)) (sym (omega (arith, is, at))) (sym is_bits) may,
   )
 
 -- what an account may claim or finish is an object

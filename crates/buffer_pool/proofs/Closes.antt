@@ -5,7 +5,7 @@ use Rattle.buffer_pool.proofs.Words.{cases_lt, get_or_past, get_or-map-range_wit
 use Rattle.buffer_pool.proofs.Words.{get_elem?, at_get_or, Final, Seen, at_map, Full, StandsAt, times, Setup, Marking}
 use Rattle.buffer_pool.proofs.Words.{Counts, LeadTo, Law, whole, IsClosed, LiesIn, linear, closes, lawful_where}
 use Rattle.buffer_pool.proofs.Words.{SeatView, Book, counts_of, IsAtTheEnd, MarksTell, deeds, HasSaidAll, IsViewOf}
-use Rattle.buffer_pool.proofs.Words.{mark_in, marks_in, pair_mark, first_mark, Reading, Rule, marking_of, view_counts}
+use Rattle.buffer_pool.proofs.Words.{mark_in, marks_in, mark_at, first_mark, Reading, Rule, marking_of, view_counts}
 use Rattle.buffer_pool.proofs.Bits.{cut_object, cut_past}
 use Rattle.buffer_pool.proofs.States.{stands}
 
@@ -141,8 +141,8 @@ module _ (words : List ℕ) (first objects : ℕ) where
   -- the mark of an object at the close is read from its word
   pub mark_there :
       (o place word : ℕ) → o < objects → o / 32 ≡ place → get_elem? words (first + place) ≡ some word
-      → slice_index (marks_in words first objects) o ≡ pair_mark word (o % 32)
+      → slice_index (marks_in words first objects) o ≡ mark_at word (o % 32)
   mark_there o place word below is at =
       get_or-map-range_with_len (mark_in words first) 0 objects o o 0 below (omega arith)
-      ∙ ap (λ q. pair_mark (slice_index words (first + q)) (o % 32)) is
-      ∙ ap (λ x. pair_mark x (o % 32)) (at_get_or words (first + place) word 0 at)
+      ∙ ap (λ q. mark_at (slice_index words (first + q)) (o % 32)) is
+      ∙ ap (λ x. mark_at x (o % 32)) (at_get_or words (first + place) word 0 at)

@@ -42,7 +42,7 @@ module _
       noted at refl kind (can m) words u (length-set s.words idle_word x) (λ i h. link_beside_idle e s.words x i) refl
       held setup (changed ∙ sym (is_effect m))
       (counts_same at w counts ∙ sym (is_counted m (map view_counts s.views))) in
-      (w, keeps, tt, rule, rests_after me at sound.settled kind b words (omega (arith, share, at.there)) rule))
+      (w, keeps, tt, rule, rests_after me at sound.all_said kind b words (omega (arith, share, at.there)) rule))
 
 -- so the worker may change and load the idle word
 module _
@@ -95,7 +95,7 @@ module _
               tt,
               written_again s seat.id idle_word w rule,
               (
-                rests_after me at sound.settled LoadIdle u.book s.words at.there rule,
+                rests_after me at sound.all_said LoadIdle u.book s.words at.there rule,
                 subst (λ (x : Setup). Shows x w.log.story n) (sym (own_setup at)) shows,
               ),
             )),

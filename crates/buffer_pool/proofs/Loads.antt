@@ -5,7 +5,7 @@ use Rattle.buffer_pool.proofs.Words.{none, either, TableId, State, Me, Allows, s
 use Rattle.buffer_pool.proofs.Words.{index_of, Which, Full, Empty, times, look_of, after_load, after_load_link, Setup}
 use Rattle.buffer_pool.proofs.Words.{opening, Kind, Load, LoadLink, effect, last_link, link_from, count_load, counted}
 use Rattle.buffer_pool.proofs.Words.{has_each_once, SeatView, Book, counts_of, loaded, link_loaded, RestsWith}
-use Rattle.buffer_pool.proofs.Words.{head_seen, link_seen, set_aside, settled, IsSound, SitsAt, setup_of, Key, Seat}
+use Rattle.buffer_pool.proofs.Words.{head_seen, link_seen, set_aside, caught_up, IsSound, SitsAt, setup_of, Key, Seat}
 use Rattle.buffer_pool.proofs.Words.{Shared, logged, charged, stands_times, IsWithin, mark_in, first_mark, head_word}
 use Rattle.buffer_pool.proofs.Words.{link_word, Reading, Carries, free, Reached, Rule, marking_of, view_counts}
 use Rattle.mark_core.specs.Events as may
@@ -113,7 +113,7 @@ module _ {B : Type 0} (r : Reading B) (e : Setup) (slots id : ℕ) (me : Me (Opt
         written_again s id (head_word q) w rule,
         (λ p same. (
           subst (λ k. RestsWith me (loaded k h me.0.book) (Load k ∷ []) (w, [])) (same_head q p same)
-              (rests_after me at sound.settled (Load q) w.book s.words (omega (arith, is.share, at.there)) rule),
+              (rests_after me at sound.all_said (Load q) w.book s.words (omega (arith, is.share, at.there)) rule),
           (λ i top. subst (λ (x : Setup). i < x.buffers) (sym (own_setup at)) (on_top at.rule q i top).1),
         )),
       ))
@@ -145,7 +145,7 @@ module _ {B : Type 0} (r : Reading B) (e : Setup) (slots id : ℕ) (me : Me (Opt
         tt,
         written_again s id (link_word i) w rule,
         (
-          rests_after me at sound.settled (LoadLink q) w.book s.words (omega (arith, kept.0, at.there)) rule,
+          rests_after me at sound.all_said (LoadLink q) w.book s.words (omega (arith, kept.0, at.there)) rule,
           subst (λ (x : Setup). n ≤ x.buffers) (sym (own_setup at)) (at.rule.linked i small),
         ),
       ))
@@ -161,19 +161,20 @@ module _ {B : Type 0} (r : Reading B) (e : Setup) (slots id : ℕ) (me : Me (Opt
       let w : SeatView = logged (log_now at) (record (free me.0) { aside = units }) in
       let kept : Rule r e (left s (slice_set s.words word n) s.homes id w) =
       written_again s id word w (noticed at refl s.words w refl (λ j b. refl) refl refl refl (only_seen at w refl)) in
-      let did = did_none at.rule.reached.events id (free me.0) (told at) sound.settled.named in (
+      let did = did_none at.rule.reached.events id (free me.0) (told at) sound.all_said.named in (
         w,
         keeps,
         tt,
         exchanged n units units (λ x. Rule r e (left s (slice_set s.words word x) s.homes id w))
             (λ hit. subst (λ x. Rule r e (left s (slice_set s.words word x) s.homes id w)) hit kept) (λ miss. kept),
-        (refl, (did.0, did.1, did.2 ∙ sound.settled.unsaid)),
+        (refl, (did.0, did.1, did.2 ∙ sound.all_said.unsaid)),
       ))
 
   -- a load shows that the account has each thing once, and only things of the pool
-  pub settles : (word : ℕ) → Carries me → 0 < me.0.book.account.share
-      → Allows (Rule r e) slots id me word (λ n. n) (settled (step slots word 0 0 none) me)
-  settles word carries there = freed r e slots id word (λ n. n) (settled (step slots word 0 0 none) me) me carries there
+  pub catches_up : (word : ℕ) → Carries me → 0 < me.0.book.account.share
+      → Allows (Rule r e) slots id me word (λ n. n) (caught_up (step slots word 0 0 none) me)
+  catches_up word carries there =
+      freed r e slots id word (λ n. n) (caught_up (step slots word 0 0 none) me) me carries there
       (λ s at.
       let v : SeatView = free me.0 in
       let w : SeatView = logged (log_now at) v in

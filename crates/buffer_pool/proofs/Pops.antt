@@ -51,7 +51,7 @@ module _
   bare_on_empty q top empty =
       let on = subst (λ k. 0 < times i ((lawful rule).stack k)) empty (on_top rule q i top).0 in
       let one : Some (r.items b) ≡ Some [] =
-      at_one (marking_of r e s).slots i (Some (r.items b)) (Some []) in_slot ((lawful rule).shelved.bare i on) in cc
+      at_one (marking_of r e s).slots i (Some (r.items b)) (Some []) in_slot ((lawful rule).in_slots.bare i on) in cc
 
 -- if the head is the loaded one
 module _
@@ -61,7 +61,7 @@ module _
   -- the buffer on top of the stack is at home
   top_home : (b : B) × (get_elem? s.homes i ≡ some (some (Some b)))
   top_home =
-      let stacked = (lawful at.rule).shelved.stacked q i (on_top at.rule q i top).0 in
+      let stacked = (lawful at.rule).in_slots.stacked q i (on_top at.rule q i top).0 in
       let found = buffer_there r s.homes i stacked.0 stacked.1 in (found.0, found.1)
 
   abbrev pop_view : B → SeatView
@@ -183,8 +183,8 @@ module _ {B : Type 0} (r : Reading B) (e : Setup) (slots id : ℕ) (me : Me (Opt
                       book = ap (λ x. popped x (r.items b) me.0.book) k;
                       ours = ours;
                       bare = bare_on_empty at.rule i b home.1 q top';
-                      settled = said_all w.log w;
-                      did = did_event at sound.settled.named sound.settled.unsaid (Pop q);
+                      all_said = said_all w.log w;
+                      did = did_event at sound.all_said.named sound.all_said.unsaid (Pop q);
                       story = story_now at (set s.words (head_word q) new) (set s.homes i none) w.log w rule at.there;
                     },
                   )),
@@ -204,6 +204,6 @@ module _ {B : Type 0} (r : Reading B) (e : Setup) (slots id : ℕ) (me : Me (Opt
                 (sym (exchange_miss n old new miss)) (written_again s id (head_word q) w rule),
             (λ p same_word. subst (λ k. pop_told old k n (w, [])) (same_head q p same_word) (
               (λ hit j t. absurd (miss hit)),
-              (λ h. rests_after me at sound.settled (Fail q) w.book s.words at.there rule),
+              (λ h. rests_after me at sound.all_said (Fail q) w.book s.words at.there rule),
             )),
           )

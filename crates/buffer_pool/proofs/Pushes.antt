@@ -215,7 +215,7 @@ module _ {B : Type 0} (r : Reading B) (e : Setup) (slots id : ℕ) (me : Me (Opt
       let w : SeatView = stored_view at i mine x in
       let words = set s.words (link_word i) x in
       let rule : Rule r e (left s words (set s.homes i none) id w) = stored_rule at i mine x refl small in
-      let did = did_event at sound.settled.named sound.settled.unsaid (StoreLink i (index_of x)) in (
+      let did = did_event at sound.all_said.named sound.all_said.unsaid (StoreLink i (index_of x)) in (
         w,
         takes i None,
         at.rule.rests id v at.is i mine (nothing_out 0 refl i),
@@ -253,7 +253,7 @@ module _ {B : Type 0} (r : Reading B) (e : Setup) (slots id : ℕ) (me : Me (Opt
           let put : Rule r e (stepped s (head_word q) (either (n == old) new n) id ((i, Some b) ∷ []) w gives) =
           subst (λ x. Rule r e (left s (set s.words (head_word q) x) homes id w))
           (sym (exchange_hit n old new hit)) after_it in
-          let did = did_event at can.settled.named can.settled.unsaid (Push q i (r.items b)) in
+          let did = did_event at can.all_said.named can.all_said.unsaid (Push q i (r.items b)) in
           let story : LeadsToBook w.log w.book =
           story_now at (set s.words (head_word q) new) homes w.log w after_it
           (omega (arith, can.share, (kept_pushed q i (r.items b) me.0.book).1)) in (
@@ -291,7 +291,7 @@ module _ {B : Type 0} (r : Reading B) (e : Setup) (slots id : ℕ) (me : Me (Opt
               (λ hit j c t. absurd (miss hit)),
               (λ h. (
                 refl,
-                did_event at can.settled.named can.settled.unsaid (Fail q),
+                did_event at can.all_said.named can.all_said.unsaid (Fail q),
                 story_now at s.words s.homes w.log w after_it can.share,
               )),
             ),

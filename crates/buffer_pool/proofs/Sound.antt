@@ -29,7 +29,7 @@ module _ {B : Type 0} {t : TableId} {m : Me (Option B) SeatView} (sound : IsSoun
         share = subst (λ n. 0 < n) (sym share) sound.share;
         carries = refl;
         within = subst (λ (e : Setup). IsWithin e b.account) (sym setup) within;
-        settled = record { named = refl; unsaid = refl };
+        all_said = record { named = refl; unsaid = refl };
         story = story;
       }
 
@@ -92,7 +92,7 @@ module _ {B : Type 0} {t : TableId} {m : Me (Option B) SeatView} (sound : IsSoun
           held = below_push m.0.book.account.held i m.0.book.setup.buffers sound.within.held below;
           charge = charge;
         });
-        settled = done;
+        all_said = done;
         story = story;
       }
     where
@@ -153,6 +153,6 @@ sound_out {t = t} sound log i u out setup share within story =
       share = subst (λ n. 0 < n) (sym share) sound.share;
       carries = ap slots_of (sym out);
       within = subst (λ (e : Setup). IsWithin e u.book.account) (sym setup) within;
-      settled = record { named = refl; unsaid = refl };
+      all_said = record { named = refl; unsaid = refl };
       story = story;
     }

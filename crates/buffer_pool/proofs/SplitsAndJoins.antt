@@ -206,7 +206,7 @@ sound_now {B} t u m n b table same was laid share within story = (
     share = subst (λ (k : Book). 0 < k.account.share) (sym is) share;
     carries = moved Carries same refl;
     within = subst (λ (k : Book). IsWithin k.setup k.account) (sym is) within;
-    settled = moved (λ x. HasSaidAll x.0) same (record { named = refl; unsaid = refl });
+    all_said = moved (λ x. HasSaidAll x.0) same (record { named = refl; unsaid = refl });
     story = story;
   }),
   is,
@@ -288,7 +288,7 @@ module _ {B : Type 0} {t u : TableId} {m o freed both now : Me (Option B) SeatVi
   is = joint ∙ ap (λ (x : Me (Option B) SeatView). (joined_view m.0 x.0, m.1)) other.same
 
   theirs : Did o.0.log [] freed.0.log
-  theirs = let did = other.did second.settled.named in (did.0, did.1, did.2 ∙ second.settled.unsaid)
+  theirs = let did = other.did second.all_said.named in (did.0, did.1, did.2 ∙ second.all_said.unsaid)
 
   number : freed.0.log.number ≡ o.0.log.number
   number = ap (λ (x : Log). x.number) theirs.1
@@ -302,15 +302,15 @@ module _ {B : Type 0} {t u : TableId} {m o freed both now : Me (Option B) SeatVi
   did_join : Did m.0.log (Join o.0.log.number ∷ []) now.0.log
   did_join =
       let did = subst {A = Me (Option B) SeatView} (λ x. x.0.named ≡ true → Did x.0.log x.0.unsaid now.0.log) is
-      told.did first.settled.named in
-      (did.0, did.1, did.2 ∙ (λ k. first.settled.unsaid k ++ Join (number k) ∷ []))
+      told.did first.all_said.named in
+      (did.0, did.1, did.2 ∙ (λ k. first.all_said.unsaid k ++ Join (number k) ∷ []))
 
   ends_other : EndsStory o.0.log now.0.log.story
   ends_other =
       let ended =
       subst {A = Me (Option B) SeatView} (λ x. x.0.named ≡ true → (n : ℕ) → x.0.from ≡ Some n
       → EndsStory (record { number = n; story = x.0.taken }) now.0.log.story) is told.ended in
-      let after = ended first.settled.named freed.0.log.number refl in (
+      let after = ended first.all_said.named freed.0.log.number refl in (
         theirs.0 ++ after.0,
         after.1 ∙ ap (λ (x : Log). x.story ++ after.0) theirs.1 ∙ append_assoc o.0.log.story theirs.0 after.0,
         deeds_on o.0.log.number theirs.0 after.0 ∙ ap (λ ks. ks ++ deeds o.0.log.number after.0) theirs.2

@@ -6,12 +6,12 @@ use Rattle.buffer_pool.proofs.Words.{get_or-set_same, get_or-set_other, length-r
 use Rattle.buffer_pool.proofs.Words.{cases_lt, some, some-injective, some-ne-none, get_elem?, TableId, head_of}
 use Rattle.buffer_pool.proofs.Words.{index_of, Which, Full, Empty, Setup, first_heads, first_link, SeatView, no_counts}
 use Rattle.buffer_pool.proofs.Words.{whole, new_book, LeadsToBook, first_log, IsInside, IsLaid, IsSound, first_view}
-use Rattle.buffer_pool.proofs.Words.{HasFirstWords, IsFirstSlot, mark_in, mark_words, pair_mark, first_mark, head_word}
+use Rattle.buffer_pool.proofs.Words.{HasFirstWords, IsFirstSlot, mark_in, mark_words, mark_at, first_mark, head_word}
 use Rattle.buffer_pool.proofs.Words.{link_word, mark_word, Reading, IsTied, Rests, slot_of, Rule, cut, marking_of}
 use Rattle.buffer_pool.proofs.Words.{marks_of, IsViewOf}
 use Rattle.atomic_table.specs.Table.{opening}
 use Rattle.mark_core.specs.Runs as runs
-use Rattle.buffer_pool.proofs.Bits.{cut_white, white_pair}
+use Rattle.buffer_pool.proofs.Bits.{cut_white, white_mark}
 use Rattle.buffer_pool.proofs.States.{agrees, cut_below, cut_past, nothing_out}
 use Rattle.buffer_pool.proofs.Deeds.{told_now}
 use Rattle.buffer_pool.proofs.TableWords.{head_below}
@@ -149,7 +149,7 @@ starts {B} r e words slots some_buffer first count all =
     white : (o : ℕ) → marks_of e words o ≡ 0
     white o =
         cut_white e.objects (mark_in words (first_mark e)) o
-        (ap (λ y. pair_mark y (o % 32)) (first.rest (mark_word e o) (omega arith)) ∙ white_pair (o % 32))
+        (ap (λ y. mark_at y (o % 32)) (first.rest (mark_word e o) (omega arith)) ∙ white_mark (o % 32))
 
     opened : marking_of r e (opening words slots (first_view e)) ≡ runs.opening e e.first_tag
     opened =
@@ -192,5 +192,5 @@ sound_first t e laid =
       carries = refl;
       story = first_story e;
       within = record { held = λ i k. absurd (omega (arith, k.1)); charge = λ o k. absurd (omega (arith, k.1)) };
-      settled = record { named = refl; unsaid = refl };
+      all_said = record { named = refl; unsaid = refl };
     }

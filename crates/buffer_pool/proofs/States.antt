@@ -131,7 +131,7 @@ module _ {B : Type 0} {r : Reading B} {e : Setup} {s : State (Option B) SeatView
     held_below i mine = (apart i mine).0
 
     pub held_away : (i : ℕ) → 0 < times i v.book.account.held → StandsAt (marking_of r e s).slots i None
-    held_away i mine = let a = apart i mine in lawful.shelved.away i a.0 a.1 a.2
+    held_away i mine = let a = apart i mine in lawful.in_slots.away i a.0 a.1 a.2
 
     -- no account holds a stacked buffer
     pub stacked_free : (q : Which) (i : ℕ) → 0 < times i (lawful.stack q) → 0 < times i v.book.account.held → ⊥

@@ -3,7 +3,7 @@ use Rattle.std.proofs.Common.{◌≡◌, ◌≢◌, ℕ, ◌+◌, ◌/◌, ◌%�
 use Rattle.std.proofs.Common.{None, set, slice_index, ap, sym, ◌∙◌, eq-eqb, ne_eqb, arith}
 use Rattle.buffer_pool.proofs.Words.{get_or-set_same, get_or-set_other, ℕ_discrete, either, Head, head_of, index_of}
 use Rattle.buffer_pool.proofs.Words.{word_of, restored, Which, Full, Empty, Setup, put, put_which, put_here, put_else}
-use Rattle.buffer_pool.proofs.Words.{mark_in, pair_bits, pair_mark, first_mark, head_word, link_word, mark_word, cut}
+use Rattle.buffer_pool.proofs.Words.{mark_in, mark_bits, mark_at, first_mark, head_word, link_word, mark_word, cut}
 use Rattle.buffer_pool.proofs.Words.{marks_of}
 use Rattle.buffer_pool.proofs.Bits.{cut_object, mark_beside}
 
@@ -30,7 +30,7 @@ module _ (e : Setup) (words : List ℕ) where
 
   -- the mark of an object is as it was if its word is
   same_mark : (new : List ℕ) (o : ℕ) → Keeps new (mark_word e o) → marks_of e new o ≡ marks_of e words o
-  same_mark new o same = ap (λ y. if nat_lt o e.objects then pair_mark y (o % 32) else 0) same
+  same_mark new o same = ap (λ y. if nat_lt o e.objects then mark_at y (o % 32) else 0) same
 
   -- after a write of a head
   module _ (q : Which) (x : ℕ) where
@@ -99,10 +99,10 @@ module _ (e : Setup) (words : List ℕ) where
         go (no other) = ap index_of (link_beside_link j other)
             ∙ sym (put_else i j (index_of x) (λ k. index_of (slice_index words (link_word k))) other)
 
-  -- after the bits of c were set at an object's pair
+  -- after the bits of c were set at an object's mark
   module _ (o c : ℕ) where
     abbrev pub raised : ℕ
-    raised = bit_or (slice_index words (mark_word e o)) (pair_bits c o)
+    raised = bit_or (slice_index words (mark_word e o)) (mark_bits c o)
 
     abbrev pub raised_words : List ℕ
     raised_words = set words (mark_word e o) raised
@@ -120,7 +120,7 @@ module _ (e : Setup) (words : List ℕ) where
 
     -- the mark of the object is raised to x, and each other mark is as it was
     pub marks_after :
-        (x : ℕ) → c < 4 → o < e.objects → mark_word e o < length words → pair_mark raised (o % 32) ≡ x
+        (x : ℕ) → c < 4 → o < e.objects → mark_word e o < length words → mark_at raised (o % 32) ≡ x
         → (p : ℕ) → marks_of e raised_words p ≡ put o x (marks_of e words) p
     marks_after x small object below is p = go (ℕ_discrete p o)
       where
@@ -132,17 +132,17 @@ module _ (e : Setup) (words : List ℕ) where
         beside other (yes w) =
             let at : mark_word e p ≡ mark_word e o = omega (arith, w) in
             let place : p % 32 ≢ o % 32 = λ same. other (omega (arith, same, w)) in
-            ap (λ k. pair_mark (slice_index raised_words k) (p % 32)) at ∙ ap (λ y. pair_mark y (p % 32)) there
+            ap (λ k. mark_at (slice_index raised_words k) (p % 32)) at ∙ ap (λ y. mark_at y (p % 32)) there
             ∙ mark_beside (slice_index words (mark_word e o)) c (o % 32) (p % 32) small place
-            ∙ ap (λ k. pair_mark (slice_index words k) (p % 32)) (sym at)
+            ∙ ap (λ k. mark_at (slice_index words k) (p % 32)) (sym at)
         beside other (no w) =
-            ap (λ y. pair_mark y (p % 32))
+            ap (λ y. mark_at y (p % 32))
             (get_or-set_other words (mark_word e o) (mark_word e p) raised 0 (λ h. w (omega (arith, h))))
 
         go : Dec (p ≡ o) → marks_of e raised_words p ≡ put o x (marks_of e words) p
         go (yes same) =
             ap (marks_of e raised_words) same ∙ cut_object e.objects (mark_in raised_words (first_mark e)) o object
-            ∙ ap (λ y. pair_mark y (o % 32)) there ∙ is ∙ sym (put_here o p x (marks_of e words) same)
+            ∙ ap (λ y. mark_at y (o % 32)) there ∙ is ∙ sym (put_here o p x (marks_of e words) same)
         go (no other) =
             ap (λ y. if nat_lt p e.objects then y else 0) (beside other (ℕ_discrete (p / 32) (o / 32)))
             ∙ sym (put_else o p x (marks_of e words) other)

@@ -34,12 +34,13 @@ pub use Rattle.buffer_pool.specs.declared.seat_view.SeatView.{SeatView}
 pub use Rattle.buffer_pool.specs.working.BetweenCalls.{IsBare, IsLaid, IsSound, SitsAt}
 pub use Rattle.buffer_pool.specs.working.Buffers.{buffer_reading}
 pub use Rattle.buffer_pool.specs.working.Layout.{first_mark, head_word, idle_word, link_word, mark_word}
-pub use Rattle.buffer_pool.specs.working.MarkBits.{cut_marks, mark_in, mark_of, mark_words, marks_in, pair_bits}
-pub use Rattle.buffer_pool.specs.working.MarkBits.{pair_mark}
+pub use Rattle.buffer_pool.specs.working.MarkBits.{cut_marks, mark_at, mark_bits, mark_in, mark_of, mark_words}
+pub use Rattle.buffer_pool.specs.working.MarkBits.{marks_in}
 pub use Rattle.buffer_pool.specs.working.Opening.{HasFirstWords, IsFirstSlot}
 pub use Rattle.buffer_pool.specs.working.Plays.{CanPut, HasMissed, HasPushed, HasTaken, IsOurs, IsUpToDate, RestsWith}
 pub use Rattle.buffer_pool.specs.working.Plays.{came_back, claim_made, finish_made, head_seen, idle_seen, link_seen}
-pub use Rattle.buffer_pool.specs.working.Plays.{link_stored, rested, set_aside, settled, top_put, top_taken, went_idle}
+pub use Rattle.buffer_pool.specs.working.Plays.{caught_up, link_stored, rested, set_aside, top_put, top_taken}
+pub use Rattle.buffer_pool.specs.working.Plays.{went_idle}
 pub use Rattle.buffer_pool.specs.working.Setups.{first_view, given_part, joined_view, kept_part, no_share_view}
 pub use Rattle.buffer_pool.specs.working.Setups.{setup_of}
 pub use Rattle.buffer_pool.specs.working.Slots.{Carries, IsTied, Reading, Rests, free, slot_of, slots_of}

@@ -1,4 +1,4 @@
--- What a pop, a push and a look at a head do to the book of the worker that makes the call, and what a load of the idle
+-- What a pop, a push and a load of a head do to the book of the worker that makes the call, and what a load of the idle
 -- word shows. For the other calls see Book.antt.
 use Rattle.std.specs.Prelude.{◌≡◌, ◌↔◌, ℕ, ◌<◌, List, [], ◌∷◌, Option, Some, None, Result, Ok, Err, Contains, IsTrue}
 use Rattle.std.specs.Prelude.{Bool}
@@ -6,6 +6,7 @@ use Rattle.atomic_table.specs.Seated.{TableId}
 use Rattle.tagged_index.specs.Head.{Head, last_tag}
 use Rattle.mark_core.specs.declared.which.Which.{Which}
 use Rattle.mark_core.specs.declared.which.Which.TheVariants.{Full, Empty}
+use Rattle.mark_core.specs.Account.{look_of}
 use Rattle.mark_core.specs.Lists.{IsPart}
 use Rattle.mark_core.specs.World.{Setup, Marking}
 use Rattle.mark_core.specs.Events.{Event, IsBusy}
@@ -74,6 +75,10 @@ TriesPush q h old new (try_push.Lost back) =
     (head : Head) × (back ≡ h) × (head.tag < last_tag) × After old (loaded q head ∷ failed ∷ []) new
 TriesPush q h old new (try_push.Spent back) =
     (head : Head) × (back ≡ h) × (head.tag ≡ last_tag) × After old (loaded q head ∷ []) new
+
+-- one of the two heads that the worker loaded last has the last tag
+abbrev pub HasLoadedLastTag : Book → Type 0
+HasLoadedLastTag b = (q : Which) × (head : Head) × ((look_of b.account q).head ≡ Some head) × (head.tag ≡ last_tag)
 
 -- any number of tries of a pop, all lost, that lead from one book to another
 pub data LostPops (q : Which) : Book → Book → Type 0 where

@@ -1,4 +1,4 @@
--- The events of each call of a pool, in order.
+-- The events of pops and pushes, in order. Each other call has one event, which its clause `did` names.
 use Rattle.std.specs.Prelude.{ℕ, zero, suc, List, [], ◌∷◌, ◌++◌, Option, Result}
 use Rattle.mark_core.specs.declared.which.Which.{Which}
 use Rattle.mark_core.specs.Events.{Kind, Load, LoadLink, StoreLink, Pop, Push, Fail}

@@ -6,7 +6,7 @@ ghost use Rattle.std.specs.Coded.{coded_list, coded_ℕ, coded×};
 use mark_core::Edges;
 use std::marker::{Model, PhantomData};
 
-/// The roots and pairs of a heap's edges, for clauses only: the value has no bytes.
+/// The roots and references of a heap, for clauses only: the value has no bytes.
 pub struct NamedEdges {
     marker: PhantomData<()>,
     /// The objects at which reachability begins.

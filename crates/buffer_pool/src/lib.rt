@@ -30,6 +30,7 @@ mod plays;
 mod pool;
 mod rules;
 mod seat_view;
+mod spent_tag;
 mod worker;
 
 pub use answers::{Popped, TryPopped, TryPushed};
@@ -40,4 +41,5 @@ pub use pool::closed_marks::Marks;
 pub use pool::limits::{
     LEAST_BUFFERS, LEAST_SIZE, MOST_BUFFERS, MOST_OBJECTS, MOST_SIZE, PoolFault,
 };
+pub use spent_tag::SpentTag;
 pub use worker::Worker;

@@ -1,7 +1,7 @@
 //! The two bits of an object's mark, 32 objects to a word.
 
 ghost use Rattle.std.specs.Prelude.{◌≡◌, ◌*◌, ◌%◌, ◌<◌};
-ghost use Rattle.buffer_pool.specs.working.MarkBits.{mark_words, pair_bits};
+ghost use Rattle.buffer_pool.specs.working.MarkBits.{mark_words, mark_bits};
 
 /// The bits of a claimed object: of its two bits, only the low one is set. A white object has neither bit set.
 pub(crate) const CLAIMED: u64 = 1;
@@ -26,9 +26,9 @@ pub(crate) fn mark_place(object: u32) -> u32
 
 /// Returns `bits`, two bits, shifted to the position of `object` in its word.
 #[tactic(auto, using(crate::proofs::Bits::bits_fit))]
-pub(crate) fn pair_bits(bits: u64, object: u32) -> u64
+pub(crate) fn mark_bits(bits: u64, object: u32) -> u64
     requires { bits < 4 }
-    ensures { result ≡ pair_bits bits object }
+    ensures { result ≡ mark_bits bits object }
 {
     bits << mark_place(object)
 }

@@ -1,7 +1,7 @@
 //! The plays: what the contract of each step on the table says, as types that the steps name.
 ghost use Rattle.buffer_pool.specs.working.Buffers.{buffer_reading};
 ghost use Rattle.buffer_pool.specs.working.Plays.{claim_made, came_back, finish_made, head_seen, idle_seen};
-ghost use Rattle.buffer_pool.specs.working.Plays.{link_seen, link_stored, top_taken, top_put, set_aside, settled};
+ghost use Rattle.buffer_pool.specs.working.Plays.{link_seen, link_stored, top_taken, top_put, set_aside, caught_up};
 ghost use Rattle.buffer_pool.specs.working.Plays.{went_idle};
 ghost use Rattle.mark_core.specs.declared.which.Which.TheVariants.{Full, Empty};
 
@@ -102,8 +102,8 @@ impl<A: Allocator> Play<Option<Buffer<A>>, SeatView> for SetAside {
 }
 
 /// A load that returns the slot that is out, if any, to the table, and brings the log up to date.
-pub struct Settle;
+pub struct CatchUp;
 
-impl<A: Allocator> Play<Option<Buffer<A>>, SeatView> for Settle {
-    ghost then = { settled };
+impl<A: Allocator> Play<Option<Buffer<A>>, SeatView> for CatchUp {
+    ghost then = { caught_up };
 }

@@ -1,4 +1,4 @@
-//! A pool of buffers and marks that many workers share. Each atomic step of a call is sequentially consistent, and is
+//! A pool of buffers and marks for many workers. Each atomic step of a call is sequentially consistent, and is
 //! on one word of the pool's table: `atomic_table` promises this of all steps on a table (its README, "Limits").
 ghost use Rattle.std.specs.Prelude.{◌≡◌, MatchResult};
 ghost use Rattle.mark_core.specs.Shares.{whole};
@@ -36,7 +36,7 @@ use slots::first_slots;
 use std::alloc::Allocator;
 use std::marker::Model;
 
-/// The marks of the objects, and the buffers on two stacks. Workers share the pool by reference. A call by a worker
+/// The marks of the objects, and the buffers on two stacks. All workers have the pool by reference. A call by a worker
 /// takes that worker as an argument.
 #[derive(Drop)]
 pub struct Pool<A: Allocator> {

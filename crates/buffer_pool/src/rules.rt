@@ -38,7 +38,7 @@ impl Join<SeatView> for TakeIn {
     ghost spent = { no_share_view };
 }
 
-/// The table, as workers share it.
+/// The table, as all workers see it.
 pub(crate) type Words<A> = Shared<Option<Buffer<A>>, SeatView, Key, MarkingRule>;
 
 /// The token with which a worker takes its steps.

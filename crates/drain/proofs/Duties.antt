@@ -1,7 +1,7 @@
 -- What a thread owed is returned, whatever the leader did meanwhile.
 use Rattle.drain.proofs.Words.{Book, Duty, HasTallied, Owner, IsBackUnder, IsDutyUnder, IsThrough, Measure, ap, subst}
 use Rattle.drain.proofs.Words.{sym, ◌∙◌, ◌≡◌}
-use Rattle.drain.specs.declared.tallied_worker.TalliedWorker.{TalliedWorker}
+use Rattle.drain.specs.declared.tally.TalliedWorker.{TalliedWorker}
 use Rattle.drain.specs.declared.tally.Tally.{Tally}
 
 -- a worker that kept its duty is back

@@ -1,4 +1,4 @@
--- A worker that goes idle, looks at the idle word and at the full stack, and comes back: it keeps what it had at each
+-- A worker that goes idle, loads the idle word and the full head, and comes back: it keeps what it had at each
 -- step.
 use Rattle.drain.proofs.Words.{AreOfSize, Book, Bool, CameFrom, CanIdle, Contains, HasAtHand, HasNoneLeft, Owner}
 use Rattle.drain.proofs.Words.{IsAtWork, IsAwake, List, PairState, Sees, Setup, [], ap, arith, false, false≢true}
@@ -127,11 +127,11 @@ goes_idle p {old} new pool is awake none =
 pub no_turn : (workers : ℕ) (begun : Book) {now : Book} → now ≡ idled begun → WaitsInVain workers 0 (idled begun) now
 no_turn workers begun is = subst (WaitsInVain workers 0 (idled begun)) (sym is) (none_vain (idled begun))
 
--- a look at the idle word that did not show all workers idle
+-- a load of the idle word that did not show all workers idle
 pub not_all_idle : {all : Bool} {word workers : ℕ} → all ≡ false → (all ≡ true ↔ (word ≡ workers)) → word ≢ workers
 not_all_idle other shows same = false≢true (sym other ∙ shows.1 same)
 
--- and then a look at the full stack, stated of the book before both
+-- and then a load of the full head, stated of the book before both
 pub sees_after : {answer other : Bool} (word : ℕ) (old : Book) {mid new : Book} → mid ≡ idle_loaded word old
     → answer ≡ other → Sees Full mid new answer → Sees Full (idle_loaded word old) new other
 sees_after {other = other} word old {mid} {new} is same sees =

@@ -4,6 +4,7 @@ pub mod Counts
 pub mod Duties
 pub mod Each
 pub mod Exact
+pub mod Giving
 pub mod Idling
 pub mod Leading
 pub mod Markings
@@ -14,7 +15,6 @@ pub mod Passing
 pub mod RowTests
 pub mod Runs
 pub mod Scanning
-pub mod Sharing
 pub mod Starting
 pub mod Tallies
 pub mod Visits

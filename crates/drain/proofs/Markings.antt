@@ -20,7 +20,7 @@ module _ (g : ObjectGraph) (whole : IsWhole g) (objects : List ℕ) (marks : Lis
   same_sum : (f : ℕ → ℕ) → sum_by f objects ≡ sum_by f marked
   same_sum f = chosen_sums (λ o. slice_index_or marks o false) (object_count g) objects once those f
 
-  -- the objects of a row, and those at its place
+  -- the objects of a row, and those of its number
   of_place :
       (row : RowKey) → IsRowIn g row
       → filter (λ o. row_number (row_at g o) == row_number row) marked ≡ of_row g row marked
@@ -29,27 +29,27 @@ module _ (g : ObjectGraph) (whole : IsWhole g) (objects : List ℕ) (marks : Lis
   told_in : (row : RowKey) → IsRowIn g row → sum_at rows (row_number row) ≡ total g (of_row g row marked)
   told_in row here = λ k. (count k, bytes k)
     where
-      place : ℕ
-      place = row_number row
+      number : ℕ
+      number = row_number row
 
-      is : slice_index_or rows place no_object ≡ sum_in (measure_of g) place objects
-      is = tally.right place (number_within g row here)
+      is : slice_index_or rows number no_object ≡ sum_in (measure_of g) number objects
+      is = tally.right number (number_within g row here)
 
-      count : (slice_index_or rows place no_object).count ≡ length (of_row g row marked)
+      count : (slice_index_or rows number no_object).count ≡ length (of_row g row marked)
       count =
           ap (λ (s : Sum). s.count) is
-          ∙ same_sum (λ o. cond (row_number (row_at g o) == place) 1 0)
-          ∙ sym (passing_count (λ o. row_number (row_at g o) == place) marked)
+          ∙ same_sum (λ o. cond (row_number (row_at g o) == number) 1 0)
+          ∙ sym (passing_count (λ o. row_number (row_at g o) == number) marked)
           ∙ ap length (of_place row here)
 
-      bytes : (slice_index_or rows place no_object).bytes ≡ sum_by (bytes_at g) (of_row g row marked)
+      bytes : (slice_index_or rows number no_object).bytes ≡ sum_by (bytes_at g) (of_row g row marked)
       bytes =
           ap (λ (s : Sum). s.bytes) is
-          ∙ same_sum (λ o. cond (row_number (row_at g o) == place) (bytes_at g o) 0)
-          ∙ sym (passing_sum (bytes_at g) (λ o. row_number (row_at g o) == place) marked)
+          ∙ same_sum (λ o. cond (row_number (row_at g o) == number) (bytes_at g o) 0)
+          ∙ sym (passing_sum (bytes_at g) (λ o. row_number (row_at g o) == number) marked)
           ∙ ap (sum_by (bytes_at g)) (of_place row here)
 
-  -- for a row of the graph this is the sum at its place
+  -- for a row of the graph this is the sum at its number
   told_row : (row : RowKey) → IsRowIn g row → sum_of_row rows row ≡ sum_at rows (row_number row)
   told_row (keys.Class n) here = refl
   told_row (keys.Primitive t) here =

@@ -50,6 +50,6 @@ pub use Rattle.drain.specs.working.Jobs.{HasScanned, MayWork}
 pub use Rattle.drain.specs.working.Measures.{measure_of, scanned_in}
 pub use Rattle.drain.specs.working.Pairs.{pairs_from, pairs_of}
 pub use Rattle.drain.specs.working.RecentlySeen.{HasSeenAll}
-pub use Rattle.drain.specs.working.Sharing.{PutsAgain, Unspills}
+pub use Rattle.drain.specs.working.Giving.{PutsAgain, Unspills}
 pub use Rattle.drain.specs.working.Tallies.{IsMeasureOf, IsSmall, IsTallyOf, Measure, one_more, sum_in, together}
 pub use Rattle.drain.specs.working.Tallying.{AreTalliesOfNone, HasTallied, Tallies}

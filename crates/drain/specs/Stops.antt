@@ -5,5 +5,5 @@ use Rattle.drain.specs.declared.marked.RunFault.{RunFault}
 use Rattle.drain.specs.declared.marked.RunFault.TheVariants as fault
 
 abbrev pub stopped : Stop → RunFault
-stopped stop.TagSpent = fault.TagSpent
+stopped (stop.TagSpent token) = fault.TagSpent token
 stopped stop.OutOfMemory = fault.OutOfMemory

@@ -7,9 +7,9 @@ use Rattle.drain.specs.declared.sum.Sum.{Sum}
 abbrev pub no_object : Sum
 no_object = record { count = 0; bytes = 0 }
 
--- the number of objects of the row at `place` and their bytes together, or 0 and 0 if there is no row at `place`
+-- the number of objects of row `number` and their bytes together, or 0 and 0 if there is no row of this number
 abbrev pub sum_at : List Sum → ℕ → ℕ × ℕ
-sum_at rows place = ((slice_index_or rows place no_object).count, (slice_index_or rows place no_object).bytes)
+sum_at rows number = ((slice_index_or rows number no_object).count, (slice_index_or rows number no_object).bytes)
 
 -- The types 4 to 11 come first, then the class objects, then the classes by their numbers. Any other row has no object.
 abbrev pub sum_of_row : List Sum → RowKey → ℕ × ℕ

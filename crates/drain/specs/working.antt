@@ -1,12 +1,12 @@
 pub mod AtWork
 pub mod Duties
+pub mod Giving
 pub mod Idle
 pub mod Jobs
 pub mod Measures
 pub mod Pairs
 pub mod RecentlySeen
 pub mod Scans
-pub mod Sharing
 pub mod Tallies
 pub mod Tallying
 pub mod Walk

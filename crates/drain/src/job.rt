@@ -12,9 +12,9 @@ pub struct Job<'j, A: Allocator, V, G, S> {
     pub graph: &'j V,
     /// The buffers and the marks.
     pub pool: &'j Pool<A>,
-    /// The gate, which is called before each object is scanned.
+    /// The hook that is called before each object is scanned.
     pub gate: &'j G,
-    /// The hook, which is called before each thread is started.
+    /// The hook that is called before each thread is started.
     pub hook: &'j S,
     /// The number of threads that mark, without the leading one.
     pub workers: u32,

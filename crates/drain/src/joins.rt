@@ -7,10 +7,10 @@ ghost use Rattle.drain.specs.working.Jobs.{IsOnJob};
 ghost use Rattle.drain.specs.working.Tallies.{IsMeasureOf};
 ghost use Rattle.drain.specs.working.Tallying.{HasTallied};
 
-use crate::gate::Gate;
+use crate::hooks::Gate;
 use crate::job::Job;
 use crate::measured::Measured;
-use crate::tallied_worker::TalliedWorker;
+use crate::tally::TalliedWorker;
 use crate::walk::Walk;
 use crate::worker_threads::RunWorkers;
 use buffer_pool::Pool;

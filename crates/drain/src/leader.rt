@@ -7,14 +7,13 @@ ghost use Rattle.drain.specs.Marks.{IsMarkingOf};
 ghost use Rattle.drain.specs.working.AtWork.{HasLed, IsFree, IsSetupOf};
 ghost use Rattle.drain.specs.working.Tallying.{HasTallied};
 
-use crate::gate::Gate;
+use crate::hooks::{Gate, StartHook, StartsAll};
 use crate::job::Job;
 use crate::joins::gather;
 use crate::marked::{Marked, RunFault};
 use crate::options::Options;
 use crate::prepared_leader::prepare_leader;
-use crate::start_hook::{StartHook, StartsAll};
-use crate::tallied_worker::TalliedWorker;
+use crate::tally::TalliedWorker;
 use crate::walk::Walk;
 use crate::walked_graph::WalkedGraph;
 use crate::worker_threads::run_workers;
@@ -51,8 +50,8 @@ where
     Ok(gather(rt, job, ran)?)
 }
 
-/// Marks the objects that a path of references joins to a root, with a thread for each worker, and calls `gate` before
-/// each object is scanned.
+/// Marks the objects that a path of references joins to a root, with a thread for each worker, and calls the hook
+/// `gate` before each object is scanned.
 ///
 /// `Err(RunFault::OutOfMemory)` if an allocation fails: before any thread is started, or for the spill list of a worker
 /// or the leader. `Err(RunFault::TagSpent)` if a stack's last tag is loaded when an exchange is due. If several workers

@@ -18,7 +18,7 @@
 
 #![tactic(auto)]
 
-mod gate;
+mod hooks;
 pub mod inside;
 mod job;
 mod joins;
@@ -32,16 +32,14 @@ mod pause;
 mod prepared_leader;
 mod recently_seen;
 mod scanned_object;
-mod start_hook;
 mod sum;
 mod supplies;
-mod tallied_worker;
 mod tally;
 mod walk;
 mod walked_graph;
 mod worker_threads;
 
-pub use gate::{Gate, NoGate};
+pub use hooks::{Gate, NoGate};
 pub use laws::one_marking;
 pub use leader::mark;
 pub use marked::{Marked, RunFault};

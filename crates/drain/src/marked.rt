@@ -1,7 +1,7 @@
 //! The result of a marking.
 
 use crate::tally::Tally;
-use buffer_pool::Marks;
+use buffer_pool::{Marks, SpentTag};
 use heap_graph::RowKey;
 use std::alloc::{AllocError, Allocator};
 use std::marker::Model;
@@ -15,9 +15,9 @@ pub enum RunFault {
     /// found no empty buffer for an object.
     #[error("out of memory")]
     OutOfMemory,
-    /// A stack's last tag was loaded when the stack's head was to be exchanged.
+    /// A stack's last tag was loaded when the stack's head was to be exchanged. The token shows that it was loaded.
     #[error("a stack's last tag was loaded")]
-    TagSpent,
+    TagSpent(SpentTag),
     /// A worker's thread could not be started.
     #[error("a worker could not be started")]
     WorkerRefused,
@@ -42,7 +42,7 @@ impl From<Stop> for RunFault {
 
     fn from(stop: Stop) -> RunFault {
         match stop {
-            Stop::TagSpent => RunFault::TagSpent,
+            Stop::TagSpent(token) => RunFault::TagSpent(token),
             Stop::OutOfMemory => RunFault::OutOfMemory,
         }
     }

@@ -41,7 +41,7 @@ impl<A: Allocator> PairedWorker<A> {
     ghost use Rattle.drain.specs.working.AtWork.{AreClaimed, GoesOn, HasAtHand, HasNoneLeft, HasOpened, IsAtWork};
     ghost use Rattle.drain.specs.working.AtWork.{IsClaimed, IsFree, IsPut, IsThrough, MayClaim};
     ghost use Rattle.drain.specs.working.RecentlySeen.{HasSeenAll, IsNoted};
-    ghost use Rattle.drain.specs.working.Sharing.{GivesSome, PutsAgain, SharesWork, Unspills};
+    ghost use Rattle.drain.specs.working.Giving.{GivesSome, Offers, PutsAgain, Unspills};
     ghost use Rattle.drain.specs.working.Walk.{HasEnded};
 
     /// Opens a pair for `worker`, which has none yet. Returns `Unpaired` if there are not two empty buffers.
@@ -246,7 +246,7 @@ impl<A: Allocator> PairedWorker<A> {
     }
 
     /// Tests whether the full stack is seen empty: then others may have nothing to scan.
-    // Inlined: only this look is made in each turn of the worker's loop. It does not wait, so the toolchain tests no
+    // Inlined: only this load is made in each turn of the worker's loop. It does not wait, so the toolchain tests no
     // byte after it.
     #[inline(always)]
     fn others_want(&mut self, pool: &Pool<A>) -> bool
@@ -265,8 +265,7 @@ impl<A: Allocator> PairedWorker<A> {
         requires at_work { IsAtWork self.old.pair [] self.old.worker }
         ensures goes_on { OnOk result (GoesOn self.old.worker self.new.worker) }
         ensures at_work { OnOk result (IsAtWork self.new.pair [] self.new.worker) }
-        ensures shares { OnOk result (SharesWork self.old.pair self.old.worker.book
-            self.new.pair self.new.worker.book) }
+        ensures offers { OnOk result (Offers self.old.pair self.old.worker.book self.new.pair self.new.worker.book) }
     {
         if !self.others_want(pool) {
             return Ok(());

@@ -11,15 +11,15 @@ ghost use Rattle.drain.specs.working.RecentlySeen.{IsNoted};
 /// first cache.
 const ENTRIES: usize = 4096;
 
-/// A table of objects that the worker saw marked. The place of an object is its number modulo [`ENTRIES`]. If several
-/// objects have one place, the table has the one that was noted last.
+/// A table of objects that the worker saw marked. The entry of an object is its number modulo [`ENTRIES`]. If several
+/// objects have one entry, the table has the one that was noted last.
 #[derive(Drop)]
 pub(crate) struct RecentlySeen {
     objects: [u32; ENTRIES],
 }
 
 impl RecentlySeen {
-    /// Creates an empty table: each entry is an object that belongs at another place.
+    /// Creates an empty table: each entry is an object that has another entry.
     pub(crate) fn new() -> RecentlySeen
         ensures none { (o : ℕ) → IsNoted result o → ⊥ }
     {
@@ -35,7 +35,7 @@ impl RecentlySeen {
         self.objects[object as usize % ENTRIES] == object
     }
 
-    /// Notes `object`, and replaces the one at its place.
+    /// Notes `object`, and replaces the one in its entry.
     pub(crate) fn note(&mut self, object: u32)
         ensures at { self.new.objects ≡ slice_set self.old.objects (object % 4096) object }
         ensures noted { IsNoted self.new object }

@@ -3,7 +3,7 @@
 /// What is read of an object while its references are followed.
 #[derive(Clone, Copy)]
 pub struct ScannedObject {
-    /// The place of its row in a tally.
+    /// The number of its row.
     pub row: usize,
     /// The size in bytes, at most 2^30.
     pub bytes: u64,

@@ -6,8 +6,7 @@ ghost use Rattle.drain.specs.working.Tallying.{AreTalliesOfNone, Tallies};
 
 use crate::job::Job;
 use crate::measured::Measured;
-use crate::tallied_worker::TalliedWorker;
-use crate::tally::Tally;
+use crate::tally::{TalliedWorker, Tally};
 use crate::worker_threads::StartedWorker;
 use std::alloc::{AllocError, Allocator};
 

@@ -8,13 +8,14 @@ ghost use Rattle.drain.specs.working.Scans.{MatchesMeasure};
 
 use crate::scanned_object::ScannedObject;
 use crate::sum::Sum;
+use buffer_pool::Worker;
 use std::alloc::{AllocError, Allocator};
 
 /// The counts of some objects: for each row their number and their bytes, and how many identifiers of all are other
 /// than 0 and name no object.
 #[derive(Drop)]
 pub struct Tally<A: Allocator> {
-    /// The sums of the rows, by their places.
+    /// The sums of the rows, by their numbers.
     pub rows: Vec<Sum, A>,
     /// The number of the objects' identifiers that are other than 0 and name no object.
     pub unresolved: u64,
@@ -61,14 +62,23 @@ impl<A: Allocator> Tally<A> {
         self.unresolved += other.unresolved;
     }
 
-    /// Returns the number of objects of the row at `place` and their bytes together, or (0, 0) if there is no row at
-    /// `place`.
-    pub fn told_at(&self, place: usize) -> (u64, u64)
-        ensures { result ≡ sum_at self.now.rows.items place }
+    /// Returns the number of objects of row `number` and their bytes together, or (0, 0) if there is no row of this
+    /// number.
+    pub fn told_at(&self, number: usize) -> (u64, u64)
+        ensures { result ≡ sum_at self.now.rows.items number }
     {
-        match self.rows.get(place) {
+        match self.rows.get(number) {
             Some(sum) => (sum.count, sum.bytes),
             None => (0, 0),
         }
     }
+}
+
+/// A worker before or after its work, and the tally of the objects that it finished.
+#[derive(Drop)]
+pub struct TalliedWorker<A: Allocator> {
+    /// The worker, which has no buffer and no charge.
+    pub worker: Worker<A>,
+    /// The tally of the objects that the worker finished.
+    pub tally: Tally<A>,
 }

@@ -1,23 +1,23 @@
 //! A thread for each worker: its work, its start and its join.
 
-ghost use Rattle.std.specs.Prelude.{◌≡◌, ◌<◌, ◌≤◌, ◌+◌, ◌⊎◌, ℕ, IfErr, IfOk, get_or, vec_capacity, vec_len};
+ghost use Rattle.std.specs.Prelude.{◌≡◌, ◌<◌, ◌≤◌, ◌+◌, ℕ, IfErr, IfOk, get_or, vec_capacity, vec_len};
 ghost use Rattle.drain.specs.declared.marked.RunFault.TheVariants as fault;
 ghost use Rattle.buffer_pool.specs.Calls.{Owner};
+ghost use Rattle.work_pair.specs.declared.stop.Stop.{Stop};
+ghost use Rattle.drain.specs.Stops.{stopped};
 ghost use Rattle.drain.specs.working.AtWork.{HasGiven, IsSetupOf, IsThrough, Leads};
 ghost use Rattle.drain.specs.working.Duties.{AreBackUnder, HasStarted, IsDutyUnder};
 ghost use Rattle.drain.specs.working.Jobs.{HasWorked, MayRun, MayWork};
 ghost use Rattle.drain.specs.working.Tallying.{AreTalliesOfNone, HasTallied, Tallies};
 
-use crate::gate::Gate;
+use crate::hooks::{Gate, StartHook};
 use crate::job::Job;
 use crate::marked::RunFault;
 use crate::measured::Measured;
 use crate::paired_worker::{Opened, PairedWorker};
 use crate::prepared_leader::PreparedLeader;
-use crate::start_hook::StartHook;
 use crate::supplies::Supplies;
-use crate::tallied_worker::TalliedWorker;
-use crate::tally::Tally;
+use crate::tally::{TalliedWorker, Tally};
 use crate::walk::Walk;
 use buffer_pool::{Pool, Worker};
 use std::alloc::Allocator;
@@ -209,7 +209,7 @@ pub fn join_all<T: Threads, A: Allocator, V: Measured>(
     ensures back { IfOk result (λ l. (graph : _) (leader : Owner) → ((number : ℕ) (t : _) → number < vec_len threads
         → IsDutyUnder graph leader (get_or threads.items number t).promise)
         → AreBackUnder (V.measure graph) leader l.items) }
-    ensures refused { IfErr result (λ e. (e ≡ fault.TagSpent) ⊎ (e ≡ fault.OutOfMemory)) }
+    ensures refused { IfErr result (λ e. (stop : Stop) × (e ≡ stopped stop)) }
 {
     let mut back = back;
     for thread in threads {

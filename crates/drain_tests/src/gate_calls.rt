@@ -1,5 +1,5 @@
-//! Who calls the gate: each of many workers, the leader under a number of its own, and a worker to which another gave
-//! objects.
+//! Who calls the hook before a scan: each of many workers, the leader under a number of its own, and a worker to which
+//! another gave objects.
 
 use crate::dumps::{dump_of, graph_of, put_class, put_instance, wide_array};
 use drain::{Gate, Options, RunFault, mark};
@@ -133,7 +133,7 @@ fn marked<T: Threads + Wait + Sync, G: Gate>(
 }
 
 /// Marks `roots` roots with the options `workers`, `buffer` and `buffers`. Returns the number of marked objects and
-/// what the gate noted: the number of calls, the workers that came, and the number of the leader's calls.
+/// what the hook noted: the number of calls, the workers that came, and the number of the leader's calls.
 fn calls_of<T: Clock + Copy + Threads + Wait + Sync>(
     rt: T,
     alloc: Global,

@@ -1,4 +1,4 @@
-//! What no clause of a marking says: when the gate is called for an object, that a leader without buffers drains, and
+//! What no clause of a marking says: when the hook is called for an object, that a leader without buffers drains, and
 //! how long a worker waits.
 
 ghost use Rattle.std.specs.Prelude.{◌≡◌, ◌<◌, ◌≤◌, ◌+◌};
@@ -18,13 +18,13 @@ use std::thread::Threads;
 use std::time::{Duration, Instant};
 use work_pair::Pair;
 
-/// The graph of a dump with at most 64 objects. It counts the visits of objects for which the gate was not called yet.
+/// The graph of a dump with at most 64 objects. It counts the visits of objects for which the hook was not called yet.
 #[derive(Drop)]
 struct Watched<'a, 'b> {
     walked: WalkedGraph<'a, 'b, Global>,
-    /// A bit for each object for which the gate was called.
+    /// A bit for each object for which the hook was called.
     passed: &'a AtomicU64,
-    /// The number of times that an object was visited before the gate was called for it.
+    /// The number of times that an object was visited before the hook was called for it.
     early: &'a AtomicU64,
 }
 
@@ -148,8 +148,8 @@ fn lead_watched<T: Threads + Wait + Sync>(
     lead(rt, &job, leader).is_ok()
 }
 
-/// Marks the wide array like [`lead_watched`]. Returns whether the marking was done, for how many objects the gate was
-/// called, and how many visits of an object came before the gate's call for that object.
+/// Marks the wide array like [`lead_watched`]. Returns whether the marking was done, for how many objects the hook was
+/// called, and how many visits of an object came before the hook's call for that object.
 fn lead_over_array<T: Threads + Wait + Sync>(
     rt: &T,
     alloc: Global,

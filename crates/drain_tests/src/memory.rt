@@ -18,7 +18,7 @@ fn with_room() -> Result<Options, Fail> {
     Ok(Options::new(2, 64, 6, 0)?)
 }
 
-/// Counts the calls of the gate and of the start hook.
+/// Counts the calls of the two hooks: before a scan, and before the start of a thread.
 #[derive(Drop)]
 struct Calls {
     scans: AtomicU64,
@@ -55,7 +55,7 @@ impl StartHook for Calls {
 }
 
 /// Marks `graph` on `heap`. Tests whether the result is right: all 62 objects are scanned and both workers started; or,
-/// if an allocation failed, the marking is out of memory, and neither the gate nor the hook was called.
+/// if an allocation failed, the marking is out of memory, and neither hook was called.
 fn marks_over<T: Threads + Wait + Sync>(
     rt: &T,
     heap: &LimitedHeap<Global>,

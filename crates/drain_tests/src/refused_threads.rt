@@ -1,8 +1,9 @@
 //! A thread that cannot be started: this is reported, no later thread is started, and no started one remains.
 
 use crate::dumps::{graph_of, wide_array};
+use crate::faults::Fault;
 use drain::inside::{StartHook, mark_where};
-use drain::{Gate, NoGate, Options, RunFault};
+use drain::{Gate, NoGate, Options};
 use heap_graph::Skip;
 use std::alloc::Global;
 use std::sync::Wait;
@@ -32,34 +33,37 @@ fn marked_where<T: Threads + Wait + Sync, G: Gate, S: StartHook>(
     (workers, buffer, buffers, first_tag): (u32, u32, u32, u64),
     gate: &G,
     hook: &S,
-) -> Result<Result<u64, RunFault>, Fail> {
+) -> Result<Result<u64, Fault>, Fail> {
     let options = Options::new(workers, buffer, buffers, first_tag)?;
     let dump = wide_array(alloc)?;
     let skip = Skip::none(alloc);
     let graph = graph_of(rt, alloc, dump.as_slice(), &skip)?;
-    Ok(mark_where(rt, alloc, &graph, &options, gate, hook).map(|marked| marked.len()))
+    Ok(match mark_where(rt, alloc, &graph, &options, gate, hook) {
+        Ok(marked) => Ok(marked.len()),
+        Err(fault) => Err(fault.into()),
+    })
 }
 
 /// Workers, objects in a buffer, buffers, and the first tag; the worker whose thread is refused; and the result.
-type Start = ((u32, u32, u32, u64), u32, Result<u64, RunFault>);
+type Start = ((u32, u32, u32, u64), u32, Result<u64, Fault>);
 
 /// The leader pops three empty buffers, two for its pair and one to replace the buffer that it gives away. Then the
 /// empty stack has its last tag, and each worker is stopped when it opens a pair.
 const LATE: u64 = Options::LAST_TAG - 3;
 
 static STARTS: [Start; 9] = [
-    ((4, 256, 1024, 0), 0, Err(RunFault::WorkerRefused)),
-    ((4, 256, 1024, 0), 1, Err(RunFault::WorkerRefused)),
-    ((4, 256, 1024, 0), 2, Err(RunFault::WorkerRefused)),
-    ((4, 256, 1024, 0), 3, Err(RunFault::WorkerRefused)),
+    ((4, 256, 1024, 0), 0, Err(Fault::WorkerRefused)),
+    ((4, 256, 1024, 0), 1, Err(Fault::WorkerRefused)),
+    ((4, 256, 1024, 0), 2, Err(Fault::WorkerRefused)),
+    ((4, 256, 1024, 0), 3, Err(Fault::WorkerRefused)),
     ((4, 256, 1024, 0), 4, Ok(62)),
     // Six buffers of two have room for at most 12 of the 60 instances. The others go to the spill list of the worker
     // that claims them.
     ((2, 2, 6, 0), 2, Ok(62)),
-    ((2, 256, 1024, LATE), 2, Err(RunFault::TagSpent)),
+    ((2, 256, 1024, LATE), 2, Err(Fault::TagSpent)),
     // Worker 0 is stopped as well, but worker 1 was not started.
-    ((2, 256, 1024, LATE), 1, Err(RunFault::WorkerRefused)),
-    ((2, 256, 1024, LATE), 0, Err(RunFault::WorkerRefused)),
+    ((2, 256, 1024, LATE), 1, Err(Fault::WorkerRefused)),
+    ((2, 256, 1024, LATE), 0, Err(Fault::WorkerRefused)),
 ];
 
 #[test]
@@ -124,7 +128,7 @@ impl<C: Clock> RefusesOne<C> {
 fn noted_twice<T: Clock + Copy + Threads + Wait + Sync>(
     rt: T,
     alloc: Global,
-) -> Result<(Result<u64, RunFault>, Notes, Notes), Fail> {
+) -> Result<(Result<u64, Fault>, Notes, Notes), Fail> {
     let one = RefusesOne::new(rt);
     let outcome = marked_where(&rt, alloc, (4, 256, 1024, 0), &one, &one)?;
     let first = one.noted();
@@ -135,7 +139,7 @@ fn noted_twice<T: Clock + Copy + Threads + Wait + Sync>(
 #[test]
 fn no_worker_is_started_behind_a_refused_one(rt: HostRuntime) -> Result<(), Fail> {
     let (outcome, first, later) = noted_twice(rt, rt.alloc())?;
-    assert_eq!(rt; outcome, Err(RunFault::WorkerRefused));
+    assert_eq!(rt; outcome, Err(Fault::WorkerRefused));
     // The hook was called for workers 0 and 1; only worker 0 scanned, and it scanned all 62 objects.
     assert_eq!(rt; first, (3, 1, 62));
     assert_eq!(rt; later, first, "no thread is left");

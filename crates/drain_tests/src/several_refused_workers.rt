@@ -5,7 +5,8 @@ ghost use Rattle.drain.specs.working.AtWork.{IsFree, IsThrough, Leads};
 ghost use Rattle.drain.specs.working.Duties.{IsDutyUnder};
 ghost use Rattle.drain.specs.working.Tallying.{HasTallied};
 
-use buffer_pool::{Edges, Pool, Worker};
+use crate::faults::{Fault, spent_tag};
+use buffer_pool::{Edges, Pool, SpentTag, Worker};
 use drain::RunFault;
 use drain::inside::{Duty, Measured, StartedWorker, TalliedWorker, Tally, join_all};
 use std::alloc::Global;
@@ -47,6 +48,15 @@ impl Measured for Nothing {
     }
 }
 
+/// Returns the stop for `fault`, with `token` if a tag was spent. No other fault stops a worker.
+fn stop_of(fault: Option<Fault>, token: SpentTag) -> Option<Stop> {
+    match fault {
+        Some(Fault::TagSpent) => Some(Stop::TagSpent(token)),
+        Some(Fault::OutOfMemory) => Some(Stop::OutOfMemory),
+        Some(Fault::WorkerRefused) | None => None,
+    }
+}
+
 /// Starts a thread that returns `begun`, or `stop` if there is one.
 fn answer<'s, E, V: Measured + Sync>(
     scope: &'s Scope<'s, E>,
@@ -81,15 +91,16 @@ fn answer<'s, E, V: Measured + Sync>(
     }
 }
 
-/// Splits a worker off `leader` for each of `stops`, and starts a thread that returns the worker, or the stop if there
-/// is one. Returns the leader and the threads.
+/// Splits a worker off `leader` for each of `stops`, and starts a thread that returns the worker, or is stopped if
+/// there is a fault. `token` is that of a spent tag. Returns the leader and the threads.
 fn answer_all<'s, E, V: Measured + Sync>(
     scope: &'s Scope<'s, E>,
     alloc: Global,
     graph: &'s V,
     pool: &Pool<Global>,
     leader: Worker<Global>,
-    stops: &[Option<Stop>],
+    stops: &[Option<Fault>],
+    token: SpentTag,
 ) -> Result<(Worker<Global>, Vec<StartedWorker<Global, V>>), RunFault>
     requires pool { leader.pool ≡ pool.now }
     requires share { length stops.now < leader.book.account.share }
@@ -106,7 +117,7 @@ fn answer_all<'s, E, V: Measured + Sync>(
         leader = rest;
         let tally = Tally::new(alloc, graph.rows())?;
         let begun = TalliedWorker { worker, tally };
-        let thread = answer(scope, graph, begun, stops[number])?;
+        let thread = answer(scope, graph, begun, stop_of(stops[number], token))?;
         threads.push_reserved(thread);
     }
     Ok((leader, threads))
@@ -118,7 +129,8 @@ fn told<T: Threads + Wait, V: Measured + Sync>(
     rt: &T,
     alloc: Global,
     graph: &V,
-    stops: &[Option<Stop>],
+    stops: &[Option<Fault>],
+    token: SpentTag,
 ) -> Result<Option<RunFault>, Fail>
     requires { length stops.now ≤ 64 }
 {
@@ -135,36 +147,37 @@ fn told<T: Threads + Wait, V: Measured + Sync>(
             requires share { length stops.now < leader.book.account.share }
             requires room { (vec_len back ≡ 0) × (length stops.now ≤ vec_capacity back) }
         {
-            let (_leader, threads) = answer_all(scope, alloc, graph, pool, leader, stops)?;
+            let (_leader, threads) = answer_all(scope, alloc, graph, pool, leader, stops, token)?;
             join_all(rt, threads, back)
         },
     );
     Ok(outcome.err())
 }
 
-const TAG: Option<Stop> = Some(Stop::TagSpent);
+const TAG: Option<Fault> = Some(Fault::TagSpent);
 
-const MEMORY: Option<Stop> = Some(Stop::OutOfMemory);
+const MEMORY: Option<Fault> = Some(Fault::OutOfMemory);
 
-/// For each worker the stop that its thread returns, or `None` if that returns the worker; and the fault that joining
-/// the threads returns.
-static ANSWERS: [(&[Option<Stop>], Option<RunFault>); 7] = [
+/// For each worker the fault with which its thread is stopped, or `None` if that returns the worker; and the fault that
+/// joining the threads returns.
+static ANSWERS: [(&[Option<Fault>], Option<Fault>); 7] = [
     (&[], None),
     (&[None, None, None], None),
-    (&[None, None, TAG], Some(RunFault::TagSpent)),
-    (&[TAG, MEMORY, None], Some(RunFault::TagSpent)),
-    (&[MEMORY, TAG, None], Some(RunFault::OutOfMemory)),
-    (&[None, TAG, MEMORY], Some(RunFault::TagSpent)),
-    (&[None, MEMORY, TAG, TAG], Some(RunFault::OutOfMemory)),
+    (&[None, None, TAG], TAG),
+    (&[TAG, MEMORY, None], TAG),
+    (&[MEMORY, TAG, None], MEMORY),
+    (&[None, TAG, MEMORY], TAG),
+    (&[None, MEMORY, TAG, TAG], MEMORY),
 ];
 
 #[test]
 fn of_the_refused_workers_the_one_with_the_least_number_is_told(
     rt: HostRuntime,
 ) -> Result<(), Fail> {
+    let token = spent_tag(&rt, rt.alloc())?;
     for (stops, want) in ANSWERS {
-        let outcome = told(&rt, rt.alloc(), &Nothing, stops)?;
-        assert_eq!(rt; outcome, want);
+        let outcome = told(&rt, rt.alloc(), &Nothing, stops, token)?;
+        assert_eq!(rt; outcome.map(Fault::from), want);
     }
     Ok(())
 }

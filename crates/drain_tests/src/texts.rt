@@ -1,17 +1,17 @@
 //! The texts that are printed if a graph is not marked.
 
+use crate::faults::spent_tag;
 use drain::{BadOptions, RunFault};
 use std::test::Fail;
 
-static FAULTS: [(RunFault, &str); 3] = [
-    (RunFault::OutOfMemory, "out of memory"),
-    (RunFault::TagSpent, "a stack's last tag was loaded"),
-    (RunFault::WorkerRefused, "a worker could not be started"),
-];
-
 #[test]
 fn faults_are_printed_in_words(rt: HostRuntime) -> Result<(), Fail> {
-    for (fault, want) in FAULTS {
+    let token = spent_tag(&rt, rt.alloc())?;
+    for (fault, want) in [
+        (RunFault::OutOfMemory, "out of memory"),
+        (RunFault::TagSpent(token), "a stack's last tag was loaded"),
+        (RunFault::WorkerRefused, "a worker could not be started"),
+    ] {
         let text = format!(in rt.alloc(); "{fault}")?;
         assert_eq!(rt; text.as_str(), want);
     }

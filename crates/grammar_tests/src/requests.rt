@@ -6,11 +6,12 @@ use limited_heap::LimitedHeap;
 use std::alloc::Global;
 use std::thread::Threads;
 
-/// Teams that read the file in parts: the number of threads, and the fewest objects that they share. By its length the
-/// file counts as three objects. Two threads read it in two parts.
+/// Teams that read the file in parts: the number of threads, and the fewest objects from which on they share work. The
+/// file counts as three objects, for its 215 bytes. Two threads read it in two parts.
 const IN_PARTS: [(u32, u32); 5] = [(2, 0), (2, 3), (3, 0), (4, 0), (64, 0)];
 
-/// Teams whose calling thread reads the whole file: the number of threads, and the fewest objects that they share.
+/// Teams whose calling thread reads the whole file: the number of threads, and the fewest objects from which on they
+/// share work.
 const IN_ONE: [(u32, u32); 4] = [(0, 0), (1, 0), (2, 4), (64, u32::MAX)];
 
 /// Tests whether `team` reads the file on `heap`.
@@ -21,15 +22,15 @@ fn reads<T: Threads + Sync>(team: &Team<'_, T>, heap: &LimitedHeap<Global>) -> b
     }
 }
 
-/// Returns the number of requests for memory that `team` makes to read the file.
+/// Returns the number of requests for memory that `team` makes to read the file if none is refused.
 fn requests_of<T: Threads + Sync>(team: &Team<'_, T>, alloc: Global) -> u64 {
     let heap = LimitedHeap::new(alloc, u64::MAX);
     let _read = reads(team, &heap);
     u64::MAX.saturating_sub(heap.requests_left())
 }
 
-/// Refuses each request of `team` alone, in turn. Tests whether `team` then reads the file each time if `wanted` is
-/// `true`, or never if it is `false`.
+/// Lets `team` read the file once for each request that it makes, on a heap that refuses only this request. Tests
+/// whether all of these reads succeed if `wanted` is `true`, or all fail if it is `false`.
 fn reads_without_one<T: Threads + Sync>(team: &Team<'_, T>, alloc: Global, wanted: bool) -> bool {
     for request in 0..requests_of(team, alloc) {
         if reads(team, &LimitedHeap::refusing(alloc, request)) != wanted {
@@ -39,9 +40,9 @@ fn reads_without_one<T: Threads + Sync>(team: &Team<'_, T>, alloc: Global, wante
     true
 }
 
-/// If a request is refused while parts are read, the calling thread reads the whole file, and the read succeeds. It
-/// succeeds here whichever request is refused. So all requests are made while parts are read, and none by a second read
-/// of the whole file: if a request of that read were refused, the read would fail.
+/// If a request is refused while parts are read, the calling thread reads the whole file afterwards, and succeeds. It
+/// succeeds whichever request of a read without a refusal is refused. So such a read makes all its requests for its
+/// parts, and none for the whole file: if one for the whole file were refused, the read would fail.
 #[test]
 fn read_in_parts_alone(rt: HostRuntime) {
     for (threads, fewest) in IN_PARTS {

@@ -38,6 +38,8 @@ mod skips;
 #[cfg(test)]
 mod texts;
 #[cfg(test)]
+mod unordered;
+#[cfg(test)]
 mod walks;
 #[cfg(test)]
 mod worked;

@@ -1,7 +1,7 @@
 -- What the graph of a heap list says of a single object.
 use Rattle.heap_graph.proofs.Words.{AreIdsIn, IsGraphOf, List, ObjectGraph, Record, RowKey, SkipEntry, Some, SubRecord}
 use Rattle.heap_graph.proofs.Words.{[], ap, arith, bytes_at, bytes_of, get_or, get_or-map, get_or_from_slice_get}
-use Rattle.heap_graph.proofs.Words.{heap_of, held_by, is_skipped, length, length-map, map, object_count, objects}
+use Rattle.heap_graph.proofs.Words.{heap_of, id_list_of, is_skipped, length, length-map, map, object_count, objects}
 use Rattle.heap_graph.proofs.Words.{one_ids, references_of, row_at, row_of, slice_get, slice_get-get_or}
 use Rattle.heap_graph.proofs.Words.{slice_get_within, slice_index, sym, targets, ℕ, ◌<◌, ◌∙◌, ◌≡◌}
 use Rattle.heap_graph.specs.declared.row.RowKey.TheVariants as keys
@@ -15,7 +15,7 @@ module _ {s : ℕ} {records : List Record} {skip : List SkipEntry} {g : ObjectGr
     (graph : IsGraphOf s records skip g) where
   pub count_of : object_count g ≡ length (objects (heap_of records))
   count_of =
-      ap length graph.references_are ∙ length-map g.held (targets (heap_of records)) ∙ graph.held_are.one_each
+      ap length graph.references_are ∙ length-map g.id_lists (targets (heap_of records)) ∙ graph.id_lists_are.one_each
 
   pub one_of : (n : ℕ) → n < object_count g → (o : SubRecord) × (slice_get (objects (heap_of records)) n ≡ Some o)
   one_of n h = slice_get_of (objects (heap_of records)) n (omega (arith, h, count_of))
@@ -29,18 +29,18 @@ module _ {s : ℕ} {records : List Record} {skip : List SkipEntry} {g : ObjectGr
     bytes_here = ap (λ (bs : List ℕ). slice_index bs n) graph.bytes_are
         ∙ here_is (bytes_of s) (objects (heap_of records)) n o 0 is
 
-    held_get : slice_get g.held n ≡ Some (held_by g n)
-    held_get =
+    id_list_get : slice_get g.id_lists n ≡ Some (id_list_of g n)
+    id_list_get =
         let below = slice_get_within (objects (heap_of records)) n o is in
-        slice_get-get_or g.held n [] (omega (arith, graph.held_are.one_each, below))
+        slice_get-get_or g.id_lists n [] (omega (arith, graph.id_lists_are.one_each, below))
 
-    pub held_here : (ids : List ℕ) → AreIdsIn (is_skipped records skip) s (heap_of records) o ids → ids ≡ held_by g n
-    held_here ids are = one_ids (is_skipped records skip) s (heap_of records) o ids (held_by g n) are
-        (graph.held_are.each n o (held_by g n) is held_get)
+    pub ids_here : (ids : List ℕ) → AreIdsIn (is_skipped records skip) s (heap_of records) o ids → ids ≡ id_list_of g n
+    ids_here ids are = one_ids (is_skipped records skip) s (heap_of records) o ids (id_list_of g n) are
+        (graph.id_lists_are.each n o (id_list_of g n) is id_list_get)
 
     pub references_here : (ids : List ℕ) → AreIdsIn (is_skipped records skip) s (heap_of records) o ids
         → targets (heap_of records) ids ≡ references_of g n
     references_here ids are =
-        ap (targets (heap_of records)) (held_here ids are)
+        ap (targets (heap_of records)) (ids_here ids are)
         ∙ sym (ap (λ (xs : List (List ℕ)). get_or xs n []) graph.references_are
-        ∙ here_is (targets (heap_of records)) g.held n (held_by g n) [] held_get)
+        ∙ here_is (targets (heap_of records)) g.id_lists n (id_list_of g n) [] id_list_get)

@@ -10,8 +10,8 @@ use Rattle.heap_graph.proofs.Words.{is_unresolved, length, limit, map, named_cla
 use Rattle.heap_graph.proofs.Words.{root_objects, row_of, slice_get, spelling_of, subst, sym, target_in, targets}
 use Rattle.heap_graph.proofs.Words.{unresolved_in, ℕ, ◌++◌, ◌+◌, ◌∙◌, ◌≡◌, ◌≤◌}
 use Rattle.heap_graph.proofs.Counting.{few_in_dump, few_of_records}
-use Rattle.heap_graph.proofs.HeldLists.{are_lists, held_lists}
-use Rattle.heap_graph.proofs.UnresolvedLaws.{few_held, roots_unresolved}
+use Rattle.heap_graph.proofs.IdLists.{are_lists, have_id_lists}
+use Rattle.heap_graph.proofs.UnresolvedLaws.{few_in_lists, roots_unresolved}
 use Rattle.heap_graph.proofs.Sizes.{id_size_range}
 use Rattle.heap_graph.proofs.TargetLaws.{same_unresolved, same_targets}
 use Rattle.heap_graph.proofs.Wholeness.{is_whole}
@@ -128,30 +128,30 @@ roots_resolved heap ids wanted old new unresolved ids_are none wanted_are r = re
 
 -- the graph, with the identifiers that the objects hold
 abbrev pub graph_with : ℕ → List Record → List (List ℕ) → ObjectGraph
-graph_with s records held = record {
+graph_with s records lists = record {
   ids = map id_of (objects (heap_of records));
-  held = held;
-  references = map (targets (heap_of records)) held;
+  id_lists = lists;
+  references = map (targets (heap_of records)) lists;
   root_names = root_ids (heap_of records);
   roots = root_objects (heap_of records);
   rows = map (row_of (heap_of records)) (objects (heap_of records));
   bytes = map (bytes_of s) (objects (heap_of records));
   classes = named_classes records;
-  unresolved = unresolved_in (heap_of records) held;
+  unresolved = unresolved_in (heap_of records) lists;
 }
 
 -- the lists of identifiers of the objects
 abbrev pub lists_of : {A : Type 0} (o : Objects A) (records : List Record) (skip : List SkipEntry)
     → AreLinkedOf o (heap_of records) → HaveFatesOf o (heap_of records) → List (List ℕ)
-lists_of o records skip linked told = (held_lists (is_skipped records skip) o (heap_of records) linked told).lists
+lists_of o records skip linked told = (have_id_lists (is_skipped records skip) o (heap_of records) linked told).lists
 
 pub graph_made : {A : Type 0} (o : Objects A) (records : List Record) (skip : List SkipEntry)
     (linked : AreLinkedOf o (heap_of records)) (told : HaveFatesOf o (heap_of records))
     → IsGraphOf o.view.id_size records skip (graph_with o.view.id_size records (lists_of o records skip linked told))
 graph_made o records skip linked told = record {
   ids_are = refl;
-  held_are = are_lists (is_skipped records skip) o.view.id_size (heap_of records)
-      (held_lists (is_skipped records skip) o (heap_of records) linked told);
+  id_lists_are = are_lists (is_skipped records skip) o.view.id_size (heap_of records)
+      (have_id_lists (is_skipped records skip) o (heap_of records) linked told);
   references_are = refl;
   root_names_are = refl;
   roots_are = refl;
@@ -172,14 +172,14 @@ module _ {A : Type 0} (o : Objects A) (plan : Plan A) (records : List Record) (r
   stand_for within few_roots linked told named found =
       let g = graph_with o.view.id_size records (lists_of o records skip linked told) in
       let graph = graph_made o records skip linked told in
-      let held = held_lists (is_skipped records skip) o (heap_of records) linked told in
+      let have = have_id_lists (is_skipped records skip) o (heap_of records) linked told in
       record {
         records = records;
         linked = linked;
         fates = told;
         planned = named.planned;
         graph = graph;
-        whole = is_whole o.view o.places.items o.index records skip g linked within (few_held held) few_roots graph;
+        whole = is_whole o.view o.places.items o.index records skip g linked within (few_in_lists have) few_roots graph;
         roots_are = sym found.roots_are;
         classes_are = sym named.classes_are;
         unresolved_is = roots_unresolved graph ∙ sym found.unresolved_is;

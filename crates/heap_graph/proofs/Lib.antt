@@ -27,14 +27,14 @@ pub mod Parts
 pub mod Linking
 pub mod Adding
 pub mod Gathering
-pub mod HeldLaws
+pub mod ObjectIdLaws
 pub mod Lookups
 pub mod EntryLaws
 pub mod NameLookups
 pub mod ClassLaws
 pub mod Sizes
 pub mod TargetLaws
-pub mod HeldLists
+pub mod IdLists
 pub mod UnresolvedLaws
 pub mod Walking
 pub mod Visiting

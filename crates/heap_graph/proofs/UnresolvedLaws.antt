@@ -5,7 +5,7 @@ use Rattle.heap_graph.proofs.Words.{is_unresolved, is_unresolved_in, length, obj
 use Rattle.heap_graph.proofs.Words.{refl, root_ids, slice_get-get_or, suc, sum_by, sum_by-append, sum_by-cons, sym}
 use Rattle.heap_graph.proofs.Words.{unresolved_among, unresolved_roots, zero, ℕ, ⊎_elim, ◌+◌, ◌^◌, ◌∙◌, ◌∷◌, ◌≡◌, ◌≤◌}
 use Rattle.heap_graph.proofs.Firsts.{slice_get_of}
-use Rattle.heap_graph.proofs.HeldLists.{HoldLists}
+use Rattle.heap_graph.proofs.IdLists.{HaveIdLists}
 use Rattle.heap_graph.proofs.TargetLaws.{same_unresolved}
 
 -- ---- a sum over lists, by their numbers
@@ -54,20 +54,20 @@ module _ {s : ℕ} {records : List Record} {skip : List SkipEntry} {g : ObjectGr
       same_unresolved (heap_of records) g.ids g.root_names graph.ids_are
       ∙ ap (count_by (is_unresolved (heap_of records))) graph.root_names_are
 
-  objects_unresolved : count_by (is_unresolved (heap_of records)) (concat g.held)
-      ≡ unresolved_among g (range_with_len 0 (length g.held))
+  objects_unresolved : count_by (is_unresolved (heap_of records)) (concat g.id_lists)
+      ≡ unresolved_among g (range_with_len 0 (length g.id_lists))
   objects_unresolved =
-      sym (same_unresolved (heap_of records) g.ids (concat g.held) graph.ids_are)
-      ∙ count-concat (is_unresolved_in g.ids) g.held ∙ sum-by_number (count_by (is_unresolved_in g.ids)) g.held
+      sym (same_unresolved (heap_of records) g.ids (concat g.id_lists) graph.ids_are)
+      ∙ count-concat (is_unresolved_in g.ids) g.id_lists ∙ sum-by_number (count_by (is_unresolved_in g.ids)) g.id_lists
 
-  pub parts_unresolved : length g.held ≡ object_count g
+  pub parts_unresolved : length g.id_lists ≡ object_count g
       → g.unresolved ≡ unresolved_among g (range_with_len 0 (object_count g)) + unresolved_roots g
   parts_unresolved each =
       let heap = heap_of records in
       omega (
         arith,
         graph.unresolved_is,
-        sum_by-append (λ x. cond (is_unresolved heap x) 1 0) (concat g.held) (root_ids heap),
+        sum_by-append (λ x. cond (is_unresolved heap x) 1 0) (concat g.id_lists) (root_ids heap),
         objects_unresolved,
         ap (λ (n : ℕ). unresolved_among g (range_with_len 0 n)) each,
         roots_unresolved,
@@ -75,11 +75,11 @@ module _ {s : ℕ} {records : List Record} {skip : List SkipEntry} {g : ObjectGr
 
 -- ---- no list is too long
 
-pub few_held : {skips : Class → Member → Bool} {s : ℕ} {heap : List SubRecord} (held : HoldLists skips s heap) (n : ℕ)
-    → length (get_or held.lists n []) ≤ 2 ^ 33
-few_held {heap = heap} held n = ⊎_elim
+pub few_in_lists : {skips : Class → Member → Bool} {s : ℕ} {heap : List SubRecord} (have : HaveIdLists skips s heap)
+    (n : ℕ) → length (get_or have.lists n []) ≤ 2 ^ 33
+few_in_lists {heap = heap} have n = ⊎_elim
     (λ l.
-    let object = slice_get_of (objects heap) n (omega (arith, l, held.one_each)) in
-    (held.each n object.0 (get_or held.lists n []) object.1 (slice_get-get_or held.lists n [] l)).few)
-    (λ l. omega (arith, ap length (get_or_past held.lists n [] l)))
-    (cases_lt n (length held.lists))
+    let object = slice_get_of (objects heap) n (omega (arith, l, have.one_each)) in
+    (have.each n object.0 (get_or have.lists n []) object.1 (slice_get-get_or have.lists n [] l)).few)
+    (λ l. omega (arith, ap length (get_or_past have.lists n [] l)))
+    (cases_lt n (length have.lists))

@@ -4,7 +4,7 @@ use Rattle.heap_graph.proofs.Words.{IsWhole, List, None, ObjectGraph, Option, Re
 use Rattle.heap_graph.proofs.Words.{Stands, SubRecord, TooLarge, UnknownClass, [], ap, arith, as_class, bytes_at}
 use Rattle.heap_graph.proofs.Words.{bytes_of, cases_lt, class_count, class_dump, class_dumps, class_named, class_number}
 use Rattle.heap_graph.proofs.Words.{cond, cons_option, count_by-le-length, eq-eqb, fails_before_first, false}
-use Rattle.heap_graph.proofs.Words.{filter_map, get_or, get_or_from_slice_get, get_or_past, heap_of, held_by, id_of}
+use Rattle.heap_graph.proofs.Words.{filter_map, get_or, get_or_from_slice_get, get_or_past, heap_of, id_list_of, id_of}
 use Rattle.heap_graph.proofs.Words.{instance_dump, is_object, is_unresolved_in, length, length-map, limit, map}
 use Rattle.heap_graph.proofs.Words.{most_objects, named_in, number_named, object_array_dump, object_count, objects}
 use Rattle.heap_graph.proofs.Words.{position_or_len, primitive_array_dump, references_of, refl, root, root_ids, row_of}
@@ -149,7 +149,7 @@ refs_within heap (ids ∷ lists) (suc o) = refs_within heap lists o
 pub is_whole : (v : Sight) (places ids : List ℕ) (records : List Record) (skip : List SkipEntry) (g : ObjectGraph)
     → AreLinked v places ids (heap_of records)
     → ((at : ℕ) (sub : SubRecord) → Stands v at sub → at + length (spelling_of v.id_size sub) ≤ length v.bytes)
-    → ((n : ℕ) → length (held_by g n) ≤ 2 ^ 33) → length (root_ids (heap_of records)) ≤ limit → IsGraphOf v.id_size
+    → ((n : ℕ) → length (id_list_of g n) ≤ 2 ^ 33) → length (root_ids (heap_of records)) ≤ limit → IsGraphOf v.id_size
     records skip g → IsWhole g
 is_whole v places ids records skip g linked within few few_roots graph =
     let heap : List SubRecord = heap_of records in
@@ -157,7 +157,7 @@ is_whole v places ids records skip g linked within few few_roots graph =
     let class_total : class_count g ≡ length (class_dumps heap) =
     ap length graph.classes_are ∙ length-map (class_dumps heap) (named_in records) in
     record {
-      held_each = graph.held_are.one_each ∙ sym count;
+      id_list_each = graph.id_lists_are.one_each ∙ sym count;
       row_each = ap length graph.rows_are ∙ length-map (objects heap) (row_of heap) ∙ sym count;
       bytes_each = ap length graph.bytes_are ∙ length-map (objects heap) (bytes_of v.id_size) ∙ sym count;
       few_objects = omega (arith, few_objects v.id_size heap linked.linked, count);
@@ -167,7 +167,7 @@ is_whole v places ids records skip g linked within few few_roots graph =
           (targets_within heap (root_ids heap)));
       references_within = λ o. subst (λ (n : ℕ). All (λ b. b < n) (references_of g o)) (sym count)
           (subst (λ (xs : List (List ℕ)). All (λ t. t < length (objects heap)) (get_or xs o []))
-          (sym graph.references_are) (refs_within heap g.held o));
+          (sym graph.references_are) (refs_within heap g.id_lists o));
       rows_within = λ o h.
           let it = there v places ids heap o linked.are (omega (arith, h, count, linked.are.stand.count)) in
           subst (λ (r : RowKey). IsRowIn g r) (sym (row_here graph o it.object it.is))
@@ -187,12 +187,12 @@ is_whole v places ids records skip g linked within few few_roots graph =
           (omega (arith, ap length graph.bytes_are, length-map (objects heap) (bytes_of v.id_size), l)) in
           omega (arith, none))
           (cases_lt o (length (objects heap)));
-      few_unresolved = λ o. omega (arith, count_by-le-length (is_unresolved_in g.ids) (held_by g o), few o);
+      few_unresolved = λ o. omega (arith, count_by-le-length (is_unresolved_in g.ids) (id_list_of g o), few o);
       few_unresolved_roots = omega (
         arith,
         count_by-le-length (is_unresolved_in g.ids) g.root_names,
         ap length graph.root_names_are,
         few_roots,
       );
-      both_parts = parts_unresolved graph (graph.held_are.one_each ∙ sym count);
+      both_parts = parts_unresolved graph (graph.id_lists_are.one_each ∙ sym count);
     }

@@ -68,8 +68,8 @@ pub use Rattle.heap_graph.specs.Rows.{bytes_of, row_of}
 pub use Rattle.heap_graph.specs.Skips.{SkipEntry, is_skipped}
 pub use Rattle.heap_graph.specs.SuperRule.{IsBadSuper}
 pub use Rattle.heap_graph.specs.Walks.{is_unresolved_in, references_in, unresolved_left}
-pub use Rattle.heap_graph.specs.Whole.{IsRowIn, IsWhole, held_by, unresolved_among, unresolved_roots}
-pub use Rattle.heap_graph.specs.declared.class_entry.ClassEntry.{ClassEntry}
+pub use Rattle.heap_graph.specs.Whole.{IsRowIn, IsWhole, id_list_of, unresolved_among, unresolved_roots}
+pub use Rattle.heap_graph.specs.declared.objects.class_entries.ClassEntry.{ClassEntry}
 pub use Rattle.heap_graph.specs.declared.classes.ClassPlace.{ClassPlace}
 pub use Rattle.heap_graph.specs.declared.classes.chains.Step.{Step}
 pub use Rattle.heap_graph.specs.declared.classes.fate.Fate.{Fate}
@@ -80,9 +80,9 @@ pub use Rattle.heap_graph.specs.declared.objects.Objects.{Objects}
 pub use Rattle.heap_graph.specs.declared.objects.indexing.Indexed.{Indexed}
 pub use Rattle.heap_graph.specs.declared.refusal.LinkFault.{LinkFault}
 pub use Rattle.heap_graph.specs.declared.row.RowKey.{RowKey}
-pub use Rattle.heap_graph.specs.declared.rule.LinkRule.{LinkRule}
-pub use Rattle.heap_graph.specs.declared.rule.LinkRule.TheVariants.{DuplicateObject, InstanceSize, SuperChain, TooLarge}
-pub use Rattle.heap_graph.specs.declared.rule.LinkRule.TheVariants.{UnknownClass, ZeroObject}
+pub use Rattle.heap_graph.specs.declared.refusal.LinkRule.{LinkRule}
+pub use Rattle.heap_graph.specs.declared.refusal.LinkRule.TheVariants.{DuplicateObject, InstanceSize, SuperChain}
+pub use Rattle.heap_graph.specs.declared.refusal.LinkRule.TheVariants.{TooLarge, UnknownClass, ZeroObject}
 pub use Rattle.heap_graph.specs.working.Chains.{AreFates, AreFatesOf, BeginsAt, DoesStay, IsChainAt, IsClimb, IsClimbOf}
 pub use Rattle.heap_graph.specs.working.Chains.{IsCut, IsFate, IsFirst, IsKnown, IsPath, IsSettled, IsStep, IsTop}
 pub use Rattle.heap_graph.specs.working.Chains.{IsUnder, is_unknown, most_size, tail}
@@ -99,7 +99,7 @@ pub use Rattle.heap_graph.specs.working.FieldsUp.{next_above, next_in}
 pub use Rattle.heap_graph.specs.working.GatheredParts.{HasGathered}
 pub use Rattle.heap_graph.specs.working.GraphOf.{GraphOf, GraphOf-prop}
 pub use Rattle.heap_graph.specs.working.GraphParts.{AreNamedOf, AreRootsOf}
-pub use Rattle.heap_graph.specs.working.HeldIds.{AreIdsOf, AreLinked, AreLinkedOf, IsObjectAt, with_class}
+pub use Rattle.heap_graph.specs.working.ObjectIds.{AreIdsOf, AreLinked, AreLinkedOf, IsObjectAt, with_class}
 pub use Rattle.heap_graph.specs.working.IdPlaces.{id_places, ids_at, size_of_fields, size_together}
 pub use Rattle.heap_graph.specs.working.OneGraph.{one_ids}
 pub use Rattle.heap_graph.specs.working.PlacedNames.{AreNames, AreNamesByIdOf, AreNamesOf, loaded_id, string_id}

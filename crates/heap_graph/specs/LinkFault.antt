@@ -7,9 +7,9 @@ use Rattle.hprof_grammar.specs.Snapshot.{IsOrderly}
 use Rattle.hprof_grammar.specs.Dump.{Spells, heap_list, is_object}
 use Rattle.hprof_grammar.specs.Dump.{places_where}
 use Rattle.hprof_grammar.specs.SubRecord.{SubRecord}
-use Rattle.heap_graph.specs.declared.rule.LinkRule.{LinkRule}
-use Rattle.heap_graph.specs.declared.rule.LinkRule.TheVariants.{DuplicateObject, InstanceSize, SuperChain, TooLarge}
-use Rattle.heap_graph.specs.declared.rule.LinkRule.TheVariants.{UnknownClass, ZeroObject}
+use Rattle.heap_graph.specs.declared.refusal.LinkRule.{LinkRule}
+use Rattle.heap_graph.specs.declared.refusal.LinkRule.TheVariants.{DuplicateObject, InstanceSize, SuperChain, TooLarge}
+use Rattle.heap_graph.specs.declared.refusal.LinkRule.TheVariants.{UnknownClass, ZeroObject}
 
 abbrev pub code_of : LinkRule → ℕ
 code_of ZeroObject = 9

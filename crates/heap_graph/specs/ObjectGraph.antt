@@ -22,7 +22,7 @@ pub record ObjectGraph : Type 0 where
   -- the identifier of each object
   pub ids : List ℕ
   -- for each object, the identifiers that it holds, in order, and the objects that they name, with repeats
-  pub held : List (List ℕ)
+  pub id_lists : List (List ℕ)
   pub references : List (List ℕ)
   -- the identifiers of the root sub-records, in order, and the objects that they name, with repeats
   pub root_names : List ℕ
@@ -69,14 +69,14 @@ unresolved_in heap lists = count_by (is_unresolved heap) (concat lists ++ root_i
 -- `g` is the graph of the heap list of `records`, if the fields that `skip` lists are not followed.
 pub record IsGraphOf (s : ℕ) (records : List Record) (skip : List SkipEntry) (g : ObjectGraph) : Type 0 where
   pub ids_are : g.ids ≡ map id_of (objects (heap_of records))
-  pub held_are : AreIdLists (is_skipped records skip) s (heap_of records) g.held
-  pub references_are : g.references ≡ map (targets (heap_of records)) g.held
+  pub id_lists_are : AreIdLists (is_skipped records skip) s (heap_of records) g.id_lists
+  pub references_are : g.references ≡ map (targets (heap_of records)) g.id_lists
   pub root_names_are : g.root_names ≡ root_ids (heap_of records)
   pub roots_are : g.roots ≡ root_objects (heap_of records)
   pub rows_are : g.rows ≡ map (row_of (heap_of records)) (objects (heap_of records))
   pub bytes_are : g.bytes ≡ map (bytes_of s) (objects (heap_of records))
   pub classes_are : g.classes ≡ named_classes records
-  pub unresolved_is : g.unresolved ≡ unresolved_in (heap_of records) g.held
+  pub unresolved_is : g.unresolved ≡ unresolved_in (heap_of records) g.id_lists
 
 -- The text is accepted, and `g` is the graph of the dump that it spells, if the fields that `skip` lists are not
 -- followed.

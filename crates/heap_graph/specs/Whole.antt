@@ -9,12 +9,12 @@ use Rattle.heap_graph.specs.declared.row.RowKey.{RowKey}
 use Rattle.heap_graph.specs.declared.row.RowKey.TheVariants as keys
 
 -- the identifiers that an object holds
-abbrev pub held_by : ObjectGraph → ℕ → List ℕ
-held_by g o = slice_index_or g.held o []
+abbrev pub id_list_of : ObjectGraph → ℕ → List ℕ
+id_list_of g o = slice_index_or g.id_lists o []
 
 -- the number of unresolved identifiers that an object holds, and of those of the roots
 abbrev pub unresolved_at : ObjectGraph → ℕ → ℕ
-unresolved_at g o = count_by (is_unresolved_in g.ids) (held_by g o)
+unresolved_at g o = count_by (is_unresolved_in g.ids) (id_list_of g o)
 
 abbrev pub unresolved_roots : ObjectGraph → ℕ
 unresolved_roots g = count_by (is_unresolved_in g.ids) g.root_names
@@ -32,7 +32,7 @@ IsRowIn g keys.ClassObject = Unit {0}
 -- Each object has one list of identifiers, one row and one number of bytes. Roots, references and rows name only
 -- objects and classes of the graph. The numbers of objects, classes, bytes and unresolved identifiers have bounds.
 pub record IsWhole (g : ObjectGraph) : Type 0 where
-  pub held_each : length g.held ≡ object_count g
+  pub id_list_each : length g.id_lists ≡ object_count g
   pub row_each : length g.rows ≡ object_count g
   pub bytes_each : length g.bytes ≡ object_count g
   pub few_objects : object_count g ≤ most_objects

@@ -6,8 +6,8 @@ pub mod ClassNumbers
 pub mod GatheredParts
 pub mod PlacedNames
 pub mod Values
-pub mod HeldIds
-pub mod Scans
+pub mod ObjectIds
+pub mod ObjectVisits
 pub mod RuleAnswers
 pub mod TestedParts
 pub mod ClassList

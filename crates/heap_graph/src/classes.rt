@@ -1,6 +1,6 @@
 //! The classes of a dump, by their identifiers.
 
-mod builder;
+mod adding;
 mod chains;
 mod fate;
 mod guesses;

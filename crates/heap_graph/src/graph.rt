@@ -7,12 +7,12 @@ ghost use Rattle.std.specs.Prelude.{All, ◌+◌, ◌<◌, ◌^◌, ◌≡◌, �
 ghost use Rattle.hprof_grammar.specs.Dump.{limit};
 ghost use Rattle.heap_graph.specs.ObjectGraph.{bytes_at, class_at, class_count, object_count, references_of, row_at};
 ghost use Rattle.heap_graph.specs.RowNumbers.{row_count};
-ghost use Rattle.heap_graph.specs.Whole.{IsRowIn, IsWhole, held_by, unresolved_at, unresolved_roots};
+ghost use Rattle.heap_graph.specs.Whole.{IsRowIn, IsWhole, id_list_of, unresolved_at, unresolved_roots};
 ghost use Rattle.heap_graph.specs.Walks.{ids_in, unresolved_left, references_in, step_in};
 ghost use Rattle.heap_graph.specs.working.GraphOf.{GraphOf, GraphOf-prop};
 
-use crate::class_entry::ClassEntry;
 use crate::objects::Objects;
+use crate::objects::class_entries::ClassEntry;
 use crate::plan::Plan;
 use crate::row::{FIXED_ROWS, RowKey};
 use crate::skip::SkipEntry;
@@ -72,8 +72,8 @@ impl<'a, A: Allocator> Graph<'a, A> {
     pub fn successors(&self, object: u32) -> Successors<'_, A>
         requires { object < object_count self.now }
         ensures value { references_in result ≡ references_of self.now object }
-        ensures held { ids_in result ≡ held_by self.now object }
-        ensures steps { result ≡ map (step_in self.now.ids) (held_by self.now object) }
+        ensures ids { ids_in result ≡ id_list_of self.now object }
+        ensures steps { result ≡ map (step_in self.now.ids) (id_list_of self.now object) }
         ensures within { All (λ o. o < object_count self.now) (references_of self.now object) }
     {
         Successors::of(self.visit(object))
@@ -91,12 +91,12 @@ impl<'a, A: Allocator> Graph<'a, A> {
         ensures row_within { IsRowIn self.now result.row }
         ensures bytes { result.bytes ≡ bytes_at self.now object }
         ensures few_bytes { result.bytes ≤ limit }
-        ensures steps { result.left ≡ map (step_in self.now.ids) (held_by self.now object) }
+        ensures steps { result.left ≡ map (step_in self.now.ids) (id_list_of self.now object) }
         ensures value { references_in result.left ≡ references_of self.now object }
         ensures within { All (λ o. o < object_count self.now) (references_of self.now object) }
         ensures unresolved { result.unresolved + unresolved_left result.left ≡ unresolved_at self.now object }
     {
-        let (row, bytes, class, ids) = self.objects.scan(&self.plan, object as usize);
+        let (row, bytes, class, ids) = self.objects.visit_of(&self.plan, object as usize);
         Visit::new(&self.objects.index, class, ids, row, bytes)
     }
 
@@ -118,7 +118,7 @@ impl<'a, A: Allocator> Graph<'a, A> {
         self.visit(object).bytes()
     }
 
-    /// Returns the number of identifiers held by `object` that are not 0 and name no object.
+    /// Returns the number of identifiers of `object` that are not 0 and name no object.
     pub fn unresolved_of(&self, object: u32) -> u64
         requires { object < object_count self.now }
         ensures value { result ≡ unresolved_at self.now object }

@@ -17,29 +17,25 @@
 //! `docs/FORMAT.md` says what is accepted and what is refused.
 #![tactic(auto)]
 
-mod class_entry;
 mod classes;
 mod graph;
-mod held;
 mod laws;
 mod names;
+mod object_ids;
 mod objects;
 mod plan;
 mod refusal;
 mod resolving;
 mod row;
-mod rule;
 mod skip;
 mod successors;
 mod targets;
-mod types;
 mod visit;
 
 pub use graph::Graph;
 pub use laws::{always_linked_or_fault, an_empty_list_skips_nothing, one_graph, one_skip_list};
-pub use refusal::{LinkFault, LinkRefusal};
+pub use refusal::{LinkFault, LinkRefusal, LinkRule};
 pub use row::RowKey;
-pub use rule::LinkRule;
 pub use skip::{Skip, SkipEntry, SkipRefusal};
 pub use successors::Successors;
 pub use targets::{ElementTargets, FieldTargets, IdSource, NoTargets, Targets};

@@ -3,15 +3,15 @@
 mod bytes;
 mod check;
 mod check_parts;
-mod class_entries;
+pub(crate) mod class_entries;
 mod class_of;
 mod class_plans;
 pub(crate) mod class_table;
 mod gathering;
-mod held_ids;
+mod ids_by_kind;
 pub(crate) mod indexing;
 mod pairing;
-mod scan;
+mod visit_of;
 
 ghost use Rattle.hprof_grammar.specs.SubRecord.{SubRecord};
 ghost use Rattle.hprof_grammar.specs.Standing.{StandInTurn, Stands};

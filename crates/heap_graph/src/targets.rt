@@ -1,6 +1,6 @@
 //! Iterates over the objects that an object's identifiers name, with the object's row and bytes.
 
-use crate::held::{FieldIds, HeldIds};
+use crate::object_ids::{FieldIds, ObjectIds};
 use crate::resolving::target;
 use crate::row::RowKey;
 use hprof_grammar::Ids;
@@ -57,7 +57,7 @@ impl<'g> IdSource for Ids<'g> {
     }
 }
 
-impl<'g, A: Allocator> IdSource for HeldIds<'g, A> {
+impl<'g, A: Allocator> IdSource for ObjectIds<'g, A> {
     ghost ids = { λ h. h };
 
     // Inlined, as `next` is.
@@ -183,4 +183,4 @@ pub type FieldTargets<'g, A> = Targets<'g, A, FieldIds<'g, A>>;
 pub type ElementTargets<'g, A> = Targets<'g, A, Ids<'g>>;
 
 /// The iterator for the identifiers that an object of any kind holds.
-pub type HeldTargets<'g, A> = Targets<'g, A, HeldIds<'g, A>>;
+pub type ObjectTargets<'g, A> = Targets<'g, A, ObjectIds<'g, A>>;

@@ -2,9 +2,9 @@
 
 ghost use Rattle.heap_graph.specs.ByKind.{AreByKind};
 
-use crate::held::{HeldIds, Rest};
+use crate::object_ids::{ObjectIds, Rest};
 use crate::row::RowKey;
-use crate::targets::{ElementTargets, FieldTargets, HeldTargets, NoIds, NoTargets, Targets};
+use crate::targets::{ElementTargets, FieldTargets, NoIds, NoTargets, ObjectTargets, Targets};
 use id_index::IdIndex;
 use std::alloc::Allocator;
 use std::marker::Model;
@@ -18,12 +18,13 @@ pub struct Visit<'g, A: Allocator> {
     /// The class, if it is known without a look-up and was not returned yet.
     class: Option<u32>,
     /// The objects that the other identifiers name.
-    rest: HeldTargets<'g, A>,
+    rest: ObjectTargets<'g, A>,
 }
 
-/// The remaining references of an object, by where its identifiers are. The first three variants have the class, if it
-/// is known without a look-up and was not returned yet, and an iterator over the objects that the other identifiers
-/// name. A caller chooses among the variants once, and then runs a loop that is made for one of them.
+/// The remaining references of an object. The variant says where the object's identifiers are, so that a caller can have
+/// a loop of its own for each. `Nothing`, `Fields` and `Elements` have two parts: the class, if it is known without a
+/// look-up and was not returned yet, and an iterator over the objects that the other identifiers name.
+// The kinds are not those of objects (`ObjectKind`): an instance is among the `Fields`, or is `Any`.
 #[derive(Drop)]
 pub enum ByKind<'g, A: Allocator> {
     /// There are no identifiers.
@@ -66,7 +67,7 @@ impl<'g, A: Allocator> Visit<'g, A> {
     pub(crate) fn new(
         index: &'g IdIndex<A>,
         class: Option<u32>,
-        ids: HeldIds<'g, A>,
+        ids: ObjectIds<'g, A>,
         row: RowKey,
         bytes: u64,
     ) -> Self
@@ -113,14 +114,14 @@ impl<'g, A: Allocator> Visit<'g, A> {
     pub(crate) fn left(&self) -> u64
         ensures { result ≡ length self.now.left }
     {
-        let behind = self.rest.ids.len();
+        let others = self.rest.ids.len();
         match self.class {
-            Some(_) => return behind + 1,
-            None => return behind,
+            Some(_) => return others + 1,
+            None => return others,
         }
     }
 
-    /// Splits the visit into the class and an iterator for the other identifiers. The variant says where these are.
+    /// Returns the remaining references of the object, with a variant for where its identifiers are.
     // Inlined, so that the loop over each variant has the parts of the walk in place.
     #[inline(always)]
     pub fn by_kind(self) -> ByKind<'g, A>

@@ -1,9 +1,9 @@
 -- The codes of first faults are 1 to 14, and those of all other refusals are higher.
 use Rattle.std.proofs.Common.{IsSome, List, None, inl, inr, arith, refl, subst, sym, ℕ, ⊎_elim, ◌≡◌, ◌≢◌, ◌≤◌, ◌⊎◌}
 use Rattle.heap_graph.specs.LinkFault.{HasLinkFault, code_of}
-use Rattle.heap_graph.specs.declared.rule.LinkRule.{LinkRule}
-use Rattle.heap_graph.specs.declared.rule.LinkRule.TheVariants.{DuplicateObject, InstanceSize, SuperChain, TooLarge}
-use Rattle.heap_graph.specs.declared.rule.LinkRule.TheVariants.{UnknownClass, ZeroObject}
+use Rattle.heap_graph.specs.declared.refusal.LinkRule.{LinkRule}
+use Rattle.heap_graph.specs.declared.refusal.LinkRule.TheVariants.{DuplicateObject, InstanceSize, SuperChain, TooLarge}
+use Rattle.heap_graph.specs.declared.refusal.LinkRule.TheVariants.{UnknownClass, ZeroObject}
 use Rattle.hprof_grammar.specs.Fault.{FirstFault, RecordFault, SubFault}
 use Rattle.hprof_grammar.specs.Fault.SubFault.{short, unknown_tag, wrong_type}
 use Rattle.hprof_grammar.specs.Fault.RecordFault.{bad_length, in_heap, no_snapshot, out_of_order, truncated}

@@ -6,7 +6,7 @@ use Rattle.heap_graph.specs.Heap.{heap_of}
 use Rattle.heap_graph.specs.LinkFault.{HasLinkFault, IsFirstFault, code_of}
 use Rattle.heap_graph.specs.Accepted.{IsAccepted}
 use Rattle.heap_graph.specs.LinkRules.{Fails}
-use Rattle.heap_graph.specs.declared.rule.LinkRule.{LinkRule}
+use Rattle.heap_graph.specs.declared.refusal.LinkRule.{LinkRule}
 use Rattle.heapmark.specs.Answer.{FirstFaultOf, IsAcceptedText}
 use Rattle.hprof_grammar.specs.Dump.{Spells, heap_list, is_object, places_where}
 use Rattle.hprof_grammar.specs.Places.{IsDumpOf, Places, places_of}

@@ -1,6 +1,6 @@
 //! The numbers of the objects that are not marked, in order.
 
-ghost use Rattle.std.specs.Prelude.{◌≡◌, ◌++◌, ◌∷◌, ◌<◌, ◌≤◌, ◌^◌, IfOk, OnOk, length};
+ghost use Rattle.std.specs.Prelude.{◌≡◌, ◌++◌, ◌∷◌, ◌<◌, ◌≤◌, ◌^◌, IfOk, OnOk, length, vec_len};
 
 use drain::Marked;
 use std::alloc::{AllocError, Allocator};
@@ -39,8 +39,8 @@ impl<'m, A: Allocator> UnmarkedNumbers<'m, A> {
         UnmarkedNumbers { marks, from: 0 }
     }
 
-    /// Takes a batch: `first`, and the next numbers of the iterator, in all at most `MOST_AT_ONCE`. `AllocError` if an
-    /// allocation fails.
+    /// Takes a batch: `first`, and the next numbers of the iterator, in all at most 262,144 ([`MOST_AT_ONCE`]).
+    /// `AllocError` if an allocation fails.
     pub(crate) fn batch_from<B: Allocator>(
         &mut self,
         alloc: B,
@@ -48,6 +48,7 @@ impl<'m, A: Allocator> UnmarkedNumbers<'m, A> {
     ) -> Result<Vec<u32, B>, AllocError>
         ensures numbers { IfOk result (λ batch. first ∷ self.old ≡ batch.items ++ self.new) }
         ensures fewer { OnOk result (length self.new ≤ length self.old) }
+        ensures few { IfOk result (λ batch. vec_len batch ≤ 262_144) }
     {
         let mut batch = Vec::with_capacity(alloc, MOST_AT_ONCE)?;
         batch.push(first)?;

@@ -16,4 +16,5 @@ pub mod MemberFields
 pub mod Refusal
 pub mod RootFields
 pub mod TeamLimits
+pub mod PartResults
 pub mod working

@@ -44,6 +44,7 @@ pub use kinds::{ObjectKind, RootKind};
 pub use laws::{always_dump_or_fault, dump_or_fault, one_dump, one_fault, one_list_of_records};
 pub use parse::{LIMIT, read};
 pub use placed::{dump_is_placed, stands_within};
+pub use tags_and_types::OBJECT_TYPE;
 pub use team::Team;
 pub use view::View;
 pub use view::identifiers::number_at;

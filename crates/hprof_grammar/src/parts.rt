@@ -11,7 +11,6 @@ use crate::dump::Dump;
 use crate::record_list::{FIRST_RECORD, note_records};
 use crate::team::Team;
 use std::alloc::Allocator;
-use std::thread;
 use std::thread::Threads;
 
 /// The number of bytes that count as one object when a team decides whether to share the work. Most objects of a dump
@@ -102,7 +101,7 @@ pub fn read_in_parts<T: Threads + Sync, A: Allocator + Copy + Send + Sync>(
         requires { (1 ≤ id_size) × (id_size ≤ 8) }
         ensures { IfSome result (λ part. IsReadPart bytes.entry.now id_size part) }
     { read_part(alloc, bytes, id_size, cut) };
-    let Ok(parts) = thread::map_vec(team, cuts, &read) else {
+    let Ok(parts) = team.map_jobs(cuts, &read) else {
         return None;
     };
     join_parts(alloc, bytes, id_size, parts)

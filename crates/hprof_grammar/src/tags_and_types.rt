@@ -8,6 +8,9 @@ ghost use Rattle.hprof_grammar.specs.TagsAndTypes as tables;
 use crate::kinds::{Kind, ObjectKind, RootKind, TypePlace};
 use crate::tags;
 
+/// The type code of an identifier.
+pub const OBJECT_TYPE: u8 = 2;
+
 /// Tests whether identifiers may have `size` bytes: 4 or 8.
 #[tactic(auto, unfolding(crate::specs::TagsAndTypes::is_id_size))]
 pub fn is_id_size(size: u32) -> bool
@@ -23,7 +26,7 @@ pub fn is_type_at(place: TypePlace, code: u8) -> bool
 {
     match place {
         TypePlace::InConstant | TypePlace::InStatic | TypePlace::InMember => {
-            code == 2 || (4 <= code && code <= 11)
+            code == OBJECT_TYPE || (4 <= code && code <= 11)
         }
         TypePlace::InArray => 4 <= code && code <= 11,
     }
@@ -36,7 +39,7 @@ pub fn size_of(id_size: u8, code: u8) -> u8
     ensures { result ≡ tables.size_of id_size code }
 {
     match code {
-        2 => id_size,
+        OBJECT_TYPE => id_size,
         4 | 8 => 1,
         5 | 9 => 2,
         6 | 10 => 4,

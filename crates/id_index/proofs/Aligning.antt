@@ -1,6 +1,6 @@
 -- Identifiers that agree in their lowest bits, by the bits above those.
 use Rattle.id_index.proofs.Words.{IsFirstRepeat, List, None, Option, Some, ap, arith, div-add-mod', div-mul-add, eq-eqb}
-use Rattle.id_index.proofs.Words.{eqb-false, eqb-true, get_or, get_or-map, get_or_from_slice_get, length, length-map}
+use Rattle.id_index.proofs.Words.{eqb-false, eqb-true, ext_get_or, get_or, get_or-map, get_or_from_slice_get, length, length-map}
 use Rattle.id_index.proofs.Words.{mod-mul-add, ne_eqb, position, position-Some, slice_get, slice_get-get_or}
 use Rattle.id_index.proofs.Words.{slice_get_within, sym, whole_id, whole_ids, ℕ, ◌%◌, ◌*◌, ◌+◌, ◌/◌, ◌<◌, ◌==◌, ◌^◌}
 use Rattle.id_index.proofs.Words.{◌∙◌, ◌≡◌, ◌≢◌}
@@ -83,3 +83,10 @@ module _ (shift low : ℕ) (fits : low < 2 ^ shift) where
         in_before (whole_ids shift low highs) number id j less
         (slice_get-get_or (whole_ids shift low highs) j 0 (omega (arith, within, count highs)) ∙ ap Some is);
   }
+
+-- without lowest bits, the bits above those are the identifiers
+pub whole_same : (ids : List ℕ) → whole_ids 0 0 ids ≡ ids
+whole_same ids =
+    ext_get_or 0 (whole_ids 0 0 ids) ids (length-map ids (whole_id 0 0))
+    (λ k h. get_or-map (whole_id 0 0) ids k 0 0 (omega (arith, h, length-map ids (whole_id 0 0)))
+    ∙ omega arith)

@@ -5,6 +5,7 @@ use Rattle.id_index.proofs.Words.{end_of, false, inl, inr, is_lt, length, length
 use Rattle.id_index.proofs.Words.{on_total, page_in, ranks_by, refl, run_cmp, run_in, sorted_far, subst, swap}
 use Rattle.id_index.proofs.Words.{swapped_from_swap, sym, then_total, zero_from_ones, ℕ, ◌<◌, ◌∙◌, ◌≡◌, ◌≤◌, ◌⊎◌}
 use Rattle.id_index.proofs.Ones.{ones_of_bit}
+use Rattle.id_index.proofs.Swapped.{came_from}
 
 turned : (x y : Run) → IsApart x y → IsApart y x
 turned x y (inl before) = inr before
@@ -17,36 +18,12 @@ apart_in_turn runs turn i j differ left right =
       | inr more ↦ inr (turn j i (omega (arith, differ, more)) left)
     ]
 
--- the place that a run had before a swap
-came_from : (runs : List Run) (a b i : ℕ) → a < length runs → b < length runs → i < length runs
-    → (k : ℕ) × (k < length runs) × (run_in (swap runs a b) i ≡ run_in runs k)
-    × (((i ≡ a) × (k ≡ b)) ⊎ (((i ≡ b) × (k ≡ a)) ⊎ ((i ≡ a → ⊥) × ((i ≡ b → ⊥) × (k ≡ i)))))
-came_from runs a b i in_a in_b in_i =
-    let moved = swapped_from_swap runs (swap runs a b) a b no_run in_a in_b refl in
-    elim (cases_eq i a) [
-      | inl first ↦ (b, in_b, ap (λ (m : ℕ). run_in (swap runs a b) m) first ∙ moved.0, inl (first, refl))
-      | inr not_first ↦ elim (cases_eq i b) [
-        | inl second ↦ (
-          a,
-          in_a,
-          ap (λ (m : ℕ). run_in (swap runs a b) m) second ∙ moved.1,
-          inr (inl (second, refl)),
-        )
-        | inr not_second ↦ (
-          i,
-          in_i,
-          moved.2 i not_first not_second,
-          inr (inr (not_first, (not_second, refl))),
-        )
-      ]
-    ]
-
 swap_apart : (runs : List Run) (a b : ℕ) → a < length runs → b < length runs → ArePairwiseApart runs
     → ArePairwiseApart (swap runs a b)
 swap_apart runs a b in_a in_b apart i j differ in_i in_j =
     let len : length (swap runs a b) ≡ length runs = length-swap runs a b in
-    let (k, in_k, at_i, from_i) = came_from runs a b i in_a in_b (omega (arith, in_i, len)) in
-    let (m, in_m, at_j, from_j) = came_from runs a b j in_a in_b (omega (arith, in_j, len)) in
+    let (k, in_k, at_i, from_i) = came_from runs no_run a b i in_a in_b (omega (arith, in_i, len)) in
+    let (m, in_m, at_j, from_j) = came_from runs no_run a b j in_a in_b (omega (arith, in_j, len)) in
     let other : k ≡ m → ⊥ = λ e. grind (arith, from_i, from_j, e, differ) in
     subst (λ (x : Run). IsApart x (run_in (swap runs a b) j)) (sym at_i)
     (subst (λ (y : Run). IsApart (run_in runs k) y) (sym at_j) (apart k m other in_k in_m))

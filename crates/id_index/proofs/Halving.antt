@@ -1,4 +1,4 @@
--- What one look into ascending runs says of all of them.
+-- What one probe of ascending runs says of all of them.
 use Rattle.id_index.proofs.Words.{DoPagesRise, IsAround, IsFirstFrom, List, Run, arith, length, page_in, ℕ, ◌+◌, ◌<◌}
 use Rattle.id_index.proofs.Words.{pow-add, pow_mono, zero, suc, ◌*◌, ◌/◌, ◌^◌, ◌≤◌}
 
@@ -34,12 +34,12 @@ first_in_turn runs page at up inside below here = record {
       let rise : page_in runs at ≤ page_in runs k = up at k from h in omega (arith, rise, here);
 }
 
--- if `left` looks are enough to halve more than 64 runs until 64 are left, there is at least one look
-pub look_left : (left many : ℕ) → 64 < many → many ≤ 64 * 2 ^ left → 0 < left
-look_left zero many more few = absurd (omega (arith, more, few))
-look_left (suc left) many more few = omega arith
+-- if `left` probes are enough to halve more than 64 runs until 64 are left, there is at least one probe
+pub probe_left : (left many : ℕ) → 64 < many → many ≤ 64 * 2 ^ left → 0 < left
+probe_left zero many more few = absurd (omega (arith, more, few))
+probe_left (suc left) many more few = omega arith
 
--- and for half of the runs one look less is enough
+-- and for half of the runs one probe less is enough
 pub half_left : (left left' many half : ℕ) → many ≤ 64 * 2 ^ left → left ≤ left' + 1 → half ≤ many / 2
     → half ≤ 64 * 2 ^ left'
 half_left left left' many half few less halved =

@@ -6,12 +6,14 @@ pub mod Bearers
 pub mod Numbering
 pub mod Extending
 pub mod Built
+pub mod Swapped
 pub mod Apart
 pub mod Seen
-pub mod Settled
+pub mod Pruned
 pub mod Telling
 pub mod Repeating
 pub mod Aligning
 pub mod Joining
 pub mod Pairing
 pub mod Placing
+pub mod Wide

@@ -10,7 +10,7 @@ use Rattle.id_index.proofs.Apart.{ends_in_turn}
 use Rattle.id_index.proofs.Bearers.{before_in, in_before, stands}
 use Rattle.id_index.proofs.Ones.{rank_grows, rank_less_than_all}
 use Rattle.id_index.proofs.Seen.{below_or_at, seen_all, seen_only}
-use Rattle.id_index.proofs.Settled.{before_end}
+use Rattle.id_index.proofs.Pruned.{before_end}
 
 -- ---- one run's repeats
 

@@ -1,6 +1,6 @@
--- What settled runs say of the objects.
+-- What pruned runs say of the objects.
 use Rattle.id_index.proofs.Words.{All-from_get_or, All-permutation, AreBuilt, AreComplete, AreFewBuilt}
-use Rattle.id_index.proofs.Words.{AreSettledBefore, AreSorted, AreSound, Contains-get_or, Contains-permutation}
+use Rattle.id_index.proofs.Words.{ArePrunedBefore, AreSorted, AreSound, Contains-get_or, Contains-permutation}
 use Rattle.id_index.proofs.Words.{IsFirstRepeat, IsLeastRepeat, IsPermutation, IsPermutation-sym, IsSorted, List}
 use Rattle.id_index.proofs.Words.{Option, Run, Tell, ap, arith, end_of, ids_built, ids_of_runs, length, length-take-le}
 use Rattle.id_index.proofs.Words.{length_permutation, no_run, run_cmp, run_in, subst, sym, take, with_last, ℕ, ◌<◌, ◌^◌}
@@ -34,17 +34,17 @@ module _ (runs ordered : List Run) (ids : List ℕ) (same : IsPermutation runs o
 
 -- ---- the runs that are kept
 
-module _ (runs now : List Run) (kept : ℕ) (ids : List ℕ) (it : AreSettledBefore runs now (length runs) kept)
+module _ (runs now : List Run) (kept : ℕ) (ids : List ℕ) (it : ArePrunedBefore runs now (length runs) kept)
     (sound : AreSound runs ids) (complete : AreComplete runs ids) where
   tell : Tell (take kept now) ids
   tell = record {
     sound = λ k id h has.
-        let (i, less, same) = it.settled.from k h in
+        let (i, less, same) = it.pruned.from k h in
         rw (← same) (sound (run_in runs i) id (Contains-get_or runs i no_run less) (rw same has));
     earliest = λ id n e.
         let (run, has, bearer, number) = complete id n e in
         let (i, less, same) = stands runs run has in
-        let (k, h, bears, low) = it.settled.covered i id less (rw same bearer) in
+        let (k, h, bears, low) = it.pruned.covered i id less (rw same bearer) in
         (k, h, bears, omega (arith, rw same at low, number));
   }
 
@@ -77,15 +77,15 @@ module _ (runs : List Run) (last : Option Run) (count : ℕ) (all ordered : List
   complete = still_complete all ordered ids same built.complete
 
   -- what an index of these runs has
-  module _ (now : List Run) (kept : ℕ) (settled : AreSettledBefore ordered now (length ordered) kept) where
+  module _ (now : List Run) (kept : ℕ) (pruned : ArePrunedBefore ordered now (length ordered) kept) where
     pub same_ids : ids ≡ ids_of_runs now count
-    same_ids = told ordered now kept ids settled sound complete count len
+    same_ids = told ordered now kept ids pruned sound complete count len
 
     pub kept_few : length (take kept now) < 2 ^ 32
     kept_few = omega (
       arith,
-      length-take-le kept now (omega (arith, settled.order, settled.long)),
-      settled.order,
+      length-take-le kept now (omega (arith, pruned.order, pruned.long)),
+      pruned.order,
       length_permutation all ordered same,
       ap (λ (ls : List Run). length ls) closed,
       it.fewer,
@@ -94,7 +94,7 @@ module _ (runs : List Run) (last : Option Run) (count : ℕ) (all ordered : List
 
     pub kept_tell : Tell (take kept now) (ids_of_runs now count)
     kept_tell =
-        subst (λ (xs : List ℕ). Tell (take kept now) xs) same_ids (tell ordered now kept ids settled sound complete)
+        subst (λ (xs : List ℕ). Tell (take kept now) xs) same_ids (tell ordered now kept ids pruned sound complete)
 
     pub first_repeated : (repeat : ℕ) → IsLeastRepeat ordered (length ordered) count repeat
         → IsFirstRepeat (ids_of_runs now count) repeat

@@ -52,5 +52,5 @@ pub use Rattle.id_index.specs.working.Runs.{AreAscending, AreComplete, AreFewAPa
 pub use Rattle.id_index.specs.working.Runs.{IsBearerAt, IsFirstBearer, IsFirstFrom, IsNumberAt, Tell, end_of, id_in}
 pub use Rattle.id_index.specs.working.Runs.{id_of_number, ids_of_runs, no_run, number_in, page_in, place_of, rank}
 pub use Rattle.id_index.specs.working.Runs.{run_in, run_of, stands_at}
-pub use Rattle.id_index.specs.working.Settling.{AreFewSeen, AreKept, AreSettledBefore, AreSorted, IsKeptIfNew}
+pub use Rattle.id_index.specs.working.Pruning.{AreFewSeen, AreKept, ArePrunedBefore, AreSorted, IsKeptIfNew}
 pub use Rattle.id_index.specs.declared.runs.Run.{Run}

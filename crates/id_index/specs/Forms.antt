@@ -7,3 +7,4 @@ use Rattle.id_index.specs.declared.index.Form.TheVariants as forms
 abbrev pub ids_held : {A : Type 0} → Form A → List ℕ
 ids_held (forms.Runs ids) = ids
 ids_held (forms.Pairs ids) = ids
+ids_held (forms.Wide ids) = ids

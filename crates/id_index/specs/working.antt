@@ -2,6 +2,7 @@
 pub mod Runs
 pub mod Beginnings
 pub mod Building
-pub mod Settling
+pub mod Pruning
 pub mod Pairs
 pub mod RunRepeats
+pub mod WideEntries

@@ -23,7 +23,7 @@ pub(crate) struct Beginnings<A: Allocator> {
 }
 
 /// Returns the least number of bits by which `span` has to be shifted right to be below `buckets`.
-fn shift_for(span: u64, buckets: u64) -> u32
+pub(crate) fn shift_for(span: u64, buckets: u64) -> u32
     requires { 2 ≤ buckets }
     ensures within { result < 64 }
     ensures few { span / 2 ^ result < buckets }

@@ -5,10 +5,10 @@ ghost use Rattle.id_index.specs.working.Building.{raised_by, with_last};
 ghost use Rattle.id_index.specs.working.Runs.{run_in};
 
 use crate::beginnings::Beginnings;
+use crate::pruning::prune;
 use crate::repeats::least_repeat;
 use crate::run_index::RunIndex;
 use crate::runs::{PLACES, Run};
-use crate::settling::settle;
 use crate::sorting::sort_runs;
 use std::alloc::{AllocError, Allocator};
 use std::marker::Model;
@@ -132,7 +132,7 @@ impl<A: Allocator> RunIndexBuilder<A> {
         runs.shrink_to_fit();
         sort_runs(&mut runs)?;
         let repeat = least_repeat(&runs, count);
-        let kept = settle(&mut runs);
+        let kept = prune(&mut runs);
         let beginnings = Beginnings::of(alloc, &runs[..kept])?;
         Ok(RunIndex {
             runs,

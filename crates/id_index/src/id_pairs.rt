@@ -2,14 +2,14 @@
 
 ghost use Rattle.std.specs.Prelude.{IfOk, IfSome, IsTrue, [], ◌≡◌, ◌↔◌, ◌%◌, ◌++◌, ◌∷◌, ◌<◌, ◌^◌};
 
-use crate::id_places::IdPlaces;
 use crate::index::{Form, IdIndex, LowBits};
 use crate::pair_builder::PairIndexBuilder;
+use crate::used_ids::UsedIds;
 use std::alloc::{AllocError, Allocator};
 use std::marker::Model;
 
 /// The identifiers of objects in the order of the file. All agree in their lowest bits, and an index by pairs is made
-/// of them. A caller first notes the places of all of them in an [`IdPlaces`], and then pushes each.
+/// of them. A caller first notes the places of all of them in an [`UsedIds`], and then pushes each.
 // The identifiers are in the file already: a caller reads them there twice, so that no list of them takes memory.
 #[derive(Drop)]
 pub struct IdPairsBuilder<A: Allocator> {
@@ -38,7 +38,7 @@ impl<A: Allocator> Model for IdPairsBuilder<A> {
 impl<A: Allocator> IdPairsBuilder<A> {
     /// Creates a builder without an object, for the objects whose places are noted in `noted`. Their identifiers have
     /// the lowest bits `bits`, with which `noted` was made. `AllocError` if an allocation fails.
-    pub fn new(alloc: A, bits: LowBits, noted: IdPlaces<A>) -> Result<Self, AllocError>
+    pub fn new(alloc: A, bits: LowBits, noted: UsedIds<A>) -> Result<Self, AllocError>
         requires shifted { bits.shift < 64 }
         requires low { bits.low < 2 ^ bits.shift }
         ensures { IfOk result (λ b. (b.ids ≡ []) × (b.shift ≡ bits.shift) × (b.low ≡ bits.low)) }
@@ -66,7 +66,7 @@ impl<A: Allocator> IdPairsBuilder<A> {
         self.pairs.push(id >> self.bits.shift)
     }
 
-    /// Returns the index of the added objects. Returns `None` if they are fewer than the objects of the [`IdPlaces`],
+    /// Returns the index of the added objects. Returns `None` if they are fewer than the objects of the [`UsedIds`],
     /// or if their pairs do not ascend strictly, as can be only if some identifier was not noted.
     pub fn finish(self) -> Option<IdIndex<A>>
         ensures { IfSome result (λ index. index ≡ self.ids) }

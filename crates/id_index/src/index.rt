@@ -10,6 +10,7 @@ ghost use Rattle.id_index.specs.Repeats.{IsFirstRepeat};
 use crate::builder::RunIndexBuilder;
 use crate::pairs::PairIndex;
 use crate::run_index::RunIndex;
+use crate::wide_entries::WideIndex;
 use std::alloc::{AllocError, Allocator};
 use std::marker::Model;
 
@@ -29,6 +30,8 @@ pub(crate) enum Form<A: Allocator> {
     Runs(RunIndex<A>),
     /// Pairs of identifier and number.
     Pairs(PairIndex<A>),
+    /// Entries of whole identifiers and numbers.
+    Wide(WideIndex<A>),
 }
 
 /// The objects by their identifiers. Objects are numbered from 0 in the order of the file, and an identifier names the
@@ -86,17 +89,19 @@ impl<A: Allocator> IdIndex<A> {
         match &self.form {
             Form::Runs(runs) => return runs.find(id >> self.bits.shift),
             Form::Pairs(pairs) => return pairs.find(id >> self.bits.shift),
+            Form::Wide(entries) => return entries.find(id >> self.bits.shift),
         }
     }
 
-    /// Tests whether an object bears `id` and is found by a guess, without a search. For tests: only time rests on
-    /// guesses.
+    /// Tests whether an object bears `id` and is found by a guess: without a search, or among entries of whole
+    /// identifiers by a short one. For tests: only time rests on guesses.
     pub fn is_guessed(&self, id: u64) -> bool
         ensures { IsTrue result → Contains self.now id }
     {
         let guessed = match &self.form {
             Form::Runs(runs) => runs.is_guessed(id >> self.bits.shift),
             Form::Pairs(pairs) => pairs.is_guessed(id >> self.bits.shift),
+            Form::Wide(entries) => entries.is_guessed(id >> self.bits.shift),
         };
         match self.find(id) {
             Some(_) => return guessed,
@@ -122,6 +127,7 @@ impl<A: Allocator> IdIndex<A> {
         match &self.form {
             Form::Runs(runs) => return runs.first_repeat(),
             Form::Pairs(pairs) => return pairs.first_repeat(),
+            Form::Wide(entries) => return entries.first_repeat(),
         }
     }
 }

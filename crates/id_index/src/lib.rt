@@ -7,39 +7,48 @@
 //! place.
 //!
 //! Objects in no order have an index of another form: a vector of pairs of identifier and number, ordered by identifier
-//! and searched by halving. Words with a bit for each place of a page guess where a pair is.
+//! and searched by halving. If they are close together, a pair has the identifier's distance from the least one, and
+//! words with a bit for each place of a page guess where a pair is. Otherwise a pair is a wide entry: it has the whole
+//! identifier.
 //!
-//! `index` has the index and the builder for objects that are mostly in order, `id_pairs` the builder for the others.
-//! Both shift the lowest bits out, in which all identifiers agree.
+//! `index` has the index and the builder for objects that are mostly in order, `id_pairs` the builder for objects that
+//! are close together, and `wide_builder` that for all others. The first two shift the lowest bits out, in which all
+//! identifiers agree.
 //!
 //! Runs: `builder` makes them, one object after the other, and `sorting` sorts them. `repeats` looks for the first
-//! object whose identifier an earlier one bears. `settling` moves the runs to the front that have a place which no
+//! object whose identifier an earlier one bears. `pruning` moves the runs to the front that have a place which no
 //! earlier run of their page has: a `run_index` searches only those. A look-up goes through a table of where pages
 //! begin (`beginnings`) to the first run of a page (`pages`), and over the runs of that page (`look_up`). The search
-//! for the first run looks at a bounded number of runs (`looks`).
+//! for the first run reads a bounded number of runs (`probes`).
 //!
-//! Pairs: `id_places` notes which places have an object, in the memory that the pairs take later. `page_words` has the
+//! Pairs: `used_ids` notes which places have an object, in the memory that the pairs take later. `page_words` has the
 //! pages from the first to the last one with an object, and counts the objects before each. `pair_builder` places pairs
 //! where the page words guess them, and makes a `pairs` index if no pair is missing and all ascend.
+//!
+//! Wide entries: `wide_builder` sorts them, and `wide_entries` halves, between ends that `entry_guesses` guesses.
 #![tactic(auto)]
 
 mod beginnings;
 mod builder;
+mod entry_guesses;
 mod id_pairs;
-mod id_places;
 mod index;
 mod look_up;
-mod looks;
 mod page_words;
 mod pages;
 mod pair_builder;
 mod pairs;
+mod probes;
+mod pruning;
 mod repeats;
 mod run_index;
 mod runs;
-mod settling;
 mod sorting;
+mod used_ids;
+mod wide_builder;
+mod wide_entries;
 
 pub use id_pairs::IdPairsBuilder;
-pub use id_places::{IdPlaces, are_close};
 pub use index::{IdIndex, IdIndexBuilder, LowBits};
+pub use used_ids::{UsedIds, are_close};
+pub use wide_builder::WideEntriesBuilder;

@@ -1,6 +1,8 @@
 //! The page words: for each page a bit for each place, set if an object is there, and the number of objects on the
 //! pages before. They guess the index of the pair for a place.
 
+ghost use Rattle.std.specs.Prelude.{IfOk, length, ◌≡◌};
+
 use crate::pairs::Pair;
 use crate::runs::{PLACES, rank_in};
 use std::alloc::{AllocError, Allocator};
@@ -8,7 +10,7 @@ use std::alloc::{AllocError, Allocator};
 /// The word of one page.
 // Three words of 32 bits, 12 bytes: with a word of 64 bits for the places, a page would take 16.
 #[derive(Clone, Copy)]
-struct Page {
+pub(crate) struct Page {
     /// A bit for each place, set if an object is there: the bits of the first 32 places, and those of the others.
     places: [u32; 2],
     /// The number of places with an object on the pages before this one.
@@ -29,13 +31,15 @@ impl Page {
 // The bits and the number of a page are beside each other, so that a look-up waits for memory once.
 #[derive(Drop)]
 pub(crate) struct PageWords<A: Allocator> {
-    pages: Vec<Page, A>,
+    pub(crate) pages: Vec<Page, A>,
 }
 
 impl<A: Allocator> PageWords<A> {
     /// Creates the page words of `noted`: here each `Pair` has the bits of one page, as in an
-    /// [`IdPlaces`](crate::IdPlaces). `AllocError` if the allocation fails.
-    pub(crate) fn of(alloc: A, noted: &[Pair]) -> Result<Self, AllocError> {
+    /// [`UsedIds`](crate::UsedIds). `AllocError` if the allocation fails.
+    pub(crate) fn of(alloc: A, noted: &[Pair]) -> Result<Self, AllocError>
+        ensures { IfOk result (λ words. length words.pages.items ≡ length noted.now) }
+    {
         let empty = Page {
             places: [0, 0],
             begin: 0,

@@ -2,9 +2,9 @@
 
 ghost use Rattle.std.specs.Prelude.{IfOk, IfSome, IsTrue, [], ◌++◌, ◌∷◌, ◌≡◌};
 
-use crate::id_places::IdPlaces;
 use crate::page_words::PageWords;
 use crate::pairs::{Pair, PairIndex, UNSET, do_ascend};
+use crate::used_ids::UsedIds;
 use std::alloc::{AllocError, Allocator};
 use std::marker::Model;
 
@@ -37,7 +37,7 @@ impl<A: Allocator> Model for PairIndexBuilder<A> {
 impl<A: Allocator> PairIndexBuilder<A> {
     /// Creates a builder without an object, for the objects whose places are noted in `noted`. `AllocError` if the
     /// allocation of the page words fails: the pairs take the memory of `noted`.
-    pub(crate) fn new(alloc: A, mut noted: IdPlaces<A>) -> Result<Self, AllocError>
+    pub(crate) fn new(alloc: A, mut noted: UsedIds<A>) -> Result<Self, AllocError>
         ensures { IfOk result (λ b. b ≡ []) }
     {
         let (lowest, words) = noted.words(alloc)?;

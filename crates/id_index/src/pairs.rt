@@ -12,7 +12,7 @@ use std::marker::Model;
 pub(crate) const UNSET: u32 = u32::MAX;
 
 /// An object's identifier and the object's number. While places are noted, a `Pair` has the bits of a page instead
-/// (`id_places`).
+/// (`used_ids`).
 #[derive(Clone, Copy)]
 pub(crate) struct Pair {
     /// The identifier minus that of the first place of the least page.

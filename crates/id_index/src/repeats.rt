@@ -3,10 +3,10 @@
 ghost use Rattle.std.specs.Prelude.{length, ◌+◌, ◌<◌, ◌^◌};
 ghost use Rattle.id_index.specs.working.RunRepeats.{IsLeastRepeat, IsLowered};
 ghost use Rattle.id_index.specs.working.Runs.{end_of};
-ghost use Rattle.id_index.specs.working.Settling.{AreSorted};
+ghost use Rattle.id_index.specs.working.Pruning.{AreSorted};
 
+use crate::pruning::seen_of;
 use crate::runs::{Run, rank_in};
-use crate::settling::seen_of;
 
 /// Returns the least of `least` and the numbers of the objects of `run` at places whose bits are set in `before`.
 fn lower_least(least: u32, run: Run, before: u64) -> u32

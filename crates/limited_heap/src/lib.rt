@@ -1,7 +1,7 @@
 //! A heap for tests that run out of memory. It passes requests to an inner allocator, and refuses only the request of a
-//! given number, or that one and all later ones. Threads may share it.
+//! given number, or that one and all later ones. Threads may use it together.
 //!
-//! From `crates/heap_tests/src/requests.rt`, which is proved and run with the tests:
+//! From `crates/limited_heap_tests/src/requests.rt`, which is proved and run with the tests:
 //!
 //!     let heap = LimitedHeap::new(rt.alloc(), 1);
 //!     assert_eq!(rt; (heap.requests_left(), heap.refusals()), (1, 0));

@@ -111,13 +111,13 @@ module _ (e : Setup) (m : Marking) (law : Law e m) where
             go : Dec (1 ≤ times b (law.stack Full)) → Dec (1 ≤ times b (law.stack Empty)) → 0 < times b (law.stack Full)
             go (yes p) d = p
             go (no n) (yes p) =
-                let same : Some items ≡ Some [] = at_one m.slots b (Some items) (Some []) at (law.shelved.bare b p) in
+                let same : Some items ≡ Some [] = at_one m.slots b (Some items) (Some []) at (law.in_slots.bare b p) in
                 let t : times o items ≡ 0 = cc in
                 absurd (omega arith)
             go (no n) (no k) =
-                let low : b < e.buffers = omega (arith, at_below m.slots b (Some items) at, law.shelved.places) in
+                let low : b < e.buffers = omega (arith, at_below m.slots b (Some items) at, law.in_slots.places) in
                 let same : Some items ≡ None =
-                at_one m.slots b (Some items) None at (law.shelved.away b low (omega arith) (omega arith)) in
+                at_one m.slots b (Some items) None at (law.in_slots.away b low (omega arith) (omega arith)) in
                 let f : ⊥ = cc in
                 absurd f
 

@@ -17,7 +17,7 @@ use Rattle.mark_core.proofs.Sums.{times-remove_one}
 use Rattle.mark_core.proofs.Chains.{chain_none, recent_loaded, recent_linked}
 use Rattle.mark_core.proofs.Ownership.{popped_sum, pushed_sum, owned_links, owned_part, held_apart, held_else}
 use Rattle.mark_core.proofs.Ownership.{place_one, top_stands, owned_set, owned_same, owned_pop, owned_push, owned_join}
-use Rattle.mark_core.proofs.Shelves.{shelved_set}
+use Rattle.mark_core.proofs.Slots.{in_slots_set}
 use Rattle.mark_core.proofs.Colours.{linear, sums_tell, charged, reachable_next, coloured_same, coloured_put}
 use Rattle.mark_core.proofs.Colours.{coloured_part, coloured_pop, coloured_push, coloured_join}
 use Rattle.mark_core.proofs.Shares.{shared_set, shared_split, shared_join}
@@ -45,7 +45,7 @@ module _ (e : Setup) (m : Marking) (law : Law e m) (w : ℕ) (a : Account) (is :
       record {
         stack = law.stack;
         owned = owned_set law.owned w a is b recent held push;
-        shelved = law.shelved;
+        in_slots = law.in_slots;
         coloured = coloured_same law.coloured w a is b charge finished seen;
         shared = shared_set m.accounts law.shared w a is there b share;
       }
@@ -97,7 +97,7 @@ module _ (e : Setup) (m : Marking) (law : Law e m) (w : ℕ) (a : Account) (is :
         owned = owned_links law.owned (put i l m.link) (λ q b h.
             put_else i b l m.link
             (held_else e.buffers m.head m.link m.accounts law.stack law.owned w a is i mine q b h));
-        shelved = law.shelved;
+        in_slots = law.in_slots;
         coloured = law.coloured;
         shared = law.shared;
       }
@@ -109,7 +109,7 @@ module _ (e : Setup) (m : Marking) (law : Law e m) (w : ℕ) (a : Account) (is :
       record {
         stack = new;
         owned = taken.2;
-        shelved = shelved_set e.buffers m.slots law.stack new i (Some items) None law.shelved at others
+        in_slots = in_slots_set e.buffers m.slots law.stack new i (Some items) None law.in_slots at others
             (λ p h. absurd (omega (arith, gone p))) (λ h. absurd (omega (arith, gone Empty))) (λ f g. refl);
         coloured = coloured_pop law.coloured w a is i items at;
         shared = shared_set m.accounts law.shared w a is there (after_pop i items a) refl;
@@ -121,7 +121,7 @@ module _ (e : Setup) (m : Marking) (law : Law e m) (w : ℕ) (a : Account) (is :
       at : StandsAt m.slots i (Some items)
       at =
           let slot =
-          law.shelved.stacked q i (top_stands e.buffers m.head m.link m.accounts law.stack law.owned q i top) in
+          law.in_slots.stacked q i (top_stands e.buffers m.head m.link m.accounts law.stack law.owned q i top) in
           let here : items ≡ slot.0 = ap items_of (at_get_or m.slots i (Some slot.0) None slot.1) in
           subst (λ xs. StandsAt m.slots i (Some xs)) (sym here) slot.1
 
@@ -156,7 +156,7 @@ module _ (e : Setup) (m : Marking) (law : Law e m) (w : ℕ) (a : Account) (is :
       record {
         stack = new;
         owned = owned_push law.owned w a is q i items mine leads;
-        shelved = shelved_set e.buffers m.slots law.stack new i None (Some items) law.shelved at others
+        in_slots = in_slots_set e.buffers m.slots law.stack new i None (Some items) law.in_slots at others
             (λ p h. (items, refl)) (bare q none)
             (λ f g. absurd (omega (arith, pushed_sum q i law.stack i, only-same i i refl)));
         coloured = coloured_push law.coloured w a is q i items at some;
@@ -167,7 +167,7 @@ module _ (e : Setup) (m : Marking) (law : Law e m) (w : ℕ) (a : Account) (is :
       apart = held_apart e.buffers m.head m.link m.accounts law.stack law.owned w a is i mine
 
       at : StandsAt m.slots i None
-      at = law.shelved.away i apart.0 apart.1 apart.2
+      at = law.in_slots.away i apart.0 apart.1 apart.2
 
       new : Which → List ℕ
       new = put_which q (i ∷ law.stack q) law.stack
@@ -186,7 +186,7 @@ module _ (e : Setup) (m : Marking) (law : Law e m) (w : ℕ) (a : Account) (is :
       record {
         stack = law.stack;
         owned = owned_same law.owned w a is b refl refl refl refl;
-        shelved = law.shelved;
+        in_slots = law.in_slots;
         coloured = coloured_put law.coloured o (max (m.mark o) 1) (set m.accounts w b)
             (omega arith) (here (ℕ_discrete (m.mark o) 0))
             (others (ℕ_discrete (m.mark o) 0)) next reach saw;
@@ -247,7 +247,7 @@ module _ (e : Setup) (m : Marking) (law : Law e m) (w : ℕ) (a : Account) (is :
       record {
         stack = law.stack;
         owned = owned_same law.owned w a is b refl refl refl refl;
-        shelved = law.shelved;
+        in_slots = law.in_slots;
         coloured = coloured_put law.coloured o 2 (set m.accounts w b) (omega arith) here others
             next (law.coloured.reachable o (omega (arith, was))) saw;
         shared = shared_set m.accounts law.shared w a is there b refl;
@@ -302,7 +302,7 @@ module _ (e : Setup) (m : Marking) (law : Law e m) (w : ℕ) (a : Account) (is :
       record {
         stack = law.stack;
         owned = owned_part (owned_same law.owned w a is b refl refl refl refl) units;
-        shelved = law.shelved;
+        in_slots = law.in_slots;
         coloured = coloured_part (coloured_same law.coloured w a is b refl refl refl) units;
         shared = shared_split m.accounts law.shared w a is there units some less;
       }
@@ -316,7 +316,7 @@ module _ (e : Setup) (m : Marking) (law : Law e m) (w : ℕ) (a : Account) (is :
       record {
         stack = law.stack;
         owned = owned_join law.owned w a is v b apart at;
-        shelved = law.shelved;
+        in_slots = law.in_slots;
         coloured = coloured_join law.coloured w a is v b apart at;
         shared = shared_join m.accounts law.shared w a is there v b apart at;
       }

@@ -4,7 +4,7 @@ pub mod Happens
 pub mod Sums
 pub mod Chains
 pub mod Ownership
-pub mod Shelves
+pub mod Slots
 pub mod Colours
 pub mod Shares
 pub mod Events

@@ -6,7 +6,7 @@ use lib.ListN.{length-replicate}
 use Rattle.std.specs.List.{range_with_len}
 use Rattle.std.proofs.lemmas.List.FromFn.{length-range_with_len}
 use Rattle.mark_core.proofs.Words.{Which, Full, Empty, StandsAt, times, one_where, Account, look_of, part, Setup}
-use Rattle.mark_core.proofs.Words.{Chain, IsOwned, IsShelved, IsRecent, IsColoured, stacked_times, IsShared}
+use Rattle.mark_core.proofs.Words.{Chain, IsOwned, AreInSlots, IsRecent, IsColoured, stacked_times, IsShared}
 use Rattle.mark_core.proofs.Words.{HasNothing, whole, Law, first_heads, first_link, opening, first_length}
 use Rattle.mark_core.proofs.Places.{OfEach, one_all}
 use Rattle.mark_core.proofs.Chains.{recent_bare}
@@ -59,9 +59,9 @@ module _ (e : Setup) (tag : ℕ) (some_buffer : 0 < e.buffers) where
       recent q = one_all (λ a. IsRecent (first_link e.buffers) (first_heads tag q) (look_of a q)) (part whole)
           (recent_bare (first_link e.buffers) (first_heads tag) (part whole) refl refl q)
 
-  first_shelved : IsShelved e.buffers (replicate e.buffers (Some [])) first_stack
+  first_in_slots : AreInSlots e.buffers (replicate e.buffers (Some [])) first_stack
   unfolding first_stack
-  first_shelved = record { places = length-replicate e.buffers (Some []); stacked = stacked; bare = bare; away = away }
+  first_in_slots = record { places = length-replicate e.buffers (Some []); stacked = stacked; bare = bare; away = away }
     where
       bare : (b : ℕ) → 0 < times b (first_stack Empty)
           → StandsAt {X = Option (List ℕ)} (replicate e.buffers (Some [])) b (Some [])
@@ -97,7 +97,7 @@ module _ (e : Setup) (tag : ℕ) (some_buffer : 0 < e.buffers) where
   opening_keeps = record {
     stack = first_stack;
     owned = first_owned;
-    shelved = first_shelved;
+    in_slots = first_in_slots;
     coloured = first_coloured;
     shared = first_shared;
   }

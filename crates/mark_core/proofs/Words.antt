@@ -15,7 +15,7 @@ pub use Rattle.mark_core.specs.Events.{happens, stack_popped, word_up, word_down
 pub use Rattle.mark_core.specs.Events.{link_from}
 pub use Rattle.mark_core.specs.Law.{Law}
 pub use Rattle.mark_core.specs.Lists.{IsPart, StandsAt, times, sum_of, one_where, only, without}
-pub use Rattle.mark_core.specs.Ownership.{Chain, IsRecent, IsOwned, HasOpenPush, held_times, IsShelved}
+pub use Rattle.mark_core.specs.Ownership.{Chain, IsRecent, IsOwned, HasOpenPush, held_times, AreInSlots}
 pub use Rattle.mark_core.specs.Quiet.{HasGivenUnits, QuietIsDone}
 pub use Rattle.mark_core.specs.Runs.{RunsKeepLaw, EventsKeepLaw, IsRun, opening, Run, first_heads, Changes, IsListOf}
 pub use Rattle.mark_core.specs.Runs.{first_link, HasEachOnce, AreApart, LiesIn, IsClosed, StacksChange, TagsRise}

@@ -42,7 +42,7 @@ pub record IsOwned
   pub owed : (stack Full ≡ []) ⊎ HasOpenPush accounts
 
 -- the items of a buffer are in its slot exactly while it is stacked, and on the empty stack it has none
-pub record IsShelved (buffers : ℕ) (slots : List (Option (List ℕ))) (stack : Which → List ℕ) : Type 0 where
+pub record AreInSlots (buffers : ℕ) (slots : List (Option (List ℕ))) (stack : Which → List ℕ) : Type 0 where
   pub places : length slots ≡ buffers
   pub stacked : (q : Which) (b : ℕ) → 0 < times b (stack q) → (items : List ℕ) × StandsAt slots b (Some items)
   pub bare : (b : ℕ) → 0 < times b (stack Empty) → StandsAt slots b (Some [])

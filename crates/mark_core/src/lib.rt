@@ -1,6 +1,6 @@
 //! The world of a marking with many workers, its events, and the law that they keep.
 //!
-//! Everything here is pure: no thread, no atomic word. A `World` is what all workers share (two stacks of buffers, the
+//! Everything here is pure: no thread, no atomic word. A `World` is what all workers use (two stacks of buffers, the
 //! marks, the idle word) and the account of each worker, with the objects in its charge. An `Event` is one atomic step
 //! of one worker. `step` makes an event if it is possible. The proofs of the marking rest on the theorem
 //! `all_runs_keep_law`: after every list of possible events, in whatever order threads made them, each claimed object

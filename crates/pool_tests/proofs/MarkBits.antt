@@ -1,4 +1,4 @@
--- The mark of an object is at most 2, so there is never the pair 10.
+-- The mark of an object is at most 2, so its bits are never 10.
 use Rattle.std.proofs.Common.{arith}
 use Rattle.buffer_pool.specs.working.Slots.{Reading}
 use Rattle.buffer_pool.proofs.Claims.{mark_known}

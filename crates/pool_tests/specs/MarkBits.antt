@@ -8,7 +8,7 @@ use Rattle.buffer_pool.specs.working.Layout.{mark_word}
 use Rattle.buffer_pool.specs.working.Slots.{Reading}
 use Rattle.buffer_pool.specs.working.Table.{Rule}
 
--- between any two steps an object whose high bit is set has its low bit set: there is never the pair 10
+-- between any two steps an object whose high bit is set has its low bit set: its bits are never 10
 abbrev pub LowWithHigh : {B : Type 0} → Reading B → Type 0
 LowWithHigh {B} r =
     (e : Setup) (s : State (Option B) SeatView) → Rule r e s → (o : ℕ) → o < e.objects

@@ -1,9 +1,10 @@
 //! Tests of `buffer_pool`, and of `work_pair` above it (`pair`). They are in a crate of their own, so that the two
-//! crates are proved once, and not again with their tests. They use public calls only.
+//! crates are proved once, and not again with their tests. They make public calls only.
 //!
-//! They test what only a run shows: that calls succeed, what happens without memory and at last tags, and that threads
-//! end. `worked` has the run that `buffer_pool` quotes. `waiting` and `mark_bits` test the words of a pool's table, and
-//! `forged` has what the table's rule excludes.
+//! Most of them test what only a run shows: that calls succeed, what happens without memory and at last tags, and that
+//! threads end. `worked` has the run that `buffer_pool` quotes. `waiting` and `mark_bits` test the words of a pool's
+//! table. What `forged` and a law in `mark_bits` say is proved, not run: what the table's rule excludes. They cite
+//! private definitions of `buffer_pool`.
 
 #![tactic(auto)]
 

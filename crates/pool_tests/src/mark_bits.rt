@@ -108,6 +108,6 @@ fn no_high_bit_stands_alone<A: Allocator>()
 {}
 
 #[test]
-fn pairs() {
+fn low_bits_with_high_bits() {
     no_high_bit_stands_alone::<Global>();
 }

@@ -1,8 +1,10 @@
-//! The head of a stack in one word: the upper 48 bits are the tag, the lower 16 the index plus 1, or 0 for no index.
+//! The head of a stack in one word: the upper 48 bits are the tag, the lower 16 the index plus 1, or 0 for no index. At
+//! the end, a law of all heads.
 
 ghost use Rattle.std.specs.Prelude.{◌≡◌, ◌+◌, ◌<◌, ◌≤◌, MatchOption};
 ghost use Rattle.std.specs.Option.{ForSome};
 ghost use Rattle.tagged_index.specs.Head.{after, head_of, word_of};
+ghost use Rattle.tagged_index.specs.Words.{WordsDetermineHeads};
 
 use std::marker::Model;
 
@@ -106,3 +108,9 @@ impl HeadWord {
         })
     }
 }
+
+/// Does nothing. Its contract is the law: two different heads have different words if each has no index or one of at
+/// most 65,534.
+pub fn words_tell_heads_apart()
+    ensures { WordsDetermineHeads }
+{}

@@ -17,7 +17,5 @@
 #![tactic(auto)]
 
 mod head_word;
-mod law;
 
-pub use head_word::{HeadWord, LAST_INDEX, LAST_TAG};
-pub use law::words_tell_heads_apart;
+pub use head_word::{HeadWord, LAST_INDEX, LAST_TAG, words_tell_heads_apart};

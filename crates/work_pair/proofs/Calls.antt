@@ -169,7 +169,7 @@ module _ {f s t : Option HeldBuffer} {w : Owner} {pool : TableId} {besides : Lis
 
     pub put_stopped : (stop : Stop) → RenewAnswers false Empty p w.book n third c (Err stop)
         → EndsOut (places f s t) w.book (places n y third) c stop
-    put_stopped TagSpent told = (renewed_then told.0, told.1, told.2)
+    put_stopped (TagSpent token) told = (renewed_then told.0, told.1, told.2)
     put_stopped OutOfMemory none = absurd none
 
   module _ (n third : Option HeldBuffer) (c : Book) where
@@ -181,12 +181,12 @@ module _ {f s t : Option HeldBuffer} {w : Owner} {pool : TableId} {besides : Lis
 
     pub second_stopped : (stop : Stop) → RenewAnswers false Empty s w.book n third c (Err stop)
         → EndsOut (places f s t) w.book (places f n third) c stop
-    second_stopped TagSpent told = (gave_second told.0, told.1, told.2)
+    second_stopped (TagSpent token) told = (gave_second told.0, told.1, told.2)
     second_stopped OutOfMemory none = absurd none
 
     pub first_stopped : (stop : Stop) → RenewAnswers true Empty f w.book n third c (Err stop)
         → EndsOut (places f s t) w.book (places n s third) c stop
-    first_stopped TagSpent told = (gave_first told.0, told.1, told.2)
+    first_stopped (TagSpent token) told = (gave_first told.0, told.1, told.2)
     first_stopped OutOfMemory none = absurd none
 
     pub second_balanced : (done : Bool) → RenewAnswers false Empty s w.book n third c (Ok done) → items_at s ≢ []
@@ -234,7 +234,7 @@ module _ {f s t : Option HeldBuffer} {w : Owner} {pool : TableId} {besides : Lis
     -- the first buffer was published, and then the second
     pub publish_stopped : (stop : Stop) → PublishesAt f w.book n third c (Err stop)
         → EndsOut (places f s t) w.book (places n s third) c stop
-    publish_stopped TagSpent told = (gave_first told.0, told.1, told.2)
+    publish_stopped (TagSpent token) told = (gave_first told.0, told.1, told.2)
     publish_stopped OutOfMemory none = absurd none
 
     module _ (done : Unit) (first : PublishesAt f w.book n third c (Ok done)) where
@@ -271,7 +271,7 @@ module _ {f s t : Option HeldBuffer} {w : Owner} {pool : TableId} {besides : Lis
               out_on first.0.moves second.0.moves first.3 second.3,
               (first.0.moves, second.0.moves, refl, first.4, second.4),
             )
-        both_published (Err TagSpent) second = (
+        both_published (Err (TagSpent token)) second = (
           both second.0,
           end_on first.0.moves second.0.moves second.1,
           out_on first.0.moves second.0.moves first.3 second.2,

@@ -68,7 +68,7 @@ module _ {f s t : Option HeldBuffer} {b : Book} (backed : IsBacked (places f s t
     pub first_stuck : (stop : Stop) → ClearsAt f b n c (Err stop)
         → ClearAnswers (places f s t) b (places n s t) c (Err stop)
     first_stuck OutOfMemory none = absurd none
-    first_stuck TagSpent told = rw told.0 (stuck begun c told.1.0 told.1.1)
+    first_stuck (TagSpent token) told = rw told.0 (stuck begun c told.1.0 told.1.1)
 
     -- after the second place
     module _ (m : Option HeldBuffer) (d : Book) where
@@ -84,7 +84,7 @@ module _ {f s t : Option HeldBuffer} {b : Book} (backed : IsBacked (places f s t
       pub second_stuck : ClearsBy (shelving_of f) (places n s t) c → (stop : Stop) → ClearsAt s c m d (Err stop)
           → ClearAnswers (places f s t) b (places n m t) d (Err stop)
       second_stuck first OutOfMemory none = absurd none
-      second_stuck first TagSpent told = rw told.0 (stuck first.0 d told.1.0 told.1.1)
+      second_stuck first (TagSpent token) told = rw told.0 (stuck first.0 d told.1.0 told.1.1)
 
       -- after the third place
       module _ (second : ClearsBy (shelving_of f ++ shelving_of s) (places n m t) d) (k : Option HeldBuffer)
@@ -100,4 +100,4 @@ module _ {f s t : Option HeldBuffer} {b : Book} (backed : IsBacked (places f s t
               λ k. second.1 k ++ r.3 k,
             ))
         third_told (Err OutOfMemory) none₁ none₂ none = absurd none
-        third_told (Err TagSpent) none₁ none₂ told = rw told.0 (stuck second.0 e told.1.0 told.1.1)
+        third_told (Err (TagSpent token)) none₁ none₂ told = rw told.0 (stuck second.0 e told.1.0 told.1.1)

@@ -1,7 +1,7 @@
 -- The effect of moves on the book of the worker that makes them.
 use Rattle.std.proofs.Common.{◌≡◌, ℕ, ◌+◌, ◌<◌, ◌≤◌, Bool, true, false, ◌&&◌, ◌||◌, List, [], ◌∷◌, ◌++◌, Option}
 use Rattle.std.proofs.Common.{is_some, is_none, if◌then◌else◌, refl, sym, ap, ◌∙◌, inl, inr, ⊎_elim, arith}
-use Rattle.tagged_index.specs.Head.{Head}
+use Rattle.tagged_index.specs.Head.{Head, last_tag}
 use Rattle.mark_core.specs.declared.which.Which.{Which}
 use Rattle.mark_core.specs.declared.which.Which.TheVariants.{Full, Empty}
 use Rattle.mark_core.specs.Counts.{none_found}
@@ -9,7 +9,7 @@ use Rattle.mark_core.specs.Events.{IsBusy}
 use Rattle.mark_core.specs.Lists.{times, only, IsPart}
 use Rattle.mark_core.proofs.Sums.{sum_of-append, times-remove_one, times-without, stands_times}
 use Rattle.buffer_pool.specs.Book.{Book, loaded, link_loaded, popped, pushed, empties_of}
-use Rattle.buffer_pool.specs.Calls.{HeldBuffer}
+use Rattle.buffer_pool.specs.Calls.{HasLoadedLastTag, HeldBuffer}
 use Rattle.work_pair.specs.CallEffects.{Keeps}
 use Rattle.work_pair.specs.Moves.{Move, Took, Gave, FoundNone, Spent, Moved, Moves, taken_items, taken_number}
 use Rattle.work_pair.specs.Moves.{given_items, given_number, popped_items, popped_numbers, pushed_items, pushed_numbers}
@@ -72,6 +72,18 @@ pub spent_look : (q : Which) (old new : Book) → Moved (Spent q) old new → Is
 spent_look q old new moved = ⊎_elim
     (λ p. looked q p.2.0 old p.0 new (lost_pops q old p.0 p.1) p.2.4)
     (λ p. looked q p.2.2.0 old p.2.0 new (lost_pushes q p.0 old p.2.0 p.2.1) p.2.2.3)
+    moved
+
+tag_loaded : (q : Which) (head : Head) (mid new : Book) → head.tag ≡ last_tag → new ≡ loaded q head mid
+    → HasLoadedLastTag new
+tag_loaded Full head mid new last is = rw is (Full, head, refl, last)
+tag_loaded Empty head mid new last is = rw is (Empty, head, refl, last)
+
+-- after that move, the head that the worker loaded last has the last tag
+pub loaded_last_tag : (q : Which) (old new : Book) → Moved (Spent q) old new → HasLoadedLastTag new
+loaded_last_tag q old new moved = ⊎_elim
+    (λ p. tag_loaded q p.2.0 p.0 new p.2.3 p.2.4)
+    (λ p. tag_loaded q p.2.2.0 p.2.0 new p.2.2.2 p.2.2.3)
     moved
 
 pub empty_look : (q : Which) (old new : Book) → Moved (FoundNone q) old new → IsLook old new

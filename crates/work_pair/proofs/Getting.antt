@@ -77,7 +77,7 @@ module _ {A : Type 0} {old : PairState} {b₀ : Book} (backed : IsBacked old [] 
 
     pub pop_stopped : (c : Book) (stop : Stop) → PopsOne Full b c (Err stop) → Ends old b₀ (as_pair q) c stop
     pop_stopped c OutOfMemory none = absurd none
-    pop_stopped c TagSpent moved = (
+    pop_stopped c (TagSpent token) moved = (
       on_and_on looked (spent_at Full moved (sized_after looked)),
       end_on looked.moves (Spent Full ∷ []) ([], Full, refl),
     )
@@ -123,7 +123,7 @@ module _ {A : Type 0} {old : PairState} {b₀ : Book} (backed : IsBacked old [] 
         pub put_stopped : (stop : Stop) → PutsOut q.first h mid n third c (Err stop)
             → Ends old b₀ (places n q.second third) c stop
         put_stopped OutOfMemory none = absurd none
-        put_stopped TagSpent out =
+        put_stopped (TagSpent token) out =
             let told = put_out_stopped false Full h mid backed_here took_next (λ half. absurd (false≢true half)) n third
-            c TagSpent out in
+            c (TagSpent token) out in
             (put_back told.0, end_on looked.moves told.0.moves told.1)

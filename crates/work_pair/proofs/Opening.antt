@@ -8,7 +8,7 @@ use Rattle.mark_core.specs.Lists.{only}
 use Rattle.mark_core.proofs.Sums.{sum_of-append}
 use Rattle.buffer_pool.specs.Book.{Book}
 use Rattle.buffer_pool.specs.Calls.{HeldBuffer}
-use Rattle.work_pair.specs.CallEffects.{CallEffect, OpensNone, OpensTwo, TouchesNoFull}
+use Rattle.work_pair.specs.CallEffects.{CallEffect, IsTagSpent, OpensNone, OpensTwo, TouchesNoFull}
 use Rattle.work_pair.specs.Moves.{Move, Took, Gave, FoundNone, Spent, Moved, HasPushOnFull, HasPopFromFull, IsFromFull}
 use Rattle.work_pair.specs.Moves.{IsOnFull, WasSeenEmpty, EndAtLastTag, shelf_of}
 use Rattle.work_pair.specs.PairState.{PairState, empty_pair, IsBacked, IsNew}
@@ -43,7 +43,7 @@ nothing_backed b = record {
 
 -- a stop at the last tag, with a pair that keeps what was popped
 abbrev StopsWith : Book → Book → Stop → Type 0
-StopsWith b c stop = (stop ≡ TagSpent) × ((left : PairState) × (left.stopped ≡ true)
+StopsWith b c stop = IsTagSpent stop × ((left : PairState) × (left.stopped ≡ true)
     × TouchesNoFull empty_pair b left c)
 
 -- the trades since the start, from an empty pair
@@ -56,9 +56,9 @@ module _ {b c : Book} {x y z : Option HeldBuffer} (u : Trades empty_pair b [] []
       → TouchesNoFull empty_pair b (listed (places x y z) [] now false) c
   quietly now ends quiet = (from_nothing now ends, quiet.0, quiet.1)
 
-  stops_with : AreQuiet u.moves → EndAtLastTag u.moves → StopsWith b c TagSpent
-  stops_with quiet ends =
-      (refl, (listed (places x y z) [] true false, refl, quietly true (λ stopped. ends) quiet))
+  stops_with : (stop : Stop) → IsTagSpent stop → AreQuiet u.moves → EndAtLastTag u.moves → StopsWith b c stop
+  stops_with stop at_tag quiet ends =
+      (at_tag, (listed (places x y z) [] true false, refl, quietly true (λ stopped. ends) quiet))
 
 -- a buffer was popped into a vacant place
 module _ (h : HeldBuffer) (b c : Book) (took : PopsOne Empty b c (Ok (Some h))) where
@@ -87,9 +87,9 @@ spent_quiet q = alone (Spent q) (λ x. x) (λ x. x)
 module _ (b : Book) where
   pub first_stopped : (c : Book) (stop : Stop) → PopsOne Empty b c (Err stop) → StopsWith b c stop
   first_stopped c OutOfMemory none = absurd none
-  first_stopped c TagSpent moved =
+  first_stopped c (TagSpent token) moved =
       let u : Trades empty_pair b [] [] empty_pair c = spent_at Empty moved (nothing_backed b).sized in
-      stops_with u (spent_quiet Empty) ([], Empty, refl)
+      stops_with u (TagSpent token) tt (spent_quiet Empty) ([], Empty, refl)
 
   module _ (c : Book) (moved : PopsOne Empty b c (Ok None)) where
     abbrev missing : Trades empty_pair b [] [] empty_pair c
@@ -113,9 +113,10 @@ module _ (b : Book) where
 
     pub second_stopped : (c : Book) (stop : Stop) → PopsOne Empty mid c (Err stop) → StopsWith b c stop
     second_stopped c OutOfMemory none = absurd none
-    second_stopped c TagSpent moved =
+    second_stopped c (TagSpent token) moved =
         let last : Trades just mid [] [] just c = spent_at Empty moved (sized_after one) in
-        stops_with (on_and_on one last) (quiet_on one.moves last.moves (took_quiet h) (spent_quiet Empty))
+        stops_with (on_and_on one last) (TagSpent token) tt
+        (quiet_on one.moves last.moves (took_quiet h) (spent_quiet Empty))
         (end_on one.moves last.moves ([], Empty, refl))
 
     -- a second buffer was found
@@ -195,7 +196,8 @@ module _ (b : Book) where
 
         pub back_stopped : (stop : Stop) → ClearsAt (Some h) c n d (Err stop) → StopsWith b d stop
         back_stopped OutOfMemory none_such = absurd none_such
-        back_stopped TagSpent told =
+        back_stopped (TagSpent token) told =
             let last : Trades just c [] [] just d = spent_at told.1.0 told.1.1 all_backed.sized in
-            stops_with (on_and_on two last) (quiet_on two.moves last.moves two_quiet (spent_quiet told.1.0))
+            stops_with (on_and_on two last) (TagSpent token) tt
+            (quiet_on two.moves last.moves two_quiet (spent_quiet told.1.0))
             (end_on two.moves last.moves ([], told.1.0, refl))

@@ -9,8 +9,8 @@ use Rattle.atomic_table.specs.Seated.{TableId}
 use Rattle.mark_core.specs.Events.{IsBusy}
 use Rattle.buffer_pool.specs.Book.{Book}
 use Rattle.buffer_pool.specs.Calls.{HeldBuffer, Owner}
-use Rattle.work_pair.specs.CallEffects.{Balances, CallEffect, Disposes, Gets, GetsBy, PopsNoneFromFull, PublishesBoth}
-use Rattle.work_pair.specs.CallEffects.{Puts, Refills, ShelvesAll}
+use Rattle.work_pair.specs.CallEffects.{Balances, CallEffect, Disposes, Gets, GetsBy, IsTagSpent, PopsNoneFromFull}
+use Rattle.work_pair.specs.CallEffects.{PublishesBoth, Puts, Refills, ShelvesAll}
 use Rattle.work_pair.specs.Moves.{Move, FoundNone, EndAtLastTag, WasSeenEmpty}
 use Rattle.work_pair.specs.PairState.{PairState, buffered_items, pair_items, empty_pair, AreAlike, IsBacked, IsOpen}
 use Rattle.work_pair.specs.declared.buffers.Buffers.{Buffers}
@@ -157,9 +157,9 @@ module _ {A : Type 0} {v : PairState} (i : Inside A) (is : seen_as i ≡ v) wher
     module _ (backed : IsBacked v [] b) {now : Bool} where
       -- the call popped nothing from full
       pub stops : (stop : Stop) → now ≡ true → EndsOut (as_pair i.buffers) b (as_pair q) c stop
-          → (stop ≡ TagSpent) × (now ≡ true) × PopsNoneFromFull v b (listed (as_pair q) i.spill now i.starved) c
-      stops TagSpent now_is told = (
-        refl,
+          → IsTagSpent stop × (now ≡ true) × PopsNoneFromFull v b (listed (as_pair q) i.spill now i.starved) c
+      stops (TagSpent token) now_is told = (
+        tt,
         now_is,
         rw (← is) (trades refl backed told.0 (λ stopped. told.1), told.2),
       )
@@ -168,7 +168,7 @@ module _ {A : Type 0} {v : PairState} (i : Inside A) (is : seen_as i ≡ v) wher
       -- the buffers were balanced or published
       pub balances : (r : Result Unit Stop) → now ≡ is_err r → BalanceAnswers (as_pair i.buffers) b (as_pair q) c r
           → OnOk r (Balances v b (listed (as_pair q) i.spill now i.starved) c)
-          × IfErr r (λ s. (s ≡ TagSpent) × (now ≡ true)
+          × IfErr r (λ s. IsTagSpent s × (now ≡ true)
           × PopsNoneFromFull v b (listed (as_pair q) i.spill now i.starved) c)
       balances (Ok done) now_is told =
           (rw (← is) (trades refl backed told.0 (not_ended now_is told.0.moves), told.2, told.3, told.4), tt)
@@ -176,7 +176,7 @@ module _ {A : Type 0} {v : PairState} (i : Inside A) (is : seen_as i ≡ v) wher
 
       pub publishes : (r : Result Unit Stop) → now ≡ is_err r → PublishAnswers (as_pair i.buffers) b (as_pair q) c r
           → OnOk r (PublishesBoth v b (listed (as_pair q) i.spill now i.starved) c)
-          × IfErr r (λ s. (s ≡ TagSpent) × (now ≡ true)
+          × IfErr r (λ s. IsTagSpent s × (now ≡ true)
           × PopsNoneFromFull v b (listed (as_pair q) i.spill now i.starved) c)
       publishes (Ok done) now_is told =
           (rw (← is) (trades refl backed told.0 (not_ended now_is told.0.moves), told.4), tt)
@@ -190,10 +190,10 @@ module _ {A : Type 0} {v : PairState} (i : Inside A) (is : seen_as i ≡ v) wher
 
         pub get_stops : (r : Result (Option ℕ) Stop) → now ≡ is_err r
             → GetAnswers (as_pair i.buffers) b (as_pair q) c r
-            → IfErr r (λ s. (s ≡ TagSpent) × (now ≡ true)
+            → IfErr r (λ s. IsTagSpent s × (now ≡ true)
             × CallEffect v b [] [] (listed (as_pair q) m now i.starved) c)
         get_stops (Ok x) now_is told = tt
-        get_stops (Err TagSpent) now_is told = (refl, now_is, gets told.0 (λ stopped. told.1))
+        get_stops (Err (TagSpent token)) now_is told = (tt, now_is, gets told.0 (λ stopped. told.1))
         get_stops (Err OutOfMemory) now_is none = absurd none
 
         pub got_told : (r : Result (Option ℕ) Stop) → now ≡ is_err r
@@ -256,8 +256,8 @@ module _ {A : Type 0} {v : PairState} (i : Inside A) (is : seen_as i ≡ v) wher
       )
 
 pub clears_told : (p : PairState) (b : Book) (q : PairState) (c : Book) (stop : Stop) → ClearAnswers p b q c (Err stop)
-    → (stop ≡ TagSpent) × ((u : Clears p b q c) × EndAtLastTag u.trades.moves)
-clears_told p b q c TagSpent told = (refl, told)
+    → IsTagSpent stop × ((u : Clears p b q c) × EndAtLastTag u.trades.moves)
+clears_told p b q c (TagSpent token) told = (tt, told)
 clears_told p b q c OutOfMemory none = absurd none
 
 -- a result of `spill_over` holds of the pair `new`, if it holds of the equal pair `told`

@@ -128,7 +128,7 @@ module _ {w : Owner} {pool : TableId} {place third : Option HeldBuffer} (may : M
 
     pub stopped_at_once : (stop : Stop) → PopsOne Empty w.book c (Err stop)
         → RenewAnswers half Empty place w.book place third c (Err stop)
-    stopped_at_once TagSpent moved =
+    stopped_at_once (TagSpent token) moved =
         (unchanged (Spent Empty) moved (refl, refl, tt), ([], Empty, refl), λ pop. ⊎_elim (λ x. x) (λ x. x) pop)
     stopped_at_once OutOfMemory none = absurd none
 
@@ -240,7 +240,7 @@ module _ (half : Bool) (q : Which) (h : HeldBuffer) (mid : Book) {old : Option H
         → PutsOut (pushed_part half old) (next_of half old h) mid new third c (Err stop)
         → RenewAnswers half q old b new third c (Err stop)
     put_out_stopped OutOfMemory none = absurd none
-    put_out_stopped TagSpent out =
+    put_out_stopped (TagSpent token) out =
         let r : Renews old b (pushed_part half old) (Some (next_of half old h)) c =
         record {
           moves = Took q h ∷ Spent out.2.0 ∷ [];

@@ -9,6 +9,13 @@ use Rattle.work_pair.specs.Moves.{pushed_numbers, AreFilled, HasPushOnFull, HasP
 use Rattle.work_pair.specs.PairState.{PairState, buffered_items, pair_items, items_at, numbers_of, empty_pair}
 use Rattle.work_pair.specs.PairState.{without_spill}
 use Rattle.work_pair.specs.PairState.{HasRoom, IsBacked, SameNumbers}
+use Rattle.work_pair.specs.declared.stop.Stop.{Stop}
+use Rattle.work_pair.specs.declared.stop.Stop.TheVariants.{TagSpent, OutOfMemory}
+
+-- the stop has the token of a spent tag
+abbrev pub IsTagSpent : Stop → Type 0
+IsTagSpent (TagSpent token) = Unit {0}
+IsTagSpent OutOfMemory = ⊥
 
 -- the worker has the same share, the same idle number, the same objects seen and finished, and the same setup of its
 -- pool

@@ -19,8 +19,9 @@ use spill_list::SpillList;
 /// others go to its empty stack and come from that. An object for which no empty buffer is found goes to the pair's
 /// spill list, which takes 4 bytes an object, and doubles when it has no room.
 ///
-/// A call that returns [`Stop::TagSpent`] stops the pair. Then the pair holds each buffer that it had or took and did
-/// not push, and can only be disposed of. After [`Stop::OutOfMemory`] the pair stays usable.
+/// A call that returns [`Stop::TagSpent`] stops the pair. Then the pair has each buffer that it had or took and did not
+/// push. It can be disposed of, measured, or taken apart, but makes no other call. After [`Stop::OutOfMemory`] the pair
+/// stays usable.
 #[derive(Drop)]
 pub struct Pair<A: Allocator> {
     buffers: Buffers<A>,
@@ -53,12 +54,13 @@ impl<A: Allocator> Pair<A> {
     ghost use Rattle.std.specs.Prelude.{IfErr, IfNone, IfOk, IfSome, IsOk, OnOk, length};
     ghost use Rattle.mark_core.specs.Events.{IsBusy};
     ghost use Rattle.mark_core.specs.declared.which.Which.TheVariants.{Empty, Full};
-    ghost use Rattle.work_pair.specs.CallEffects.{Balances, CallEffect, Disposes, Gets, HasMore, OpensNone, OpensTwo};
-    ghost use Rattle.work_pair.specs.CallEffects.{PopsNoneFromFull, PublishesBoth, Puts, ShelvesAll, TouchesNoFull};
+    ghost use Rattle.work_pair.specs.CallEffects.{Balances, CallEffect, Disposes, Gets, HasMore, IsTagSpent, OpensNone};
+    ghost use Rattle.work_pair.specs.CallEffects.{OpensTwo, PopsNoneFromFull, PublishesBoth, Puts, ShelvesAll};
+    ghost use Rattle.work_pair.specs.CallEffects.{TouchesNoFull};
     ghost use Rattle.work_pair.specs.Moves.{FoundNone, WasSeenEmpty};
     ghost use Rattle.work_pair.specs.PairState.{AreAlike, HasRoom, HasStopped, IsBacked, IsNew, IsOpen, PairState};
     ghost use Rattle.work_pair.specs.PairState.{buffered_items, count_at, pair_items, empty_pair};
-    ghost use Rattle.work_pair.specs.declared.stop.Stop.TheVariants.{OutOfMemory, TagSpent};
+    ghost use Rattle.work_pair.specs.declared.stop.Stop.TheVariants.{OutOfMemory};
 
     /// Creates a pair with the buffers `first` and `second`, and nothing spilled.
     fn of(alloc: A, first: Option<Held<A>>, second: Option<Held<A>>) -> Self
@@ -104,7 +106,7 @@ impl<A: Allocator> Pair<A> {
         ensures none { IfOk result (λ r. IfNone r (TouchesNoFull empty_pair worker.old.book empty_pair worker.new.book
             × WasSeenEmpty Empty worker.old.book worker.new.book)) }
         ensures not_found { IfOk result (λ r. IfNone r (OpensNone worker.old.book worker.new.book)) }
-        ensures spent { IfErr result (λ s. (s ≡ TagSpent) × ((left : PairState) × (left.stopped ≡ true)
+        ensures spent { IfErr result (λ s. IsTagSpent s × ((left : PairState) × (left.stopped ≡ true)
             × TouchesNoFull empty_pair worker.old.book left worker.new.book)) }
     {
         let Some(first) = pop_one(rt, pool, worker, Which::Empty)? else {
@@ -145,7 +147,7 @@ impl<A: Allocator> Pair<A> {
         ensures no_memory { IfErr result (λ e. e.1 ≡ OutOfMemory → IsOpen self.new × AreAlike self.old self.new
             × (self.new.starved ≡ true) × ((effect : CallEffect self.old worker.old.book [] [] self.new worker.new.book)
             × (effect.moves ≡ FoundNone Empty ∷ []))) }
-        ensures spent { IfErr result (λ e. e.1 ≡ TagSpent → (self.new.stopped ≡ true) × (self.new.starved
+        ensures spent { IfErr result (λ e. IsTagSpent e.1 → (self.new.stopped ≡ true) × (self.new.starved
             ≡ self.old.starved)) }
     {
         if put_at(&mut self.buffers.first, object) {
@@ -191,7 +193,7 @@ impl<A: Allocator> Pair<A> {
         ensures closed { IfOk result (λ r. IfNone r (worker.new.book.account.open_push ≡ false)) }
         ensures found { IfOk result (λ r. IfNone r (worker.new.book.account.found ≡ true)) }
         ensures going { OnOk result (IsOpen self.new) }
-        ensures spent { IfErr result (λ s. (s ≡ TagSpent) × (self.new.stopped ≡ true) × CallEffect self.old
+        ensures spent { IfErr result (λ s. IsTagSpent s × (self.new.stopped ≡ true) × CallEffect self.old
             worker.old.book [] [] self.new worker.new.book) }
     {
         if let Some(object) = self.spill.pop() {
@@ -223,7 +225,7 @@ impl<A: Allocator> Pair<A> {
         ensures few { (HasMore self.old → ⊥) → (self.new ≡ self.old) × (worker.new ≡ worker.old) × IsOk result }
         ensures spill { (self.new.spill ≡ self.old.spill) × (self.new.starved ≡ self.old.starved) }
         ensures going { OnOk result (IsOpen self.new) }
-        ensures spent { IfErr result (λ s. (s ≡ TagSpent) × (self.new.stopped ≡ true) × PopsNoneFromFull self.old
+        ensures spent { IfErr result (λ s. IsTagSpent s × (self.new.stopped ≡ true) × PopsNoneFromFull self.old
             worker.old.book self.new worker.new.book) }
     {
         let result = self.buffers.balance(rt, pool, worker);
@@ -231,8 +233,8 @@ impl<A: Allocator> Pair<A> {
         result
     }
 
-    /// Gives the work of the pair's buffers to others: pushes each one that has items on the full stack. A buffer stays
-    /// if no empty one was found to take its place. The spill list stays.
+    /// Gives the work of the pair's buffers to others: pushes each buffer that has items on the full stack, if an empty
+    /// one was found to take its place. Otherwise the buffer stays. The spill list stays.
     pub fn publish<R: Wait>(
         &mut self,
         rt: &R,
@@ -252,7 +254,7 @@ impl<A: Allocator> Pair<A> {
             × IsOk result }
         ensures spill { (self.new.spill ≡ self.old.spill) × (self.new.starved ≡ self.old.starved) }
         ensures going { OnOk result (IsOpen self.new) }
-        ensures spent { IfErr result (λ s. (s ≡ TagSpent) × (self.new.stopped ≡ true) × PopsNoneFromFull self.old
+        ensures spent { IfErr result (λ s. IsTagSpent s × (self.new.stopped ≡ true) × PopsNoneFromFull self.old
             worker.old.book self.new worker.new.book) }
     {
         let result = self.buffers.publish(rt, pool, worker);
@@ -262,7 +264,8 @@ impl<A: Allocator> Pair<A> {
 
     /// Disposes of the pair: pushes the buffers with items on the full stack and the others on the empty one. If a last
     /// tag was loaded, returns a pair with the buffers that were not pushed. A spill list with objects is given up,
-    /// which is allowed only after a stop: its objects stay in the worker's charge, and the pool cannot be closed.
+    /// which is allowed only after a stop: its objects stay in the worker's charge, and the pool cannot be closed
+    /// before they are finished.
     pub fn dispose<R: Wait>(
         self,
         rt: &R,
@@ -276,7 +279,7 @@ impl<A: Allocator> Pair<A> {
         ensures pool { worker.new.pool ≡ worker.old.pool }
         ensures gone { OnOk result (Disposes self worker.old.book empty_pair worker.new.book) }
         ensures shelved { OnOk result (ShelvesAll self worker.old.book worker.new.book) }
-        ensures spent { IfErr result (λ e. (e.1 ≡ TagSpent) × (e.0.stopped ≡ true) × (e.0.spill ≡ [])
+        ensures spent { IfErr result (λ e. IsTagSpent e.1 × (e.0.stopped ≡ true) × (e.0.spill ≡ [])
             × Disposes self worker.old.book e.0 worker.new.book) }
     {
         let Pair {

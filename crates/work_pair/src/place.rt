@@ -97,7 +97,7 @@ pub(crate) fn put_out<R: Wait, A: Allocator>(
         Ok(()) => Ok(()),
         Err(back) => {
             *third = place.replace(back);
-            Err(Stop::TagSpent)
+            Err(Stop::TagSpent(worker.spent_tag()))
         }
     }
 }
@@ -122,7 +122,7 @@ pub(crate) fn clear_at<R: Wait, A: Allocator>(
         Ok(()) => Ok(()),
         Err(back) => {
             *place = Some(back);
-            Err(Stop::TagSpent)
+            Err(Stop::TagSpent(worker.spent_tag()))
         }
     }
 }

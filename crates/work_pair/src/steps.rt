@@ -25,7 +25,7 @@ pub(crate) fn pop_one<R: Wait, A: Allocator>(
     match pool.pop(rt, worker, which) {
         Popped::Took(held) => Ok(Some(held)),
         Popped::Empty => Ok(None),
-        Popped::Spent => Err(Stop::TagSpent),
+        Popped::Spent => Err(Stop::TagSpent(worker.spent_tag())),
     }
 }
 

@@ -4,8 +4,9 @@ import math
 from dataclasses import dataclass
 from typing import List, Tuple
 
+from heap_tools import figures
 from heap_tools.page.treemap import Box, boxes_of, short_name
-from heap_tools.page.words import Html, clock, counted, fill, joined, percent, plain, size
+from heap_tools.page.words import Html, clock, fill, joined, percent, plain, size
 
 #: The chart and the treemap are drawn twice, for wide and for narrow screens: name, width, height of each.
 CHARTS = [("wide", 1080, 250), ("narrow", 360, 220)]
@@ -224,7 +225,7 @@ def cell(part, box, total):
     lines = lines[: int((box.height - 4) / LINE)]
     texts = [fill("cell_line", y=LINE * at + 12, text=line) for at, line in enumerate(lines)]
     amount = part.amount
-    words = f"{size(amount.bytes)}, {percent(100 * amount.bytes / total)}, {counted(amount.objects, 'object')}"
+    words = f"{size(amount.bytes)}, {percent(100 * amount.bytes / total)}, {figures.counted(amount.objects, 'object')}"
     return fill("cell", description=f"{plain(name, 120)}: {words}", texts=joined(texts), **place_of(box))
 
 

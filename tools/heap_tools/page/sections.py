@@ -1,5 +1,6 @@
 """The sections of the page, each a function of the leak and of how much of it is shown."""
 
+from heap_tools import figures
 from heap_tools.page.pictures import COLOURS, bar, chart, small_line, spell_of, treemap
 from heap_tools.page.top import KINDS, from_to, headline, holder_name, lead, tiles, title
 from heap_tools.page.treemap import groups_of, total_of
@@ -7,8 +8,6 @@ from heap_tools.page.words import (
     FOLDER,
     Html,
     breakable,
-    counted,
-    duration,
     escaped,
     figure,
     fill,
@@ -30,9 +29,9 @@ NEVER_SHOWN = [
 ]
 
 
-def left_out(number, one, many=None):
+def left_out(number, what):
     """Returns a line that says how many rows are not shown."""
-    return fill("paragraph", text=f"{counted(number, one, many)} more not shown.") if number > 0 else Html()
+    return fill("paragraph", text=f"Not shown: {figures.counted(number, what)} more.") if number > 0 else Html()
 
 
 def legend(kinds, leak, limits):
@@ -79,7 +78,7 @@ def grown(leak, limits):
     most = max(growth_of(it, leak.by) for it in shown)
     rows = body(grown_row(it, leak.by, most, limits) for it in shown)
     about = f"Classes that have more objects or bytes in the last dump. Bars and small lines show {leak.by}."
-    rest = left_out(len(leak.grown) - len(shown), "class that grew is", "classes that grew are")
+    rest = left_out(len(leak.grown) - len(shown), "row")
     heads = {"Class": "name", "Growth": "growth", "Over the dumps": "line", "Objects": "number", "Bytes": "number"}
     return joined([fill("about", text=about), table("grown", "The classes that grew", heads, [rows]), rest])
 
@@ -114,7 +113,7 @@ def holders(leak, limits):
         "Without one of these, much of what grew would be unreachable. Those with the fewest holders come first: "
         f"the first line is the answer. Shares are of {leak.share_of}."
     )
-    rest = left_out(len(leak.holders) - len(shown), "line is", "lines are")
+    rest = left_out(len(leak.holders) - len(shown), "row")
     heads = {"Held by": "name", "Holders": "number", "Objects": "number", "Bytes": "number"}
     heads["Share, before and after"] = "shares"
     return joined([fill("about", text=about), table("holders", "What holds the growth", heads, [rows]), rest])
@@ -157,10 +156,7 @@ def last(leak, limits):
     groups, total = groups_of(leak.last, limits.groups, limits.parts), max(1, whole.bytes)
     if not groups:
         return fill("paragraph", text="The last dump has no reachable objects.")
-    caption = (
-        f"Bytes of the {counted(len(leak.last), 'class', 'classes')} of the last dump. "
-        "Each colour is a package, each box a class, as large as its bytes."
-    )
+    caption = f"The bytes of {len(leak.last):,} classes. Each colour is a package, each box a class, as large as its bytes."
     picture = fill("figure_of", picture=treemap(groups), caption=caption) if whole.bytes else Html()
     about = fill("about", text="Packages and classes as a table. Small ones are added together.")
     heads = {"Package and class": "name", "Objects": "number", "Bytes": "number", "Share": "shares"}
@@ -202,8 +198,8 @@ def omitted(leak, limits):
     if unreachable.objects > 0:
         sentences.append(
             f"What holds unreachable objects, of which the last dump has {unreachable.objects:,}. They are garbage in "
-            "a dump of all objects. In a live dump, only what dumps omit holds them: the virtual machine, and some "
-            "fields of class objects."
+            "a dump of all objects. In a live dump, only what dumps omit holds them: the virtual machine, some fields "
+            "of class objects, and stacks of waiting virtual threads."
         )
     return joined((fill("item", text=sentence) for sentence in sentences + NEVER_SHOWN), "\n")
 
@@ -215,7 +211,7 @@ def making(leak, limits):
     rows = [dump_row(dump, limits) for number, dump in enumerate(leak.dumps) if number not in gap]
     if gap:
         rows.insert(gap[0], fill("dump_gap", text=f"{len(gap):,} dumps more"))
-    runs = f"heapmark ran {counted(made.runs, 'time')}, within {duration(1000 * made.seconds)} in all."
+    runs = f"heapmark ran {figures.counted(made.runs, 'time')}, within {figures.duration(1000 * made.seconds)} in all."
     versions = [[plain(text, limits.name) for text in version] for version in made.versions[: limits.sentences]]
     heads = {"File": "name", "Taken (UTC)": "time", "Size": "number"}
     for of in "Reachable", "Unreachable":

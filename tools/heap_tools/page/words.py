@@ -7,6 +7,8 @@ import re
 import string
 import unicodedata
 
+from heap_tools import figures
+
 FOLDER = pathlib.Path(__file__).resolve().parent
 #: Categories of characters that are shown by their number: controls, marks of direction, halves of a pair, and so on.
 HIDDEN = {"Cc", "Cf", "Cn", "Co", "Cs", "Zl", "Zp"}
@@ -82,17 +84,14 @@ def name_of(text, longest):
     return fill("name", package=breakable(text[:at]), rest=breakable(text[at:]))
 
 
+def solid(text):
+    """Returns `text` with blanks at which no line ends."""
+    return text.replace(" ", "\u00a0")
+
+
 def size(number):
     """Returns a number of bytes in words, such as 41.2 MB."""
-    for unit, scale in ("GB", 10**9), ("MB", 10**6), ("kB", 10**3):
-        if abs(number) >= 0.9995 * scale:
-            return f"{number / scale:.{0 if abs(number) >= 99.95 * scale else 1}f}\u00a0{unit}"
-    return f"{number}\u00a0{'byte' if number == 1 else 'bytes'}"
-
-
-def counted(number, one, many=None):
-    """Returns a number with its noun."""
-    return f"{number:,}\u00a0{one if number == 1 else many or one + 's'}"
+    return solid(figures.size(number))
 
 
 def percent(share):
@@ -106,18 +105,6 @@ def percent(share):
 def signed(number, spell):
     """Returns a difference with its sign, as `spell` spells its size."""
     return f"{'+' if number > 0 else '−' if number < 0 else '±'}{spell(abs(number))}"
-
-
-def duration(milliseconds):
-    """Returns how long something took, in its two largest units."""
-    seconds = round(milliseconds / 1000)
-    units = ("day", "days", 86400), ("h", "h", 3600), ("min", "min", 60), ("s", "s", 1)
-    parts = []
-    for one, many, length in units:
-        number, seconds = divmod(seconds, length)
-        if number or parts:
-            parts.append((number, one if number == 1 else many))
-    return " ".join(f"{number:,}\u00a0{unit}" for number, unit in parts[:2] if number) or "0\u00a0s"
 
 
 def moment(milliseconds):
@@ -147,5 +134,5 @@ def clock(times):
 def figure(number, unit, sign=False):
     """Returns a number of `bytes` or `objects`, with the exact one beside it. `sign`: it is a difference."""
     spell = size if unit == "bytes" else "{:,}".format
-    exact = counted(number, unit[:-1])
+    exact = solid(figures.counted(number, unit[:-1]))
     return fill("figure", value=number, exact=exact, shown=signed(number, spell) if sign else spell(number))

@@ -15,7 +15,7 @@ use Rattle.buffer_pool.specs.working.Slots.{Carries}
 use Rattle.buffer_pool.specs.working.Views.{HasSaidAll}
 
 -- the table has the words and slots of the setup. The setup's numbers of buffers and objects are in their ranges, and
--- its roots and pairs are of objects
+-- its roots and references are of objects
 pub record IsLaid (t : TableId) (e : Setup) : Type 0 where
   pub words : t.words ≡ 32 + e.buffers + mark_words e.objects
   pub slots : t.slots ≡ e.buffers
@@ -31,7 +31,7 @@ pub record IsSound {B : Type 0} (t : TableId) (m : Me (Option B) SeatView) : Typ
   pub share : 0 < m.0.book.account.share
   pub carries : Carries m
   pub within : IsWithin m.0.book.setup m.0.book.account
-  pub settled : HasSaidAll m.0
+  pub all_said : HasSaidAll m.0
   pub story : LeadsToBook m.0.log m.0.book
 
 -- a seat of the table, which is laid for the setup of its key

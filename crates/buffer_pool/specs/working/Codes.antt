@@ -1,4 +1,5 @@
--- How the logic stores an account, a setup, a book, an event and a log.
+-- Codes of accounts, setups, books, events and logs: a ghost field of a view needs one for its type. A code maps the
+-- type to one that has a code already, and back.
 use Rattle.std.specs.Prelude.{◌≡◌, ◌⊎◌, ℕ, Bool, true, false, List, Option, Some, None, refl}
 use Rattle.std.proofs.Common.{inl, inr}
 use Rattle.std.specs.Coded.{Coded, code_by, coded×, coded⊎, coded_ℕ, coded_bool, coded_list, coded_option}
@@ -105,18 +106,21 @@ same_stack Empty = refl
 abbrev pub which_code : Coded Which
 which_code = code_by Bool coded_bool is_full stack_of same_stack
 
--- the kinds that have only a number, those that have only a stack, and a store and a push
+-- what the kinds have that have only a number: a claim, a finish, a split, a join
 abbrev Numbered : Type 0
 Numbered = (ℕ ⊎ ℕ) ⊎ (ℕ ⊎ ℕ)
 
+-- what those have that have only a stack: the loads of a head and of a link, a pop, a failed exchange
 abbrev Stacked : Type 0
 Stacked = (Which ⊎ Which) ⊎ (Which ⊎ Which)
 
--- `Option Bool` has three values, one for each of the three kinds that step on the idle word
-abbrev Written : Type 0
-Written = ((ℕ × Option ℕ) ⊎ ((Which × ℕ) × List ℕ)) ⊎ Option Bool
+-- what the others have: a store of a link, a push, and the three steps on the idle word. These have nothing, so each is
+-- one of the three values of `Option Bool`
+abbrev Others : Type 0
+Others = ((ℕ × Option ℕ) ⊎ ((Which × ℕ) × List ℕ)) ⊎ Option Bool
 
-abbrev parts_of : Kind → Numbered ⊎ (Stacked ⊎ Written)
+-- what a kind has. Below, the kind that has it
+abbrev parts_of : Kind → Numbered ⊎ (Stacked ⊎ Others)
 parts_of (Claim o) = inl (inl (inl o))
 parts_of (Finish o) = inl (inl (inr o))
 parts_of (Split units) = inl (inr (inl units))
@@ -131,7 +135,7 @@ parts_of IdleUp = inr (inr (inr None))
 parts_of IdleDown = inr (inr (inr (Some false)))
 parts_of LoadIdle = inr (inr (inr (Some true)))
 
-abbrev kind_of : Numbered ⊎ (Stacked ⊎ Written) → Kind
+abbrev kind_of : Numbered ⊎ (Stacked ⊎ Others) → Kind
 kind_of (inl (inl (inl o))) = Claim o
 kind_of (inl (inl (inr o))) = Finish o
 kind_of (inl (inr (inl units))) = Split units
@@ -167,14 +171,14 @@ numbered_code = coded⊎ (coded⊎ coded_ℕ coded_ℕ) (coded⊎ coded_ℕ code
 abbrev stacked_code : Coded Stacked
 stacked_code = coded⊎ (coded⊎ which_code which_code) (coded⊎ which_code which_code)
 
-abbrev written_code : Coded Written
-written_code =
+abbrev others_code : Coded Others
+others_code =
     coded⊎ (coded⊎ (coded× coded_ℕ (coded_option coded_ℕ)) (coded× (coded× which_code coded_ℕ) (coded_list coded_ℕ)))
     (coded_option coded_bool)
 
 abbrev pub kind_code : Coded Kind
 kind_code =
-    code_by (Numbered ⊎ (Stacked ⊎ Written)) (coded⊎ numbered_code (coded⊎ stacked_code written_code))
+    code_by (Numbered ⊎ (Stacked ⊎ Others)) (coded⊎ numbered_code (coded⊎ stacked_code others_code))
     parts_of kind_of same_kind
 
 abbrev pub event_code : Coded Event

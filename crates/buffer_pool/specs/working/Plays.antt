@@ -19,11 +19,11 @@ use Rattle.buffer_pool.specs.Calls.{Shows}
 use Rattle.buffer_pool.specs.WorkerLog.{Log, Did, EndsStory, LeadsToBook, deeds}
 use Rattle.buffer_pool.specs.Ranges.{IsWithin}
 use Rattle.buffer_pool.specs.working.Views.{HasSaidAll, logged}
-use Rattle.buffer_pool.specs.working.MarkBits.{pair_bits, pair_mark}
+use Rattle.buffer_pool.specs.working.MarkBits.{mark_bits, mark_at}
 use Rattle.buffer_pool.specs.working.Layout.{head_word, link_word, mark_word}
 use Rattle.buffer_pool.specs.working.Slots.{Reading, free}
 
--- the seat m with the log `log`, the book b and no slot out, as it is between two calls
+-- the seat m once it has the log `log` and the book b, and no slot is out
 abbrev pub rested : {B : Type 0} → Me (Option B) SeatView → Log → Book → Me (Option B) SeatView
 rested m log b = (record (logged log (free m.0)) { book = b }, [])
 
@@ -39,7 +39,7 @@ pub record CanPut
   pub carried : m.1 ≡ (i, Some b) ∷ []
   pub out : m.0.out ≡ suc i
   pub share : 0 < m.0.book.account.share
-  pub settled : HasSaidAll m.0
+  pub all_said : HasSaidAll m.0
   pub held : 0 < times i m.0.book.account.held
   pub last : (look_of m.0.book.account q).head ≡ Some (head_of old)
   pub short : (head_of old).tag < last_tag
@@ -59,8 +59,8 @@ SeatDid m kinds after = Did m.0.log kinds after.0.log
 abbrev pub StoryLeads : {B : Type 0} → Me (Option B) SeatView → Type 0
 StoryLeads after = LeadsToBook after.0.log after.0.book
 
--- the seat rests with `book`, and no slot is out: `kinds` are exactly its new steps in the log, whose story leads to
--- the book
+-- after the step the seat has `book` and no slot out: `kinds` are exactly its new steps in the log, whose story leads
+-- to the book
 pub record RestsWith
     {B : Type 0} (m : Me (Option B) SeatView) (book : Book) (kinds : List Kind) (after : Me (Option B) SeatView)
     : Type 0 where
@@ -96,7 +96,7 @@ module _ {B : Type 0} where
     pub book : after.0.book ≡ popped i (r.items b) m.0.book
     pub ours : IsOurs r m.0.book.setup b
     pub bare : q ≡ Empty → r.items b ≡ []
-    pub settled : HasSaidAll after.0
+    pub all_said : HasSaidAll after.0
     pub did : SeatDid m (Pop q ∷ []) after
     pub story : StoryLeads after
 
@@ -128,16 +128,16 @@ module _ {B : Type 0} where
       (n ≡ st.first → (i : ℕ) (b : B) → m.1 ≡ (i, Some b) ∷ [] → HasPushed q i (r.items b) m after)
       × ((n ≡ st.first → ⊥) → HasKept q m.1 m after)
 
-  -- a claim: the low bit of the object's pair is set
+  -- a claim: the low bit of the object's mark is set
   abbrev pub claim_made : Step (Option B) → Me (Option B) SeatView → ℕ → Me (Option B) SeatView → Type 0
   claim_made st m n after =
-      (o : ℕ) → st.word ≡ mark_word m.0.book.setup o → st.first ≡ pair_bits 1 o
-      → RestsWith m (claimed o (pair_mark n (o % 32)) m.0.book) (Claim o ∷ []) after × (pair_mark n (o % 32) ≤ 2)
+      (o : ℕ) → st.word ≡ mark_word m.0.book.setup o → st.first ≡ mark_bits 1 o
+      → RestsWith m (claimed o (mark_at n (o % 32)) m.0.book) (Claim o ∷ []) after × (mark_at n (o % 32) ≤ 2)
 
-  -- a finish: both bits of the object's pair are set
+  -- a finish: both bits of the object's mark are set
   abbrev pub finish_made : Step (Option B) → Me (Option B) SeatView → ℕ → Me (Option B) SeatView → Type 0
   finish_made st m n after =
-      (o : ℕ) → st.word ≡ mark_word m.0.book.setup o → st.first ≡ pair_bits 3 o
+      (o : ℕ) → st.word ≡ mark_word m.0.book.setup o → st.first ≡ mark_bits 3 o
       → RestsWith m (finished o m.0.book) (Finish o ∷ []) after
       × ((p : ℕ) → times p after.0.book.account.finished ≤ 1)
 
@@ -176,5 +176,5 @@ module _ {B : Type 0} where
         → EndsStory (record { number = n; story = m.0.taken }) after.0.log.story
     pub fresh : m.0.named ≡ false → deeds after.0.log.number after.0.log.story ≡ []
 
-  abbrev pub settled : Step (Option B) → Me (Option B) SeatView → ℕ → Me (Option B) SeatView → Type 0
-  settled st m n after = IsUpToDate m after
+  abbrev pub caught_up : Step (Option B) → Me (Option B) SeatView → ℕ → Me (Option B) SeatView → Type 0
+  caught_up st m n after = IsUpToDate m after

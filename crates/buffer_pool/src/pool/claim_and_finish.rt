@@ -9,7 +9,7 @@ ghost use Rattle.buffer_pool.specs.working.Plays.{RestsWith};
 ghost use Rattle.buffer_pool.specs.WorkerLog.{Did};
 
 use crate::layout::mark_word;
-use crate::mark_bits::{CLAIMED, FINISHED, mark_place, pair_bits};
+use crate::mark_bits::{CLAIMED, FINISHED, mark_bits, mark_place};
 use crate::plays::{Claim, Finish};
 use crate::pool::Pool;
 use crate::rules::{Token, Words};
@@ -39,7 +39,7 @@ fn raise_to_claimed<A: Allocator>(
     let word = words.fetch_or::<Claim>(
         seat,
         mark_word(buffers, object),
-        pair_bits(CLAIMED, object),
+        mark_bits(CLAIMED, object),
     );
     (word >> mark_place(object)) & CLAIMED == 0
 }
@@ -58,7 +58,7 @@ fn raise_to_finished<A: Allocator>(words: &Words<A>, seat: &mut Token<A>, buffer
     words.fetch_or::<Finish>(
         seat,
         mark_word(buffers, object),
-        pair_bits(FINISHED, object),
+        mark_bits(FINISHED, object),
     );
 }
 

@@ -4,7 +4,7 @@ ghost use Rattle.std.specs.Prelude.{◌-◌, ◌==◌, ℕ, IfNone, IfSome, coun
 ghost use Rattle.std.specs.List.{range_with_len};
 ghost use Rattle.std.specs.Slots.{IsFull, slots_filled, slots_items, slots_len};
 ghost use Rattle.buffer_pool.specs.Closing.{IsEmptied};
-ghost use Rattle.buffer_pool.specs.working.MarkBits.{mark_of, mark_words, marks_in, pair_mark};
+ghost use Rattle.buffer_pool.specs.working.MarkBits.{mark_of, mark_words, marks_in, mark_at};
 ghost use Rattle.buffer_pool.specs.working.Unfinished.{AreFinishedBelow, IsFirstUnfinished};
 
 use crate::buffer::Buffer;
@@ -73,7 +73,7 @@ impl<A: Allocator> Marks<A> {
     fn word_of(&self, object: u32) -> u64
         requires { object < length self.now }
         ensures { (o : ℕ) → o / 32 ≡ object / 32 → o < length self.now
-            → slice_index self.now o ≡ pair_mark result (o % 32) }
+            → slice_index self.now o ≡ mark_at result (o % 32) }
     {
         self.closed.word(self.first_mark + object as usize / 32)
     }

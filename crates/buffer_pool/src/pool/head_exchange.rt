@@ -173,7 +173,7 @@ pub(crate) fn put_top<A: Allocator>(
     requires table { SitsAt words.now seat.old }
     requires stored { (seat.old.me.1 ≡ (held.index, None) ∷ []) × (seat.old.me.0.out ≡ suc held.index)
         × (seat.old.me.0.out_link ≡ low_of head.index) × (0 < seat.old.me.0.book.account.share) }
-    requires settled { HasSaidAll seat.old.me.0 }
+    requires all_said { HasSaidAll seat.old.me.0 }
     requires loaded { ((look_of seat.old.me.0.book.account which).head ≡ Some head) × (head.tag < last_tag) }
     requires next { next ≡ after head (Some held.index) }
     requires may { MayPush which held seat.old.me.0.book }

@@ -7,7 +7,7 @@ ghost use Rattle.buffer_pool.specs.Book.{joined, new_book, parted};
 ghost use Rattle.buffer_pool.specs.working.BetweenCalls.{IsSound};
 ghost use Rattle.buffer_pool.specs.WorkerLog.{Did, EndsStory, IsNewcomer};
 
-use crate::plays::{SetAside, Settle};
+use crate::plays::{CatchUp, SetAside};
 use crate::pool::Pool;
 use crate::rules::{GivePart, TakeIn, Token, Words};
 use crate::worker::Worker;
@@ -30,8 +30,8 @@ fn give_part<A: Allocator>(words: &Words<A>, seat: &mut Token<A>, units: u64) ->
 {
     words.compare_exchange::<SetAside>(seat, 0, units, units);
     let mut other = words.split_seat::<GivePart>(seat);
-    words.load::<Settle>(seat, 0);
-    words.load::<Settle>(&mut other, 0);
+    words.load::<CatchUp>(seat, 0);
+    words.load::<CatchUp>(&mut other, 0);
     other
 }
 
@@ -49,9 +49,9 @@ fn take_in<A: Allocator>(words: &Words<A>, seat: &mut Token<A>, mut other: Token
     ensures did { Did seat.old.me.0.log (Join other.me.0.log.number ∷ []) seat.new.me.0.log }
     ensures knows { EndsStory other.me.0.log seat.new.me.0.log.story }
 {
-    words.load::<Settle>(&mut other, 0);
+    words.load::<CatchUp>(&mut other, 0);
     words.join_seat::<TakeIn>(seat, other);
-    words.load::<Settle>(seat, 0);
+    words.load::<CatchUp>(seat, 0);
 }
 
 impl<A: Allocator> Pool<A> {

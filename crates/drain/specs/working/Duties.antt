@@ -2,7 +2,7 @@
 use Rattle.std.specs.Prelude.{All, List, get_or, ℕ, ◌+◌, ◌<◌, ◌≡◌}
 use Rattle.buffer_pool.specs.Book.{new_book}
 use Rattle.buffer_pool.specs.Calls.{Owner}
-use Rattle.drain.specs.declared.tallied_worker.TalliedWorker.{TalliedWorker}
+use Rattle.drain.specs.declared.tally.TalliedWorker.{TalliedWorker}
 use Rattle.drain.specs.declared.tally.Tally.{Tally}
 use Rattle.drain.specs.declared.worker_threads.Duty.{Duty}
 use Rattle.drain.specs.working.AtWork.{IsFree, Leads}

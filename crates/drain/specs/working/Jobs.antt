@@ -5,12 +5,12 @@ use Rattle.work_pair.specs.CallEffects.{Gets, OpensNone, OpensTwo, ShelvesAll}
 use Rattle.drain.specs.declared.job.Job.{Job}
 use Rattle.drain.specs.declared.paired_worker.PairedWorker.{PairedWorker}
 use Rattle.drain.specs.declared.recently_seen.RecentlySeen.{RecentlySeen}
-use Rattle.drain.specs.declared.tallied_worker.TalliedWorker.{TalliedWorker}
+use Rattle.drain.specs.declared.tally.TalliedWorker.{TalliedWorker}
 use Rattle.drain.specs.declared.tally.Tally.{Tally}
 use Rattle.drain.specs.working.AtWork.{IsAtWork, IsFree, IsSetupOf, WorksOn}
 use Rattle.drain.specs.working.Idle.{HasFoundMore, HasWaited, IsAwake}
 use Rattle.drain.specs.working.RecentlySeen.{HasSeenAll}
-use Rattle.drain.specs.working.Sharing.{SharesWork}
+use Rattle.drain.specs.working.Giving.{Offers}
 use Rattle.drain.specs.working.Tallies.{Measure}
 use Rattle.drain.specs.working.Tallying.{AreTalliesOfNone, HasTallied}
 
@@ -58,12 +58,12 @@ abbrev pub ScansNext : {A : Type 0} → PairedWorker A → PairedWorker A → Bo
 ScansNext old new true = FinishesOne old new
 ScansNext old new false = FindsNone old new
 
--- a turn after which the worker goes on: it finished an object and then shared; or it got none, and waited until there
--- was more, 1,024 turns at most (`TURNS` of `idle_turns.rt`)
+-- a turn after which the worker goes on: it finished an object and then made an offer to others; or it got none,
+-- and waited until there was more, 1,024 turns at most (`TURNS` of `idle_turns.rt`)
 abbrev pub TakesTurn : {A : Type 0} → ℕ → PairedWorker A → PairedWorker A → Type 0
 TakesTurn {A} workers old new =
     (mid : PairedWorker A)
-    × ((FinishesOne old mid × SharesWork mid.pair mid.worker.book new.pair new.worker.book)
+    × ((FinishesOne old mid × Offers mid.pair mid.worker.book new.pair new.worker.book)
     ⊎ (FindsNone old mid × (new.pair ≡ mid.pair) × HasFoundMore workers 1024 mid.worker.book new.worker.book))
 
 -- turns, one after the other
@@ -72,11 +72,12 @@ pub data TakesTurns {A : Type 0} (workers : ℕ) : PairedWorker A → PairedWork
   more : (old mid new : PairedWorker A) → TakesTurns workers old mid → TakesTurn workers mid new
       → TakesTurns workers old new
 
--- the worker shared and took turns; at last it got no object, and waited until all were idle or for 1,024 turns
+-- the worker made an offer to others and took turns; at last it got no object, and waited until all were idle or for
+-- 1,024 turns
 abbrev pub HasWorkedOff : {A : Type 0} → ℕ → PairedWorker A → PairedWorker A → Type 0
 HasWorkedOff {A} workers old new =
     (begun : PairedWorker A) × (last : PairedWorker A) × (mid : PairedWorker A)
-    × SharesWork old.pair old.worker.book begun.pair begun.worker.book
+    × Offers old.pair old.worker.book begun.pair begun.worker.book
     × TakesTurns workers begun last
     × FindsNone last mid × (new.pair ≡ mid.pair) × HasWaited workers 1024 mid.worker.book new.worker.book
 

@@ -3,7 +3,7 @@ use Rattle.std.specs.Prelude.{Contains, slice_index, ℕ, ◌%◌, ◌≡◌}
 use Rattle.buffer_pool.specs.Calls.{Owner}
 use Rattle.drain.specs.declared.recently_seen.RecentlySeen.{RecentlySeen}
 
--- The object `o` is at its place of `table`.
+-- The object `o` is in its entry of `table`.
 abbrev pub IsNoted : RecentlySeen → ℕ → Type 0
 IsNoted table o = slice_index table.objects (o % 4096) ≡ o
 

@@ -10,7 +10,7 @@ one_more s bytes = record { count = s.count + 1; bytes = s.bytes + bytes }
 abbrev pub together : Sum → Sum → Sum
 together a b = record { count = a.count + b.count; bytes = a.bytes + b.bytes }
 
--- What is read of objects: the number of rows, and for an object the place of its row, its bytes, and how many of its
+-- What is read of objects: the number of rows, and for an object the number of its row, its bytes, and how many of its
 -- identifiers are other than 0 and name no object.
 pub record Measure : Type 0 where
   pub rows : ℕ
@@ -25,7 +25,7 @@ pub record IsMeasureOf (count : ℕ) (m : Measure) : Type 0 where
   pub few_bytes : (o : ℕ) → m.bytes o ≤ 2 ^ 30
   pub few_unresolved : (o : ℕ) → m.unresolved o ≤ 2 ^ 33
 
--- the number of `objects` in the row at place `n`, and their bytes together
+-- the number of `objects` in row `n`, and their bytes together
 abbrev pub sum_in : Measure → ℕ → List ℕ → Sum
 sum_in m n objects = record {
   count = sum_by (λ o. if m.row o == n then 1 else 0) objects;

@@ -1,11 +1,10 @@
 //! The loops in which a worker, or the leader, scans until nothing is left.
 
-use crate::gate::Gate;
+use crate::hooks::Gate;
 use crate::job::Job;
 use crate::paired_worker::PairedWorker;
 use crate::recently_seen::RecentlySeen;
-use crate::tallied_worker::TalliedWorker;
-use crate::tally::Tally;
+use crate::tally::{TalliedWorker, Tally};
 use crate::walk::Walk;
 use buffer_pool::Pool;
 use std::alloc::Allocator;

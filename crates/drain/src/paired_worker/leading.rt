@@ -1,10 +1,9 @@
 //! The leader's work before it starts the workers and after they have ended.
 
-use crate::gate::Gate;
+use crate::hooks::Gate;
 use crate::job::Job;
 use crate::paired_worker::PairedWorker;
-use crate::tallied_worker::TalliedWorker;
-use crate::tally::Tally;
+use crate::tally::{TalliedWorker, Tally};
 use crate::walk::Walk;
 use buffer_pool::{Pool, Worker};
 use std::alloc::Allocator;

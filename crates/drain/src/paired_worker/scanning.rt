@@ -1,6 +1,6 @@
 //! A worker scans an object that it has at hand: it claims what the object refers to, finishes it, and counts it.
 
-use crate::gate::Gate;
+use crate::hooks::Gate;
 use crate::job::Job;
 use crate::paired_worker::PairedWorker;
 use crate::recently_seen::RecentlySeen;

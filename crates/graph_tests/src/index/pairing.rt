@@ -3,9 +3,10 @@
 ghost use Rattle.std.specs.Prelude.{IfOk, IfSome, length, ◌<◌, ◌^◌, ◌≡◌};
 
 use super::beside::answers_all;
-use id_index::{IdIndex, IdPairsBuilder, IdPlaces, LowBits, are_close};
+use id_index::{IdIndex, IdPairsBuilder, LowBits, UsedIds, are_close};
 use limited_heap::{LimitedHeap, requests_of};
 use std::alloc::{AllocError, Allocator, Global};
+use std::sync::atomic::{AtomicU64, Ordering};
 use std::test::Fail;
 use std::thread::Threads;
 
@@ -40,7 +41,7 @@ fn paired_between<T: Threads + Sync, A: Allocator + Copy>(
     if !are_close(bits, least, greatest, count) {
         return Ok(None);
     }
-    let mut places = IdPlaces::new(alloc, bits, least, greatest, count, parts)?;
+    let mut places = UsedIds::new(alloc, bits, least, greatest, count, parts)?;
     let id_of = |number: usize| -> u64
         requires { number < length ids.now }
     { ids[number] };
@@ -118,15 +119,49 @@ fn is_right<T: Threads + Sync>(
 const PARTS: usize = 5;
 
 /// Each allocation fails in turn. If an index is made even so, the index agrees with a search one by one. No index is
-/// made if pairs do not serve.
+/// made if pairs do not serve. If they serve, an index takes two allocations, one for the pairs and one for the page
+/// words: the places of all parts are noted in the room of the pairs.
 #[test]
 fn paired_as_one_by_one_or_out_of_memory(rt: HostRuntime) {
     for (ids, serves) in PAIRED {
         for parts in 0..PARTS {
             let requests = requests_of(rt.alloc(), |heap| is_right(&rt, heap, ids, serves, parts));
-            assert!(rt; requests.is_some(), "{ids:?} in {parts} parts");
+            let right = requests.is_some() && (!serves || requests == Some(2));
+            assert!(rt; right, "{ids:?} in {parts} parts: {requests:?} allocations");
         }
     }
+}
+
+/// Returns how many identifiers are read to note the places of `count` objects in at most `parts` parts. Object
+/// `number` has the identifier `8 * number`.
+fn ids_read<T: Threads + Sync>(
+    rt: &T,
+    alloc: Global,
+    count: u32,
+    parts: usize,
+) -> Result<u64, AllocError> {
+    let bits = LowBits { shift: 3, low: 0 };
+    let greatest = 8 * (u64::from(count).max(1) - 1);
+    let mut places = UsedIds::new(alloc, bits, 0, greatest, count, parts)?;
+    let read = AtomicU64::new(0);
+    let id_of = |number: usize| -> u64 {
+        read.fetch_add(1, Ordering::SeqCst);
+        (number as u64).wrapping_mul(8)
+    };
+    places.note_all(rt, &id_of);
+    Ok(read.load(Ordering::SeqCst))
+}
+
+/// The parts share the objects: each identifier is read once.
+#[test]
+fn places_are_noted_once(rt: HostRuntime) -> Result<(), Fail> {
+    for count in [1, 2, 99, 1000] {
+        for parts in 0..PARTS {
+            let read = ids_read(&rt, rt.alloc(), count, parts)?;
+            assert_eq!(rt; read, u64::from(count), "in {parts} parts");
+        }
+    }
+    Ok(())
 }
 
 /// The number of pages of [`spread`].

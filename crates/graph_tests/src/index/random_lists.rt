@@ -5,6 +5,7 @@ ghost use Rattle.std.specs.Prelude.{◌<◌};
 use super::beside::answers_all;
 use super::making::index_of;
 use super::pairing::paired_index;
+use super::wide::wide_index;
 use std::alloc::{AllocError, Global};
 use std::test::Fail;
 use std::thread::Threads;
@@ -108,8 +109,8 @@ impl Numbers {
     }
 }
 
-/// Tests whether an index of `ids` by pairs is made exactly if `repeats` is false, and agrees with a search one by one.
-/// Places are noted in at most `parts` parts.
+/// Tests whether an index of `ids` by pairs is made exactly if `repeats` is false, and whether it and an index of whole
+/// identifiers agree with a search one by one. Places are noted in at most `parts` parts.
 fn is_paired<T: Threads + Sync>(
     rt: &T,
     alloc: Global,
@@ -118,6 +119,9 @@ fn is_paired<T: Threads + Sync>(
     parts: usize,
 ) -> Result<bool, AllocError> {
     if ids.len() > 1000 {
+        return Ok(false);
+    }
+    if !answers_all(&wide_index(alloc, ids)?, ids) {
         return Ok(false);
     }
     let low = ids.first().copied().unwrap_or(0) % 8;

@@ -9,14 +9,14 @@ use Rattle.heap_graph.specs.ObjectGraph.{named_classes}
 use Rattle.heap_graph.specs.References.{is_unresolved, targets}
 use Rattle.heap_graph.specs.Roots.{root_ids}
 use Rattle.heap_graph.specs.Skips.{SkipEntry, is_skipped}
-use Rattle.heap_graph.specs.declared.class_entry.ClassEntry.{ClassEntry}
+use Rattle.heap_graph.specs.declared.objects.class_entries.ClassEntry.{ClassEntry}
 use Rattle.heap_graph.specs.declared.graph.classes_and_roots.Parts.{Parts}
 use Rattle.heap_graph.specs.declared.names.Names.{Names}
 use Rattle.heap_graph.specs.declared.objects.Objects.{Objects}
 use Rattle.heap_graph.specs.declared.plan.Plan.{Plan}
 use Rattle.heap_graph.specs.working.ClassFates.{HaveFatesOf}
 use Rattle.heap_graph.specs.working.ClassPlans.{IsPlanOf}
-use Rattle.heap_graph.specs.working.HeldIds.{AreLinkedOf}
+use Rattle.heap_graph.specs.working.ObjectIds.{AreLinkedOf}
 use Rattle.heap_graph.specs.working.PlacedNames.{AreNamesOf}
 use Rattle.heap_graph.specs.working.Refinement.{named_class}
 

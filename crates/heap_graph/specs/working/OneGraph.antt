@@ -70,10 +70,10 @@ one_graph_of : (s : ℕ) (records : List Record) (skip : List SkipEntry) (g h : 
     → IsGraphOf s records skip g → IsGraphOf s records skip h → g ≡ h
 one_graph_of s records skip g h p q =
     let heap = heap_of records in
-    let lists = one_id_lists (is_skipped records skip) s heap g.held h.held p.held_are q.held_are in
+    let lists = one_id_lists (is_skipped records skip) s heap g.id_lists h.id_lists p.id_lists_are q.id_lists_are in
     λ i. record {
       ids = (p.ids_are ∙ sym q.ids_are) i;
-      held = lists i;
+      id_lists = lists i;
       references = (p.references_are ∙ ap (map (targets heap)) lists ∙ sym q.references_are) i;
       root_names = (p.root_names_are ∙ sym q.root_names_are) i;
       roots = (p.roots_are ∙ sym q.roots_are) i;

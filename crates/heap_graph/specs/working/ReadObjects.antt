@@ -2,7 +2,7 @@
 use Rattle.std.specs.Prelude.{List, ℕ, ◌≡◌}
 use Rattle.hprof_grammar.specs.Places.{IsDumpOf, Places}
 use Rattle.heap_graph.specs.Heap.{heap_of}
-use Rattle.heap_graph.specs.working.HeldIds.{AreLinkedOf}
+use Rattle.heap_graph.specs.working.ObjectIds.{AreLinkedOf}
 use Rattle.heap_graph.specs.working.ClassFates.{HaveFatesOf}
 use Rattle.heap_graph.specs.declared.objects.Objects.{Objects}
 

@@ -6,9 +6,9 @@ use Rattle.heap_graph.specs.ObjectGraph.{IsGraphOf, NamedClass, ObjectGraph}
 use Rattle.heap_graph.specs.Skips.{SkipEntry, is_skipped}
 use Rattle.heap_graph.specs.Whole.{IsWhole, unresolved_roots}
 use Rattle.heap_graph.specs.working.ClassPlans.{IsPlanOf}
-use Rattle.heap_graph.specs.working.HeldIds.{AreLinkedOf}
+use Rattle.heap_graph.specs.working.ObjectIds.{AreLinkedOf}
 use Rattle.heap_graph.specs.working.ClassFates.{HaveFatesOf}
-use Rattle.heap_graph.specs.declared.class_entry.ClassEntry.{ClassEntry}
+use Rattle.heap_graph.specs.declared.objects.class_entries.ClassEntry.{ClassEntry}
 use Rattle.heap_graph.specs.declared.objects.Objects.{Objects}
 use Rattle.heap_graph.specs.declared.plan.Plan.{Plan}
 

@@ -1,7 +1,7 @@
 -- The remaining identifiers of those that an object holds.
 use Rattle.std.specs.Prelude.{List, [], ℕ, ◌∷◌}
-use Rattle.heap_graph.specs.declared.held.Rest.{Rest}
-use Rattle.heap_graph.specs.declared.held.Rest.TheVariants as rests
+use Rattle.heap_graph.specs.declared.object_ids.Rest.{Rest}
+use Rattle.heap_graph.specs.declared.object_ids.Rest.TheVariants as rests
 
 abbrev pub rest_ids : {A : Type 0} → Rest A → List ℕ
 rest_ids rests.Nothing = []

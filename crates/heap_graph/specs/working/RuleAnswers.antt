@@ -2,9 +2,9 @@
 use Rattle.std.specs.Prelude.{List, None, Option, Some, slice_get, ℕ, ◌<◌, ◌≡◌, ◌≤◌}
 use Rattle.hprof_grammar.specs.SubRecord.{SubRecord}
 use Rattle.heap_graph.specs.declared.refusal.LinkFault.{LinkFault}
-use Rattle.heap_graph.specs.declared.rule.LinkRule.{LinkRule}
-use Rattle.heap_graph.specs.declared.rule.LinkRule.TheVariants.{DuplicateObject, InstanceSize, SuperChain, TooLarge}
-use Rattle.heap_graph.specs.declared.rule.LinkRule.TheVariants.{UnknownClass, ZeroObject}
+use Rattle.heap_graph.specs.declared.refusal.LinkRule.{LinkRule}
+use Rattle.heap_graph.specs.declared.refusal.LinkRule.TheVariants.{DuplicateObject, InstanceSize, SuperChain, TooLarge}
+use Rattle.heap_graph.specs.declared.refusal.LinkRule.TheVariants.{UnknownClass, ZeroObject}
 use Rattle.heap_graph.specs.LinkFault.{IsFirstFault, IsLeastFault, code_of}
 use Rattle.heap_graph.specs.LinkRules.{Fails, HasBadChain, HasWrongSize, LacksClass}
 

@@ -1,5 +1,5 @@
 -- Objects that are tested part by part.
-use Rattle.std.specs.Prelude.{IfErr, List, OnOk, Result, length, ◌+◌, ◌≤◌, ℕ}
+use Rattle.std.specs.Prelude.{IfErr, List, OnOk, Result, get_or, length, min, ℕ, ◌%◌, ◌*◌, ◌+◌, ◌-◌, ◌/◌, ◌<◌, ◌≡◌, ◌≤◌}
 use Rattle.hprof_grammar.specs.SubRecord.{SubRecord}
 use Rattle.heap_graph.specs.declared.objects.Objects.{Objects}
 use Rattle.heap_graph.specs.declared.refusal.LinkFault.{LinkFault}
@@ -24,3 +24,18 @@ pub record HasTested {A : Type 0} (o : Objects A) (repeat start : ℕ) (part : L
       → AreFine o.view.id_size heap start → AreFine o.view.id_size heap (start + length part))
   pub fault : IfErr result (λ f. (heap : List SubRecord) → AreOf o heap → HaveFatesOf o heap
       → AreFine o.view.id_size heap start → IsFaultOf o.view.id_size heap o.places.items f)
+
+-- the result of the part with number `n`, where each part has `size` objects, and the last one perhaps fewer
+pub record IsOfPart {A : Type 0} (o : Objects A) (repeat size n : ℕ) (result : Result (Unit {0}) LinkFault) : Type 0 where
+  pub part : List ℕ
+  pub within : n * size + length part ≤ length o.places.items
+  pub long : length part ≡ min size (length o.places.items - n * size)
+  pub tested : HasTested o repeat (n * size) part result
+
+-- the results of all such parts of the objects
+pub record AreOfParts {A : Type 0} (o : Objects A) (repeat size : ℕ)
+    (results : List (Result (Unit {0}) LinkFault)) : Type 0 where
+  pub some : 0 < size
+  pub count : length results ≡ length o.places.items / size + min 1 (length o.places.items % size)
+  pub each : (n : ℕ) (d : Result (Unit {0}) LinkFault) → n < length results
+      → IsOfPart o repeat size n (get_or results n d)

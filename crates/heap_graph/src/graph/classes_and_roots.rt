@@ -8,11 +8,11 @@ ghost use Rattle.hprof_grammar.specs.SubRecord.{SubRecord};
 ghost use Rattle.heap_graph.specs.Heap.{heap_of};
 ghost use Rattle.heap_graph.specs.working.ClassFates.{HaveFatesOf};
 ghost use Rattle.heap_graph.specs.working.GraphParts.{AreNamedOf, ArePartsOf, AreRootsOf, MayHaveParts};
-ghost use Rattle.heap_graph.specs.working.HeldIds.{AreLinkedOf};
+ghost use Rattle.heap_graph.specs.working.ObjectIds.{AreLinkedOf};
 ghost use Rattle.heap_graph.specs.working.PlacedNames.{AreNamesByIdOf, AreNamesOf};
 
-use crate::class_entry::ClassEntry;
 use crate::names::{Names, NamesById};
+use crate::objects::class_entries::ClassEntry;
 use crate::objects::{Objects, read_ids};
 use crate::plan::Plan;
 use crate::resolving::resolve;

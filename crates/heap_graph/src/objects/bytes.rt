@@ -7,8 +7,7 @@ ghost use Rattle.hprof_grammar.specs.SubRecord.{Class, ObjectArray, PrimitiveArr
 ghost use Rattle.hprof_grammar.specs.SubRecord.SubRecord.{class_dump, object_array_dump, primitive_array_dump};
 ghost use Rattle.heap_graph.specs.Rows.{bytes_of};
 
-use crate::types::OBJECT_TYPE;
-use hprof_grammar::{Values, View};
+use hprof_grammar::{OBJECT_TYPE, Values, View};
 
 /// Returns the size in bytes of `values` together.
 // Not inlined, so that a visit does not contain the walk over a class's statics.

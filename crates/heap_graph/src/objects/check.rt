@@ -8,7 +8,7 @@ ghost use Rattle.hprof_grammar.specs.SubRecord.SubRecord.{class_dump, instance_d
 
 use crate::classes::{Fate, Layout};
 use crate::objects::Objects;
-use crate::rule::LinkRule;
+use crate::refusal::LinkRule;
 use hprof_grammar::ObjectKind;
 use std::alloc::Allocator;
 

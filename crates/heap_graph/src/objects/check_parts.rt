@@ -8,7 +8,6 @@ use crate::objects::Objects;
 use crate::refusal::LinkFault;
 use hprof_grammar::Team;
 use std::alloc::Allocator;
-use std::thread;
 use std::thread::Threads;
 
 impl<'d, A: Allocator> Objects<'d, A> {
@@ -60,12 +59,11 @@ impl<'d, A: Allocator + Copy + Send + Sync> Objects<'d, A> {
         if !team.splits(places.len()) {
             return self.check_part(0, places, repeat);
         }
-        let size = team.part_of(places.len());
         let test = |start: usize, part: &[u32]| -> Result<(), LinkFault>
             requires { MayTest self.now repeat start part.now }
             ensures { HasTested self.entry.now repeat start part.entry.now result }
         { self.check_part(start, part, repeat) };
-        let Ok(answers) = thread::map_chunks(team, alloc, places, size, &test) else {
+        let Ok(answers) = team.map_parts(alloc, places, &test) else {
             return self.check_part(0, places, repeat);
         };
         for answer in &answers {

@@ -7,13 +7,19 @@ ghost use Rattle.heap_graph.specs.Heap.{heap_of};
 ghost use Rattle.heap_graph.specs.ObjectGraph.{named_classes};
 ghost use Rattle.heap_graph.specs.working.ClassList.{ids_of};
 
-use crate::class_entry::ClassEntry;
 use crate::names::NamesById;
 use crate::objects::Objects;
 use std::alloc::{AllocError, Allocator};
 
+/// The identifier of a class, and the text that names the class, or `None` if the dump has none.
+#[derive(Clone, Copy)]
+pub(crate) struct ClassEntry<'a> {
+    pub(crate) id: u64,
+    pub(crate) text: Option<&'a [u8]>,
+}
+
 impl<'d, A: Allocator> Objects<'d, A> {
-    ghost use Rattle.heap_graph.specs.working.HeldIds.{AreLinkedOf};
+    ghost use Rattle.heap_graph.specs.working.ObjectIds.{AreLinkedOf};
     ghost use Rattle.heap_graph.specs.working.PlacedNames.{AreNamesByIdOf};
     ghost use Rattle.heap_graph.specs.working.Refinement.{named_class};
     ghost use Rattle.heap_graph.specs.working.ClassFates.{HaveFatesOf};

@@ -13,7 +13,7 @@ impl<'d, A: Allocator> Objects<'d, A> {
     ghost use Rattle.heap_graph.specs.working.ClassFates.{HaveFatesOf};
     ghost use Rattle.heap_graph.specs.working.ClassTable.{ids_of};
     ghost use Rattle.heap_graph.specs.working.FieldsUp.{next_above};
-    ghost use Rattle.heap_graph.specs.working.HeldIds.{AreLinkedOf, IsFirstOfInstance, IsObjectAt};
+    ghost use Rattle.heap_graph.specs.working.ObjectIds.{AreLinkedOf, IsFirstOfInstance, IsObjectAt};
 
     /// Returns the number of the class that `id` names. `id` must name a class.
     // Inlined, like everything that makes up a visit, so that a visit is built in place.

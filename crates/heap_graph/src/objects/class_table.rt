@@ -1,4 +1,4 @@
-//! Fills the table of classes from the objects.
+//! Builds the table of the classes among the objects of a dump.
 
 ghost use Rattle.std.specs.Prelude.{IfOk, List, OnOk, length, ◌+◌, ◌<◌, ◌≡◌, ◌≤◌};
 ghost use Rattle.hprof_grammar.specs.Standing.{StandInTurn, Stands};

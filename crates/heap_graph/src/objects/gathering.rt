@@ -10,7 +10,6 @@ ghost use Rattle.heap_graph.specs.working.GatheredParts.{AreJoined, AreOfParts, 
 use hprof_grammar::{ObjectKind, Team, View};
 use id_index::{IdIndexBuilder, LowBits};
 use std::alloc::{AllocError, Allocator};
-use std::thread;
 use std::thread::Threads;
 
 /// The identifiers of objects, and which of the objects are class dumps.
@@ -132,12 +131,11 @@ fn gather_in_parts<T: Threads + Sync, B: Allocator + Copy + Send + Sync>(
     requires { MayGather view.now places.now bits 0 places.now }
     ensures { IsGathering view.now places.now bits 0 places.now result }
 {
-    let size = team.part_of(places.len());
     let gather = |start: usize, part: &[u32]| -> Result<Option<Gathered<B>>, AllocError>
         requires { MayGather view.now places.now bits start part.now }
         ensures { IsGathering view.entry.now places.entry.now bits start part.entry.now result }
     { gather_part(alloc, view, places, start, part, bits) };
-    let parts = thread::map_chunks(team, alloc, places, size, &gather)?;
+    let parts = team.map_parts(alloc, places, &gather)?;
     join_parts(alloc, bits, parts)
 }
 

@@ -2,9 +2,8 @@
 //!
 //! In most dumps the identifiers are the addresses of objects, and all have the same lowest three bits. The index omits
 //! these bits, so that neighbours share a run. If an identifier has other lowest bits, all identifiers are gathered
-//! again and indexed with all their bits. Objects in no order are indexed by pairs instead of runs, if [`paired`] can
-//! make the pairs. In each case the numbers of the class dumps are noted on the way, so that only class dumps are read
-//! for the class table.
+//! again and indexed with all their bits. Objects in no order are indexed without runs ([`scattered`]). In each case the
+//! numbers of the class dumps are noted on the way, so that only class dumps are read for the class table.
 
 ghost use Rattle.hprof_grammar.specs.Standing.{StandInTurn, Stands};
 ghost use Rattle.hprof_grammar.specs.SubRecord.{SubRecord};
@@ -14,7 +13,7 @@ ghost use Rattle.heap_graph.specs.working.ClassNumbers.{AreIndexed};
 ghost use Rattle.heap_graph.specs.working.GatheredParts.{MayIndex};
 
 use crate::objects::gathering::{Gathered, gather};
-use crate::objects::pairing::paired;
+use crate::objects::pairing::scattered;
 use hprof_grammar::{Team, View};
 use id_index::{IdIndex, LowBits};
 use std::alloc::{AllocError, Allocator};
@@ -71,7 +70,7 @@ pub(crate) fn index_of<T: Threads + Sync, B: Allocator + Copy + Send + Sync>(
         → StandInTurn (Stands view.now) places.now (objects heap) → AreIndexed view.now places.now heap indexed) }
 {
     let bits = first_bits(view, places);
-    if let Some(indexed) = paired(team, alloc, view, places, bits)? {
+    if let Some(indexed) = scattered(team, alloc, view, places, bits)? {
         return Ok(indexed);
     }
     if let Some(gathered) = gather(team, alloc, view, places, bits)? {

@@ -1,13 +1,14 @@
-//! Indexes objects in no order by their identifiers: pairs are placed straight from the bytes.
+//! Indexes objects in no order by their identifiers, straight from the bytes.
 //!
 //! ZGC and Shenandoah write objects in the order of a walk over references. In that order nearly each object would be
-//! a run of its own, so the index is made of pairs. The identifiers are read once to note the places that they take,
-//! and once more to place the pairs (more often if the ends of a sample do not serve). So nothing is gathered beside
-//! the index.
+//! a run of its own, so the index is made of pairs of identifier and number. If the objects are close together, the
+//! identifiers are read once to note the places that they take, and once more to place the pairs (more often if the
+//! ends of a sample do not serve). If they are far apart, if identifiers repeat, or if their lowest bits differ, the
+//! pairs have whole identifiers and are sorted. In neither case anything is gathered beside the index.
 
 ghost use Rattle.hprof_grammar.specs.Standing.{StandInTurn, Stands};
 ghost use Rattle.hprof_grammar.specs.SubRecord.{SubRecord};
-ghost use Rattle.std.specs.Prelude.{IfOk, IfSome, List, length, ◌<◌};
+ghost use Rattle.std.specs.Prelude.{IfOk, IfSome, List, length, max, ◌<◌, ◌≤◌};
 ghost use Rattle.heap_graph.specs.Heap.{objects};
 ghost use Rattle.heap_graph.specs.working.ClassNumbers.{AreIndexed};
 ghost use Rattle.heap_graph.specs.working.GatheredParts.{MayGather, MayIndex};
@@ -15,7 +16,7 @@ ghost use Rattle.heap_graph.specs.working.GatheredParts.{MayGather, MayIndex};
 use crate::objects::gathering::note_class;
 use crate::objects::indexing::Indexed;
 use hprof_grammar::{Team, View};
-use id_index::{IdPairsBuilder, IdPlaces, LowBits, are_close};
+use id_index::{IdPairsBuilder, LowBits, UsedIds, WideEntriesBuilder, are_close};
 use std::alloc::{AllocError, Allocator};
 use std::thread;
 use std::thread::Threads;
@@ -178,6 +179,17 @@ fn ends_of<T: Threads + Sync, B: Allocator + Copy + Send + Sync>(
     ends_of_part(view, places, 0, places, bits)
 }
 
+/// Returns how many parts `team` makes of `count` objects: one if there are few (`Team::splits`), and never more than
+/// it has threads.
+fn parts_of<T>(team: &Team<'_, T>, count: usize) -> usize
+    ensures { result ≤ max team.now.threads 1 }
+{
+    if team.splits(count) {
+        return count.div_ceil(team.part_of(count));
+    }
+    1
+}
+
 /// Notes which places of the index the identifiers of the objects at `places` take. Notes only identifiers between
 /// `ends` or not far outside. If there are many objects (`Team::splits`), the threads of `team` share the work.
 /// `AllocError` if the allocation fails.
@@ -188,16 +200,12 @@ fn noted_places<T: Threads + Sync, B: Allocator>(
     places: &[u32],
     bits: LowBits,
     ends: Ends,
-) -> Result<IdPlaces<B>, AllocError>
+) -> Result<UsedIds<B>, AllocError>
     requires { MayGather view.now places.now bits 0 places.now }
 {
     let count = places.len();
-    let parts = if team.splits(count) {
-        count.div_ceil(team.part_of(count))
-    } else {
-        1
-    };
-    let mut noted = IdPlaces::new(alloc, bits, ends.least, ends.greatest, count as u32, parts)?;
+    let parts = parts_of(team, count);
+    let mut noted = UsedIds::new(alloc, bits, ends.least, ends.greatest, count as u32, parts)?;
     let id_of = |number: usize| -> u64
         requires { (number < length places.now) × MayIndex view.now places.now }
     { view.object_id(places[number]) };
@@ -213,7 +221,7 @@ fn placed<B: Allocator + Copy>(
     view: &View<'_>,
     places: &[u32],
     bits: LowBits,
-    noted: IdPlaces<B>,
+    noted: UsedIds<B>,
 ) -> Result<Option<Indexed<B>>, AllocError>
     requires { MayGather view.now places.now bits 0 places.now }
     ensures { IfOk result (λ found. IfSome found (λ indexed. (heap : List SubRecord)
@@ -256,10 +264,59 @@ fn paired_between<T: Threads + Sync, B: Allocator + Copy>(
     placed(alloc, view, places, bits, noted)
 }
 
-/// Indexes the objects at `places` by pairs, if a sample shows that they are in no order. Returns `None` if the sample
-/// shows an order, or if [`paired_between`] returns `None` for the ends of all identifiers. `AllocError` if an
-/// allocation for pairs fails.
-pub(super) fn paired<T: Threads + Sync, B: Allocator + Copy + Send + Sync>(
+/// Indexes the objects at `places` by pairs, if they are close together. First tries `ends`, those of a sample, and then
+/// the ends of all identifiers. Returns `None` if [`paired_between`] does so for both. `AllocError` if an allocation for
+/// pairs fails.
+fn paired<T: Threads + Sync, B: Allocator + Copy + Send + Sync>(
+    team: &Team<'_, T>,
+    alloc: B,
+    view: &View<'_>,
+    places: &[u32],
+    bits: LowBits,
+    ends: Ends,
+) -> Result<Option<Indexed<B>>, AllocError>
+    requires { MayGather view.now places.now bits 0 places.now }
+    ensures { IfOk result (λ found. IfSome found (λ indexed. (heap : List SubRecord)
+        → StandInTurn (Stands view.now) places.now (objects heap) → AreIndexed view.now places.now heap indexed)) }
+{
+    // If the ends of a sample are too far apart, those of all identifiers are, too.
+    if !are_close(bits, ends.least, ends.greatest, places.len() as u32) {
+        return Ok(None);
+    }
+    // The ends of a sample nearly always serve, and save the pass over all identifiers that finds their ends.
+    if let Some(indexed) = paired_between(team, alloc, view, places, bits, ends)? {
+        return Ok(Some(indexed));
+    }
+    let Some(ends) = ends_of(team, alloc, view, places, bits) else {
+        return Ok(None);
+    };
+    paired_between(team, alloc, view, places, bits, ends)
+}
+
+/// Indexes the objects at `places` by their whole identifiers, whatever these are. `AllocError` if an allocation fails.
+fn sorted<B: Allocator + Copy>(
+    alloc: B,
+    view: &View<'_>,
+    places: &[u32],
+) -> Result<Indexed<B>, AllocError>
+    requires { MayIndex view.now places.now }
+    ensures { IfOk result (λ indexed. (heap : List SubRecord)
+        → StandInTurn (Stands view.now) places.now (objects heap) → AreIndexed view.now places.now heap indexed) }
+{
+    let mut ids = WideEntriesBuilder::new(alloc, places.len() as u32)?;
+    let mut class_dumps = Vec::new(alloc);
+    for number in 0..places.len() {
+        ids.push(view.object_id(places[number]))?;
+        note_class(&mut class_dumps, view, places, number)?;
+    }
+    let index = ids.finish(alloc)?;
+    Ok(Indexed { index, class_dumps })
+}
+
+/// Indexes the objects at `places`, if a sample shows that they are in no order: by pairs if they are close together,
+/// otherwise by their whole identifiers. Returns `None` if the sample shows an order. `AllocError` if an allocation
+/// fails.
+pub(super) fn scattered<T: Threads + Sync, B: Allocator + Copy + Send + Sync>(
     team: &Team<'_, T>,
     alloc: B,
     view: &View<'_>,
@@ -274,12 +331,8 @@ pub(super) fn paired<T: Threads + Sync, B: Allocator + Copy + Send + Sync>(
     if !sample.is_scattered() {
         return Ok(None);
     }
-    // The ends of a sample nearly always serve, and save the pass over all identifiers that finds their ends.
-    if let Some(indexed) = paired_between(team, alloc, view, places, bits, sample.ends)? {
-        return Ok(Some(indexed));
+    match paired(team, alloc, view, places, bits, sample.ends)? {
+        Some(indexed) => return Ok(Some(indexed)),
+        None => return Ok(Some(sorted(alloc, view, places)?)),
     }
-    let Some(ends) = ends_of(team, alloc, view, places, bits) else {
-        return Ok(None);
-    };
-    paired_between(team, alloc, view, places, bits, ends)
 }

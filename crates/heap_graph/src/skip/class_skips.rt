@@ -11,8 +11,7 @@ ghost use Rattle.heap_graph.specs.working.PlacedNames.{AreNamesByIdOf};
 
 use crate::names::NamesById;
 use crate::skip::SkipEntry;
-use crate::types::OBJECT_TYPE;
-use hprof_grammar::MemberField;
+use hprof_grammar::{MemberField, OBJECT_TYPE};
 use std::alloc::Allocator;
 
 /// A test of which fields of one class are on the list. `entries` is the whole list if an entry names the class,

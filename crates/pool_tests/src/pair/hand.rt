@@ -193,7 +193,7 @@ pub(crate) fn dispose<R: Wait + Abort, A: Allocator>(
 {
     match pair.dispose(rt, pool, worker) {
         Ok(()) => None,
-        Err((left, Stop::TagSpent)) => Some(left.lens()),
+        Err((left, Stop::TagSpent(_))) => Some(left.lens()),
         Err((_, Stop::OutOfMemory)) => panic!(rt; "it takes no memory"),
     }
 }

@@ -39,7 +39,7 @@ fn stopped_by_put<R: Wait + Abort, A: Allocator>(
     requires { IsReady OBJECTS pool.now worker.old pair }
 {
     claim(rt, pool, worker, &pair, object);
-    let Err((back, Stop::TagSpent)) = pair.put(rt, pool, worker, object) else {
+    let Err((back, Stop::TagSpent(_))) = pair.put(rt, pool, worker, object) else {
         panic!(rt; "a last tag was to be loaded");
     };
     assert!(rt; back == object);
@@ -163,10 +163,22 @@ fn stopped_pairs_keep_their_buffers(rt: HostRuntime) -> Result<(), Fail> {
     Ok(())
 }
 
+/// Returns the stop of a pair that was to be opened on a pool whose heads have the last tag.
+fn stop_of_open<R: Wait + Abort>(rt: &R, alloc: Global) -> Result<Stop, PoolFault> {
+    let (pool, mut worker) = pool_of_roots(alloc, 4, 4, LAST_TAG)?;
+    let Err(stop) = Pair::open(rt, alloc, &pool, &mut worker) else {
+        panic!(rt; "a last tag was to be loaded");
+    };
+    Ok(stop)
+}
+
 #[test]
 fn each_stop_has_its_words(rt: HostRuntime) -> Result<(), Fail> {
     for (stop, words) in [
-        (Stop::TagSpent, "a stack's last tag was loaded"),
+        (
+            stop_of_open(&rt, rt.alloc())?,
+            "a stack's last tag was loaded",
+        ),
         (Stop::OutOfMemory, "out of memory"),
     ] {
         let told = format!(in rt.alloc(); "{stop}")?;

@@ -25,7 +25,7 @@ places first second third =
 abbrev pub PopsOne : Which → Book → Book → Result (Option HeldBuffer) Stop → Type 0
 PopsOne q old new (Ok (Some h)) = Moved (Took q h) old new
 PopsOne q old new (Ok None) = Moved (FoundNone q) old new
-PopsOne q old new (Err TagSpent) = Moved (Spent q) old new
+PopsOne q old new (Err (TagSpent token)) = Moved (Spent q) old new
 PopsOne q old new (Err OutOfMemory) = ⊥
 
 -- one push
@@ -43,14 +43,14 @@ Leaves (Some h) old new = Moved (Gave (shelf_of h.items) h) old new
 abbrev pub PutsOut : Option HeldBuffer → HeldBuffer → Book → Option HeldBuffer → Option HeldBuffer → Book
     → Result Unit Stop → Type 0
 PutsOut old next before new third after (Ok done) = (new ≡ Some next) × (third ≡ None) × Leaves old before after
-PutsOut old next before new third after (Err TagSpent) = (new ≡ old) × (third ≡ Some next) × ((q : Which)
+PutsOut old next before new third after (Err (TagSpent token)) = (new ≡ old) × (third ≡ Some next) × ((q : Which)
     × Moved (Spent q) before after)
 PutsOut old next before new third after (Err OutOfMemory) = ⊥
 
 -- the buffer at a place, if there is one, was pushed; or a last tag was loaded, and it is still there
 abbrev pub ClearsAt : Option HeldBuffer → Book → Option HeldBuffer → Book → Result Unit Stop → Type 0
 ClearsAt old before new after (Ok done) = (new ≡ None) × Leaves old before after
-ClearsAt old before new after (Err TagSpent) = (new ≡ old) × ((q : Which) × Moved (Spent q) before after)
+ClearsAt old before new after (Err (TagSpent token)) = (new ≡ old) × ((q : Which) × Moved (Spent q) before after)
 ClearsAt old before new after (Err OutOfMemory) = ⊥
 
 -- a pair changed without its worker: objects were put and got, and the buffers are the same
@@ -106,7 +106,7 @@ RenewAnswers half q old before new third after (Ok true) = (r : Renews old befor
     × Replaces half q old r.moves new
 RenewAnswers half q old before new third after (Ok false) = (r : Renews old before new third after)
     × (third ≡ None) × (new ≡ old) × WasSeenEmpty Empty before after × (r.moves ≡ FoundNone Empty ∷ [])
-RenewAnswers half q old before new third after (Err TagSpent) = (r : Renews old before new third after)
+RenewAnswers half q old before new third after (Err (TagSpent token)) = (r : Renews old before new third after)
     × EndAtLastTag r.moves × (HasPopFromFull r.moves → IsFull q)
 RenewAnswers half q old before new third after (Err OutOfMemory) = ⊥
 
@@ -117,7 +117,7 @@ abbrev pub PublishesAt : Option HeldBuffer → Book → Option HeldBuffer → Op
 PublishesAt old before new third after (Ok done) = (r : Renews old before new third after)
     × (third ≡ None) × (WasSeenEmpty Empty before after ⊎ (items_at new ≡ [])) × (HasPopFromFull r.moves → ⊥)
     × PublishesPlace old r.moves new
-PublishesAt old before new third after (Err TagSpent) = (r : Renews old before new third after)
+PublishesAt old before new third after (Err (TagSpent token)) = (r : Renews old before new third after)
     × EndAtLastTag r.moves × (HasPopFromFull r.moves → ⊥)
 PublishesAt old before new third after (Err OutOfMemory) = ⊥
 
@@ -139,12 +139,12 @@ FindsNone old before new after = (t : Trades old before [] [] new after) × (new
 
 -- a call was stopped by a last tag
 abbrev pub Ends : PairState → Book → PairState → Book → Stop → Type 0
-Ends old before new after TagSpent = (t : Trades old before [] [] new after) × EndAtLastTag t.moves
+Ends old before new after (TagSpent token) = (t : Trades old before [] [] new after) × EndAtLastTag t.moves
 Ends old before new after OutOfMemory = ⊥
 
 -- a call was stopped by a last tag, and nothing was popped from full
 abbrev pub EndsOut : PairState → Book → PairState → Book → Stop → Type 0
-EndsOut old before new after TagSpent = (t : Trades old before [] [] new after) × EndAtLastTag t.moves
+EndsOut old before new after (TagSpent token) = (t : Trades old before [] [] new after) × EndAtLastTag t.moves
     × (HasPopFromFull t.moves → ⊥)
 EndsOut old before new after OutOfMemory = ⊥
 
@@ -199,5 +199,6 @@ pub record Clears (old : PairState) (before : Book) (new : PairState) (after : B
 abbrev pub ClearAnswers : PairState → Book → PairState → Book → Result Unit Stop → Type 0
 ClearAnswers old before new after (Ok done) = (c : Clears old before empty_pair after)
     × (c.trades.moves ≡ shelving_of old.first ++ shelving_of old.second ++ shelving_of old.third)
-ClearAnswers old before new after (Err TagSpent) = (c : Clears old before new after) × EndAtLastTag c.trades.moves
+ClearAnswers old before new after (Err (TagSpent token)) =
+    (c : Clears old before new after) × EndAtLastTag c.trades.moves
 ClearAnswers old before new after (Err OutOfMemory) = ⊥

@@ -36,5 +36,6 @@ loop-rest-preserved-in-loop-rest g c =
           let at_end : to ≡ 31 + bytes = omega (arith, empty) in
           subst (λ (cuts : List Cut). AreCuts c.args.size 31 cuts (31 + bytes)) (sym noted)
           (subst (AreCuts c.args.size 31 (c.loop-rest.cuts.items ++ cut ∷ [])) at_end
-          (and_the_last c.args.size 31 from.place c.loop-rest.cuts.items cut long refl)),
+          (and_the_last c.args.size 31 from.place c.loop-rest.cuts.items cut long refl
+          (omega (arith, now.0, now.1, now.2, less)))),
     )

@@ -19,8 +19,8 @@ loop-at-2-init c =
         | else-loop-at-test w ↦ λ k h. around.before k (omega (arith, h, w.loop-at-test.false))
       ],
       elim c.loop-at-test.branch [
-        | then-loop-at-test+else-page w ↦ rw w.looks-is (omega (arith, c.loop-at.invariant))
-        | else-loop-at-test w ↦ rw w.looks-is (omega (arith, c.loop-at.invariant))
+        | then-loop-at-test+else-page w ↦ rw w.probes-is (omega (arith, c.loop-at.invariant))
+        | else-loop-at-test w ↦ rw w.probes-is (omega (arith, c.loop-at.invariant))
       ],
     )
 

@@ -1,7 +1,7 @@
 -- The lowest place that was seen before has the least number of them all.
 use Rattle.id_index.proofs.Words.{ap, arith, bit_and, min, trailing_zeros, w64, ℕ, ◌+◌, ◌∙◌}
 use Rattle.id_index.proofs.Repeating.{lowered_by, none_lowered}
-use Rattle.id_index.proofs.Settled.{before_end}
+use Rattle.id_index.proofs.Pruned.{before_end}
 use Rattle.id_index.proofs.repeats.lower_least.Goals as goal
 
 pub returns-then-again-eq0 : goal.returns-then-again-eq0

@@ -36,7 +36,7 @@ told g c =
     (slots_items c.close_with-closed.result.slots) (place g c) c.self.invariant.2
     c.close_with-closed.ensures.values.2 (ap (λ (x : Owner). x.book.account.share) is ∙ c.requires.share)
     (ap (λ (x : Owner). x.book.account.held) is ∙ c.requires.held)
-    (ap (λ (x : Owner). x.book.account.charge) is ∙ c.requires.charge) c.worker.invariant.0.settled in
+    (ap (λ (x : Owner). x.book.account.charge) is ∙ c.requires.charge) c.worker.invariant.0.all_said in
     subst (λ (words : List ℕ). Tells seat.me.0.log seat.me.0.book (marks_of g c words))
     (sym (ap slots_items c.empty_slots.ensures.words)) at_close
 

@@ -10,10 +10,10 @@ overflow_add-result g c =
     let sound = c.worker.invariant.0 in
     let other = c.other.inside in
     let there = other.seat.me.0 in
-    let settled = c.other.invariant.0 in
+    let other_sound = c.other.invariant.0 in
     omega (
       arith,
       small_count w.seat.table_id v.log v.book sound.laid sound.story w.finished c.worker.invariant.1,
-      small_count other.seat.table_id there.log there.book settled.laid settled.story other.finished
+      small_count other.seat.table_id there.log there.book other_sound.laid other_sound.story other.finished
           c.other.invariant.1,
     )

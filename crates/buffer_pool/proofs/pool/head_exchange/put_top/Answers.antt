@@ -24,7 +24,7 @@ exchange_for_buffer-requires-clause-put g c =
         carried = refl;
         out = c.requires.stored.1 ∙ ap suc (sym index);
         share = c.requires.stored.3;
-        settled = c.requires.settled;
+        all_said = c.requires.all_said;
         held = stands_times me.0.book.account.held i held;
         last = c.requires.loaded.0 ∙ ap {B = Option Head} Some (sym spelled);
         short = subst (λ (h : Head). h.tag < last_tag) (sym spelled) c.requires.loaded.1;

@@ -1,7 +1,7 @@
--- The units are noted, the seat is split, and both parts are settled: each is sound and has its part of the share.
+-- The units are noted, the seat is split, and both parts catch up: each is sound and has its part of the share.
 use Rattle.std.proofs.Common.{◌∙◌, ap, refl, sym, Option, arith}
 use Rattle.buffer_pool.proofs.Words.{Me, TableId, Buffer, SeatView, buffer_reading, setup_of, Log}
-use Rattle.buffer_pool.proofs.Loads.{sets_aside, settles}
+use Rattle.buffer_pool.proofs.Loads.{sets_aside, catches_up}
 use Rattle.buffer_pool.proofs.SplitsAndJoins.{noted_units, splits, kept_may, given_may, keeps_part, has_part}
 use Rattle.buffer_pool.proofs.pool.shares.give_part.Given as given
 use Rattle.buffer_pool.proofs.pool.shares.give_part.Goals as goal
@@ -36,7 +36,7 @@ load-requires g c =
     c.split_seat-other.ensures.2 c.requires.units.1 in (
       c.split_seat-other.ensures.0 ∙ c.compare_exchange.ensures.0 ∙ c.requires.table,
       omega (arith, c.requires.sound.laid.words, ap (λ (t : TableId). t.words) c.requires.table),
-      settles buffer_reading (setup_of c.args.words.now.key) c.args.words.now.table_id.slots
+      catches_up buffer_reading (setup_of c.args.words.now.key) c.args.words.now.table_id.slots
           c.split_seat-other.new.seat.id c.split_seat-other.new.seat.me 0 may.0 may.1,
     )
 
@@ -48,7 +48,7 @@ load-requires-2 g c =
     c.split_seat-other.ensures.4 c.requires.units.0 in (
       c.split_seat-other.ensures.3 ∙ c.compare_exchange.ensures.0 ∙ c.requires.table,
       omega (arith, c.requires.sound.laid.words, ap (λ (t : TableId). t.words) c.requires.table),
-      settles buffer_reading (setup_of c.args.words.now.key) c.args.words.now.table_id.slots
+      catches_up buffer_reading (setup_of c.args.words.now.key) c.args.words.now.table_id.slots
           c.split_seat-other.result.id c.split_seat-other.result.me 0 may.0 may.1,
     )
 

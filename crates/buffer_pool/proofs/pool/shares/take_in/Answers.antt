@@ -1,7 +1,7 @@
--- The other seat is settled before it is joined, and the joined one after: its book is that of both, each object once.
+-- The other seat catches up before it is joined, and the joined one after: its book is that of both, each object once.
 use Rattle.buffer_pool.proofs.Words.{AreApart, Buffer, HasEachOnce, IsSound, Me, Option, SeatView, TableId, after_join}
 use Rattle.buffer_pool.proofs.Words.{ap, arith, buffer_reading, setup_of, subst, sym, times, ◌∙◌}
-use Rattle.buffer_pool.proofs.Loads.{settles}
+use Rattle.buffer_pool.proofs.Loads.{catches_up}
 use Rattle.buffer_pool.proofs.SplitsAndJoins.{apart_by, carries_joined, has_joined, joins}
 use Rattle.buffer_pool.proofs.pool.shares.take_in.Given as given
 use Rattle.buffer_pool.proofs.pool.shares.take_in.Goals as goal
@@ -14,7 +14,7 @@ load-requires g c =
     let sound = c.requires.sound.1 in (
       c.requires.table.1,
       omega (arith, sound.laid.words, ap (λ (t : TableId). t.words) c.requires.table.1),
-      settles buffer_reading (setup_of c.args.words.now.key) c.args.words.now.table_id.slots c.args.other.id
+      catches_up buffer_reading (setup_of c.args.words.now.key) c.args.words.now.table_id.slots c.args.other.id
           c.args.other.me 0 sound.carries sound.share,
     )
 
@@ -27,7 +27,7 @@ join_seat-requires g c =
       ap (λ (n : Token g). n.1) freed,
       omega (arith, sound.laid.words, ap (λ (t : TableId). t.words) c.requires.table.0),
       joins buffer_reading (setup_of c.args.words.now.key) c.args.seat.now.id c.args.seat.now.me.0 c.load.new.seat.id
-          c.load.new.seat.me.0 (ap (λ (n : Token g). n.0.out) freed) sound.share sound.settled.named
+          c.load.new.seat.me.0 (ap (λ (n : Token g). n.0.out) freed) sound.share sound.all_said.named
           (omega (arith, c.requires.sound.1.share, ap (λ (n : Token g). n.0.book.account.share) freed))
           (ap (λ (n : Token g). n.0.named) freed) (ap (λ (n : Token g). n.0.unsaid) freed),
     )
@@ -38,7 +38,7 @@ load-requires-2 g c =
     let both = c.join_seat.ensures.2 in (
       c.join_seat.ensures.0 ∙ c.requires.table.0,
       omega (arith, sound.laid.words, ap (λ (t : TableId). t.words) c.requires.table.0),
-      settles buffer_reading (setup_of c.args.words.now.key) c.args.words.now.table_id.slots c.join_seat.new.seat.id
+      catches_up buffer_reading (setup_of c.args.words.now.key) c.args.words.now.table_id.slots c.join_seat.new.seat.id
           c.join_seat.new.seat.me 0 (carries_joined c.args.seat.now.me c.load.new.seat.me both sound.carries)
           (omega (arith, sound.share, ap (λ (n : Token g). n.0.book.account.share) both)),
     )

@@ -46,7 +46,7 @@ returns-in-Some-take_top-clause-sound g c =
     (c.load_head-head.ensures.within c.in-Some.index (sym c.in-Some.ensures.same)) in
     sound_as {n = three.me}
     (sound_popped second three.me c.in-Some.index b.items.items below taken.ours.objects
-    taken.slots taken.out taken.book taken.settled) c.take_top.ensures.same.table refl taken.story
+    taken.slots taken.out taken.book taken.all_said) c.take_top.ensures.same.table refl taken.story
 
 pub returns-in-None-clause-sound : goal.returns-in-None-clause-sound
 returns-in-None-clause-sound g c =

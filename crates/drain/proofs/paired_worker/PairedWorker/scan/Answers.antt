@@ -95,6 +95,7 @@ returns-clause-scanned g c =
           (c.in_ok-claim_all.ensures.seen x noted);
     }
 
+-- it comes after all that was finished before
 pub returns-clause-finished : goal.returns-clause-finished
 returns-clause-finished g c =
     let given = c.requires.given in

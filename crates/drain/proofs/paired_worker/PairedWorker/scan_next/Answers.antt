@@ -5,7 +5,7 @@ use Rattle.work_pair.specs.CallEffects.{Gets}
 use Rattle.drain.proofs.AtHand.{at_work_after, backs, goes_on_after, got_is_object, works, works_on_again}
 use Rattle.drain.proofs.Outcomes.{at_none, at_some}
 use Rattle.drain.proofs.Scanning.{same_setup, same_tally}
-use Rattle.drain.proofs.Sharing.{none_got, none_to_get, same_answer}
+use Rattle.drain.proofs.Giving.{none_got, none_to_get, same_answer}
 use Rattle.drain.proofs.paired_worker.PairedWorker.scan_next.Goals as goal
 
 pub get-requires-clause-backed : goal.get-requires-clause-backed

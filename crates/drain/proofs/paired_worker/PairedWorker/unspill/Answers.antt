@@ -1,8 +1,8 @@
 -- Each object that is put again makes the spill list shorter, or is the last that is put.
 use Rattle.drain.proofs.Words.{arith, cases_lt, false≢true, length, sym, ⊎_elim, ◌∙◌}
-use Rattle.drain.specs.working.Sharing.Unspills.{last, more, none}
+use Rattle.drain.specs.working.Giving.Unspills.{last, more, none}
 use Rattle.drain.proofs.AtHand.{goes_on_again}
-use Rattle.drain.proofs.Sharing.{none_of}
+use Rattle.drain.proofs.Giving.{none_of}
 use Rattle.drain.proofs.paired_worker.PairedWorker.unspill.Goals as goal
 
 pub loop-self-preserved : goal.loop-self-preserved

@@ -3,7 +3,7 @@ use Rattle.drain.proofs.Words.{Owner, Some, [], ap, rules, sym, ◌∙◌, ◌�
 use Rattle.std.proofs.lemmas.Option.{same_Some}
 use Rattle.drain.proofs.AtHand.{at_work_after, backs, goes_on_after, goes_on_again, is_put}
 use Rattle.drain.proofs.Outcomes.{at_some}
-use Rattle.drain.proofs.Sharing.{last_of, puts_again, same_answer, spilled_items}
+use Rattle.drain.proofs.Giving.{last_of, puts_again, same_answer, spilled_items}
 use Rattle.drain.proofs.paired_worker.PairedWorker.unspill_one.Goals as goal
 
 pub get-requires : goal.get-requires

@@ -3,9 +3,9 @@ use Rattle.drain.proofs.Words.{inl, inr, rules, subst}
 use Rattle.drain.specs.working.Jobs.{ScansNext}
 use Rattle.drain.specs.working.Jobs.TakesTurns.{more, none}
 use Rattle.drain.proofs.AtHand.{came_again, came_at_all, goes_on_again, works}
+use Rattle.drain.proofs.Giving.{gives_some, needs_none}
 use Rattle.drain.proofs.Idling.{awake_at_work}
 use Rattle.drain.proofs.Scanning.{same_tally, still_awake, still_on_job}
-use Rattle.drain.proofs.Sharing.{gives_some, needs_none}
 use Rattle.drain.proofs.paired_worker.PairedWorker.work_off.Goals as goal
 
 -- it finished an object, and gave some of what it had
@@ -20,13 +20,13 @@ loop-preserved-in-Continue-branch-3 g c =
     let now = c.give.new.self in
     let on = goes_on_again look.goes_on give.goes_on in
     let one = subst (ScansNext old mid) c.if-branch.true scan.scans in
-    let shares = gives_some c.if-others_want.true look.pair look.sees give.gives in (
+    let offers = gives_some c.if-others_want.true look.pair look.sees give.gives in (
       still_on_job on_job (came_again scan.scanned.goes_on.came on.came) give.at_work
           (same_tally on.finished scan.scanned.tally),
       still_awake (still_awake awake scan.scanned.goes_on) (works on),
       came_again came (came_again scan.scanned.goes_on.came on.came),
       λ o noted. on.came.seen o (scan.scanned.seen o noted),
-      more _ old now turns (mid, inl (one, shares)),
+      more _ old now turns (mid, inl (one, offers)),
     )
 
 -- it finished an object, and the full stack had a buffer
@@ -40,13 +40,13 @@ loop-preserved-else-others_want g c =
     let mid = c.scan_next.new.self in
     let now = c.others_want.new.self in
     let one = subst (ScansNext old mid) c.if-branch.true scan.scans in
-    let shares = needs_none c.if-others_want.false look.pair look.sees in (
+    let offers = needs_none c.if-others_want.false look.pair look.sees in (
       still_on_job on_job (came_again scan.scanned.goes_on.came on.came) (look.at_work scan.scanned.at_work)
           (same_tally on.finished scan.scanned.tally),
       still_awake (still_awake awake scan.scanned.goes_on) (works on),
       came_again came (came_again scan.scanned.goes_on.came on.came),
       λ o noted. on.came.seen o (scan.scanned.seen o noted),
-      more _ old now turns (mid, inl (one, shares)),
+      more _ old now turns (mid, inl (one, offers)),
     )
 
 -- it waited, and there was more
@@ -82,7 +82,7 @@ returns-then-not-finds_more-clause-worked g c =
       c.offer.new.self,
       old,
       mid,
-      c.in_ok-offer.ensures.shares,
+      c.in_ok-offer.ensures.offers,
       c.loop.invariant.4,
       subst (ScansNext old mid) c.if-branch.false c.in_ok-scan_next.ensures.scans,
       end.pair,
@@ -105,11 +105,11 @@ returns-then-not-finds_more-clause-idle g c = c.finds_more.ensures.idle c.if-not
 -- before the first turn
 pub loop-init : goal.loop-init
 loop-init g c =
-    let share = c.in_ok-offer.ensures in
+    let offer = c.in_ok-offer.ensures in
     let on_job = c.requires.on_job in
     let now = c.offer.new.self in (
-      still_on_job on_job share.goes_on.came share.at_work (same_tally share.goes_on.finished on_job.tally),
-      still_awake c.requires.awake (works share.goes_on),
+      still_on_job on_job offer.goes_on.came offer.at_work (same_tally offer.goes_on.finished on_job.tally),
+      still_awake c.requires.awake (works offer.goes_on),
       came_at_all now.worker,
       search rules,
       none now,

@@ -1,10 +1,10 @@
--- No entry is at its place: that of place 0 is 1, and all others are 0.
+-- No object is in its entry: entry 0 has object 1, and all others have object 0.
 use native.Mathlib.Decide.{ℕ_discrete}
 use Rattle.drain.proofs.Words.{ap, arith, get_or-replicate, get_or-set_other, replicate, slice_index, slice_set, sym, ℕ}
 use Rattle.drain.proofs.Words.{◌%◌, ◌<◌, ◌∙◌, ◌≡◌}
 use Rattle.drain.proofs.recently_seen.RecentlySeen.new.Goals as goal
 
--- place 0 has an object of place 1, and each other place one of place 0
+-- entry 0 has an object of entry 1, and each other entry one of entry 0
 nowhere : (o : ℕ) → slice_index (slice_set (replicate 4096 0) 0 1) (o % 4096) ≡ o → ⊥
 nowhere o is = go (ℕ_discrete (o % 4096) 0)
   where

@@ -4,6 +4,6 @@ use Rattle.heap_graph.specs.Walks.{Step, ids_in}
 use Rattle.heap_graph.proofs.Walking.{ids_of_steps}
 use Rattle.heap_graph.proofs.graph.Graph.successors.Goals as goal
 
-pub returns-clause-held : goal.returns-clause-held
-returns-clause-held g c =
+pub returns-clause-ids : goal.returns-clause-ids
+returns-clause-ids g c =
     ap (λ (steps : List Step). ids_in steps) (c.of.ensures ∙ c.visit.ensures.steps) ∙ ids_of_steps _ _

@@ -1,4 +1,4 @@
--- After the last object nothing more can be missed. Few identifiers are held, so few are missed.
+-- After the last object nothing more can be missed. There are few identifiers, so few are missed.
 use Rattle.std.proofs.Common.{arith}
 use Rattle.heap_graph.proofs.graph.Graph.unresolved_of.Goals as goal
 

@@ -1,6 +1,6 @@
 -- A class holds what is read of its dump, whose form allows no more than the walk has room for.
 use Rattle.heap_graph.proofs.Words.{ap, arith, bounds, length}
-use Rattle.heap_graph.proofs.HeldLaws.{class_holds, few_in_class}
+use Rattle.heap_graph.proofs.ObjectIdLaws.{class_holds, few_in_class}
 use Rattle.heap_graph.proofs.objects.Objects.ids_of_class.Goals as goal
 
 pub invariant_of-result : goal.invariant_of-result

@@ -1,6 +1,7 @@
 -- An instance holds its class and then the fields of its layout, which are no more than the bytes of its values.
 use Rattle.heap_graph.proofs.Words.{arith, bounds, declared_fields, refl}
-use Rattle.heap_graph.proofs.HeldLaws.{few_in_instance, held_behind, held_whole, instance_holds, layout_from}
+use Rattle.heap_graph.proofs.ObjectIdLaws.{few_in_instance, instance_holds, layout_from, with_known_class}
+use Rattle.heap_graph.proofs.ObjectIdLaws.{with_read_class}
 use Rattle.heap_graph.proofs.objects.Objects.ids_of_instance.Goals as goal
 
 pub new-fields-requires-clause-heap : goal.new-fields-requires-clause-heap
@@ -25,12 +26,12 @@ invariant_of-result g c =
     (bounds c.requires.7.stands.is.formed).values values fields in
     omega (arith, few)
 
-pub returns-then-behind : goal.returns-then-behind
-returns-then-behind g c = λ skips heap n i linked told plan at is first.
+pub returns-then-class_is_known : goal.returns-then-class_is_known
+returns-then-class_is_known g c = λ skips heap n i linked told plan at is first.
     let values = c.instance_values.ensures i at.stands in
     let fields = c.new-fields.ensures skips heap (declared_fields first.chain) told plan
     (layout_from c.args.self.now heap i c.args.first c.instance_values.result.now first values) in
-    held_behind _ _ _ _ _ _ _ c.if-behind.true
+    with_known_class _ _ _ _ _ _ _ c.if-class_is_known.true
     (instance_holds skips first i.class _ _ linked.low (bounds at.stands.is.formed).values refl values
     fields)
 
@@ -49,6 +50,6 @@ returns g c = λ skips heap n i linked told plan at is first.
     let values = c.instance_values.ensures i at.stands in
     let fields = c.new-fields.ensures skips heap (declared_fields first.chain) told plan
     (layout_from c.args.self.now heap i c.args.first c.instance_values.result.now first values) in
-    held_whole _ _ _ _ _ _ _ c.if-behind.false
+    with_read_class _ _ _ _ _ _ _ c.if-class_is_known.false
     (instance_holds skips first _ _ _ linked.low (bounds at.stands.is.formed).values
     is values fields)

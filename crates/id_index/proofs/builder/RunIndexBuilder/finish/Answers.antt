@@ -1,4 +1,4 @@
--- Sorting loses no run, and settled runs have the same objects.
+-- Sorting loses no run, and pruned runs have the same objects.
 use Rattle.std.proofs.Common.{arith, sym, ◌∙◌}
 use Rattle.id_index.proofs.Telling.{first_repeated, kept_few, kept_tell, same_ids, sorted_runs}
 use Rattle.id_index.proofs.builder.RunIndexBuilder.finish.Goals as goal
@@ -9,8 +9,8 @@ least_repeat-repeat-requires g c =
     (c.shrink_to_fit.ensures.items ∙ c.in_ok-close.ensures.runs)
     c.sort_runs.ensures.permutation c.in_ok-sort_runs.ensures.sorted)
 
-pub settle-kept-requires : goal.settle-kept-requires
-settle-kept-requires g c =
+pub prune-kept-requires : goal.prune-kept-requires
+prune-kept-requires g c =
     sorted_runs _ _ _ _ _ c.self.invariant (c.shrink_to_fit.ensures.items ∙ c.in_ok-close.ensures.runs)
     c.sort_runs.ensures.permutation c.in_ok-sort_runs.ensures.sorted
 
@@ -18,16 +18,16 @@ pub of-requires-clause-few : goal.of-requires-clause-few
 of-requires-clause-few g c =
     rw c.deref-2.ensures.value (kept_few _ _ _ _ _ c.self.invariant
     (c.shrink_to_fit.ensures.items ∙ c.in_ok-close.ensures.runs)
-    c.sort_runs.ensures.permutation c.in_ok-sort_runs.ensures.sorted _ _ c.settle-kept.ensures.settled)
+    c.sort_runs.ensures.permutation c.in_ok-sort_runs.ensures.sorted _ _ c.prune-kept.ensures.pruned)
 
 pub invariant_of-result : goal.invariant_of-result
 invariant_of-result g c =
     let closed = c.shrink_to_fit.ensures.items ∙ c.in_ok-close.ensures.runs in
-    let it = c.settle-kept.ensures.settled in
+    let it = c.prune-kept.ensures.pruned in
     record {
       within = omega (arith, it.order, it.long);
-      runs = it.settled.ascending;
-      few = c.settle-kept.ensures.few;
+      runs = it.pruned.ascending;
+      few = c.prune-kept.ensures.few;
       tell = kept_tell _ _ _ _ _ c.self.invariant closed c.sort_runs.ensures.permutation
           c.in_ok-sort_runs.ensures.sorted _ _ it;
       begun = rw c.deref-2.ensures.value at c.in_ok-beginnings.ensures;
@@ -38,5 +38,5 @@ invariant_of-result g c =
 pub returns : goal.returns
 returns g c =
     sym (same_ids _ _ _ _ _ c.self.invariant (c.shrink_to_fit.ensures.items ∙ c.in_ok-close.ensures.runs)
-    c.sort_runs.ensures.permutation c.in_ok-sort_runs.ensures.sorted _ _ c.settle-kept.ensures.settled)
+    c.sort_runs.ensures.permutation c.in_ok-sort_runs.ensures.sorted _ _ c.prune-kept.ensures.pruned)
     ∙ c.self.view_is

@@ -36,3 +36,14 @@ returns-in-Runs g c =
     ∙ ap (λ (form : Form g.row.A.Denot). position (λ x. x == c.args.id)
     (whole_ids i.bits.shift i.bits.low (ids_held form))) (sym c.in-Runs.is)
     ∙ ap (λ (ids : List ℕ). position (λ x. x == c.args.id) ids) c.self.view_is
+
+pub returns-in-Wide : goal.returns-in-Wide
+returns-in-Wide g c =
+    let i = c.self.inside in
+    let masked : bit_and c.args.id i.mask ≡ c.args.id % 2 ^ i.bits.shift =
+    rw c.self.invariant.mask (and_mask c.args.id i.bits.shift) in
+    found i.bits.shift i.bits.low c.self.invariant.low c.in-Wide.entries c.args.id c.find-in-Wide.result
+    (omega (arith, masked, c.if-id-self.false)) c.find-in-Wide.ensures
+    ∙ ap (λ (form : Form g.row.A.Denot). position (λ x. x == c.args.id)
+    (whole_ids i.bits.shift i.bits.low (ids_held form))) (sym c.in-Wide.is)
+    ∙ ap (λ (ids : List ℕ). position (λ x. x == c.args.id) ids) c.self.view_is

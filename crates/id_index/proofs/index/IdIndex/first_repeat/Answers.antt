@@ -21,3 +21,12 @@ returns-in-Runs g c =
     (ap (λ (form : Form g.row.A.Denot). whole_ids i.bits.shift i.bits.low (ids_held form)) (sym c.in-Runs.is)
     ∙ c.self.view_is)
     (repeats i.bits.shift i.bits.low c.self.invariant.low c.in-Runs.runs c.first_repeat.result c.first_repeat.ensures)
+
+pub returns-in-Wide : goal.returns-in-Wide
+returns-in-Wide g c =
+    let i = c.self.inside in
+    subst (λ (ids : List ℕ). IsFirstRepeat ids c.first_repeat-in-Wide.result)
+    (ap (λ (form : Form g.row.A.Denot). whole_ids i.bits.shift i.bits.low (ids_held form)) (sym c.in-Wide.is)
+    ∙ c.self.view_is)
+    (repeats i.bits.shift i.bits.low c.self.invariant.low c.in-Wide.entries c.first_repeat-in-Wide.result
+    c.first_repeat-in-Wide.ensures)

@@ -1,7 +1,7 @@
 -- The two bits at the position of an object in its word are its mark.
 use Rattle.std.proofs.Common.{◌≡◌, ℕ, ◌*◌, ◌/◌, ◌%◌, ◌^◌, bit_and, ap, refl, ◌∙◌}
 use Rattle.std.proofs.lemmas.Nat.{and_mask}
-use Rattle.buffer_pool.proofs.Bits.{pair_read}
+use Rattle.buffer_pool.proofs.Bits.{mark_read}
 use Rattle.buffer_pool.proofs.pool.closed_marks.Marks.bits.Goals as goal
 
 pub returns-clause-mark : goal.returns-clause-mark
@@ -11,4 +11,4 @@ returns-clause-mark g c =
     let bits : ℕ = bit_and (word / 2 ^ c.mark_place.result) 3 in
     let read : bits ≡ word / 2 ^ place % 4 =
     ap (λ p. bit_and (word / 2 ^ p) 3) c.mark_place.ensures.value ∙ and_mask (word / 2 ^ place) 2 in
-    c.word_of.ensures c.args.object refl c.requires ∙ pair_read word (c.args.object % 32) bits read
+    c.word_of.ensures c.args.object refl c.requires ∙ mark_read word (c.args.object % 32) bits read

@@ -1,9 +1,9 @@
--- The lowest bit that is not set, from the object's pair on, is in the first pair that is not finished.
+-- The lowest bit that is not set, from the object's mark on, is in the first mark that is not finished.
 use Rattle.std.proofs.Common.{◌≡◌, ◌≢◌, ◌+◌, ◌-◌, ◌*◌, ◌/◌, ◌%◌, ◌^◌, ◌<◌, ◌∙◌, ℕ, ap, sym, arith, rules, w64}
 use Rattle.std.proofs.Math.Nat.{div-le_self}
-use Rattle.buffer_pool.proofs.Words.{bit_at-trailing_zeros, bit_at-zero, pair_mark}
+use Rattle.buffer_pool.proofs.Words.{bit_at-trailing_zeros, bit_at-zero, mark_at}
 use Rattle.std.specs.Int.{bit_at, trailing_zeros}
-use Rattle.buffer_pool.proofs.Bits.{pair_finished, pair_unfinished, unset_below, unset_from}
+use Rattle.buffer_pool.proofs.Bits.{mark_is_finished, mark_unfinished, unset_below, unset_from}
 use Rattle.buffer_pool.proofs.pool.closed_marks.Marks.first_unfinished_of_word.Given as given
 use Rattle.buffer_pool.proofs.pool.closed_marks.Marks.first_unfinished_of_word.Goals as goal
 use Rattle.buffer_pool.proofs.pool.closed_marks.Marks.first_unfinished_of_word.Goals.{After-mark_place}
@@ -38,7 +38,7 @@ returns-then-unfinished-eq0-clause-none g c o from to inside =
     let none : unset_from w j ≡ 0 = sym (read g c.before) ∙ c.if-unfinished-eq0.true in
     let bit : (i : ℕ) → bit_at (unset_from w j) i ≡ 0 = λ i. ap (λ x. bit_at x i) none ∙ bit_at-zero i in
     c.word_of.ensures o same inside
-    ∙ pair_finished w j fits (o % 32) (omega (arith, from, same)) (omega arith)
+    ∙ mark_is_finished w j fits (o % 32) (omega (arith, from, same)) (omega arith)
     (bit (2 * (o % 32 - j))) (bit (2 * (o % 32 - j) + 1))
 
 pub overflow_add-result : goal.overflow_add-result
@@ -65,12 +65,12 @@ returns-clause-found g c =
       before = λ o from to inside.
           let same : o / 32 ≡ object / 32 = omega (arith, from, to, below) in
           c.word_of.ensures o same inside
-          ∙ pair_finished w j fits (o % 32) (omega (arith, from, same)) (omega arith)
+          ∙ mark_is_finished w j fits (o % 32) (omega (arith, from, same)) (omega arith)
           (low.1 (2 * (o % 32 - j)) (omega (arith, from, to, same)))
           (low.1 (2 * (o % 32 - j) + 1) (omega (arith, from, to, same)));
       here = λ inside two.
           let same : (object + t / 2) / 32 ≡ object / 32 = omega (arith, below) in
-          let pair : j + t / 2 ≡ (object + t / 2) % 32 = omega (arith, below) in
-          pair_unfinished w j fits t low.0
-          (ap (pair_mark w) pair ∙ sym (c.word_of.ensures (object + t / 2) same inside) ∙ two);
+          let number : j + t / 2 ≡ (object + t / 2) % 32 = omega (arith, below) in
+          mark_unfinished w j fits t low.0
+          (ap (mark_at w) number ∙ sym (c.word_of.ensures (object + t / 2) same inside) ∙ two);
     }

@@ -1,0 +1,141 @@
+//! Which index a dump gets, by the number of allocations that its graph takes: objects in order are indexed by runs,
+//! objects in no order by pairs if they are close together, and otherwise by their whole identifiers. The dumps have
+//! arrays without elements. Dumps with the same number of objects take the same number of allocations but for the index.
+
+use crate::graphs::build;
+use heap_graph::Skip;
+use hprof_grammar::Team;
+use limited_heap::LimitedHeap;
+use std::alloc::{AllocError, Global};
+use std::test::Fail;
+use std::thread::Threads;
+use test_dumps::Bytes;
+use test_dumps::Sub::Values;
+
+/// The type code of bytes.
+const BYTE: u8 = 8;
+
+/// How the identifiers of a dump's objects follow one another.
+#[derive(Clone, Copy, Debug)]
+enum Order {
+    /// Each object is the neighbour of the one before it.
+    Ascending,
+    /// In no order, each place taken.
+    Close,
+    /// In no order, each thousandth place taken.
+    Far,
+    /// In no order, and some objects have other lowest bits than the rest.
+    Unaligned,
+    /// The first 1,024 objects as in `Ascending`, the others as in `Close`.
+    LateDisorder,
+    /// As in `Close`, but one object that no sample has is apart from all others.
+    Outlier,
+}
+
+/// The number of an object that no sample of 70,000 objects has.
+const UNSEEN: u64 = 1050;
+
+impl Order {
+    /// Returns the place of object `number` of `count`.
+    fn place_of(self, number: u64, count: u64) -> u64 {
+        // 7919 is a prime, and no divisor of a count of this file.
+        let scattered = number.wrapping_mul(7919) % count.max(1);
+        match self {
+            Order::Ascending => number,
+            Order::Close | Order::Unaligned => scattered,
+            Order::Far => scattered.wrapping_mul(1000),
+            Order::LateDisorder if number < 1024 => number,
+            Order::LateDisorder => count.wrapping_add(scattered),
+            Order::Outlier if number == UNSEEN => count.wrapping_mul(4),
+            Order::Outlier => scattered,
+        }
+    }
+
+    /// Returns the identifier of object `number` of `count`.
+    fn id_of(self, number: u64, count: u64) -> u64 {
+        let low = match self {
+            Order::Unaligned => number % 2,
+            _ => 0,
+        };
+        0x7f00_0000u64
+            .wrapping_add(self.place_of(number, count).wrapping_mul(8))
+            .wrapping_add(low)
+    }
+}
+
+/// Returns a dump of `count` objects in `order`.
+fn dump(alloc: Global, order: Order, count: u32) -> Result<Bytes, AllocError> {
+    let mut heap = Bytes::new(alloc, 8);
+    for number in 0..count {
+        let id = order.id_of(u64::from(number), u64::from(count));
+        heap.sub(Values(id, BYTE, 0, &[]))?;
+    }
+    let mut file = Bytes::header(alloc, 8)?;
+    file.record(0x0C, heap.bytes.as_slice())?;
+    Ok(file)
+}
+
+/// Returns the number of allocations that a team of `threads` threads makes to read a dump of `count` objects in
+/// `order` and to build its graph, whether or not a graph is made.
+fn requests<T: Threads + Sync>(
+    rt: &T,
+    alloc: Global,
+    threads: u32,
+    order: Order,
+    count: u32,
+) -> Result<u64, AllocError> {
+    let file = dump(alloc, order, count)?;
+    let skip = Skip::none(alloc);
+    let heap = LimitedHeap::new(alloc, u64::MAX);
+    let team = Team::sharing_from(rt, threads, 1);
+    let _built = build(&team, &heap, file.bytes.as_slice(), &skip).is_ok();
+    Ok(u64::MAX - heap.requests_left())
+}
+
+/// Returns how many allocations more a dump of `count` objects in `order` takes than one of objects that are far apart,
+/// or `None` if it takes fewer.
+fn more_than_far<T: Threads + Sync>(
+    rt: &T,
+    alloc: Global,
+    threads: u32,
+    order: Order,
+    count: u32,
+) -> Result<Option<u64>, AllocError> {
+    let far = requests(rt, alloc, threads, Order::Far, count)?;
+    Ok(requests(rt, alloc, threads, order, count)?.checked_sub(far))
+}
+
+/// The number of objects, their order, and how many allocations a graph takes beyond one of objects that are far apart,
+/// with one thread and with four.
+///
+/// Objects far apart take one allocation, for their entries; 4,096 objects or more take another, for the table of where
+/// entries begin. Pairs take two, also if they do not serve: then others follow. If the ends of all identifiers are
+/// read in parts, the result of each part takes one.
+const INDEXES: [(u32, Order, u64, u64); 5] = [
+    (2000, Order::Far, 0, 0),
+    (2000, Order::Close, 1, 1),
+    (3000, Order::LateDisorder, 1, 1),
+    (2000, Order::Unaligned, 2, 6),
+    (70_000, Order::Outlier, 2, 6),
+];
+
+#[test]
+fn dumps_in_no_order_get_their_index(rt: HostRuntime) -> Result<(), Fail> {
+    for (count, order, one, four) in INDEXES {
+        for (threads, wanted) in [(1, one), (4, four)] {
+            let more = more_than_far(&rt, rt.alloc(), threads, order, count)?;
+            assert_eq!(rt; more, Some(wanted), "{count} {order:?}, {threads} threads");
+        }
+    }
+    Ok(())
+}
+
+/// Runs are gathered in lists that grow, so they take more allocations than pairs.
+#[test]
+fn dumps_in_order_get_runs(rt: HostRuntime) -> Result<(), Fail> {
+    for threads in [1, 4] {
+        let more = more_than_far(&rt, rt.alloc(), threads, Order::Ascending, 2000)?;
+        assert!(rt; more > Some(1), "{more:?}, {threads} threads");
+    }
+    Ok(())
+}

@@ -1,0 +1,36 @@
+//! Probes: a search reads a run, and counts that. A search begins with a number of probes, and its proof fails if the search
+//! could take more. No contract has this number, so no clause refuses a search that reads runs without a probe.
+
+ghost use Rattle.std.specs.Prelude.{length, ◌+◌, ◌<◌, ◌≡◌};
+ghost use Rattle.id_index.specs.working.Runs.{page_in};
+
+use crate::runs::Run;
+
+/// The remaining probes. Their number is for clauses: no code reads it, so a build omits it.
+#[derive(Drop)]
+pub(crate) struct Probes {
+    left: usize,
+}
+
+impl Probes {
+    /// Creates `left` probes.
+    // Inlined, as `page` is: a build omits the number only if it stays within one function.
+    #[inline(always)]
+    pub(crate) fn at_most(left: usize) -> Self
+        ensures { result.left ≡ left }
+    {
+        Probes { left }
+    }
+
+    /// Takes a probe: returns the page of the run at index `at`.
+    #[inline(always)]
+    pub(crate) fn page(&mut self, runs: &[Run], at: usize) -> u64
+        requires left { 0 < self.old.left }
+        requires within { at < length runs.now }
+        ensures left { self.new.left + 1 ≡ self.old.left }
+        ensures page { result ≡ page_in runs.now at }
+    {
+        self.left -= 1;
+        runs[at].page
+    }
+}

@@ -1,0 +1,115 @@
+//! Tests which requests a `LimitedHeap` grants, since no clause of it says which.
+
+use limited_heap::LimitedHeap;
+use std::alloc::{AllocError, Allocator};
+use std::test::Fail;
+use std::thread::{Threads, join};
+
+#[test]
+fn without_a_grant_all_is_refused(rt: HostRuntime) -> Result<(), Fail> {
+    let heap = LimitedHeap::new(rt.alloc(), 0);
+    assert!(rt; Vec::<u64, _>::with_capacity(&heap, 4).is_err());
+    assert!(rt; Box::new(&heap, 7u8).is_err());
+    assert_eq!(rt; (heap.requests_left(), heap.refusals()), (0, 2));
+    Ok(())
+}
+
+#[test]
+fn a_growth_is_a_request(rt: HostRuntime) -> Result<(), Fail> {
+    let heap = LimitedHeap::new(rt.alloc(), 1);
+    assert_eq!(rt; (heap.requests_left(), heap.refusals()), (1, 0));
+    let mut list = Vec::with_capacity(&heap, 2)?;
+    assert_eq!(rt; (heap.requests_left(), heap.refusals()), (0, 0));
+    for item in [3u64, 5] {
+        list.push(item)?;
+    }
+    assert_eq!(rt; heap.refusals(), 0);
+    assert!(rt; list.push(8).is_err());
+    assert_eq!(rt; heap.refusals(), 1);
+    assert_eq!(rt; &list[..], &[3, 5][..]);
+    Ok(())
+}
+
+/// Requests `tries` boxes from `heap` and returns how many were granted.
+fn boxes_made<A: Allocator + Copy>(heap: A, tries: u32) -> u32 {
+    let mut made = 0u32;
+    for number in 0..tries {
+        if Box::new(heap, number).is_ok() {
+            made = made.saturating_add(1);
+        }
+    }
+    made
+}
+
+#[test]
+fn two_threads_draw_on_one_limit(rt: HostRuntime) -> Result<(), Fail> {
+    let heap = LimitedHeap::new(rt.alloc(), 700);
+    let shared = &heap;
+    let (one, other) = join(
+        &rt,
+        move || boxes_made(shared, 500),
+        move || boxes_made(shared, 500),
+    );
+    assert_eq!(rt; one.saturating_add(other), 700);
+    assert_eq!(rt; (heap.requests_left(), heap.refusals()), (0, 300));
+    Ok(())
+}
+
+#[test]
+fn one_request_is_refused_alone(rt: HostRuntime) -> Result<(), Fail> {
+    for refused in 0..4u64 {
+        let heap = LimitedHeap::refusing(rt.alloc(), refused);
+        for request in 0..6u64 {
+            assert_eq!(rt; heap.requests_left(), refused.saturating_sub(request));
+            assert_eq!(rt; Box::new(&heap, 7u8).is_err(), request == refused);
+            assert_eq!(rt; heap.refusals(), u64::from(request >= refused));
+        }
+    }
+    let heap = LimitedHeap::refusing(rt.alloc(), u64::MAX);
+    assert_eq!(rt; (boxes_made(&heap, 6), heap.refusals()), (6, 0));
+    Ok(())
+}
+
+#[test]
+fn two_threads_meet_one_refusal(rt: HostRuntime) -> Result<(), Fail> {
+    let heap = LimitedHeap::refusing(rt.alloc(), 700);
+    let shared = &heap;
+    let (one, other) = join(
+        &rt,
+        move || boxes_made(shared, 500),
+        move || boxes_made(shared, 500),
+    );
+    assert_eq!(rt; one.saturating_add(other), 999);
+    assert_eq!(rt; (heap.requests_left(), heap.refusals()), (0, 1));
+    Ok(())
+}
+
+type Lists<'a, A> = (
+    Result<Vec<u8, &'a A>, AllocError>,
+    Result<Vec<u8, &'a A>, AllocError>,
+);
+
+/// Copies `text` to `heap` twice, in two threads.
+fn copied_twice<'a, R: Threads, A: Allocator + Sync>(
+    rt: &R,
+    heap: &'a A,
+    text: &[u8],
+) -> Lists<'a, A> {
+    join(
+        rt,
+        move || Vec::from_slice(heap, text),
+        move || Vec::from_slice(heap, text),
+    )
+}
+
+#[test]
+fn a_block_goes_from_thread_to_thread(rt: HostRuntime) -> Result<(), Fail> {
+    let heap = LimitedHeap::new(rt.alloc(), 2);
+    let (one, other) = copied_twice(&rt, &heap, b"heap");
+    assert_eq!(rt; &one?[..], b"heap".as_slice());
+    assert_eq!(rt; &other?[..], b"heap".as_slice());
+    let (one, other) = copied_twice(&rt, &heap, b"heap");
+    assert!(rt; one.is_err() && other.is_err());
+    assert_eq!(rt; heap.refusals(), 2);
+    Ok(())
+}

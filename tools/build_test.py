@@ -1,0 +1,105 @@
+"""Tests of tools/build, on a repository of four crates and a stand-in for rt."""
+
+import os
+import pathlib
+import shutil
+import signal
+import subprocess
+import tempfile
+import time
+import unittest
+
+BUILD = pathlib.Path(__file__).resolve().parent / "build"
+#: The crates, in no order: `low` below `left` and `right`, and `heapmark` on top; `apart` is of no use to it.
+CRATES = "heapmark: left right\napart: low\nleft: low  # a comment: with a colon\nright tests_may=Threads: low clap\nlow:\n"
+#: Notes when it begins and ends in the file `log`, and fails for the crate `bad` names.
+RT = """#!/bin/sh
+name=$(basename "$PWD")
+echo "begin $name $*" >> ../../log
+sleep "$(cat ../../seconds)"
+[ "$name" = "$(cat ../../bad)" ] && { echo "the proof fails"; exit 1; }
+echo "end $name" >> ../../log
+[ "$name" = heapmark ] && echo "a report" || true
+"""
+
+
+class BuildTest(unittest.TestCase):
+    def setUp(self):
+        self.room = tempfile.TemporaryDirectory()
+        self.top = pathlib.Path(self.room.name)
+        for name in ("heapmark", "apart", "left", "right", "low"):
+            (self.top / "crates" / name / "src").mkdir(parents=True)
+        for folder in ("tools", "docs", "bin"):
+            (self.top / folder).mkdir()
+        shutil.copy(BUILD, self.top / "tools")
+        (self.top / "docs/GATE.md").write_text("| `left` | 40 | 0 |\n| `right` | 4 | 0 |\n| `low` | 9 | 0 |\n")
+        (self.top / "crates.txt").write_text(CRATES)
+        (self.top / "bin/rt").write_text(RT)
+        (self.top / "bin/rt").chmod(0o755)
+        self.set(seconds="0", bad="none")
+
+    def tearDown(self):
+        self.room.cleanup()
+
+    def set(self, **texts):
+        for name, text in texts.items():
+            (self.top / name).write_text(text)
+
+    def start(self, *words, path=None):
+        environment = {**os.environ, "PATH": path or f"{self.top}/bin:{os.environ['PATH']}"}
+        how = {"stdout": subprocess.PIPE, "stderr": subprocess.PIPE, "universal_newlines": True, "env": environment}
+        return subprocess.Popen([str(self.top / "tools/build"), *words], **how)
+
+    def ended(self, *words, **how):
+        build = self.start(*words, **how)
+        out, err = build.communicate(timeout=30)
+        return build.returncode, out, err
+
+    def log(self):
+        return (self.top / "log").read_text().splitlines()
+
+    def test_crates_after_those_below(self):
+        status, out, _ = self.ended("--crates", "2", "--jobs", "4")
+        self.assertEqual(status, 0)
+        self.assertIn("a report\n", out)
+        log = self.log()
+        self.assertFalse([it for it in log if "apart" in it])
+        at = {line.split()[1]: number for number, line in enumerate(log) if line.startswith("begin")}
+        ends = {line.split()[1]: number for number, line in enumerate(log) if line.startswith("end")}
+        for name, used in (("left", "low"), ("right", "low"), ("heapmark", "left"), ("heapmark", "right")):
+            self.assertLess(ends[used], at[name], log)
+
+    def test_the_longest_chain_gets_the_most_processes(self):
+        self.ended("--crates", "2", "--jobs", "4")
+        self.assertIn("begin low lib --jobs 4", self.log())
+        self.assertIn("begin left lib --jobs 4", self.log())
+        self.assertIn("begin right lib --jobs 1", self.log())
+        self.assertIn("begin heapmark run --jobs 4 -- data/two_objects.hprof", self.log())
+
+    def test_a_crate_that_is_not_proved(self):
+        self.set(bad="left")
+        status, out, _ = self.ended()
+        self.assertEqual(status, 1)
+        self.assertIn("NOT PROVED left: see crates/left/out/build.log", out)
+        self.assertEqual((self.top / "crates/left/out/build.log").read_text(), "the proof fails\n")
+        self.assertFalse([it for it in self.log() if it.startswith("begin heapmark")])
+
+    def test_an_interrupt_ends_what_runs(self):
+        self.set(seconds="30")
+        build = self.start()
+        while not (self.top / "log").exists():
+            time.sleep(0.05)
+        build.send_signal(signal.SIGINT)
+        build.communicate(timeout=10)
+        self.assertEqual(build.returncode, 130)
+
+    def test_wrong_words_and_no_rt(self):
+        self.assertEqual(self.ended("--jobs", "0")[0], 2)
+        self.assertEqual(self.ended("--job")[0], 2)
+        python = os.path.dirname(shutil.which("python3"))
+        status, _, err = self.ended(path=f"{python}:/usr/bin:/bin")
+        self.assertEqual((status, err), (1, "tools/build: rt is not on the PATH: add the toolchain's folder bin\n"))
+
+
+if __name__ == "__main__":
+    unittest.main()
