@@ -6,6 +6,7 @@ from heap_tools import names
 from heap_tools.command import Parser, number
 from heap_tools.console import Progress, is_terminal, say, write
 from heap_tools.faults import NO_SUCH_NAME, NOTHING, WEAKLY_HELD, WRONG_USE, Fault
+from heap_tools.figures import counted
 from heap_tools.holding import Holders
 from heap_tools.program import Heapmark, Runs, is_dump
 from heap_tools.search import Probe, Search
@@ -97,7 +98,7 @@ def require_objects(name, runs, base):
     if runs.report.amount(name).objects == 0:
         of_family = {each for each in runs.dump.names.values() if names.family(each) == name} | {name}
         count = runs.dump.count(of_family)
-        why = f"no object of it is reachable, but {count} are in the dump: {OMITTED}" if count else ""
+        why = f"no object of it is reachable, but {count:,} are in the dump: {OMITTED}" if count else ""
         inner = any(each.startswith(f"{name}$") for each in runs.dump.names.values())
         why = why or "the dump has no object of it" + ": did the shell take a $ away? quote the name" * inner
         raise Fault(NOTHING, f"{name}: {why}")
@@ -150,17 +151,12 @@ def spelled(holders):
     return ("together " if len(holders) > 1 else "") + ", ".join(sorted(map(str, holders)))
 
 
-def counted(number, noun):
-    """Returns `number` with `noun`."""
-    return f"{number} {noun}" if number == 1 else f"{number} {noun}s"
-
-
 def say_rest(search):
     """Says what the lines do not: how much is left, and whether there is more, or nothing."""
     probe, at_least = search.probe, search.at_least
     whole = getattr(probe.whole, probe.column)
-    unit = f"{counted(whole, 'object')}" if probe.column == "objects" else f"{whole} bytes"
-    what = f"{unit} of {probe.families[0]}" if probe.families else unit
+    what = counted(whole, {"objects": "object", "bytes": "byte"}[probe.column])
+    what = f"{what} of {probe.families[0]}" if probe.families else what
     rest = whole - getattr(search.statics.amount, probe.column)
     if search.is_cut:
         say("holders: fields with more holders may hold as much: see --top")
@@ -169,9 +165,9 @@ def say_rest(search):
         say(f"holders: no field, local variable or thread alone holds {at_least}% of {what}{more}")
     unreachable = probe.runs.report.unreachable.bytes
     if not probe.families and 100 * unreachable >= MUCH * probe.whole.bytes and unreachable:
-        say(f"holders: {unreachable} bytes more are unreachable: garbage in dumps with -all; in live dumps {OMITTED}")
+        say(f"holders: {unreachable:,} bytes more are unreachable: garbage in dumps with -all; in live dumps {OMITTED}")
     cost = f"{counted(search.all, 'field')}, {counted(probe.runs.heapmark.runs, 'run')} of heapmark"
-    say(f"holders: threads or the virtual machine hold {rest} of {what} without any static field; {cost}")
+    say(f"holders: threads or the virtual machine hold {rest:,} of {what} without any static field; {cost}")
 
 
 def main(words):

@@ -230,7 +230,7 @@ class HoldersTest(ToolTest):
     def test_arrays(self):
         """Shares of arrays are those of bytes: by number, the catalog would hold 90 %."""
         upload = line(10, 10000, 92, 1, "static Upload.CHUNKS")
-        said = without_statics(0, 10900, "bytes of byte[[]]")
+        said = without_statics(0, "10,900", "bytes of byte[[]]")
         self.expect(["--at-least", "50", "arrays.hprof", "byte[]"], upload, said)
         ended = self.ran("--at-least", "50", "--bytes", "arrays.hprof", "[[B")
         self.assertEqual(ended.out.splitlines()[0], line(1, 720, 90, 1, "static Catalog.ALL").rstrip())
@@ -376,7 +376,7 @@ class HoldersTest(ToolTest):
         no_program = os.path.abspath("shop.hprof")
         self.expect(["shop.hprof"], said="holders: *shop.hprof cannot be run: *", status=5, heapmark=no_program)
         long = shop()
-        long.record(0x77, bytes(1000000))  # more than a pipe has room for
+        long.record(0x77, bytes(3000000))  # more than a pipe has room for
         long.write("short.hprof")
         shorter = self.program(f"{later}truncate -s 100 short.hprof\nexec HEAPMARK $@")
         self.expect(["short.hprof"], said="holders: *became shorter*", status=1, heapmark=shorter)

@@ -8,7 +8,8 @@ from heap_tools.command import Parser, number
 from heap_tools.comparison import Comparison
 from heap_tools.console import Progress, is_terminal, say, write
 from heap_tools.faults import WRONG_USE, Fault
-from heap_tools.holders import OMITTED, counted, spelled
+from heap_tools.figures import counted, duration, size
+from heap_tools.holders import OMITTED, spelled
 from heap_tools.leaks_page import page_of, require_folder, write_page
 from heap_tools.paths import Paths
 from heap_tools.reports import Amount
@@ -117,28 +118,11 @@ def printed(lines, column):
 
 def heads(comparison, probe):
     """Returns what stands above the lines on a terminal: how much the heap grew, and the heads of the columns."""
-    was, now = (in_units(each.whole.bytes) for each in (probe.earlier, probe))
+    was, now = (size(each.whole.bytes) for each in (probe.earlier, probe))
     what = probe.families[0] if probe.families and len(probe.families) == 1 else "reachable"
-    seconds = (comparison.last.dump.time - comparison.first.dump.time) // 1000
-    head = f"{what}: {was} to {now}" + f" in {in_time(seconds)}" * (seconds > 0)
+    took = comparison.last.dump.time - comparison.first.dump.time
+    head = f"{what} {was} to {now}" + f" in {duration(took)}" * (took > 0)
     return f"{head}\n{'objects':>10} {'bytes':>14} share {'before':>14} {'after':>14} {'holders':>9}  field\n"
-
-
-def in_units(size):
-    """Spells a number of bytes."""
-    for unit in ("bytes", "kB", "MB", "GB"):
-        if size < 1000 or unit == "GB":
-            return f"{size} bytes" if unit == "bytes" else f"{size:.1f} {unit}"
-        size /= 1000
-    return ""
-
-
-def in_time(seconds):
-    """Spells a time."""
-    for unit, length in (("days", 86400), ("h", 3600), ("min", 60)):
-        if seconds >= 2 * length:
-            return f"{seconds // length} {unit}"
-    return f"{seconds} s"
 
 
 def say_rest(lines, search, probe):
@@ -150,7 +134,7 @@ def say_rest(lines, search, probe):
         say(f"leaks: no field, local variable or thread alone holds {search.at_least}% of the growth{more}")
     more = probe.runs.report.unreachable.minus(probe.earlier.runs.report.unreachable)
     if max(more) > 0 and getattr(more, probe.column) > getattr(probe.growth, probe.column):
-        text = f"{more.objects} objects more, {more.bytes} bytes more are unreachable"
+        text = f"{more.objects:,} objects more, {more.bytes:,} bytes more are unreachable"
         say(f"leaks: {text}: garbage in dumps with -all; in live dumps {OMITTED}: see grown with jmap -histo:live")
 
 

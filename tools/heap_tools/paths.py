@@ -19,16 +19,28 @@ class Paths:
     def __init__(self, probe, found, progress):
         self.probe, self.progress = probe, progress
         self.found = sorted(found, key=lambda held: (held.heap.objects, held.heap.bytes))
-        self._above, self._tops = {}, {}
+        self._known, self._tops = {}, {}
 
     def above(self, held):
-        """Returns what is above `held`, from the top down. What a static field is above counts only if it is known to
-        the top."""
-        if id(held) not in self._above:
-            parent = next((each for each in self.found if self._is_above(each, held)), None)
-            path = [*self.above(parent), parent] if parent else []
-            self._above[id(held)] = path if path and is_root(path[0]) or not is_root(held) else []
-        return self._above[id(held)]
+        """Returns what is above `held`, from the top down. Static fields and threads come first, then fields with few
+        holders, but none before what is above it. Above a static field, fields without one are only lists of loaded
+        classes."""
+        rest, path = self._above_all(held), []
+        while rest:
+            tops = [each for each in rest if not any(it is upper for it in rest for upper in self._above_all(each))]
+            path.append(min(tops, key=lambda it: (not is_root(it), it.count(), -it.heap.objects)))
+            rest = [each for each in rest if each is not path[-1]]
+        return path if path and is_root(path[0]) or not is_root(held) else []
+
+    def _above_all(self, held):
+        """Returns all found ones that are above `held`."""
+        if id(held) not in self._known:
+            found = {}
+            for each in self.found:
+                if id(each) not in found and self._is_above(each, held):
+                    found.update({id(it): it for it in [each, *self._above_all(each)]})
+            self._known[id(held)] = list(found.values())
+        return self._known[id(held)]
 
     def _is_above(self, upper, lower):
         """Tests whether `upper` holds all that `lower` does: without both, no more is unreachable than without it."""
