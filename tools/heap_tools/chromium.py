@@ -108,11 +108,11 @@ class Chromium:
         return reply["result"]
 
     def wait_for(self, is_wanted):
-        """Returns the next message that is wanted. Keeps all events."""
+        """Returns the next message that is wanted. Keeps the events of the page."""
         ends = time.monotonic() + LIMIT
         while True:
             message = self.next_message(ends)
-            if "method" in message:
+            if "method" in message and message.get("sessionId") == self.session:
                 self.events.append(message)
             if message.get("method") == "Page.javascriptDialogOpening":
                 self.send("Page.handleJavaScriptDialog", accept=True)

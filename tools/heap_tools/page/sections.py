@@ -4,21 +4,8 @@ from heap_tools import figures
 from heap_tools.page.pictures import COLOURS, bar, chart, small_line, spell_of, treemap
 from heap_tools.page.top import KINDS, from_to, headline, holder_name, lead, tiles, title
 from heap_tools.page.treemap import groups_of, total_of
-from heap_tools.page.words import (
-    FOLDER,
-    Html,
-    breakable,
-    escaped,
-    figure,
-    fill,
-    joined,
-    moment,
-    name_of,
-    percent,
-    plain,
-    signed,
-    when,
-)
+from heap_tools.page.words import FOLDER, Html, breakable, escaped, figure, fill, joined, moment, name_of, percent
+from heap_tools.page.words import plain, signed, when
 
 #: What no dump shows, of whatever program.
 NEVER_SHOWN = [
@@ -156,7 +143,7 @@ def last(leak, limits):
     groups, total = groups_of(leak.last, limits.groups, limits.parts), max(1, whole.bytes)
     if not groups:
         return fill("paragraph", text="The last dump has no reachable objects.")
-    caption = f"The bytes of {len(leak.last):,} classes. Each colour is a package, each box a class, as large as its bytes."
+    caption = f"{len(leak.last):,} classes. Each colour is a package, and each box a class, as large as its bytes."
     picture = fill("figure_of", picture=treemap(groups), caption=caption) if whole.bytes else Html()
     about = fill("about", text="Packages and classes as a table. Small ones are added together.")
     heads = {"Package and class": "name", "Objects": "number", "Bytes": "number", "Share": "shares"}

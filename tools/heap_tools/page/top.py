@@ -5,19 +5,7 @@ from dataclasses import dataclass
 from heap_tools import figures
 from heap_tools.page import leak as model
 from heap_tools.page.pictures import spell_of
-from heap_tools.page.words import (
-    Html,
-    escaped,
-    figure,
-    fill,
-    joined,
-    moment,
-    name_of,
-    percent,
-    plain,
-    signed,
-    solid,
-)
+from heap_tools.page.words import Html, escaped, figure, fill, joined, moment, name_of, percent, plain, signed, solid
 
 HOUR = 3_600_000
 
