@@ -370,9 +370,18 @@ class PageTest(unittest.TestCase):
             ([empty, empty], "the reachable heap stayed at 0 bytes"),
             ([empty, last], "the reachable heap grew from 0 bytes"),
             ([dataclasses.replace(first, time=2**64 - 1), last], "From the first dump to the last"),
+            ([first, dataclasses.replace(last, time=first.time + 999)], "From the first dump to the last"),
         ]:
             with self.subTest(wanted):
                 self.assertIn(wanted, self.outline(dataclasses.replace(page_sample.leak(), dumps=dumps)).text())
+
+    def test_way_to_the_first_holder(self):
+        """What is above the first holder stands below the headline."""
+        leak = page_sample.leak()
+        other = dataclasses.replace(leak, holders=leak.holders[::-1])
+        wanted = "reached through static com/acme/shop/timeout/TimeoutService.TIMER"
+        self.assertIn(wanted, self.outline(other).text().partition("Reachable heap")[0])
+        self.assertNotIn("reached through", self.outline(leak).text().partition("Reachable heap")[0])
 
     def test_by_objects_of_a_class(self):
         """Objects of one class, in place of bytes of all."""
@@ -381,6 +390,7 @@ class PageTest(unittest.TestCase):
         text = self.outline(leak).text()
         self.assertIn(f"holds 299,904 objects of {name}, up from 88,104 objects", text)
         self.assertIn("grew from 702,113 to 1,304,914 objects", text)
+        self.assertNotIn("Its part of the growth", text)
 
     def test_colours(self):
         """The contrast of each text and each graphic with its ground, light and dark."""

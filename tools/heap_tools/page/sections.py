@@ -2,7 +2,7 @@
 
 from heap_tools import figures
 from heap_tools.page.pictures import COLOURS, bar, chart, small_line, spell_of, treemap
-from heap_tools.page.top import KINDS, from_to, headline, holder_name, lead, tiles, title
+from heap_tools.page.top import KINDS, from_to, headline, holder_name, lead, path_to, tiles, title
 from heap_tools.page.treemap import groups_of, total_of
 from heap_tools.page.words import FOLDER, Html, breakable, escaped, figure, fill, joined, moment, name_of, percent
 from heap_tools.page.words import plain, signed, when
@@ -126,17 +126,6 @@ def share(part, kind):
     return fill("share", bar=bar(part, 100, kind), percent=percent(part))
 
 
-def path_to(holder, limits):
-    """Returns the fields above a holder, from the top down."""
-    if not holder.above:
-        return Html()
-    above = list(holder.above)
-    if len(above) > limits.steps:
-        above[limits.steps - 1 : -1] = [f"{len(above) - limits.steps} more"]
-    steps = (fill("item", text=breakable(plain(step, limits.name))) for step in above)
-    return fill("path", steps=joined(steps))
-
-
 def last(leak, limits):
     """Returns the treemap and the table of the last heap."""
     whole = total_of(leak.last.values())
@@ -217,7 +206,7 @@ def dump_row(dump, limits):
     """Returns the row of a dump."""
     return fill(
         "dump_row",
-        file=fill("file_name", text=plain(dump.file, limits.name)),
+        file=fill("file_name", text=breakable(plain(dump.file, limits.name))),
         time=when(dump.time),
         size="not known" if dump.size is None else figure(dump.size, "bytes"),
         objects=figure(dump.reachable.objects, "objects"),
@@ -235,6 +224,7 @@ def page_of(leak, limits):
         title=title(leak),
         style=Html((FOLDER / "page.css").read_text(encoding="utf-8").strip()),
         headline=headline(leak, limits),
+        through=path_to(leak.holders[0], limits) if leak.holders else Html(),
         lead=lead(leak),
         tiles=tiles(leak),
         heap=heap(leak, limits),
