@@ -375,6 +375,16 @@ class PageTest(unittest.TestCase):
             with self.subTest(wanted):
                 self.assertIn(wanted, self.outline(dataclasses.replace(page_sample.leak(), dumps=dumps)).text())
 
+    def test_fields_that_hold_together(self):
+        """Each has a name of its own, as long as there are few."""
+        names = [f"shop/Journal.events{number}" for number in range(8)]
+        held = page.Share(1, 1, 1.0)
+        leak = dataclasses.replace(
+            page_sample.leak(), holders=[page.Holder(page.TOGETHER, ", ".join(names), 8, held, held, [])]
+        )
+        text = self.outline(leak).text()
+        self.assertIn(f"Static fields {', '.join(names[:6])}, 2 more together hold 1 byte", text)
+
     def test_way_to_the_first_holder(self):
         """What is above the first holder stands below the headline."""
         leak = page_sample.leak()

@@ -42,10 +42,14 @@ def span(leak):
 
 
 def holder_name(holder, limits):
-    """Returns the name of what holds: of a thread in quotes, of all else as a name of Java."""
+    """Returns the name of what holds: of a thread in quotes, of all else as a name of Java, or several such names."""
     if holder.kind == model.THREAD:
         return fill("plain_name", text=f'"{plain(holder.name, limits.name)}"')
-    return name_of(holder.name, limits.name)
+    names = holder.name.split(", ") if holder.kind == model.TOGETHER else [holder.name]
+    shown = [name_of(name, limits.name) for name in names[: limits.steps]]
+    if len(names) > len(shown):
+        shown.append(escaped(f"{len(names) - len(shown):,} more"))
+    return joined(shown, ", ")
 
 
 def headline(leak, limits):
