@@ -282,7 +282,9 @@ class PageTest(unittest.TestCase):
         amounts += [share for it in leak.holders for share in (it.before, it.after)]
         for amount in amounts:
             self.assertLessEqual({amount.objects, amount.bytes}, values)
-        self.assertIn({"value": "58284771", "title": "58,284,771\u00a0bytes"}, outline.all("data"))
+        for exact in "58,284,771 bytes", "44 holders", "12 references", "1 holder":
+            value = exact.split()[0].replace(",", "")
+            self.assertIn({"value": value, "title": words.solid(exact)}, outline.all("data"))
 
     def test_texts(self):
         """What the page says of the sample."""

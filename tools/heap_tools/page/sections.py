@@ -114,7 +114,7 @@ def holder_row(it, limits):
         kind=KINDS[it.kind].label,
         name=holder_name(it, limits),
         path=path_to(it, limits),
-        holders=figure(it.holders, "objects"),
+        holders=figure(it.holders, "holders"),
         objects=change_of(it.before.objects, it.after.objects, "objects"),
         bytes=change_of(it.before.bytes, it.after.bytes, "bytes"),
         shares=fill("shares", **shares),
@@ -213,7 +213,7 @@ def dump_row(dump, limits):
         bytes=figure(dump.reachable.bytes, "bytes"),
         unreachable_objects=figure(dump.unreachable.objects, "objects"),
         unreachable_bytes=figure(dump.unreachable.bytes, "bytes"),
-        unresolved=figure(dump.unresolved, "objects"),
+        unresolved=figure(dump.unresolved, "references"),
     )
 
 
