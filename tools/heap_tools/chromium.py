@@ -56,7 +56,7 @@ def pipe():
 
 
 class Chromium:
-    """A running browser with one page, to be used in `with`. Its messages are those of the DevTools protocol."""
+    """A running browser with one page. Its messages are those of the DevTools protocol."""
 
     def __init__(self, program):
         self.room = tempfile.TemporaryDirectory()
@@ -76,10 +76,8 @@ class Chromium:
         os.close(theirs)
         os.close(theirs_too)
 
-    def __enter__(self):
-        return self
-
-    def __exit__(self, *_):
+    def close(self):
+        """Ends the browser."""
         with contextlib.suppress(ProcessLookupError):
             os.killpg(self.process.pid, signal.SIGKILL)
         self.process.wait()
@@ -108,11 +106,11 @@ class Chromium:
         return reply["result"]
 
     def wait_for(self, is_wanted):
-        """Returns the next message that is wanted. Keeps all events."""
+        """Returns the next message that is wanted. Keeps the events of the page."""
         ends = time.monotonic() + LIMIT
         while True:
             message = self.next_message(ends)
-            if "method" in message:
+            if "method" in message and message.get("sessionId") == self.session:
                 self.events.append(message)
             if message.get("method") == "Page.javascriptDialogOpening":
                 self.send("Page.handleJavaScriptDialog", accept=True)

@@ -13,7 +13,11 @@ import unittest
 from unittest import mock
 
 from heap_tools import chromium, figures, page, page_sample
+from heap_tools.dump_writer import Dump
+from heap_tools.leaks_test import cache
+from heap_tools.names import shown
 from heap_tools.page import pictures, treemap, words
+from heap_tools.testing import ToolTest
 
 SCRIPT = "<script>alert(1)</script>"
 #: Names as a hostile dump may have them, or the name of a file.
@@ -31,6 +35,8 @@ HOSTILE = [
     '"' * 10_000,
     "a\\x00b\\x1b[31m\\xe2\\x80\\xae",
 ]
+#: Names of classes that are in reports as `shown` spells them.
+HOSTILE_CLASSES = [*HOSTILE[1:10], "a\x00b\x1b[31m", "\u202eltr\u2066", "[Lno end", "a" * 10_000 + "b"]
 #: The same, with characters that reports escape, but names of files and threads may have.
 ODD = [
     "\u202eltr\u2066",
@@ -282,7 +288,9 @@ class PageTest(unittest.TestCase):
         amounts += [share for it in leak.holders for share in (it.before, it.after)]
         for amount in amounts:
             self.assertLessEqual({amount.objects, amount.bytes}, values)
-        self.assertIn({"value": "58284771", "title": "58,284,771\u00a0bytes"}, outline.all("data"))
+        for exact in "58,284,771 bytes", "44 holders", "12 references", "1 holder":
+            value = exact.split()[0].replace(",", "")
+            self.assertIn({"value": value, "title": words.solid(exact)}, outline.all("data"))
 
     def test_texts(self):
         """What the page says of the sample."""
@@ -370,9 +378,28 @@ class PageTest(unittest.TestCase):
             ([empty, empty], "the reachable heap stayed at 0 bytes"),
             ([empty, last], "the reachable heap grew from 0 bytes"),
             ([dataclasses.replace(first, time=2**64 - 1), last], "From the first dump to the last"),
+            ([first, dataclasses.replace(last, time=first.time + 999)], "From the first dump to the last"),
         ]:
             with self.subTest(wanted):
                 self.assertIn(wanted, self.outline(dataclasses.replace(page_sample.leak(), dumps=dumps)).text())
+
+    def test_fields_that_hold_together(self):
+        """Each has a name of its own, as long as there are few."""
+        names = [f"shop/Journal.events{number}" for number in range(8)]
+        held = page.Share(1, 1, 1.0)
+        leak = dataclasses.replace(
+            page_sample.leak(), holders=[page.Holder(page.TOGETHER, ", ".join(names), 8, held, held, [])]
+        )
+        text = self.outline(leak).text()
+        self.assertIn(f"Static fields {', '.join(names[:6])}, 2 more together hold 1 byte", text)
+
+    def test_way_to_the_first_holder(self):
+        """What is above the first holder stands below the headline."""
+        leak = page_sample.leak()
+        other = dataclasses.replace(leak, holders=leak.holders[::-1])
+        wanted = "reached through static com/acme/shop/timeout/TimeoutService.TIMER"
+        self.assertIn(wanted, self.outline(other).text().partition("Reachable heap")[0])
+        self.assertNotIn("reached through", self.outline(leak).text().partition("Reachable heap")[0])
 
     def test_by_objects_of_a_class(self):
         """Objects of one class, in place of bytes of all."""
@@ -381,6 +408,7 @@ class PageTest(unittest.TestCase):
         text = self.outline(leak).text()
         self.assertIn(f"holds 299,904 objects of {name}, up from 88,104 objects", text)
         self.assertIn("grew from 702,113 to 1,304,914 objects", text)
+        self.assertNotIn("Its part of the growth", text)
 
     def test_colours(self):
         """The contrast of each text and each graphic with its ground, light and dark."""
@@ -484,29 +512,27 @@ class WriteTest(unittest.TestCase):
             self.assertEqual(os.read(read.fileno(), 100), b"<p>")
 
 
-class BrowserTest(unittest.TestCase):
-    """What a browser makes of the pages."""
+class InBrowser(unittest.TestCase):
+    """A test with a browser. Without one it is left out, and the last line of all says so."""
 
     @classmethod
     def setUpClass(cls):
         program = chromium.found()
         if not program:
-            atexit.register(print, "left out: the pages in a browser: no chromium is here", flush=True)
+            atexit.unregister(say_left_out)
+            atexit.register(say_left_out)
             raise unittest.SkipTest("no chromium is here")
-        cls.stack = contextlib.ExitStack()
-        cls.room = pathlib.Path(cls.stack.enter_context(tempfile.TemporaryDirectory()))
-        cls.browser = cls.stack.enter_context(chromium.Chromium(program))
+        cls.browser = chromium.Chromium(program)
 
     @classmethod
     def tearDownClass(cls):
-        cls.stack.close()
+        cls.browser.close()
 
-    def open(self, leak, **how):
-        """Opens the page of a leak, and requires that it fetched nothing, logged nothing, and fits into the window."""
-        file = self.room / "leak.html"
-        page.write(leak, str(file))
-        self.browser.open(file.as_uri(), **how)
-        self.assertEqual(self.browser.fetched(), [file.as_uri()])
+    def look_at(self, file, **how):
+        """Opens a page, and requires that it fetched nothing, logged nothing, runs nothing and fits into the window."""
+        address = pathlib.Path(file).resolve().as_uri()
+        self.browser.open(address, **how)
+        self.assertEqual(self.browser.fetched(), [address])
         self.assertEqual(self.browser.logged(), [])
         self.assertLessEqual(self.browser.value("document.documentElement.scrollWidth"), how.get("width", 1280))
         self.assertEqual(self.browser.value("document.scripts.length"), 0)
@@ -515,6 +541,86 @@ class BrowserTest(unittest.TestCase):
         """Returns the texts of the elements that a selector names, with plain blanks."""
         found = self.browser.value(f"[...document.querySelectorAll({selector!r})].map(it => it.textContent)")
         return [" ".join(text.replace("\u00a0", " ").split()) for text in found]
+
+    def figures(self, selector):
+        """Returns the exact figures of the elements that a selector names."""
+        return self.browser.value(f"[...document.querySelectorAll({selector!r})].map(it => Number(it.value))")
+
+
+def say_left_out():
+    """Says that no page was opened in a browser."""
+    print("left out: the pages in a browser: no chromium is here", flush=True)
+
+
+class ToolPageTest(InBrowser, ToolTest):
+    """A browser opens the pages that leaks makes of dumps, and finds what leaks prints."""
+
+    tool = "leaks"
+
+    def made(self, before, after, *files):
+        """Makes the page of two dumps, in files with these names. Returns the columns of the first line of leaks."""
+        before.write(files[0])
+        after.write(files[1])
+        ended = self.ran("--html", "page.html", "--", *files)
+        self.assertEqual(ended.status, 0, ended.said)
+        return ended.out.split("\n")[0].split(None, 6)
+
+    def test_leak(self):
+        """The figures of a leak."""
+        objects, size, _, before, after, holders, way = self.made(cache(40), cache(160, 12), "monday", "friday")
+        for width, dark in (1280, False), (390, True):
+            self.look_at("page.html", width=width, dark=dark)
+            *above, name = way.split(" > ")
+            self.assertEqual(self.texts("#holders tbody tr:first-child .name"), [name])
+            self.assertEqual(self.texts("#holders tbody tr:first-child li"), above)
+            self.assertEqual(self.texts("header li"), above)
+            row = "#holders tbody tr:first-child td:nth-of-type"
+            self.assertEqual(self.figures(f"{row}(1) data"), [int(holders)])
+            self.assertEqual(self.figures(f"{row}(2) data")[2], int(objects))
+            self.assertEqual(self.figures(f"{row}(3) data"), [int(before), int(after), int(size)])
+            self.assertEqual(self.figures("h1 data"), [int(after), int(before)])
+            self.assertEqual(self.texts("#making tbody th"), ["monday", "friday"])
+            self.assertIn("In 12 min", self.texts(".lead")[0])
+
+    def test_hostile_dump(self):
+        """The names of classes, of a field, a method and a thread, and of files, are text."""
+        files = [f"{SCRIPT[:-9]}{number}.hprof" for number in (1, 2)]
+        *_, way = self.made(hostile_dump(2), hostile_dump(9), *files)
+        self.assertIn(shown(f"{SCRIPT}.{SCRIPT}".encode()), way)
+        for width, dark in (1280, True), (390, False):
+            self.look_at("page.html", width=width, dark=dark)
+            self.assertEqual(self.browser.value(LOW_CONTRAST), [])
+            self.assertEqual(self.texts("#making tbody th"), files)
+            grown = self.texts("#grown tbody th")
+            for name in HOSTILE_CLASSES:
+                self.assertIn(words.plain(shown(name.encode()), 240), grown)
+            held = " ".join(self.texts("#holders tbody th"))
+            self.assertIn(shown(f"{SCRIPT}.{SCRIPT}".encode()), held)
+
+
+def hostile_dump(count):
+    """Returns a dump in which a static field holds `count` objects of each of the hostile classes."""
+    dump, objects = Dump(time=60_000 * count), []
+    dump.of_class(1, SCRIPT, {SCRIPT: 1000})
+    dump.of_class(2, "[Ljava/lang/Object;")
+    for number, name in enumerate(HOSTILE_CLASSES, 10):
+        dump.of_class(number, name, fields=[SCRIPT])
+        for at in range(count):
+            objects.append(10_000 * number + at)
+            dump.instance(objects[-1], number, 0)
+    dump.array(1000, 2, *objects)
+    dump.root(1)
+    return dump
+
+
+class BrowserTest(InBrowser):
+    """What a browser makes of the pages."""
+
+    def open(self, leak, **how):
+        """Opens the page of a leak."""
+        with tempfile.TemporaryDirectory() as room:
+            page.write(leak, f"{room}/leak.html")
+            self.look_at(f"{room}/leak.html", **how)
 
     def test_figures_of_a_leak(self):
         """The browser shows the figures of the sample."""
@@ -525,7 +631,7 @@ class BrowserTest(unittest.TestCase):
         cell = "#holders tbody tr:first-child td:nth-of-type(3)"
         self.assertEqual(self.texts(f"{cell} data"), ["4.0 MB", "20.4 MB", "+16.4 MB"])
         self.assertEqual(self.texts("#grown tbody th"), [it.name for it in leak.grown])
-        exact = self.browser.value("[...document.querySelectorAll('#making td data')].map(it => Number(it.value))")
+        exact = self.figures("#making td data")
         for dump in leak.dumps:
             wanted = {dump.reachable.bytes, dump.reachable.objects, dump.unreachable.bytes, dump.size}
             self.assertLessEqual(wanted, set(exact))
@@ -583,10 +689,11 @@ class BrowserTest(unittest.TestCase):
 
     def test_the_browser_sees_what_is_wrong(self):
         """These tests would see a page that fetches, runs, overflows or is pale."""
-        file = self.room / "wrong.html"
         pale = "<p style='color: #999; width: 2000px'>pale"
-        file.write_text(f"{pale}<img src='http://127.0.0.1:9/x'><script>alert(1)</script>")
-        self.browser.open(file.as_uri())
+        with tempfile.TemporaryDirectory() as room:
+            file = pathlib.Path(room, "wrong.html")
+            file.write_text(f"{pale}<img src='http://127.0.0.1:9/x'><script>alert(1)</script>")
+            self.browser.open(file.as_uri())
         self.assertIn("http://127.0.0.1:9/x", self.browser.fetched())
         self.assertGreaterEqual(len(self.browser.logged()), 2)
         self.assertEqual(len(self.browser.value(LOW_CONTRAST)), 1)

@@ -6,3 +6,4 @@ pub mod OrderLemmas
 pub mod RowLemmas
 mod WorkedRows
 pub mod UnmarkedLaws
+pub mod PartTotals

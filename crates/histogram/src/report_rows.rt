@@ -23,7 +23,7 @@ use std::thread::Threads;
 /// order of the report, and the three totals.
 ///
 /// `Err(OutOfMemory)` if an allocation fails. There is no other error.
-pub fn rows<T: Threads + Sync, A: Allocator + Copy, B: Allocator + Sync, C: Allocator>(
+pub fn rows<T: Threads + Sync, A: Allocator + Copy + Send, B: Allocator + Sync, C: Allocator>(
     team: &Team<'_, T>,
     alloc: A,
     graph: &Graph<'_, B>,

@@ -1,10 +1,8 @@
 //! The totals of the objects that are not marked.
 
 ghost use Rattle.std.specs.Prelude.{◌≡◌, ◌<◌, ◌+◌, ◌^◌, [], ◌∷◌, IfOk, length};
-ghost use Rattle.std.specs.Thread.{IsSync};
 ghost use Rattle.heap_graph.specs.ObjectGraph.{object_count};
 ghost use Rattle.heap_graph.specs.Whole.{unresolved_among};
-ghost use Rattle.hprof_grammar.specs.TeamLimits.{HasFewParts};
 ghost use Rattle.histogram.specs.Histogram.{total, unmarked_objects};
 ghost use Rattle.histogram.specs.working.Unmarked.{AddUp, AreGraphObjects, both, totals_of};
 
@@ -13,7 +11,7 @@ use drain::Marked;
 use heap_graph::Graph;
 use hprof_grammar::Team;
 use std::alloc::{AllocError, Allocator};
-use std::thread::{Threads, join};
+use std::thread::Threads;
 
 /// The totals of some objects.
 #[derive(Clone, Copy)]
@@ -62,11 +60,11 @@ impl Unmarked {
 }
 
 /// Counts the objects that are not marked, by a walk over each. If there are many (`Team::splits`), takes them in
-/// batches, and splits each batch into at most as many parts as `team` has threads. If there are few, or if the
-/// allocation of a batch fails, takes one object after the other, from the first on.
+/// batches, and `team` counts each batch in parts (`Team::map_parts`). If there are few, or if an allocation fails, takes
+/// one object after the other, from the first on.
 pub(crate) fn count_unmarked<
     T: Threads + Sync,
-    A: Allocator + Copy,
+    A: Allocator + Copy + Send,
     B: Allocator + Sync,
     C: Allocator,
 >(team: &Team<'_, T>, alloc: A, graph: &Graph<'_, B>, marks: &Marked<C>) -> Unmarked
@@ -83,9 +81,13 @@ pub(crate) fn count_unmarked<
     count_in_turn(graph, marks)
 }
 
-/// Counts the objects that are not marked, one batch after the other. `Err(AllocError)` if the allocation of a batch
-/// fails.
-fn count_in_batches<T: Threads + Sync, A: Allocator + Copy, B: Allocator + Sync, C: Allocator>(
+/// Counts the objects that are not marked, one batch after the other. `Err(AllocError)` if an allocation fails.
+fn count_in_batches<
+    T: Threads + Sync,
+    A: Allocator + Copy + Send,
+    B: Allocator + Sync,
+    C: Allocator,
+>(
     team: &Team<'_, T>,
     alloc: A,
     graph: &Graph<'_, B>,
@@ -100,8 +102,8 @@ fn count_in_batches<T: Threads + Sync, A: Allocator + Copy, B: Allocator + Sync,
     let mut numbers = UnmarkedNumbers::of(marks);
     while let Some(first) = numbers.next() {
         let batch = numbers.batch_from(alloc, first)?;
-        let size = team.part_of(batch.len());
-        left = left.and(count_in_parts(team, graph, batch.as_slice(), size));
+        let counted = count_in_parts(team, alloc, graph, batch.as_slice())?;
+        left = left.and(counted);
     }
     Ok(left)
 }
@@ -120,37 +122,29 @@ fn count_in_turn<A: Allocator, B: Allocator>(graph: &Graph<'_, A>, marks: &Marke
     left
 }
 
-/// Counts the objects `numbers` in parts of `size` objects, the last of which may be smaller. If there are several
-/// parts, a thread of its own counts the first, if one can be started, while this thread calls this function for the
-/// others. Requires no more parts than the team has threads.
-fn count_in_parts<T: Threads + Sync, A: Allocator + Sync>(
+/// Counts the objects `numbers` in parts, at most one for each thread of `team`. `Err(AllocError)` if the allocation for
+/// the results of the parts fails.
+fn count_in_parts<T: Threads + Sync, A: Allocator + Copy + Send, B: Allocator + Sync>(
     team: &Team<'_, T>,
-    graph: &Graph<'_, A>,
+    alloc: A,
+    graph: &Graph<'_, B>,
     numbers: &[u32],
-    size: usize,
-) -> Unmarked
-    requires size { 0 < size }
-    requires few { HasFewParts team.now.threads (length numbers.now) size }
-    requires objects { AreGraphObjects graph.now numbers.now }
-    ensures { result ≡ totals_of graph.now numbers.now }
+) -> Result<Unmarked, AllocError>
+    requires { AreGraphObjects graph.now numbers.now }
+    ensures { IfOk result (λ left. left ≡ totals_of graph.now numbers.now) }
 {
-    if numbers.len() <= size {
-        return count(graph, numbers);
-    }
     // Called for its clause `whole`: a graph has few objects, so no sum overflows.
     let _objects = graph.len();
-    let (first, others) = numbers.split_at(size);
-    let front = move || -> Unmarked
-        requires { AreGraphObjects graph.now first.now }
-        ensures { result ≡ totals_of graph.entry.now first.entry.now }
-    { count(graph, first) };
-    let back = move || -> Unmarked
-        requires { IsSync T.row × IsSync A.row × (0 < size)
-            × HasFewParts team.now.threads (length others.now) size × AreGraphObjects graph.now others.now }
-        ensures { result ≡ totals_of graph.entry.now others.entry.now }
-    { count_in_parts(team, graph, others, size) };
-    let (front, back) = join(team, front, back);
-    front.and(back)
+    let count_part = |_: usize, part: &[u32]| -> Unmarked
+        requires { AreGraphObjects graph.now part.now }
+        ensures { result ≡ totals_of graph.entry.now part.entry.now }
+    { count(graph, part) };
+    let parts = team.map_parts(alloc, numbers, &count_part)?;
+    let mut left = Unmarked::NONE;
+    for part in &parts {
+        left = left.and(*part);
+    }
+    Ok(left)
 }
 
 /// Counts the objects `numbers`.

@@ -96,7 +96,7 @@ impl<'r, T> Team<'r, T> {
     /// There are at most as many parts as threads, and more than half as many if there are at least as many items as
     /// threads.
     #[tactic(auto, using(crate::proofs::TeamParts::rounded))]
-    pub fn part_of(&self, length: usize) -> usize
+    pub(crate) fn part_of(&self, length: usize) -> usize
         ensures some { 0 < result }
         ensures few { HasFewParts self.now.threads length result }
         ensures many { HasManyParts self.now.threads length result }

@@ -80,6 +80,11 @@ class Leak:
     share_of: str = "all reachable bytes"
     of_class: Optional[str] = None
 
+    @property
+    def is_of_all(self):
+        """Tests whether the holders hold objects of all classes."""
+        return self.share_of == f"all reachable {self.by}"
+
 
 @dataclass(frozen=True)
 class Limits:

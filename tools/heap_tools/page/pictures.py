@@ -16,7 +16,7 @@ MOST_POINTS, SMALL_WIDTH, SMALL_HEIGHT = 60, 120, 28
 #: The room around the chart's lines: left, right, top and bottom.
 LEFT, RIGHT, TOP, BOTTOM = 58, 30, 26, 26
 #: The height of a group's name in the treemap, and of a line of text; the width of a letter, and of a digit in bold.
-HEAD, LINE, LETTER, DIGIT = 18, 14, 6.7, 7.8
+HEAD, LINE, LETTER, DIGIT = 18, 14, 7.2, 7.8
 #: How many colours groups have.
 COLOURS = 8
 
@@ -156,7 +156,7 @@ def series_of(leak, places):
     found = [Series("reachable", sampled(list(zip(places, reachable))))]
     if max(unreachable) > max(reachable) / 50:
         found.append(Series("unreachable", sampled(list(zip(places, unreachable)))))
-    if leak.holders and leak.of_class is None:
+    if leak.holders and leak.is_of_all:
         first = leak.holders[0]
         ends = [(places[0], getattr(first.before, leak.by)), (places[-1], getattr(first.after, leak.by))]
         found.append(Series("held", ends))

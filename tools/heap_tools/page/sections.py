@@ -2,23 +2,10 @@
 
 from heap_tools import figures
 from heap_tools.page.pictures import COLOURS, bar, chart, small_line, spell_of, treemap
-from heap_tools.page.top import KINDS, from_to, headline, holder_name, lead, tiles, title
+from heap_tools.page.top import KINDS, from_to, headline, holder_name, lead, path_to, tiles, title
 from heap_tools.page.treemap import groups_of, total_of
-from heap_tools.page.words import (
-    FOLDER,
-    Html,
-    breakable,
-    escaped,
-    figure,
-    fill,
-    joined,
-    moment,
-    name_of,
-    percent,
-    plain,
-    signed,
-    when,
-)
+from heap_tools.page.words import FOLDER, Html, breakable, escaped, figure, fill, joined, moment, name_of, percent
+from heap_tools.page.words import plain, signed, when
 
 #: What no dump shows, of whatever program.
 NEVER_SHOWN = [
@@ -127,7 +114,7 @@ def holder_row(it, limits):
         kind=KINDS[it.kind].label,
         name=holder_name(it, limits),
         path=path_to(it, limits),
-        holders=figure(it.holders, "objects"),
+        holders=figure(it.holders, "holders"),
         objects=change_of(it.before.objects, it.after.objects, "objects"),
         bytes=change_of(it.before.bytes, it.after.bytes, "bytes"),
         shares=fill("shares", **shares),
@@ -139,24 +126,13 @@ def share(part, kind):
     return fill("share", bar=bar(part, 100, kind), percent=percent(part))
 
 
-def path_to(holder, limits):
-    """Returns the fields above a holder, from the top down."""
-    if not holder.above:
-        return Html()
-    above = list(holder.above)
-    if len(above) > limits.steps:
-        above[limits.steps - 1 : -1] = [f"{len(above) - limits.steps} more"]
-    steps = (fill("item", text=breakable(plain(step, limits.name))) for step in above)
-    return fill("path", steps=joined(steps))
-
-
 def last(leak, limits):
     """Returns the treemap and the table of the last heap."""
     whole = total_of(leak.last.values())
     groups, total = groups_of(leak.last, limits.groups, limits.parts), max(1, whole.bytes)
     if not groups:
         return fill("paragraph", text="The last dump has no reachable objects.")
-    caption = f"The bytes of {len(leak.last):,} classes. Each colour is a package, each box a class, as large as its bytes."
+    caption = f"{len(leak.last):,} classes. Each colour is a package, and each box a class, as large as its bytes."
     picture = fill("figure_of", picture=treemap(groups), caption=caption) if whole.bytes else Html()
     about = fill("about", text="Packages and classes as a table. Small ones are added together.")
     heads = {"Package and class": "name", "Objects": "number", "Bytes": "number", "Share": "shares"}
@@ -230,14 +206,14 @@ def dump_row(dump, limits):
     """Returns the row of a dump."""
     return fill(
         "dump_row",
-        file=fill("file_name", text=plain(dump.file, limits.name)),
+        file=fill("file_name", text=breakable(plain(dump.file, limits.name))),
         time=when(dump.time),
         size="not known" if dump.size is None else figure(dump.size, "bytes"),
         objects=figure(dump.reachable.objects, "objects"),
         bytes=figure(dump.reachable.bytes, "bytes"),
         unreachable_objects=figure(dump.unreachable.objects, "objects"),
         unreachable_bytes=figure(dump.unreachable.bytes, "bytes"),
-        unresolved=figure(dump.unresolved, "objects"),
+        unresolved=figure(dump.unresolved, "references"),
     )
 
 
@@ -248,6 +224,7 @@ def page_of(leak, limits):
         title=title(leak),
         style=Html((FOLDER / "page.css").read_text(encoding="utf-8").strip()),
         headline=headline(leak, limits),
+        through=path_to(leak.holders[0], limits) if leak.holders else Html(),
         lead=lead(leak),
         tiles=tiles(leak),
         heap=heap(leak, limits),

@@ -5,19 +5,8 @@ from dataclasses import dataclass
 from heap_tools import figures
 from heap_tools.page import leak as model
 from heap_tools.page.pictures import spell_of
-from heap_tools.page.words import (
-    Html,
-    escaped,
-    figure,
-    fill,
-    joined,
-    moment,
-    name_of,
-    percent,
-    plain,
-    signed,
-    solid,
-)
+from heap_tools.page.words import Html, breakable, escaped, figure, fill, joined, moment, name_of, percent
+from heap_tools.page.words import plain, signed, solid
 
 HOUR = 3_600_000
 
@@ -46,17 +35,21 @@ def rise(leak):
 
 
 def span(leak):
-    """Returns the milliseconds between the first and the last dump, or `None` if they are not known or not positive."""
+    """Returns the milliseconds between the first and the last dump, or `None` if these are not known or below 1000."""
     first, last = leak.dumps[0].time, leak.dumps[-1].time
     known = moment(first) is not None and moment(last) is not None
-    return last - first if known and last > first else None
+    return last - first if known and last >= first + 1000 else None
 
 
 def holder_name(holder, limits):
-    """Returns the name of what holds: of a thread in quotes, of all else as a name of Java."""
+    """Returns the name of what holds: of a thread in quotes, of all else as a name of Java, or several such names."""
     if holder.kind == model.THREAD:
         return fill("plain_name", text=f'"{plain(holder.name, limits.name)}"')
-    return name_of(holder.name, limits.name)
+    names = holder.name.split(", ") if holder.kind == model.TOGETHER else [holder.name]
+    shown = [name_of(name, limits.name) for name in names[: limits.steps]]
+    if len(names) > len(shown):
+        shown.append(escaped(f"{len(names) - len(shown):,} more"))
+    return joined(shown, ", ")
 
 
 def headline(leak, limits):
@@ -75,6 +68,17 @@ def headline(leak, limits):
         after=joined([figure(getattr(first.after, leak.by), leak.by), noun]),
         of_class=fill("of_class", name=name_of(leak.of_class, limits.name)) if leak.of_class else Html(),
     )
+
+
+def path_to(holder, limits):
+    """Returns the fields above a holder, from the top down."""
+    if not holder.above:
+        return Html()
+    above = list(holder.above)
+    if len(above) > limits.steps:
+        above[limits.steps - 1 : -1] = [f"{len(above) - limits.steps} more"]
+    steps = (fill("item", text=breakable(plain(step, limits.name))) for step in above)
+    return fill("path", steps=joined(steps))
 
 
 def title(leak):
@@ -130,11 +134,12 @@ def heap_tile(leak):
 def growth_tile(leak, holder):
     """Returns the figure of what a holder holds of the growth, or nothing where that says nothing."""
     growth = rise(leak)
-    if leak.of_class is not None or growth <= 0:
+    if not leak.is_of_all or growth <= 0:
         return Html()
     part = 100 * (getattr(holder.after, leak.by) - getattr(holder.before, leak.by)) / growth
-    value = percent(part) if part < 100 else "all of it"
-    return fill("tile", name="Its part of the growth", value=value, note=f"of {signed(growth, spell_of(leak.by))}")
+    grown = signed(growth, spell_of(leak.by))
+    value, note = (percent(part), f"of {grown}") if part < 100 else ("all of it", grown)
+    return fill("tile", name="Its part of the growth", value=value, note=note)
 
 
 def from_to(first, last):

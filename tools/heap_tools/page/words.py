@@ -132,7 +132,7 @@ def clock(times):
 
 
 def figure(number, unit, sign=False):
-    """Returns a number of `bytes` or `objects`, with the exact one beside it. `sign`: it is a difference."""
+    """Returns a number of `unit`, such as bytes, with the exact one beside it. `sign`: it is a difference."""
     spell = size if unit == "bytes" else "{:,}".format
     exact = solid(figures.counted(number, unit[:-1]))
     return fill("figure", value=number, exact=exact, shown=signed(number, spell) if sign else spell(number))

@@ -8,7 +8,7 @@
 
 ghost use Rattle.hprof_grammar.specs.Standing.{StandInTurn, Stands};
 ghost use Rattle.hprof_grammar.specs.SubRecord.{SubRecord};
-ghost use Rattle.std.specs.Prelude.{IfOk, IfSome, List, length, max, ◌<◌, ◌≤◌};
+ghost use Rattle.std.specs.Prelude.{IfOk, IfSome, List, length, ◌<◌};
 ghost use Rattle.heap_graph.specs.Heap.{objects};
 ghost use Rattle.heap_graph.specs.working.ClassNumbers.{AreIndexed};
 ghost use Rattle.heap_graph.specs.working.GatheredParts.{MayGather, MayIndex};
@@ -18,7 +18,6 @@ use crate::objects::indexing::Indexed;
 use hprof_grammar::{Team, View};
 use id_index::{IdPairsBuilder, LowBits, UsedIds, WideEntriesBuilder, are_close};
 use std::alloc::{AllocError, Allocator};
-use std::thread;
 use std::thread::Threads;
 
 /// The number of stretches of objects in a sample.
@@ -145,12 +144,11 @@ fn ends_in_parts<T: Threads + Sync, B: Allocator + Copy + Send + Sync>(
 ) -> Result<Option<Ends>, AllocError>
     requires { MayGather view.now places.now bits 0 places.now }
 {
-    let size = team.part_of(places.len());
     let read = |start: usize, part: &[u32]| -> Option<Ends>
         requires { MayGather view.now places.now bits start part.now }
     { ends_of_part(view, places, start, part, bits) };
     let mut all = Ends::NONE;
-    for ends in thread::map_chunks(team, alloc, places, size, &read)? {
+    for ends in team.map_parts(alloc, places, &read)? {
         match ends {
             Some(ends) => all = all.joined(ends),
             None => return Ok(None),
@@ -179,17 +177,6 @@ fn ends_of<T: Threads + Sync, B: Allocator + Copy + Send + Sync>(
     ends_of_part(view, places, 0, places, bits)
 }
 
-/// Returns how many parts `team` makes of `count` objects: one if there are few (`Team::splits`), and never more than
-/// it has threads.
-fn parts_of<T>(team: &Team<'_, T>, count: usize) -> usize
-    ensures { result ≤ max team.now.threads 1 }
-{
-    if team.splits(count) {
-        return count.div_ceil(team.part_of(count));
-    }
-    1
-}
-
 /// Notes which places of the index the identifiers of the objects at `places` take. Notes only identifiers between
 /// `ends` or not far outside. If there are many objects (`Team::splits`), the threads of `team` share the work.
 /// `AllocError` if the allocation fails.
@@ -204,7 +191,7 @@ fn noted_places<T: Threads + Sync, B: Allocator>(
     requires { MayGather view.now places.now bits 0 places.now }
 {
     let count = places.len();
-    let parts = parts_of(team, count);
+    let parts = team.parts(count);
     let mut noted = UsedIds::new(alloc, bits, ends.least, ends.greatest, count as u32, parts)?;
     let id_of = |number: usize| -> u64
         requires { (number < length places.now) × MayIndex view.now places.now }

@@ -12,8 +12,8 @@ next_batch g c =
     ∙ c.in_ok-batch.ensures.numbers
     ∙ ap (λ b. b ++ c.batch_from.new.self) (sym c.as_slice.ensures.value)
 
-pub count_in_parts-requires-clause-objects : goal.count_in_parts-requires-clause-objects
-count_in_parts-requires-clause-objects g c =
+pub count_in_parts-requires : goal.count_in_parts-requires
+count_in_parts-requires g c =
     let graph = c.args.graph.now in
     let marks = c.args.marks.now.marks in
     let are =
@@ -27,8 +27,8 @@ and-left-requires g c =
     let graph = c.args.graph.now in
     let marks = c.args.marks.now.marks in
     more_add_up graph (unmarked_from marks 0) c.loop-first.numbers c.as_slice.result.now c.batch_from.new.self
-    c.loop-first.left c.count_in_parts.result c.loop-first.invariant.2 (next_batch g (goal.at.and-left-requires g c).After-as_slice)
-    c.count_in_parts.ensures c.len-objects.ensures.whole (unmarked_are_objects marks graph c.requires)
+    c.loop-first.left c.in_ok-counted.counted c.loop-first.invariant.2 (next_batch g (goal.at.and-left-requires g c).After-as_slice)
+    c.in_ok-counted.ensures c.len-objects.ensures.whole (unmarked_are_objects marks graph c.requires)
 
 pub loop-first-smaller : goal.loop-first-smaller
 loop-first-smaller g c = omega (arith, ap length c.in-Some.ensures.steps, c.in_ok-batch.ensures.fewer)
@@ -38,6 +38,6 @@ loop-first-preserved g c = (
   tt,
   tt,
   counted_more c.args.graph.now (unmarked_from c.args.marks.now.marks 0) c.loop-first.numbers c.as_slice.result.now
-      c.batch_from.new.self c.loop-first.left c.count_in_parts.result c.loop-first.invariant.2
-      (next_batch g (goal.at.loop-first-preserved g c).After-as_slice) c.count_in_parts.ensures c.and-left.result c.and-left.ensures,
+      c.batch_from.new.self c.loop-first.left c.in_ok-counted.counted c.loop-first.invariant.2
+      (next_batch g (goal.at.loop-first-preserved g c).After-as_slice) c.in_ok-counted.ensures c.and-left.result c.and-left.ensures,
 )
