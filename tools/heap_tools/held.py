@@ -19,8 +19,9 @@ NOTES = """
 A field belongs to the class that declares it. The class is spelt as heapmark,
 grown or jmap shows it, in quotes if it has a `$`; letters beyond ASCII may
 stand as they are, and dots in place of slashes. Without `$14+0x..` a hidden
-class means all of that name. A line of holders may be pasted: `static A.x` and
-`together static A.x, static B.y` mean these fields.
+class means all of that name. What a line of holders or leaks ends with may be
+pasted: `static A.x` and `together static A.x, static B.y` mean these fields,
+and `A.x > B.y` means B.y.
 
 It runs heapmark on DUMP, and on DUMP with these fields declared as numbers, so
 that they lead nowhere, and shows where the reports differ, as grown does
@@ -55,8 +56,9 @@ def parser():
 
 
 def entries_of(text):
-    """Returns the entries of a list of fields, which may be a line of holders."""
-    return [re.sub("^static ", "", entry) for entry in re.sub("^together ", "", text).replace(", ", ",").split(",")]
+    """Returns the entries of a list of fields, which may be what a line of holders or leaks ends with."""
+    last = re.sub("^together ", "", text.rpartition(" > ")[2])
+    return [re.sub("^static ", "", entry) for entry in last.replace(", ", ",").split(",")]
 
 
 def classes_named(text, dump):

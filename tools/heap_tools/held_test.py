@@ -95,6 +95,7 @@ class HeldTest(ToolTest):
                 "plain.Other.list",
                 "static plain/Other.list",
                 f"together static {other}.first, static {other}.second",
+                f"static Größe.all > {other}.list",
                 f"{lambdas}$15+0x00007fee61009a10.arg$1",
                 f"{lambdas}$15/0x00007fee61009a10.arg$1",
             ):

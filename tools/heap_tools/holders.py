@@ -151,6 +151,15 @@ def spelled(holders):
     return ("together " if len(holders) > 1 else "") + ", ".join(sorted(map(str, holders)))
 
 
+def why_none(search):
+    """Returns why nothing was found, if that is known, or which option may help."""
+    holders, probe = search.probe.holders, search.probe
+    all_holders = [*holders.statics(), holders.all_threads(), *holders.fields(probe.base)]
+    if probe.whole.objects and probe.held(all_holders).amount.objects == 0:
+        return ": they are roots themselves, or a root of the virtual machine leads to them without a field"
+    return ": see --at-least" if search.at_least > 1 else ""
+
+
 def say_rest(search):
     """Says what the lines do not: how much is left, and whether there is more, or nothing."""
     probe, at_least = search.probe, search.at_least
@@ -161,8 +170,7 @@ def say_rest(search):
     if search.is_cut:
         say("holders: fields with more holders may hold as much: see --top")
     if not search.found:
-        more = ": see --at-least" if at_least > 1 else ""
-        say(f"holders: no field, local variable or thread alone holds {at_least}% of {what}{more}")
+        say(f"holders: no field, local variable or thread alone holds {at_least}% of {what}{why_none(search)}")
     unreachable = probe.runs.report.unreachable.bytes
     if not probe.families and 100 * unreachable >= MUCH * probe.whole.bytes and unreachable:
         say(f"holders: {unreachable:,} bytes more are unreachable: garbage in dumps with -all; in live dumps {OMITTED}")

@@ -217,6 +217,16 @@ class HoldersTest(ToolTest):
         ):
             self.expect(words, out, said)
 
+    def test_roots(self):
+        """Objects that are roots themselves: no option helps."""
+        dump = Dump()
+        dump.of_class(1, "Order")
+        dump.instance(200, 1)
+        dump.root(200)
+        dump.write("roots.hprof")
+        none = "holders: no field, local variable or thread alone holds 10% of 1 object of Order: they are roots *"
+        self.expect(["roots.hprof", "Order"], said=f"{none}\n{without_statics(1, 1, 'object of Order')}")
+
     def test_threads(self):
         """Local variables and threads hold objects, too."""
         lines = line(5, 0, 62, 1, "local com/shop/Server.serve")

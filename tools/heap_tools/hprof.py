@@ -7,6 +7,7 @@ traces, are.
 import mmap
 import os
 import struct
+from collections import deque
 from typing import NamedTuple
 
 from heap_tools.names import PRIMITIVES, of_dump, shown
@@ -146,20 +147,31 @@ class Dump:
     # Classes and roots
 
     def _read_heap(self, nameless):
-        """Reads class dumps and the roots of threads. Virtual machines write a dump of each loaded class, then the
-        roots of all threads that have a trace, then the objects. So this ends at an object once it has met all of them.
-        It walks over all objects if it cannot know that, as if a class was unloaded or is `nameless`."""
-        classes, threads = set(self._loaded), set(self._traces) - {0}
-        for at, tag in self._sub_records(self._segments):
-            if tag in OBJECTS:
-                if not (classes or threads or nameless):
-                    return
-            elif tag == CLASS_DUMP:
+        """Reads class dumps and the roots of threads. Virtual machines write the dumps of all loaded classes first, and
+        the roots of all threads that have a trace right after them or last. So this reads the first segments up to an
+        object, then the last ones down to an object, and the others only if it has not met all classes and threads, or
+        cannot know that."""
+        classes, threads, rest = set(self._loaded), set(self._traces) - {0}, deque(self._segments)
+        knows_all = not nameless and threads
+        ends_with_object = begins_with_object = False
+        while rest and not (knows_all and not classes and ends_with_object):
+            _, ends_with_object = self._read_segment(rest.popleft(), classes, threads)
+        while rest and (threads or not begins_with_object):
+            begins_with_object, _ = self._read_segment(rest.pop(), classes, threads)
+
+    def _read_segment(self, segment, classes, threads):
+        """Reads the class dumps and roots in a segment, and takes them from the `classes` and `threads` to be met.
+        Returns whether it begins with an object, and whether it ends with one."""
+        first = last = 0
+        for at, tag in self._sub_records([segment]):
+            if tag == CLASS_DUMP:
                 classes.discard(self.id(at + 1))
             elif tag in THREAD_ROOTS:
                 self._note_root(at, tag)
                 if tag == THREAD_OBJECT:
                     threads.discard(self.roots[-1].thread)
+            first, last = first or tag, tag
+        return first in OBJECTS, last in OBJECTS
 
     def _sub_records(self, segments):
         """Yields the place and the tag of each sub-record of `segments`. Reads class dumps on the way."""

@@ -78,7 +78,7 @@ def parser():
     it.flag("--objects", "Take shares of objects, not of bytes")
     text = "Show what holds P percent or more of the growth, 1 to 100 [default: 30]"
     it.option("--at-least", "P", text, type=number(1, 100), default=30)
-    it.option("--top", "N", "Show at most N lines [default: 5]", type=number(1), default=5)
+    it.option("--top", "N", "Show at most N lines [default: 4]", type=number(1), default=4)
     it.option("--html", "FILE", "Also write a page for a browser, with charts, to FILE")
     it.flag("--weak", "Follow soft, weak, final and phantom references, too")
     return it
