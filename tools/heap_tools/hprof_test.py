@@ -23,7 +23,7 @@ class HprofTest(unittest.TestCase):
         file.flush()
         return file
 
-    def self.copied(self, found, *changes):
+    def copied(self, found, *changes):
         """Returns a copy of a dump that was read, with changes."""
         with tempfile.TemporaryDirectory() as folder, open(f"{folder}/copy", "wb") as copy:
             found.send(copy, *changes)
