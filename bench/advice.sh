@@ -160,7 +160,8 @@ TwoStaticsLeak TwoStaticsLeak$Event together static TwoStaticsLeak$Journal.EVENT
 PROGRAMS
 # shellcheck disable=SC2016
 leaking_by_thread ThreadLocalLeak 'ThreadLocalLeak$Scratch'
-holding ThreadLocalLeak 'java/lang/ThreadLocal$ThreadLocalMap.table' java.lang.String
+# shellcheck disable=SC2016
+holding ThreadLocalLeak 'ThreadLocalLeak$Scratch.notes' java.lang.String
 leaking_by_class ClassValueLeak 10000
 run_twice ListenerLeak
 cut_short friday.hprof

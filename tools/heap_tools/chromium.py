@@ -128,8 +128,8 @@ class Chromium:
         text, _, self.rest = self.rest.partition(b"\0")
         return json.loads(text)
 
-    def open(self, url, width=1280, height=900, dark=False, media="screen"):
-        """Opens a page in a window of this size, in the dark or not, on a screen or as printed (`media`)."""
+    def open(self, url):
+        """Opens a page, on a wide and light screen."""
         self.session = None
         if self.target:
             self.call("Target.closeTarget", targetId=self.target)
@@ -139,15 +139,18 @@ class Chromium:
         for domain in "Page", "Network", "Log", "Runtime", "Accessibility":
             self.call(f"{domain}.enable")
         self.call("Page.setLifecycleEventsEnabled", enabled=True)
-        self.call(
-            "Emulation.setDeviceMetricsOverride", width=width, height=height, deviceScaleFactor=1, mobile=False
-        )
-        scheme = {"name": "prefers-color-scheme", "value": "dark" if dark else "light"}
-        self.call("Emulation.setEmulatedMedia", media=media, features=[scheme])
+        self.show()
         loader = self.call("Page.navigate", url=url)["loaderId"]
         loaded = {"name": "load", "loaderId": loader}
         while not any(loaded.items() <= event["params"].items() for event in self.events):
             self.wait_for(lambda message: "method" in message)
+        self.value(FRAME)
+
+    def show(self, width=1280, dark=False, media="screen"):
+        """Shows the page in a window of this width, in the dark or not, on a screen or as printed (`media`)."""
+        self.call("Emulation.setDeviceMetricsOverride", width=width, height=900, deviceScaleFactor=1, mobile=False)
+        scheme = {"name": "prefers-color-scheme", "value": "dark" if dark else "light"}
+        self.call("Emulation.setEmulatedMedia", media=media, features=[scheme])
         self.value(FRAME)
 
     def value(self, expression):

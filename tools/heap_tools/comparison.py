@@ -62,7 +62,7 @@ class Comparison:
         was, now = (getattr(each, probe.column) for each in (probe.earlier.whole, probe.whole))
         text = f"{what}: {was} {probe.column}, then {now}: no growth"
         grown = growth.growths([probe.earlier.base, probe.base])
-        families = [each.name for each in grown if each.objects > 0 and not each.name.startswith("<")]
+        families = [each.name for each in grown if each.objects > 0 and each.name != names.CLASSES]
         if probe.families or not families:
             raise Fault(NOTHING, text)
         say(f"leaks: {text}; so the shares are of the objects of the classes that grew")

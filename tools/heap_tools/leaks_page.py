@@ -5,7 +5,7 @@ import platform
 import shlex
 import time
 
-from heap_tools import VERSION, growth, page
+from heap_tools import VERSION, growth, names, page
 from heap_tools.faults import UNWRITABLE, Fault
 from heap_tools.holders import OMITTED, spelled
 
@@ -14,7 +14,7 @@ def page_of(comparison, probe, lines):
     """Returns what the page of `--html` shows."""
     options, dumps = comparison.options, [dump_of(runs) for runs in comparison.dumps]
     reports = [runs.report for runs in comparison.dumps]
-    grown = [each for each in growth.growths(reports, probe.column) if not each.name.startswith("<")]
+    grown = [each for each in growth.growths(reports, probe.column) if each.name != names.CLASSES]
     of_class = probe.families[0] if options.of_class else None
     whole = "all reachable bytes" if probe.column == "bytes" else "all reachable objects"
     if probe.families:

@@ -7,6 +7,8 @@ import re
 PRIMITIVES = dict(B="byte", C="char", D="double", F="float", I="int", J="long", S="short", Z="boolean")
 #: The packages of the JDK.
 JDK = ("java/", "javax/", "jdk/", "sun/", "com/sun/", "netscape/", "org/ietf/jgss/", "org/w3c/dom/", "org/xml/sax/")
+#: The row of a report for the classes themselves. A class may have a name that begins with `<`, too.
+CLASSES = "<class>"
 
 
 def shown(raw):
@@ -33,7 +35,7 @@ def is_array(name):
 def is_own(name):
     """Tests whether a class is the user's or a library's: neither the JDK's nor an array of primitive values."""
     inner = element(name)
-    return not (inner.startswith(JDK) or is_array(inner) or inner.startswith("<"))
+    return not (inner.startswith(JDK) or is_array(inner) or inner == CLASSES)
 
 
 def package(name):

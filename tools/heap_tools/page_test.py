@@ -528,14 +528,25 @@ class InBrowser(unittest.TestCase):
     def tearDownClass(cls):
         cls.browser.close()
 
-    def look_at(self, file, **how):
-        """Opens a page, and requires that it fetched nothing, logged nothing, runs nothing and fits into the window."""
+    def open(self, file):
+        """Opens a page, and requires that it fetched nothing, logged nothing and runs nothing."""
         address = pathlib.Path(file).resolve().as_uri()
-        self.browser.open(address, **how)
+        self.browser.open(address)
         self.assertEqual(self.browser.fetched(), [address])
         self.assertEqual(self.browser.logged(), [])
-        self.assertLessEqual(self.browser.value("document.documentElement.scrollWidth"), how.get("width", 1280))
         self.assertEqual(self.browser.value("document.scripts.length"), 0)
+
+    def check_screens(self):
+        """Requires that the page fits into each window, that all text has contrast, and that one of two pictures that
+        show the same is shown."""
+        for width, dark in (1280, False), (1280, True), (390, False), (390, True):
+            with self.subTest(width=width, dark=dark):
+                self.browser.show(width, dark)
+                self.assertLessEqual(self.browser.value("document.documentElement.scrollWidth"), width)
+                self.assertEqual(self.browser.value(LOW_CONTRAST), [])
+                for kind in "chart", "treemap":
+                    pictures = f"[...document.querySelectorAll('svg.{kind}')].map(it => it.clientWidth > 0)"
+                    self.assertIn(sorted(self.browser.value(pictures)), ([], [False, True]))
 
     def texts(self, selector):
         """Returns the texts of the elements that a selector names, with plain blanks."""
@@ -568,34 +579,32 @@ class ToolPageTest(InBrowser, ToolTest):
     def test_leak(self):
         """The figures of a leak."""
         objects, size, _, before, after, holders, way = self.made(cache(40), cache(160, 12), "monday", "friday")
-        for width, dark in (1280, False), (390, True):
-            self.look_at("page.html", width=width, dark=dark)
-            *above, name = way.split(" > ")
-            self.assertEqual(self.texts("#holders tbody tr:first-child .name"), [name])
-            self.assertEqual(self.texts("#holders tbody tr:first-child li"), above)
-            self.assertEqual(self.texts("header li"), above)
-            row = "#holders tbody tr:first-child td:nth-of-type"
-            self.assertEqual(self.figures(f"{row}(1) data"), [int(holders)])
-            self.assertEqual(self.figures(f"{row}(2) data")[2], int(objects))
-            self.assertEqual(self.figures(f"{row}(3) data"), [int(before), int(after), int(size)])
-            self.assertEqual(self.figures("h1 data"), [int(after), int(before)])
-            self.assertEqual(self.texts("#making tbody th"), ["monday", "friday"])
-            self.assertIn("In 12 min", self.texts(".lead")[0])
+        self.open("page.html")
+        self.check_screens()
+        *above, name = way.split(" > ")
+        self.assertEqual(self.texts("#holders tbody tr:first-child .name"), [name])
+        self.assertEqual(self.texts("#holders tbody tr:first-child li"), above)
+        self.assertEqual(self.texts("header li"), above)
+        row = "#holders tbody tr:first-child td:nth-of-type"
+        self.assertEqual(self.figures(f"{row}(1) data"), [int(holders)])
+        self.assertEqual(self.figures(f"{row}(2) data")[2], int(objects))
+        self.assertEqual(self.figures(f"{row}(3) data"), [int(before), int(after), int(size)])
+        self.assertEqual(self.figures("h1 data"), [int(after), int(before)])
+        self.assertEqual(self.texts("#making tbody th"), ["monday", "friday"])
+        self.assertIn("In 12 min", self.texts(".lead")[0])
 
     def test_hostile_dump(self):
-        """The names of classes, of a field, a method and a thread, and of files, are text."""
+        """The names of classes, of fields and of files are text."""
         files = [f"{SCRIPT[:-9]}{number}.hprof" for number in (1, 2)]
         *_, way = self.made(hostile_dump(2), hostile_dump(9), *files)
         self.assertIn(shown(f"{SCRIPT}.{SCRIPT}".encode()), way)
-        for width, dark in (1280, True), (390, False):
-            self.look_at("page.html", width=width, dark=dark)
-            self.assertEqual(self.browser.value(LOW_CONTRAST), [])
-            self.assertEqual(self.texts("#making tbody th"), files)
-            grown = self.texts("#grown tbody th")
-            for name in HOSTILE_CLASSES:
-                self.assertIn(words.plain(shown(name.encode()), 240), grown)
-            held = " ".join(self.texts("#holders tbody th"))
-            self.assertIn(shown(f"{SCRIPT}.{SCRIPT}".encode()), held)
+        self.open("page.html")
+        self.check_screens()
+        self.assertEqual(self.texts("#making tbody th"), files)
+        grown = self.texts("#grown tbody th")
+        for name in HOSTILE_CLASSES:
+            self.assertIn(words.plain(shown(name.encode()), 240), grown)
+        self.assertIn(shown(f"{SCRIPT}.{SCRIPT}".encode()), " ".join(self.texts("#holders tbody th")))
 
 
 def hostile_dump(count):
@@ -616,16 +625,17 @@ def hostile_dump(count):
 class BrowserTest(InBrowser):
     """What a browser makes of the pages."""
 
-    def open(self, leak, **how):
+    def open_page_of(self, leak):
         """Opens the page of a leak."""
         with tempfile.TemporaryDirectory() as room:
             page.write(leak, f"{room}/leak.html")
-            self.look_at(f"{room}/leak.html", **how)
+            self.open(f"{room}/leak.html")
 
     def test_figures_of_a_leak(self):
         """The browser shows the figures of the sample."""
         leak = page_sample.leak()
-        self.open(leak)
+        self.open_page_of(leak)
+        self.check_screens()
         name = "com/acme/shop/metrics/MetricsService.METERS"
         self.assertEqual(self.texts("h1"), [f"Static field {name} holds 20.4 MB, up from 4.0 MB"])
         cell = "#holders tbody tr:first-child td:nth-of-type(3)"
@@ -639,33 +649,31 @@ class BrowserTest(InBrowser):
         self.assertEqual(self.texts("#holders tbody tr:last-child li"), leak.holders[-1].above)
         self.assertEqual(self.texts("title")[0], f"{name}: 4.0 MB to 20.4 MB")
 
-    def test_each_screen(self):
-        """Wide and narrow, light and dark: all text has contrast, and one of two pictures is shown."""
-        for width, dark in [(1280, False), (1280, True), (390, False), (390, True)]:
-            for leak in page_sample.leak(), hostile_leak(), bare_leak():
-                with self.subTest(f"{width} {dark}"):
-                    self.open(leak, width=width, dark=dark)
-                    self.assertEqual(self.browser.value(LOW_CONTRAST), [])
-                    shown = "[...document.querySelectorAll('svg.chart, svg.treemap')].filter(it => it.clientWidth > 0)"
-                    self.assertEqual(self.browser.value(f"{shown}.length"), 2 if leak.last else 1)
+    def test_nothing_found(self):
+        """A page of a leak of which nothing was found."""
+        self.open_page_of(bare_leak())
+        self.check_screens()
 
     def test_paper(self):
         """On paper the page is light, also for those who have it dark."""
-        self.open(page_sample.leak(), width=700, dark=True, media="print")
+        self.open_page_of(page_sample.leak())
+        self.browser.show(700, dark=True, media="print")
+        self.assertLessEqual(self.browser.value("document.documentElement.scrollWidth"), 700)
         self.assertEqual(self.browser.value(LOW_CONTRAST), [])
         self.assertEqual(self.browser.value("getComputedStyle(document.querySelector('h2')).color"), "rgb(21, 25, 30)")
         self.assertTrue(self.browser.printed().startswith(b"%PDF-"))
 
     def test_hostile_names(self):
         """The browser shows hostile names as text."""
-        self.open(hostile_leak())
+        self.open_page_of(hostile_leak())
+        self.check_screens()
         self.assertIn(SCRIPT, self.texts("#grown tbody th"))
         self.assertIn("\\u202eltr\\u2066", self.texts("#making tbody th"))
         self.assertEqual(self.browser.value("document.images.length + document.links.length"), 6)
 
     def test_screen_reader(self):
         """The parts that a screen reader finds have names."""
-        self.open(page_sample.leak())
+        self.open_page_of(page_sample.leak())
         parts = self.browser.named()
         for role in "banner", "navigation", "main", "contentinfo", "table", "figure":
             self.assertIn(role, [part for part, _ in parts])
@@ -678,13 +686,13 @@ class BrowserTest(InBrowser):
 
     def test_policy(self):
         """If a name ever were more than text, the policy of the page would still refuse to fetch or to run it."""
+        self.open_page_of(page_sample.leak())
         for tag, attributes, rule in [
             ("img", "src: 'http://127.0.0.1:9/x'", "img-src"),
             ("script", "textContent: 'alert(1)'", "script-src-elem"),
             ("iframe", "src: 'http://127.0.0.1:9/x'", "frame-src"),
         ]:
             with self.subTest(tag):
-                self.open(page_sample.leak())
                 self.assertEqual(self.browser.value(REFUSED % (tag, attributes)), rule)
 
     def test_the_browser_sees_what_is_wrong(self):

@@ -24,8 +24,8 @@ use Rattle.clap.proofs.OnLiterals.{clap_on_literals}
 use Rattle.clap.proofs.SimpleLemmas.{all_simple, is_false, is_nil, plain_fields, simple_groups}
 use Rattle.clap.proofs.WalkLemmas.{both, first_value-rows}
 use Rattle.command_line.specs.Line.{file_rule, heapmark_line, number_rule, skip_rule, text_given}
-use Rattle.command_line.specs.working.Held.{HoldsAll, HoldsNumber}
-use Rattle.command_line.proofs.Held.{TakesOne, found_by_id, held}
+use Rattle.command_line.specs.working.Matches.{HasAll, HasNumber}
+use Rattle.command_line.proofs.Matches.{TakesOne, found_by_id, has_value}
 
 -- the rules of the line, in their order
 abbrev rules : List Rule
@@ -199,12 +199,12 @@ module _ (old : Command) (is : app_of old ≡ heapmark_line) where
       only j (rule_of e) (omega (arith, count)) (rw (← id, ← named) same)
 
   -- a parse holds the number of an option
-  pub number_held : (m : ArgMatches) → IsParsedFrom old m → (k : ℕ) (name : Text) (least most : ℕ) (default : Text)
+  pub number_found : (m : ArgMatches) → IsParsedFrom old m → (k : ℕ) (name : Text) (least most : ℕ) (default : Text)
       (letter : ℕ)
       → ((r : Rule) → slice_index_or rules k r ≡ number_rule name least most default) → k < 6 → IsOnly name k
       → slice_index name 0 ≡ letter → letter ≢ 0 → letter ≢ 104 → letter ≢ 118
-      → HoldsNumber (found_of m) name least most
-  number_held m p k name least most default letter here lt only begins none_zero none_help none_version =
+      → HasNumber (found_of m) name least most
+  number_found m p k name least most default letter here lt only begins none_zero none_help none_version =
       let d = some_arg (args_of old) rules_are in
       let rule : rule_of (slice_index_or (args_of old) k d) ≡ number_rule name least most default =
       there k d ∙ here (rule_of d) in
@@ -232,7 +232,7 @@ module _ (old : Command) (is : app_of old ≡ heapmark_line) where
       let fields = plain_fields old is_plain in
       let entry = found_by_id (found_of m).entries.items (slice_index_or (args_of old) k d).id.now
       (default_present old m p fields.globals k d below wants) in
-      let got = held old m p (no_groups m p) k d (parser.Unsigned least most) takes entry fields.globals in
+      let got = has_value old m p (no_groups m p) k d (parser.Unsigned least most) takes entry fields.globals in
       record {
         text = got.0;
         first = subst (λ (t : Text). first_value (found_of m) t ≡ Some got.0) id got.1;
@@ -240,9 +240,9 @@ module _ (old : Command) (is : app_of old ≡ heapmark_line) where
         within = got.3;
       }
 
-  -- a parse holds the file
-  pub file_held : (m : ArgMatches) → IsParsedFrom old m → is_some (first_value (found_of m) (codes "file")) ≡ true
-  file_held m p =
+  -- a parse finds the file
+  pub file_found : (m : ArgMatches) → IsParsedFrom old m → is_some (first_value (found_of m) (codes "file")) ≡ true
+  file_found m p =
       let d = some_arg (args_of old) rules_are in
       let rule : rule_of (slice_index_or (args_of old) 0 d) ≡ file_rule = there 0 d in
       let id : (slice_index_or (args_of old) 0 d).id.now ≡ codes "file" = ap (λ (r : Rule). r.id) rule in

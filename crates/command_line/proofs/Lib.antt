@@ -1,2 +1,2 @@
-pub mod Held
+pub mod Matches
 pub mod Given

@@ -1,4 +1,4 @@
--- The command line of heapmark by clap's definitions, and the arguments that the words of a line give.
+-- The command line of heapmark: its options, in clap's definitions, and the arguments that its words give.
 use Rattle.std.specs.Prelude.{List, Option, Some, [], codes, map, option_map, true, ℕ, ◌∷◌, ◌≡◌, ◌≢◌, ◌≤◌, ◌⊎◌}
 use Rattle.std.specs.Borrow.{Bor}
 use Rattle.std.specs.Str.Parse.{IsNumeral, digits_value, without_leading_plus}
@@ -64,7 +64,8 @@ texts_of = map (λ word. word.now)
 abbrev pub text_given : Text → List Text → Option Text
 text_given name words = first_of name (matches_of heapmark_line words)
 
--- What is wrong with the words, or what they ask for instead: the kinds of error that a parse may have.
+-- The kinds of error that a parse of the words may return: one for each fault of the words and for each request for the
+-- help or the version.
 abbrev pub faults_of : List Text → Kinds
 faults_of words = fault_of heapmark_line words
 

@@ -10,9 +10,10 @@ rattle logic dac8208d650f15bf";
 
 /// The first paragraph of the help.
 pub(crate) const ABOUT: &str = "\
-Marks the objects of a Java heap dump that a path of references joins to a root,
-with several threads, and prints a histogram of them: one line for each class,
-with the number of its objects and the bytes of their fields or elements.";
+Marks the reachable objects of a Java heap dump with several threads, and prints
+a histogram of them: for each class the number of its reachable objects and the
+bytes of their fields or elements. An object is reachable if a path of
+references joins a root to it.";
 
 /// The help of the file.
 pub(crate) const FILE: &str = "\
@@ -44,25 +45,28 @@ java/lang/ref/Reference.referent";
 
 /// The paragraphs after the options.
 pub(crate) const AFTER: &str = "\
-The report, on standard output, has the number of objects, their bytes and the
-class in each line, the most bytes first. Its last three lines count the
-reachable objects, the unreachable ones, and the references to objects that are
-not in the dump. --skip changes it, and no other option.
+The report, on standard output, has a line for each class: the number of its
+reachable objects, their bytes, and the class. The line with the most bytes is
+the first. Three more lines count the reachable objects, the unreachable ones,
+and the identifiers, in objects and in roots, that no object of the dump has.
+Only the option --skip changes the report.
 
-Bytes are those that the dump writes: no headers and padding, but 8 for each
-reference of a 64-bit machine. Unreachable objects are mostly garbage in a dump
-of all objects: jcmd with -all, jmap without live, some at an OutOfMemoryError.
-In others only the machine itself or fields of class objects hold them.
+Bytes are those in the dump: no headers and no padding, and 8 for each reference
+of a 64-bit machine. Dumps of all objects are those of jcmd with -all, of jmap
+without live, and some at an OutOfMemoryError: there, most unreachable objects
+are garbage. In other dumps, only the virtual machine itself or fields of class
+objects keep unreachable objects alive.
 
 Exit status:
-  0  the report was written, or this help or the version was asked for
-  1  refused, as `heapmark: refused 5 BadSubTag at 49` on standard error tells:
-     the code, its name, and for a fault of the dump its place in the file;
-     nothing was written on standard output, but for a beginning of the report
-     at 20 WriteFault
-  2  the command line is wrong, as a message on standard error tells
+  0  the report was written, or the help or the version was requested
+  1  refused: standard error has a line such as
+     `heapmark: refused 5 BadSubTag at 49`, with the code, its name and, for a
+     fault of the dump, its offset; standard output has nothing, or at
+     20 WriteFault a beginning of the report
+  2  the command line is wrong: standard error says why
 
-The dumped program writes the file, in its own folder unless the path is full.
+The Java program writes the dump itself: a path that does not begin with / is
+relative to the folder of that program.
 
 Example:
   $ jcmd 4711 GC.heap_dump /tmp/app.hprof

@@ -2,7 +2,7 @@
 ghost use Rattle.std.specs.Prelude.{◌≡◌, ◌≤◌, IfErr, IfOk, codes, option_map, true, ℕ};
 ghost use Rattle.clap.specs.Words.{FailsBy, first_value, found_of, kind_of, takes};
 ghost use Rattle.command_line.specs.Line.{AreGiven, AreInRange, faults_of, heapmark_line, texts_of};
-ghost use Rattle.command_line.specs.working.Held.{HoldsAll, HoldsNumber, ReadsNumber};
+ghost use Rattle.command_line.specs.working.Matches.{HasAll, HasNumber, ReadsNumber};
 
 use crate::options::command;
 use crate::parsed_arguments::Arguments;
@@ -36,7 +36,7 @@ pub fn arguments<'a>(alloc: Global, words: &'a [&'a str]) -> Result<Arguments<'a
 
 /// Returns the values of `matches`, the result of a parse that succeeded.
 fn values<'a>(matches: &ArgMatches<'a>) -> Arguments<'a>
-    requires { HoldsAll (found_of matches.now) }
+    requires { HasAll (found_of matches.now) }
     ensures file { first_value (found_of matches.now) (codes "file") ≡ Some result.file.now }
     ensures workers { ReadsNumber (found_of matches.now) (codes "workers") result.workers }
     ensures buffer { ReadsNumber (found_of matches.now) (codes "buffer") result.buffer }
@@ -60,9 +60,9 @@ fn values<'a>(matches: &ArgMatches<'a>) -> Arguments<'a>
 
 /// Returns the number that `matches` hold for the option `name`.
 fn number(matches: &ArgMatches<'_>, name: &str) -> u64
-    requires { (least : ℕ) × (most : ℕ) × HoldsNumber (found_of matches.now) name.now least most }
+    requires { (least : ℕ) × (most : ℕ) × HasNumber (found_of matches.now) name.now least most }
     ensures value { ReadsNumber (found_of matches.now) name.now result }
-    ensures range { (least most : ℕ) → HoldsNumber (found_of matches.now) name.now least most
+    ensures range { (least most : ℕ) → HasNumber (found_of matches.now) name.now least most
         → (least ≤ result) × (result ≤ most) }
 {
     let Some(number) = matches.get_one::<u64>(name) else {

@@ -55,16 +55,17 @@ abbrev pub IsKnown : Refusal → Type 0
 IsKnown refusal = IsRunRefusal refusal × (refusal.code ≤ 18)
 
 -- a refusal that is no fault of the bytes has no place
+pub run_unplaced : (code : ℕ) → 15 ≤ code → code ≤ 20 → code ≢ 17
+    → IsRunRefusal (record { code = code; offset = None })
+run_unplaced code least most in_use = record {
+  least = omega (arith, least);
+  most = most;
+  in_use = in_use;
+  placed = (λ h. absurd (omega (arith, h, least)), λ h. cc);
+}
+
 pub known_unplaced : (code : ℕ) → 15 ≤ code → code ≤ 18 → code ≢ 17 → IsKnown (record { code = code; offset = None })
-known_unplaced code least most in_use = (
-  record {
-    least = omega (arith, least);
-    most = omega (arith, most);
-    in_use = in_use;
-    placed = (λ h. absurd (omega (arith, h, least)), λ h. cc);
-  },
-  most,
-)
+known_unplaced code least most in_use = (run_unplaced code least (omega (arith, most)) in_use, most)
 
 -- a first fault is such a refusal, and so is out of memory
 pub known_of : (text : List ℕ) (refusal : Refusal) → RefusesFirstFault text refusal ⊎ (refusal ≡ out_of_memory)

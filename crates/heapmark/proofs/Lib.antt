@@ -1,3 +1,5 @@
 pub mod Codes
 pub mod Faults
+pub mod OfFile
 mod OfMarking
+pub mod PrintedLine

@@ -1,5 +1,6 @@
 pub mod Answer
 pub mod Headline
+pub mod OfFile
 pub mod RefusalCodes
 pub mod RefusalText
 pub mod RunRefusals

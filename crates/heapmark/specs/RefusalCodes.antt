@@ -31,7 +31,7 @@ worker_refused = record { code = 18; offset = None }
 
 abbrev pub run_refusal : RunFault → Refusal
 run_refusal marking.OutOfMemory = out_of_memory
-run_refusal marking.TagSpent = tag_spent
+run_refusal (marking.TagSpent token) = tag_spent
 run_refusal marking.WorkerRefused = worker_refused
 
 abbrev pub reader_refusal : ReaderRefusal → Refusal

@@ -1,5 +1,5 @@
 -- The text of a refusal.
-use Rattle.std.specs.Prelude.{List, None, Option, Some, codes, decimal, if◌then◌else◌, ℕ, ◌++◌, ◌==◌}
+use Rattle.std.specs.Prelude.{List, None, Option, Some, [], codes, decimal, if◌then◌else◌, ℕ, ◌++◌, ◌==◌, ◌∷◌}
 use Rattle.heapmark.specs.declared.refusal.Refusal.{Refusal}
 
 -- the name of a code; 17 is withdrawn, and no run reports it; other numbers are codes of no refusal
@@ -36,3 +36,11 @@ text_of code (Some place) =
 
 abbrev pub refusal_text : Refusal → List ℕ
 refusal_text refusal = text_of refusal.code refusal.offset
+
+-- a line on standard error: 10 is a newline
+abbrev pub line_of : List ℕ → List ℕ
+line_of text = codes "heapmark: " ++ text ++ 10 ∷ []
+
+-- the line that reports a refusal
+abbrev pub refusal_line : Refusal → List ℕ
+refusal_line refusal = line_of (refusal_text refusal)

@@ -4,7 +4,7 @@ use Rattle.heap_graph.specs.SkipText.{SpellsSkips}
 use Rattle.heap_graph.specs.Skips.{SkipEntry}
 use Rattle.heapmark.specs.Answer.{WritesSomeBeginning, WritesSomeReport}
 
--- `skip` is the list that the text of the words spells, or the empty list if there is no text.
+-- `skip` is the list that the text of `--skip` spells, or the empty list if there is no such text.
 abbrev pub IsSkipListOf : Option (List ℕ) → List SkipEntry → Type 0
 IsSkipListOf None skip = skip ≡ []
 IsSkipListOf (Some text) skip = SpellsSkips text skip
@@ -14,7 +14,8 @@ abbrev pub HasBadList : Option (List ℕ) → Type 0
 HasBadList None = ⊥
 HasBadList (Some text) = (skip : List SkipEntry) → SpellsSkips text skip → ⊥
 
--- the report of some text without the fields that `list` spells was written, and nothing else
+-- The report of some accepted dump was written, and nothing else. The fields that the text `list` spells, if there is
+-- such a text, are skipped.
 pub record WritesReportFor (list : Option (List ℕ)) (old new : Option (List ℕ)) : Type 0 where
   pub skip : List SkipEntry
   pub is_list : IsSkipListOf list skip

@@ -1,35 +1,46 @@
 //! What the program does for the words of its command line, and its exit status.
 
 ghost use Rattle.std.specs.Prelude.{◌≡◌, ◌≢◌, ◌↔◌, ◌⊎◌, ◌*◌, ◌+◌, ◌-◌, ◌^◌, ◌<◌, ◌≤◌};
-ghost use Rattle.std.specs.Prelude.{IfErr, IfOk, IsOk, IsSome, OnErr, OnOk, true, ℕ, codes};
+ghost use Rattle.std.specs.Prelude.{IfErr, IfOk, IfSome, IsOk, IsSome, OnErr, OnOk, true, ℕ, codes};
 ghost use Rattle.std.specs.Io.KnownBytes.{Keeps};
 ghost use Rattle.clap.specs.Words.{kind_of};
 ghost use Rattle.command_line.specs.Line.{AreInRange, AsksAboutProgram, GivesNumber, IsTaken, IsWrong};
 ghost use Rattle.command_line.specs.Line.{text_given, texts_of};
+ghost use Rattle.heapmark.specs.OfFile.{IsReason, PrintsReason, PrintsReasonFirst, WritesReportOfBytes};
+ghost use Rattle.heapmark.specs.OfFile.{AppendsSome, WritesReportOfFile, bytes_of_file};
+ghost use Rattle.heapmark.specs.RefusalText.{refusal_line};
+ghost use Rattle.heapmark.specs.RunRefusals.{out_of_memory};
 ghost use Rattle.heapmark.specs.StatusOf.{IsStatusOf};
 ghost use Rattle.heapmark.specs.SkippedFields.{HasBadList, IsSkipListOf, WritesBeginningFor, WritesReportFor};
 ghost use Rattle.drain.specs.Options.{IsInRange};
-ghost use Rattle.heapmark.specs.working.NoReport.{HasTooFewBuffers, bad_options, list_of, starved, wanted};
-ghost use Rattle.histogram.specs.Counting.{failures_of, inner_of, is_flushed};
+ghost use Rattle.heapmark.specs.working.NoReport.{HasTooFewBuffers, bad_options, list_of, refusal_of, starved, wanted};
+ghost use Rattle.histogram.specs.Counting.{AppendsBeginning, failures_of, inner_of, is_flushed};
 
+use crate::dumps::Dumps;
 use crate::hint::advise;
 use crate::no_report::{NoReport, Unreported};
 use crate::pipeline::run;
+use crate::printing::print_line;
 use crate::refusal::Refusal;
 use crate::shown::Shown;
-use crate::status;
 use clap::error::ErrorKind;
 use command_line::{Arguments, Error, arguments};
 use drain::{BadOptions, NoGate, Options};
 use heap_graph::{Skip, SkipRefusal};
 use histogram::Counted;
 use std::alloc::Global;
-use std::fs::OpenFile;
 use std::io::{Seek, Write};
-use std::rt::Files;
 use std::sync::Wait;
 use std::thread::Threads;
-use std::{fs, io};
+
+/// The exit status if the report of the file was written, or the help or the version was asked for.
+pub(crate) const DONE: u8 = 0;
+
+/// The exit status if the options, the file or the run was refused, or an allocation failed.
+const REFUSED: u8 = 1;
+
+/// The exit status if the command line is wrong, or not UTF-8.
+const WRONG_WORDS: u8 = 2;
 
 /// The message about a word that is not text.
 const NOT_TEXT: &str = "\
@@ -44,7 +55,7 @@ For more information, try '--help'.
 /// Returns the exit status: 1 after a refusal, such as that of a failed allocation; otherwise 2 if the words are wrong;
 /// otherwise 0: the report of the file is on `out`, or the help or the version was asked for. A failure of `err` does
 /// not change the status, nor does a failure of `out` while the help or the version is printed.
-pub fn program<T: Files + AllocGlobal + Threads + Wait + Sync, W: Write, E: Write>(
+pub fn program<T: Dumps + AllocGlobal + Threads + Wait + Sync, W: Write, E: Write>(
     rt: &T,
     words: &[&str],
     out: &mut Counted<W>,
@@ -58,13 +69,21 @@ pub fn program<T: Files + AllocGlobal + Threads + Wait + Sync, W: Write, E: Writ
     ensures wrong { (IsTaken (texts_of words.now) → ⊥) → (AsksAboutProgram (texts_of words.now) → ⊥) → result ≢ 0 }
     ensures untouched { result ≡ 2 → Keeps (W.contents (inner_of out.old)) (W.contents (inner_of out.new)) }
 
-    // At 0 no refusal was printed. If neither help nor version was asked for, a report without the fields of `--skip`
-    // was written and flushed. No contract can say that this is the report of the file.
+    // At 0 the report of the file that the words name, without the fields of `--skip`, was written, unless help or
+    // version was asked for. This holds for a file whose bytes a contract can name. For any other file, `reported` says
+    // that it is a report of some dump.
+    ensures of_file { result ≡ 0 → (AsksAboutProgram (texts_of words.now) → ⊥)
+        → WritesReportOfFile (T.bytes_at rt.now) (texts_of words.now)
+        (W.contents (inner_of out.old)) (W.contents (inner_of out.new)) }
     ensures reported { result ≡ 0 → (AsksAboutProgram (texts_of words.now) → ⊥)
         → WritesReportFor (text_given (codes "skip") (texts_of words.now))
         (W.contents (inner_of out.old)) (W.contents (inner_of out.new)) }
     ensures flushed { result ≡ 0 → (AsksAboutProgram (texts_of words.now) → ⊥) → is_flushed out.new ≡ true }
     ensures silent { result ≡ 0 → Keeps (E.contents err.old) (E.contents err.new) }
+
+    // At 1 a refusal was printed in one line. If it reports a fault, this is the first fault of the file.
+    ensures told { result ≡ 1 → PrintsReason (bytes_of_file (T.bytes_at rt.now) (texts_of words.now))
+        (failures_of out.old) (failures_of out.new) (E.contents err.old) (E.contents err.new) }
 
     // Too few buffers for the workers are refused, with nothing written.
     ensures too_few { (workers buffers : ℕ) → GivesNumber (codes "workers") (texts_of words.now) workers
@@ -93,7 +112,8 @@ pub fn program<T: Files + AllocGlobal + Threads + Wait + Sync, W: Write, E: Writ
 
 /// Like [`program`], for an `err` that is a terminal: after some refusals it prints a second line, which says why the
 /// file could not be opened, or what can be done. The status has the same meaning.
-pub fn program_at_terminal<T: Files + AllocGlobal + Threads + Wait + Sync, W: Write, E: Write>(
+#[tactic(auto, using(crate::proofs::OfFile::only, crate::proofs::OfFile::then_more))]
+pub fn program_at_terminal<T: Dumps + AllocGlobal + Threads + Wait + Sync, W: Write, E: Write>(
     rt: &T,
     words: &[&str],
     out: &mut Counted<W>,
@@ -101,6 +121,11 @@ pub fn program_at_terminal<T: Files + AllocGlobal + Threads + Wait + Sync, W: Wr
 ) -> u8
     requires { failures_of out.old < 2 ^ 64 - 1 }
     ensures status { IsStatusOf (texts_of words.now) result W.contents out.old out.new }
+    ensures of_file { result ≡ 0 → (AsksAboutProgram (texts_of words.now) → ⊥)
+        → WritesReportOfFile (T.bytes_at rt.now) (texts_of words.now)
+        (W.contents (inner_of out.old)) (W.contents (inner_of out.new)) }
+    ensures told { result ≡ 1 → PrintsReasonFirst (bytes_of_file (T.bytes_at rt.now) (texts_of words.now))
+        (failures_of out.old) (failures_of out.new) (E.contents err.old) (E.contents err.new) }
     ensures silent { result ≡ 0 → Keeps (E.contents err.old) (E.contents err.new) }
 {
     let (status, unreported) = answer_line(rt, words, out, err);
@@ -112,7 +137,8 @@ pub fn program_at_terminal<T: Files + AllocGlobal + Threads + Wait + Sync, W: Wr
 
 /// Does what `words` ask for, and prints a refusal in one line, or what is wrong with the words. Returns the exit
 /// status. If the words name a file and there is no report of it, also returns why.
-fn answer_line<'a, T: Files + AllocGlobal + Threads + Wait + Sync, W: Write, E: Write>(
+#[tactic(auto, using(crate::proofs::OfFile::of_words, crate::proofs::OfFile::told_of_words, crate::proofs::OfFile::told_starved))]
+fn answer_line<'a, T: Dumps + AllocGlobal + Threads + Wait + Sync, W: Write, E: Write>(
     rt: &T,
     words: &'a [&'a str],
     out: &mut Counted<W>,
@@ -122,12 +148,17 @@ fn answer_line<'a, T: Files + AllocGlobal + Threads + Wait + Sync, W: Write, E: 
     ensures status { IsStatusOf (texts_of words.entry.now) result.0 W.contents out.old out.new }
     ensures silent { result.0 ≡ 0 → Keeps (E.contents err.old) (E.contents err.new) }
     ensures refused { IsSome result.1 → result.0 ≡ 1 }
+    ensures of_file { result.0 ≡ 0 → (AsksAboutProgram (texts_of words.entry.now) → ⊥)
+        → WritesReportOfFile (T.bytes_at rt.now) (texts_of words.entry.now)
+        (W.contents (inner_of out.old)) (W.contents (inner_of out.new)) }
+    ensures told { result.0 ≡ 1 → PrintsReason (bytes_of_file (T.bytes_at rt.now) (texts_of words.entry.now))
+        (failures_of out.old) (failures_of out.new) (E.contents err.old) (E.contents err.new) }
 {
     match arguments(rt.alloc(), words) {
         Ok(arguments) => match report_file(rt, &arguments, out) {
-            Ok(()) => (status::DONE, None),
+            Ok(()) => (DONE, None),
             Err(reason) => {
-                let status = tell(err, &reason);
+                let status = print_refusal(err, &reason.refusal());
                 (status, Some(Unreported { arguments, reason }))
             }
         },
@@ -155,6 +186,8 @@ fn answer_words<W: Write, E: Write>(
     ensures untouched { result ≢ 0 → Keeps (W.contents (inner_of out.old)) (W.contents (inner_of out.new)) }
     ensures no_failure { result ≢ 0 → failures_of out.new ≡ failures_of out.old }
     ensures failures { failures_of out.new ≤ failures_of out.old + 1 }
+    ensures told { result ≡ 1
+        → AppendsBeginning (E.contents err.old) (E.contents err.new) (refusal_line out_of_memory) }
 {
     match error.kind() {
         ErrorKind::OutOfMemory => print_refusal(err, &Refusal::OUT_OF_MEMORY),
@@ -163,11 +196,11 @@ fn answer_words<W: Write, E: Write>(
                 return print_refusal(err, &Refusal::OUT_OF_MEMORY);
             };
             let _ = out.write_whole(text.as_bytes());
-            status::DONE
+            DONE
         }
         _ => {
             let _ = write!(err, "{error}");
-            status::WRONG_WORDS
+            WRONG_WORDS
         }
     }
 }
@@ -177,39 +210,31 @@ pub fn refuse_bytes<E: Write>(err: &mut E) -> u8
     ensures { result ≡ 2 }
 {
     let _ = err.write_all(NOT_TEXT.as_bytes());
-    status::WRONG_WORDS
-}
-
-/// Prints the refusal of `reason` in one line, and returns the exit status.
-fn tell<E: Write>(err: &mut E, reason: &NoReport) -> u8
-    ensures { result ≡ 1 }
-{
-    match reason {
-        NoReport::Refused(refusal) => print_refusal(err, refusal),
-        NoReport::Stopped(refusal, _) => print_refusal(err, refusal),
-        NoReport::NotOpened(_) => print_refusal(err, &Refusal::READ_FAULT),
-    }
+    WRONG_WORDS
 }
 
 /// Prints why the file could not be opened, or what can be done about the refusal, if a hint is known.
-fn explain<T: Files + AllocGlobal, E: Write>(rt: &T, err: &mut E, unreported: &Unreported<'_>) {
+fn explain<T: Dumps + AllocGlobal, E: Write>(rt: &T, err: &mut E, unreported: &Unreported<'_>)
+    ensures { AppendsSome (E.contents err.old) (E.contents err.new) }
+{
     let Unreported { arguments, reason } = unreported;
     match reason {
         NoReport::Refused(refusal) => advise(rt, err, arguments, refusal, None),
         NoReport::Stopped(refusal, length) => advise(rt, err, arguments, refusal, *length),
         NoReport::NotOpened(reason) => {
             let file = Shown(arguments.file);
-            let _ = writeln!(err, "heapmark: {file}: {reason}");
+            print_line(err, &format_args!("{file}: {reason}"));
         }
     }
 }
 
 /// Prints `refusal` in one line, and returns its exit status.
 pub fn print_refusal<E: Write>(err: &mut E, refusal: &Refusal) -> u8
-    ensures { result ≡ 1 }
+    ensures status { result ≡ 1 }
+    ensures line { AppendsBeginning (E.contents err.old) (E.contents err.new) (refusal_line refusal.now) }
 {
-    let _ = writeln!(err, "heapmark: {refusal}");
-    status::REFUSED
+    print_line(err, refusal);
+    REFUSED
 }
 
 /// Returns the options of `arguments` for the marking. `Err(BadOptions)` if they are not allowed (`IsInRange`).
@@ -241,7 +266,8 @@ fn skip_of<'a>(alloc: Global, arguments: &Arguments<'a>) -> Result<Skip<'a, Glob
 }
 
 /// Calls [`run`] on the file of `arguments`. Tests the options and the list of fields before it opens the file.
-fn report_file<T: Files + AllocGlobal + Threads + Wait + Sync, W: Write>(
+#[tactic(auto, using(crate::proofs::OfFile::bad_options_unread, crate::proofs::OfFile::skip_unread, crate::proofs::OfFile::not_opened_unread))]
+fn report_file<T: Dumps + AllocGlobal + Threads + Wait + Sync, W: Write>(
     rt: &T,
     arguments: &Arguments<'_>,
     out: &mut Counted<W>,
@@ -253,6 +279,9 @@ fn report_file<T: Files + AllocGlobal + Threads + Wait + Sync, W: Write>(
     ensures enough { result ≡ Err bad_options → HasTooFewBuffers arguments.now ⊎ HasBadList (list_of arguments.now) }
     ensures not_run { HasTooFewBuffers arguments.now ⊎ HasBadList (list_of arguments.now)
         → failures_of out.new ≡ failures_of out.old }
+    ensures of_file { OnOk result (IfSome (T.bytes_at rt.now arguments.now.file.now) (λ bytes.
+        WritesReportOfBytes (list_of arguments.now) bytes
+        (W.contents (inner_of out.old)) (W.contents (inner_of out.new)))) }
     ensures reported { OnOk result (WritesReportFor (list_of arguments.now)
         (W.contents (inner_of out.old)) (W.contents (inner_of out.new))) }
     ensures flushed { OnOk result (is_flushed out.new ≡ true) }
@@ -263,6 +292,8 @@ fn report_file<T: Files + AllocGlobal + Threads + Wait + Sync, W: Write>(
         (W.contents (inner_of out.old)) (W.contents (inner_of out.new))) }
     ensures no_failure { OnOk result (failures_of out.new ≡ failures_of out.old) }
     ensures failures { failures_of out.new ≤ failures_of out.old + 1 }
+    ensures told { IfErr result (λ reason. IsReason (T.bytes_at rt.now arguments.now.file.now)
+        (failures_of out.old) (failures_of out.new) (refusal_of reason)) }
 {
     let Ok(options) = options_of(arguments) else {
         return Err(NoReport::Refused(Refusal::BAD_OPTIONS));
@@ -271,7 +302,7 @@ fn report_file<T: Files + AllocGlobal + Threads + Wait + Sync, W: Write>(
         Ok(skip) => skip,
         Err(refusal) => return Err(NoReport::Refused(Refusal::from(refusal))),
     };
-    let mut reader = match open(rt, arguments.file) {
+    let mut reader = match rt.open_dump(arguments.file) {
         Ok(reader) => reader,
         Err(reason) => return Err(NoReport::NotOpened(reason)),
     };
@@ -282,27 +313,4 @@ fn report_file<T: Files + AllocGlobal + Threads + Wait + Sync, W: Write>(
             Err(NoReport::Stopped(refusal, length.ok()))
         }
     }
-}
-
-/// Opens the file `name` to read all of it. Refuses a directory, which the system would open, but not read.
-pub(crate) fn open<T: Files>(rt: &T, name: &str) -> io::Result<Counted<T::File>>
-    ensures { IfOk result (λ reader. failures_of reader ≡ 0) }
-{
-    let file = fs::open(rt, name)?;
-    let Ok(metadata) = file.metadata() else {
-        return Ok(Counted::new(file));
-    };
-    if metadata.is_dir() {
-        return Err(io::Error::from(io::ErrorKind::IsADirectory));
-    }
-    Ok(Counted::of_size(file, expected_size(metadata.len())))
-}
-
-/// Returns the number of bytes to reserve for a file of `size` bytes: one more, so that the last read finds the end.
-/// This is only a hint, since the file may change.
-pub(crate) fn expected_size(size: u64) -> usize
-    ensures most { result ≤ size + 1 }
-    ensures whole { size < 2 ^ 64 - 1 → result ≡ size + 1 }
-{
-    usize::try_from(size).unwrap_or(0).saturating_add(1)
 }

@@ -7,12 +7,14 @@ pub(crate) mod records;
 
 ghost use Rattle.std.specs.Prelude.{◌≡◌, ◌↔◌, ◌*◌, IsSome, IsTrue};
 ghost use Rattle.std.specs.Io.KnownBytes.{Keeps};
+ghost use Rattle.heapmark.specs.OfFile.{AppendsSome};
 ghost use Rattle.heapmark.specs.working.Hint.{HasHint};
 ghost use Rattle.heapmark.specs.working.NoReport.{HasTooFewBuffers};
 
+use crate::dumps::Dumps;
+use crate::printing::print_line;
 use crate::refusal::Refusal;
 use crate::refusal::codes::{BAD_OPTIONS, OUT_OF_MEMORY, TAG_SPENT, WORKER_REFUSED};
-use crate::reopened::open_again;
 use crate::shown::Shown;
 use beginning::Beginning;
 use command_line::Arguments;
@@ -21,9 +23,8 @@ use hprof_grammar::LIMIT;
 use hprof_grammar::fault_codes::{BAD_HEADER, DUMP_ORDER, SUB_TRUNCATED, TOO_LARGE, TRUNCATED};
 use option_hint::{OptionHint, least_buffers};
 use records::record_end;
-use std::io::{Read, Write};
-use std::rt::Files;
-use std::{fmt, fs, io};
+use std::io::Write;
+use std::{fmt, io};
 
 /// What can be done about a refusal.
 #[derive(Clone, Copy)]
@@ -36,22 +37,23 @@ pub(crate) enum Hint<'a> {
 
 /// Prints in one line what can be done about `refusal`, or nothing if no hint is known. `length` is the number of bytes
 /// that were read from the file, if that number is known.
-pub(crate) fn advise<T: Files + AllocGlobal, E: Write>(
+pub(crate) fn advise<T: Dumps + AllocGlobal, E: Write>(
     rt: &T,
     err: &mut E,
     arguments: &Arguments<'_>,
     refusal: &Refusal,
     length: Option<u64>,
 )
-    ensures { (HasHint refusal.now.code → ⊥) → Keeps (E.contents err.old) (E.contents err.new) }
+    ensures none { (HasHint refusal.now.code → ⊥) → Keeps (E.contents err.old) (E.contents err.new) }
+    ensures more { AppendsSome (E.contents err.old) (E.contents err.new) }
 {
     if let Some(hint) = hint_of(rt, arguments, refusal, length) {
-        let _ = writeln!(err, "heapmark: {hint}");
+        print_line(err, &hint);
     }
 }
 
 /// Returns what can be done about the `refusal` of a run with these `arguments`, if a hint is known.
-fn hint_of<'a, T: Files + AllocGlobal>(
+fn hint_of<'a, T: Dumps + AllocGlobal>(
     rt: &T,
     arguments: &Arguments<'a>,
     refusal: &Refusal,
@@ -94,7 +96,7 @@ fn hint_of<'a, T: Files + AllocGlobal>(
 
 /// Returns what can be done about the file `name`, which does not begin as a dump does. Returns `FileHint::NoDump` if
 /// the file cannot be read again.
-fn hint_of_beginning<T: Files>(rt: &T, name: &str) -> FileHint {
+fn hint_of_beginning<T: Dumps>(rt: &T, name: &str) -> FileHint {
     match beginning_of(rt, name) {
         Ok(Beginning::Empty) => FileHint::Empty,
         Ok(Beginning::Part) => FileHint::EndsEarly,
@@ -105,10 +107,10 @@ fn hint_of_beginning<T: Files>(rt: &T, name: &str) -> FileHint {
 }
 
 /// Reads the first bytes of the file `name`, and classifies the file by them.
-fn beginning_of<T: Files>(rt: &T, name: &str) -> io::Result<Beginning> {
-    let mut file = open_again(rt, name)?;
+fn beginning_of<T: Dumps>(rt: &T, name: &str) -> io::Result<Beginning> {
+    let mut reader = rt.reopen_dump(name)?;
     let mut bytes = [0; beginning::LENGTH];
-    let length = file.read(&mut bytes)?;
+    let length = reader.read(&mut bytes)?;
     Ok(Beginning::of(&bytes[..length]))
 }
 
@@ -123,7 +125,7 @@ fn hint_of_excess(place: Option<u64>) -> FileHint {
 }
 
 /// Returns what can be done if a run on the file `name` with `workers` workers was out of memory.
-fn hint_of_memory<T: Files>(rt: &T, name: &str, workers: u32) -> FileHint {
+fn hint_of_memory<T: Dumps>(rt: &T, name: &str, workers: u32) -> FileHint {
     if is_too_long(rt, name) {
         FileHint::TooManyBytes
     } else if workers == 1 {
@@ -134,9 +136,9 @@ fn hint_of_memory<T: Files>(rt: &T, name: &str, workers: u32) -> FileHint {
 }
 
 /// Tests whether the file `name` is known to have more bytes than a dump may have. No memory is enough for such a file.
-fn is_too_long<T: Files>(rt: &T, name: &str) -> bool {
-    match fs::metadata(rt, name) {
-        Ok(metadata) => metadata.len() > u64::from(LIMIT),
+fn is_too_long<T: Dumps>(rt: &T, name: &str) -> bool {
+    match rt.dump_size(name) {
+        Ok(size) => size > u64::from(LIMIT),
         Err(_) => false,
     }
 }
@@ -150,7 +152,7 @@ fn is_at_end(place: Option<u64>, length: Option<u64>) -> bool
 
 /// Tests whether the offset `place` of the file `name` is known to lie in the record that ends at `length`, where the
 /// reading of the file ended.
-fn is_in_last_record<T: Files + AllocGlobal>(
+fn is_in_last_record<T: Dumps + AllocGlobal>(
     rt: &T,
     name: &str,
     place: Option<u64>,
@@ -159,8 +161,8 @@ fn is_in_last_record<T: Files + AllocGlobal>(
     let (Some(place), Some(length)) = (place, length) else {
         return false;
     };
-    match open_again(rt, name) {
-        Ok(file) => record_end(rt.alloc(), file, place) == Some(length),
+    match rt.reopen_dump(name) {
+        Ok(reader) => record_end(rt.alloc(), reader.into_inner(), place) == Some(length),
         Err(_) => false,
     }
 }

@@ -1,34 +1,48 @@
 //! Marks the reachable objects of a Java heap dump and prints a histogram by class.
 //!
-//! `run`, in `pipeline.rt`, does all that the guarantee is about: it reads the bytes, builds the graph, marks it and
-//! writes the report, or returns why there is none. `program`, in `command.rt`, opens the file, passes it to `run` with
-//! the options of the command line, and turns the result into the exit status. `main` only calls `process`, below.
-//! `process` calls `start`. After a report, if standard error is a terminal, `process` also prints which entries of
-//! `--skip` name no field of the dump.
+//! Start here:
 //!
-//! The headline is defined in `specs/Headline.antt`, the refusals in `specs/RunRefusals.antt`. The README of the
-//! repository has both in words, and `docs/ARCHITECTURE.md` says where everything else is.
+//! - `run`, in `pipeline.rt`, does all that the guarantee is about: it reads the bytes, builds the graph, marks it and
+//!   writes the report, or returns why there is none.
+//! - `program`, in `command.rt`, opens the file that the words name, passes it to `run` with the options of the words,
+//!   prints a refusal, and returns the exit status.
+//! - `process`, below, reads the words. At a terminal it also prints a second line after some refusals, and after a
+//!   report which entries of `--skip` name no field of the dump.
+//! - `main` passes the system to `process`, and nothing else.
+//!
+//! All but `main` take the words as any `CommandWords` and the files as any `Dumps`. So their clauses can say what they
+//! do for known words and known bytes, and they can only read a file.
+//!
+//! The headline is defined in `specs/Headline.antt`, what it says of the program in `specs/OfFile.antt`, the refusals in
+//! `specs/RunRefusals.antt`. The README of the repository has them in words, and `docs/ARCHITECTURE.md` says where
+//! everything else is.
 #![tactic(auto)]
 
-ghost use Rattle.std.specs.Prelude.{◌≡◌, ◌-◌, ◌^◌, ◌<◌, false};
+ghost use Rattle.std.specs.Prelude.{◌≡◌, ◌-◌, ◌^◌, ◌<◌, IfOk, IfSome, false, map, string_bytes};
 ghost use Rattle.std.specs.Io.KnownBytes.{Keeps};
+ghost use Rattle.command_line.specs.Line.{AsksAboutProgram, texts_of};
+ghost use Rattle.heapmark.specs.OfFile.{PrintsReason, PrintsReasonFirst, WritesReportOfFile, bytes_of_file};
+ghost use Rattle.heapmark.specs.StatusOf.{IsStatusOf};
 ghost use Rattle.heapmark.specs.working.StatusOfSome.{IsStatusOfSome};
-ghost use Rattle.histogram.specs.Counting.{failures_of};
+ghost use Rattle.histogram.specs.Counting.{failures_of, inner_of};
 
 mod command;
+mod command_words;
+mod dumps;
 mod hint;
 mod laws;
 mod no_report;
 mod pipeline;
+mod printing;
 mod refusal;
-mod reopened;
 mod shown;
-mod status;
 mod unmet_skips;
 
 pub use command::program;
 pub use command_line::{Arguments, arguments};
+pub use command_words::CommandWords;
 pub use drain::{BadOptions, Gate, NoGate, Options};
+pub use dumps::Dumps;
 pub use heap_graph::{Skip, SkipRefusal};
 pub use histogram::{Counted, one_report};
 pub use laws::{accepted_or_fault, always_accepted_or_fault, one_first_fault};
@@ -38,14 +52,12 @@ pub use refusal::Refusal;
 #[cfg(test)]
 mod tests;
 
-use command::{print_refusal, program_at_terminal, refuse_bytes};
+use command::{DONE, print_refusal, program_at_terminal, refuse_bytes};
 use std::alloc::{AllocError, Global};
 use std::io::{ErrorKind, IsTerminal, Write};
 use std::process::ExitCode;
-use std::rt::{Env, Files};
 use std::sync::Wait;
 use std::thread::Threads;
-use std::{env, io};
 use unmet_skips::tell_unmet_skips;
 
 fn main(rt: HostRuntime) -> ExitCode {
@@ -56,74 +68,104 @@ fn main(rt: HostRuntime) -> ExitCode {
 
 /// Calls `start`, and returns its exit status. After a report, if standard error is a terminal (`is_terminal`), also
 /// prints which entries of `--skip` name no field of the dump.
-fn process<T, V, W, E>(rt: &T, line: &V, out: &mut Counted<W>, err: &mut E, is_terminal: bool) -> u8
+fn process<T, L, W, E>(rt: &T, line: &L, out: &mut Counted<W>, err: &mut E, is_terminal: bool) -> u8
 where
-    T: Files + AllocGlobal + Threads + Wait + Sync,
-    V: Env,
+    T: Dumps + AllocGlobal + Threads + Wait + Sync,
+    L: CommandWords,
     W: Write,
     E: Write,
     requires { failures_of out.old < 2 ^ 64 - 1 }
     ensures status { IsStatusOfSome result W.contents out.old out.new }
+
+    // If a contract can name the words, the status is theirs.
+    ensures known { IfSome (L.words line.now) (λ words. IsStatusOf words result W.contents out.old out.new) }
+
+    // If it can name the bytes of their file, too, the report of these bytes was written at 0. A fault that was printed
+    // at 1 is their first one.
+    ensures of_file { IfSome (L.words line.now) (λ words. result ≡ 0 → (AsksAboutProgram words → ⊥)
+        → WritesReportOfFile (T.bytes_at rt.now) words
+        (W.contents (inner_of out.old)) (W.contents (inner_of out.new))) }
+    ensures told { result ≡ 1 → IfSome (L.words line.now) (λ words.
+        PrintsReasonFirst (bytes_of_file (T.bytes_at rt.now) words)
+        (failures_of out.old) (failures_of out.new) (E.contents err.old) (E.contents err.new)) }
+    ensures told_only { result ≡ 1 → is_terminal ≡ false → IfSome (L.words line.now) (λ words.
+        PrintsReason (bytes_of_file (T.bytes_at rt.now) words)
+        (failures_of out.old) (failures_of out.new) (E.contents err.old) (E.contents err.new)) }
 
     // At 0, if standard error is no terminal, no refusal was printed. So `process` turns no other status of `start`
     // into 0.
     ensures silent { result ≡ 0 → is_terminal ≡ false → Keeps (E.contents err.old) (E.contents err.new) }
 {
     let status = start(rt, line, out, err, is_terminal);
-    if status == status::DONE && is_terminal {
+    if status == DONE && is_terminal {
         look_again(rt, line, err);
     }
     status
 }
 
 /// Prints which entries of `--skip` name no field of the dump. Prints nothing if the command line cannot be read again.
-fn look_again<T, V, E>(rt: &T, line: &V, err: &mut E)
+fn look_again<T, L, E>(rt: &T, line: &L, err: &mut E)
 where
-    T: Files + AllocGlobal + Threads + Sync,
-    V: Env,
+    T: Dumps + AllocGlobal + Threads + Sync,
+    L: CommandWords,
     E: Write,
 {
-    let Ok(args) = args_of(line, rt.alloc()) else {
+    let Ok(texts) = line.texts(rt.alloc()) else {
         return;
     };
-    if let Ok(words) = words_of(&args, rt.alloc()) {
+    if let Ok(words) = words_of(&texts, rt.alloc()) {
         tell_unmet_skips(rt, words.as_slice(), err);
     }
 }
 
-/// Passes the words of the command line to the program, and returns the exit status. No contract knows these words, so
-/// the clauses say only what each status means for `out` and `err`.
-fn start<T, V, W, E>(rt: &T, line: &V, out: &mut Counted<W>, err: &mut E, is_terminal: bool) -> u8
+/// Passes the words of the command line to the program, and returns the exit status.
+#[tactic(auto, using(crate::proofs::OfFile::told_unread, crate::proofs::OfFile::told_first_unread))]
+fn start<T, L, W, E>(rt: &T, line: &L, out: &mut Counted<W>, err: &mut E, is_terminal: bool) -> u8
 where
-    T: Files + AllocGlobal + Threads + Wait + Sync,
-    V: Env,
+    T: Dumps + AllocGlobal + Threads + Wait + Sync,
+    L: CommandWords,
     W: Write,
     E: Write,
     requires { failures_of out.old < 2 ^ 64 - 1 }
     ensures status { IsStatusOfSome result W.contents out.old out.new }
 
+    // If a contract can name the words, the status is theirs.
+    ensures known { IfSome (L.words line.now) (λ words. IsStatusOf words result W.contents out.old out.new) }
+
+    // If it can name the bytes of their file, too, the report of these bytes was written at 0. A fault that was printed
+    // at 1 is their first one.
+    ensures of_file { IfSome (L.words line.now) (λ words. result ≡ 0 → (AsksAboutProgram words → ⊥)
+        → WritesReportOfFile (T.bytes_at rt.now) words
+        (W.contents (inner_of out.old)) (W.contents (inner_of out.new))) }
+    ensures told { result ≡ 1 → IfSome (L.words line.now) (λ words.
+        PrintsReasonFirst (bytes_of_file (T.bytes_at rt.now) words)
+        (failures_of out.old) (failures_of out.new) (E.contents err.old) (E.contents err.new)) }
+    ensures told_only { result ≡ 1 → is_terminal ≡ false → IfSome (L.words line.now) (λ words.
+        PrintsReason (bytes_of_file (T.bytes_at rt.now) words)
+        (failures_of out.old) (failures_of out.new) (E.contents err.old) (E.contents err.new)) }
+
     // At 0 no refusal was printed.
     ensures silent { result ≡ 0 → Keeps (E.contents err.old) (E.contents err.new) }
 {
-    let args = match args_of(line, rt.alloc()) {
-        Ok(args) => args,
+    let texts = match line.texts(rt.alloc()) {
+        Ok(texts) => texts,
         Err(fault) if fault.kind() == ErrorKind::InvalidData => return refuse_bytes(err),
         Err(_) => return print_refusal(err, &Refusal::OUT_OF_MEMORY),
     };
-    match words_of(&args, rt.alloc()) {
+    match words_of(&texts, rt.alloc()) {
         Ok(words) if is_terminal => program_at_terminal(rt, words.as_slice(), out, err),
         Ok(words) => program(rt, words.as_slice(), out, err),
         Err(_) => print_refusal(err, &Refusal::OUT_OF_MEMORY),
     }
 }
 
-/// Reads the words of the command line as text. The error is `InvalidData` if a word is not text; any other error means
-/// that an allocation failed.
-fn args_of<V: Env>(line: &V, alloc: Global) -> io::Result<Vec<String>> {
-    Ok(env::args(&(line, alloc))?.collect(alloc)?)
-}
-
-/// Borrows each of `args` as a word. `Err(AllocError)` if an allocation fails.
-fn words_of(args: &[String], alloc: Global) -> Result<Vec<&str>, AllocError> {
-    args.iter().map(|arg| arg.as_str()).collect(alloc)
+/// Borrows each of `texts` as a word. `Err(AllocError)` if an allocation fails.
+fn words_of(texts: &[String], alloc: Global) -> Result<Vec<&str>, AllocError>
+    ensures { IfOk result (λ words. texts_of words.items ≡ map string_bytes texts.now) }
+{
+    let mut words = Vec::new(alloc);
+    for text in texts {
+        words.push(text.as_str())?;
+    }
+    Ok(words)
 }

@@ -1,5 +1,8 @@
 //! Why the program has no report of a file.
 
+ghost use Rattle.std.specs.Prelude.{◌≡◌};
+ghost use Rattle.heapmark.specs.working.NoReport.{refusal_of};
+
 use crate::refusal::Refusal;
 use command_line::Arguments;
 use std::io;
@@ -14,6 +17,19 @@ pub(crate) enum NoReport {
     Stopped(Refusal, Option<u64>),
     /// The file could not be opened. The error says why.
     NotOpened(io::Error),
+}
+
+impl NoReport {
+    /// Returns the refusal that is printed.
+    pub(crate) fn refusal(&self) -> Refusal
+        ensures { result ≡ refusal_of self.now }
+    {
+        match self {
+            NoReport::Refused(refusal) => *refusal,
+            NoReport::Stopped(refusal, _) => *refusal,
+            NoReport::NotOpened(_) => Refusal::READ_FAULT,
+        }
+    }
 }
 
 /// A command line for whose file there is no report.

@@ -34,11 +34,11 @@ const READ_LIMIT: usize = LIMIT as usize + 1;
 /// Reads until a read returns 0 or fails, or until it has one byte more than a dump may have. Does not retry a failed
 /// read or write, and writes nothing but the report.
 ///
-/// At `Ok` the clause `headline` holds for a reader whose bytes a contract can name, such as a slice. For any other
-/// reader, such as a file, the clauses only say that the report of some text was written and flushed. An error with a
-/// code of 1 to 14 is the first fault of the bytes. Bytes that are no accepted dump are refused with their first fault,
-/// or with 15 or 19 if an allocation or the reader failed first. An accepted dump may be refused with 15, 16 or 18 to
-/// 20. A run has no exit status: only the program has.
+/// If a contract can name the bytes of the reader, as those of a slice, the clause `headline` holds at `Ok`, and an
+/// error with a code of 1 to 14 is the first fault of the bytes. Bytes that are no accepted dump are then refused with
+/// their first fault, or with 15 or 19 if an allocation or the reader failed first; an accepted dump may be refused with
+/// 15, 16 or 18 to 20. For any other reader, such as a file, the clauses only say that the report of some accepted dump
+/// was written and flushed, and which code an error may have.
 pub fn run<T, A, R, W, B, G>(
     rt: &T,
     alloc: A,
@@ -62,14 +62,15 @@ where
     ensures headline { Headline result (R.remaining (inner_of reader.old)) skip.now
         (W.contents (inner_of writer.old)) (W.contents (inner_of writer.new)) }
 
-    // For any reader, also one whose bytes no contract can name, such as a file: the report of some text was written.
+    // For any reader, also one whose bytes no contract can name, such as a file: the report of some accepted dump was
+    // written.
     ensures report_of_a_text { OnOk result
         (WritesSomeReport skip.now (W.contents (inner_of writer.old)) (W.contents (inner_of writer.new))) }
 
     ensures flushed { OnOk result (is_flushed writer.new ≡ true) }
 
-    // The converse: a reported fault is the first fault of the bytes. Bytes that are not accepted are refused with
-    // their first fault, unless an allocation or the reader fails.
+    // A reported fault is the first fault of the bytes. Conversely, bytes that are no accepted dump are refused with
+    // their first fault, unless an allocation or the reader failed first.
     ensures first_fault { IfErr result (λ refusal. refusal.code ≤ 14
         → IfSome (R.remaining (inner_of reader.old)) (λ given. RefusesFirstFault (bytes_read given) refusal)) }
     ensures not_accepted { IfSome (R.remaining (inner_of reader.old)) (λ given.

@@ -2,7 +2,6 @@
 
 pub(crate) mod codes;
 mod from_parts;
-mod text;
 
 use thiserror::Error;
 

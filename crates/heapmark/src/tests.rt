@@ -12,6 +12,7 @@ mod dumps;
 mod files;
 mod hints;
 mod idle;
+mod in_memory;
 mod many_objects;
 mod many_rows;
 mod marking;

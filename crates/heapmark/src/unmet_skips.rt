@@ -4,22 +4,18 @@
 //! if standard error is a terminal. For these lines the file is read a second time. No clause is about them: the
 //! clauses of `start` cover only what is printed before.
 
-use crate::command::expected_size;
+use crate::dumps::Dumps;
 use crate::pipeline::read_bytes;
-use crate::reopened::open_again;
 use crate::shown::Shown;
 use command_line::{Arguments, arguments};
 use heap_graph::Skip;
-use histogram::Counted;
 use hprof_grammar::{Team, read};
-use std::fs::OpenFile;
 use std::io::Write;
-use std::rt::Files;
 use std::thread::Threads;
 
 /// Prints a line for each entry of the list in `words` whose field no class of the dump declares. Prints nothing if
 /// `words` have no list, or if the list, the file or the dump cannot be read.
-pub(crate) fn tell_unmet_skips<T: Files + AllocGlobal + Threads + Sync, E: Write>(
+pub(crate) fn tell_unmet_skips<T: Dumps + AllocGlobal + Threads + Sync, E: Write>(
     rt: &T,
     words: &[&str],
     err: &mut E,
@@ -36,7 +32,7 @@ pub(crate) fn tell_unmet_skips<T: Files + AllocGlobal + Threads + Sync, E: Write
 }
 
 /// Returns for each entry of `list` whether a class of the dump declares its field, or `None` if that cannot be known.
-fn met_in_file<T: Files + AllocGlobal + Threads + Sync>(
+fn met_in_file<T: Dumps + AllocGlobal + Threads + Sync>(
     rt: &T,
     arguments: &Arguments<'_>,
     list: &str,
@@ -48,11 +44,9 @@ fn met_in_file<T: Files + AllocGlobal + Threads + Sync>(
     skip.met(rt.alloc(), bytes.as_slice(), &dump).ok()
 }
 
-/// Reads the bytes of `file` again. Returns `None` if it is no plain file, or if a read or an allocation fails.
-fn bytes_again<T: Files + AllocGlobal>(rt: &T, file: &str) -> Option<Vec<u8>> {
-    let file = open_again(rt, file).ok()?;
-    let size = file.metadata().ok()?.len();
-    let mut reader = Counted::of_size(file, expected_size(size));
+/// Reads the bytes of `file` again. Returns `None` if they cannot be read twice, or if a read or an allocation fails.
+fn bytes_again<T: Dumps + AllocGlobal>(rt: &T, file: &str) -> Option<Vec<u8>> {
+    let mut reader = rt.reopen_dump(file).ok()?;
     read_bytes(rt.alloc(), &mut reader).ok()
 }
 

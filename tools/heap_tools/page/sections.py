@@ -171,7 +171,7 @@ def omitted(leak, limits):
     """Returns what the dumps do not show: these ones first, then all."""
     unreachable = leak.dumps[-1].unreachable
     sentences = [plain(sentence, 3 * limits.name) for sentence in leak.omitted[: limits.sentences]]
-    if unreachable.objects > 0:
+    if unreachable.objects > 0 and not any("unreachable" in each for each in sentences):
         sentences.append(
             f"What holds unreachable objects, of which the last dump has {unreachable.objects:,}. They are garbage in "
             "a dump of all objects. In a live dump, only what dumps omit holds them: the virtual machine, some fields "

@@ -64,7 +64,7 @@ def package_of(name):
         return "/".join(package.split("/")[:DEPTH])
     if names.is_array(names.element(name)):
         return "arrays of numbers"
-    return "classes" if name == "<class>" else "no package"
+    return "classes" if name == names.CLASSES else "no package"
 
 
 def short_name(name):

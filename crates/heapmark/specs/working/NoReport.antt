@@ -3,9 +3,10 @@ use Rattle.std.specs.Prelude.{List, Option, option_map, ℕ, ◌*◌, ◌+◌, �
 use Rattle.command_line.specs.declared.parsed_arguments.Arguments.{Arguments}
 use Rattle.drain.specs.Options.{Choice, choice}
 use Rattle.heapmark.specs.RefusalCodes.{bad_options_refusal}
-use Rattle.heapmark.specs.RunRefusals.{out_of_memory}
+use Rattle.heapmark.specs.RunRefusals.{out_of_memory, read_fault}
 use Rattle.heapmark.specs.declared.no_report.NoReport.{NoReport}
 use Rattle.heapmark.specs.declared.no_report.NoReport.TheVariants as no_report
+use Rattle.heapmark.specs.declared.refusal.Refusal.{Refusal}
 
 -- the options that `a` has for the marking
 abbrev pub wanted : Arguments → Choice
@@ -26,3 +27,9 @@ bad_options = no_report.Refused bad_options_refusal
 -- an allocation failed
 abbrev pub starved : NoReport
 starved = no_report.Refused out_of_memory
+
+-- the refusal that is printed
+abbrev pub refusal_of : NoReport → Refusal
+refusal_of (no_report.Refused refusal) = refusal
+refusal_of (no_report.Stopped refusal length) = refusal
+refusal_of (no_report.NotOpened fault) = read_fault

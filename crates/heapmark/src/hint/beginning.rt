@@ -1,4 +1,4 @@
-//! What the first bytes of a file say of it, if it does not begin as a dump does.
+//! What the first bytes of a file say of it, if a run refused its header.
 
 ghost use Rattle.std.specs.Prelude.{◌↔◌, ◌≤◌, All, IsTrue};
 
@@ -13,7 +13,7 @@ const FORMAT: &[u8] = b"JAVA PROFILE ";
 /// The number of bytes that are enough to classify a file.
 pub(super) const LENGTH: usize = HEADER.len();
 
-/// What the first bytes of a file are, if they are not those of a dump.
+/// What the first bytes of a file are.
 #[derive(Clone, Copy, Debug, PartialEq, Eq)]
 pub(super) enum Beginning {
     /// There are none.

@@ -1,6 +1,7 @@
-//! The refusals that are not faults of the bytes, and the name of each code.
+//! The refusals that are not faults of the bytes, the name of each code, and the text of a refusal.
 
 use super::Refusal;
+use std::fmt;
 
 /// An allocation failed.
 pub(crate) const OUT_OF_MEMORY: u8 = 15;
@@ -87,6 +88,22 @@ impl Refusal {
             WRITE_FAULT => "WriteFault",
             BAD_OPTIONS => "BadOptions",
             _ => "NoRefusal",
+        }
+    }
+}
+
+impl fmt::Display for Refusal {
+    ghost use Rattle.std.specs.Prelude.{Some};
+    ghost use Rattle.heapmark.specs.RefusalText.{refusal_text};
+
+    ghost output = { λ refusal. Some (refusal_text refusal) };
+
+    fn fmt<W: fmt::Write>(&self, f: &mut fmt::Formatter<W>) -> fmt::Result {
+        let code = self.code;
+        let name = self.name();
+        match self.offset {
+            Some(offset) => write!(f, "refused {code} {name} at {offset}"),
+            None => write!(f, "refused {code} {name}"),
         }
     }
 }

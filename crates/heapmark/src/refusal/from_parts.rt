@@ -67,7 +67,7 @@ impl From<RunFault> for Refusal {
     fn from(fault: RunFault) -> Refusal {
         match fault {
             RunFault::OutOfMemory => Refusal::OUT_OF_MEMORY,
-            RunFault::TagSpent => Refusal::TAG_SPENT,
+            RunFault::TagSpent(_) => Refusal::TAG_SPENT,
             RunFault::WorkerRefused => Refusal::WORKER_REFUSED,
         }
     }

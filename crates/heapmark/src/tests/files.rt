@@ -2,9 +2,8 @@
 
 use super::hints::advice;
 use super::program::{answered_to_people, file_of};
-use crate::Refusal;
-use crate::command::open;
 use crate::pipeline::read_bytes;
+use crate::{Dumps, Refusal};
 use std::alloc::{AllocError, Global};
 use std::env::Env;
 use std::fs::OpenFile;
@@ -14,7 +13,7 @@ use std::{env, fs, io};
 
 /// Returns the capacity and the length of the vector into which the file `name` is read.
 fn room_of<T: AllocGlobal + Files>(rt: &T, name: &str) -> Option<(usize, usize)> {
-    let Ok(mut reader) = open(rt, name) else {
+    let Ok(mut reader) = rt.open_dump(name) else {
         return None;
     };
     match read_bytes(rt.alloc(), &mut reader) {

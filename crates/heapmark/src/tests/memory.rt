@@ -46,7 +46,7 @@ const NAMED_ARRAYS_REPORT: &str = "         1              24  [Ljava/lang/Objec
 ";
 
 /// The report of `REFERENCES` if the fields of `java/lang/ref/Reference` are skipped.
-const SUPERCLASS_SKIPPED_REPORT: &str = "         2              16  T
+pub const SUPERCLASS_SKIPPED_REPORT: &str = "         2              16  T
          2               0  <class>
          4              16  (reachable)
          1               8  (unreachable)

@@ -31,7 +31,7 @@ impl Write for Broken {
 }
 
 /// A root, and after it a byte that is no tag of a sub-record.
-const BAD_TAG: &[Record] = &[Heap(&[Raw(&[0xff, 0, 0, 0, 0, 0x7a])])];
+pub const BAD_TAG: &[Record] = &[Heap(&[Raw(&[0xff, 0, 0, 0, 0, 0x7a])])];
 
 /// Makes a file of `bytes` in the temporary folder.
 pub fn file_of<T: AllocGlobal + Env + Files>(

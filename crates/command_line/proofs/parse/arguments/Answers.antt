@@ -3,24 +3,24 @@ use Rattle.std.proofs.Common.{[], ap, arith, codes, map, refl, subst, ◌≡◌,
 use Rattle.clap.specs.Words.{App, HasKind, fault_of, found_of, is_simple, is_simple_and_free, matches_of}
 use Rattle.clap.specs.Walk.{rows_of}
 use Rattle.command_line.specs.Line.{heapmark_line, texts_of}
-use Rattle.command_line.proofs.Given.{file_held, given, given_of, is_free_line, is_simple_line, number_held}
+use Rattle.command_line.proofs.Given.{file_found, given, given_of, is_free_line, is_simple_line, number_found}
 use Rattle.command_line.proofs.Given.{only_buffer, only_buffers, only_first_tag, only_workers}
 use Rattle.command_line.proofs.parse.arguments.Goals as goal
 
 pub values-requires : goal.values-requires
 values-requires c =
-    let held = number_held c.in-Ok.command c.in-Ok.ensures c.in-Ok-try_get_matches_from.matches
+    let found = number_found c.in-Ok.command c.in-Ok.ensures c.in-Ok-try_get_matches_from.matches
     c.in-Ok-try_get_matches_from.ensures.parsed in
     record {
-      file = file_held c.in-Ok.command c.in-Ok.ensures c.in-Ok-try_get_matches_from.matches
+      file = file_found c.in-Ok.command c.in-Ok.ensures c.in-Ok-try_get_matches_from.matches
           c.in-Ok-try_get_matches_from.ensures.parsed;
-      workers = held 1 (codes "workers") 1 64 (codes "4") 119 (λ r. refl) (omega arith) only_workers refl
+      workers = found 1 (codes "workers") 1 64 (codes "4") 119 (λ r. refl) (omega arith) only_workers refl
           (λ e. omega (arith, e)) (λ e. omega (arith, e)) (λ e. omega (arith, e));
-      buffer = held 2 (codes "buffer") 2 4096 (codes "256") 98 (λ r. refl) (omega arith) only_buffer refl
+      buffer = found 2 (codes "buffer") 2 4096 (codes "256") 98 (λ r. refl) (omega arith) only_buffer refl
           (λ e. omega (arith, e)) (λ e. omega (arith, e)) (λ e. omega (arith, e));
-      buffers = held 3 (codes "buffers") 4 65534 (codes "1024") 98 (λ r. refl) (omega arith) only_buffers refl
+      buffers = found 3 (codes "buffers") 4 65534 (codes "1024") 98 (λ r. refl) (omega arith) only_buffers refl
           (λ e. omega (arith, e)) (λ e. omega (arith, e)) (λ e. omega (arith, e));
-      first_tag = held 4 (codes "first-tag") 0 281474976710655 (codes "0") 102 (λ r. refl)
+      first_tag = found 4 (codes "first-tag") 0 281474976710655 (codes "0") 102 (λ r. refl)
           (omega arith) only_first_tag refl (λ e. omega (arith, e)) (λ e. omega (arith, e)) (λ e. omega (arith, e));
     }
 

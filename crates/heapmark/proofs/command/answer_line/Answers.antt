@@ -43,3 +43,9 @@ returns-in-Err-clause-status g c =
       no_failure = λ _ none. told.no_failure (not_done none);
       failures = told.failures;
     }
+
+pub returns-in-Err-clause-of_file : goal.returns-in-Err-clause-of_file
+returns-in-Err-clause-of_file g c =
+    let words = texts_of c.args.words.now in
+    λ zero none. absurd (none (asks (faults_of words) (kind_of c.in-Err.error) (c.answer_words.ensures.asked zero)
+    c.in-Err.ensures.faults))

@@ -1,4 +1,4 @@
-//! The dump of two objects with each byte changed to each other value, marked by two workers.
+//! Runs with two workers on the dump of two objects with one byte changed, for each byte and each other value.
 //!
 //! Each test changes eight places, so that it ends far within its minute, even on a busy machine.
 
@@ -12,9 +12,9 @@ use std::thread::Threads;
 /// The number of places of the dump that a test changes, one at a time.
 const PLACES: usize = 8;
 
-/// Returns options with two workers, and with eight buffers of two objects each. That is two buffers more than the
-/// least: with the least, a worker may get no pair. Such a worker is never idle, so the other worker waits for it in
-/// all its turns, some 0.4 s.
+/// Returns options with two workers and eight buffers of two objects each, two buffers more than the least. With the
+/// least, a worker may find too few buffers for a pair. It then ends without ever having been idle, and the other worker
+/// waits for it in all of its turns, some 0.4 s.
 fn two_workers() -> Options {
     let Ok(options) = Options::new(2, 2, 8, 0) else {
         unreachable!();

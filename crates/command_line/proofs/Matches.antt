@@ -122,12 +122,12 @@ module _ (old : Command) (m : ArgMatches) (p : IsParsedFrom old m) (no_groups : 
   ]
 
   -- the argument has a first value, which is the text that is read and which the parser accepts
-  pub held : is_some (matched_of (found_of m) (slice_index_or (args_of old) k d).id.now) ≡ true
+  pub has_value : is_some (matched_of (found_of m) (slice_index_or (args_of old) k d).id.now) ≡ true
       → (out-Command old).has_globals ≡ false
       → (v : List ℕ) × (first_value (found_of m) (slice_index_or (args_of old) k d).id.now ≡ Some v)
       × (one_text (found_of m) (slice_index_or (args_of old) k d).id.now ≡ Some (read_as (reading_of q) v))
       × Accepts (slice_index_or (args_of old) k d).ignore_case q v
-  held some globals = go (matched_of (found_of m) (slice_index_or (args_of old) k d).id.now) refl some
+  has_value some globals = go (matched_of (found_of m) (slice_index_or (args_of old) k d).id.now) refl some
     where
       step : (x : MatchedArg) → matched_of (found_of m) (slice_index_or (args_of old) k d).id.now ≡ Some x
           → ((e : Entry) × (e.1 ≡ x) × (bytes_eq e.0.now (slice_index_or (args_of old) k d).id.now ≡ true)

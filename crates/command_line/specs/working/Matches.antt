@@ -1,23 +1,23 @@
--- What the matches of a parse hold for the file and the options.
+-- What the matches of a parse have for the file and the options.
 use Rattle.std.specs.Prelude.{IsSome, Option, Some, codes, length, ℕ, ◌≡◌}
 use Rattle.std.specs.Str.Parse.{IsNumeral, digits_value, without_leading_plus}
 use Rattle.clap.specs.Words.{IsUnsignedIn, Text, first_value, one_text}
 use Rattle.clap.specs.declared.parser.matches.Found.{Found}
 
 -- a number from `least` to `most` is found for `name`
-pub record HoldsNumber (found : Found) (name : Text) (least most : ℕ) : Type 0 where
+pub record HasNumber (found : Found) (name : Text) (least most : ℕ) : Type 0 where
   pub text : Text
   pub first : first_value found name ≡ Some text
   pub read : one_text found name ≡ Some text
   pub within : IsUnsignedIn least most text
 
 -- the file and the options are found, each number in its range
-pub record HoldsAll (found : Found) : Type 0 where
+pub record HasAll (found : Found) : Type 0 where
   pub file : IsSome (first_value found (codes "file"))
-  pub workers : HoldsNumber found (codes "workers") 1 64
-  pub buffer : HoldsNumber found (codes "buffer") 2 4096
-  pub buffers : HoldsNumber found (codes "buffers") 4 65534
-  pub first_tag : HoldsNumber found (codes "first-tag") 0 281474976710655
+  pub workers : HasNumber found (codes "workers") 1 64
+  pub buffer : HasNumber found (codes "buffer") 2 4096
+  pub buffers : HasNumber found (codes "buffers") 4 65534
+  pub first_tag : HasNumber found (codes "first-tag") 0 281474976710655
 
 -- the text found for `name` spells `number`
 pub record ReadsNumber (found : Found) (name : Text) (number : ℕ) : Type 0 where

@@ -1,0 +1,180 @@
+-- What a run says of the bytes of its reader, said of the file whose bytes these are.
+use Rattle.std.proofs.Common.{IfSome, IsErrAnd, List, None, Option, Some, ap, arith, codes, inl, inr, option_and_then}
+use Rattle.std.proofs.Common.{refl, subst, sym, ℕ, ◌+◌, ◌≡◌, ◌≢◌, ◌≤◌, ◌↔◌, ◌⊎◌}
+use Rattle.command_line.specs.Line.{AreGiven, text_given}
+use Rattle.command_line.specs.declared.parsed_arguments.Arguments.{Arguments}
+use Rattle.heap_graph.specs.Skips.{SkipEntry}
+use Rattle.heap_graph.specs.declared.skip.refusal.SkipRefusal.{SkipRefusal}
+use Rattle.heap_graph.specs.declared.skip.refusal.SkipRefusal.TheVariants as skipping
+use Rattle.heapmark.specs.Answer.{IsAcceptedText, IsRefusalOf, IsRunRefusal, RefusesFirstFault, WritesReport, bytes_read}
+use Rattle.heapmark.specs.OfFile.{IsReason, PrintsReason, PrintsReasonFirst, WritesReportOfBytes, WritesReportOfFile}
+use Rattle.heapmark.specs.OfFile.{AppendsSome, bytes_of_file}
+use Rattle.heapmark.specs.RefusalCodes.{bad_options_refusal, skip_refusal}
+use Rattle.heapmark.specs.RefusalText.{refusal_line}
+use Rattle.heapmark.specs.RunRefusals.{out_of_memory, read_fault}
+use Rattle.heapmark.specs.SkippedFields.{IsSkipListOf}
+use Rattle.heapmark.specs.declared.refusal.Refusal.{Refusal}
+use Rattle.heapmark.specs.working.NoReport.{list_of}
+use Rattle.heapmark.proofs.Codes.{run_unplaced}
+use Rattle.heapmark.proofs.PrintedLine.{no_more}
+use Rattle.histogram.specs.Counting.{AppendsBeginning}
+
+-- the bytes that the reader has yet to give are those of the file, if these are known
+abbrev pub IsOfFile : Option (List ℕ) → Option (List ℕ) → Type 0
+IsOfFile known left = IfSome known (λ bytes. left ≡ Some bytes)
+
+-- a fact of what the reader gives is one of the file
+of_reader : (known left : Option (List ℕ)) (P : List ℕ → Type 0) → IsOfFile known left → IfSome left P → IfSome known P
+of_reader None left P same fact = tt
+of_reader (Some bytes) left P same fact = subst (λ given. IfSome given P) same fact
+
+pub written : (known left : Option (List ℕ)) (list : Option (List ℕ)) (skip : List SkipEntry)
+    (old new : Option (List ℕ)) → IsOfFile known left → IsSkipListOf list skip
+    → IfSome left (λ given. WritesReport (bytes_read given) skip old new)
+    → IfSome known (λ bytes. WritesReportOfBytes list bytes old new)
+written None left list skip old new same is_list report = tt
+written (Some bytes) left list skip old new same is_list report = record {
+  skip = skip;
+  is_list = is_list;
+  written = of_reader (Some bytes) left (λ given. WritesReport (bytes_read given) skip old new) same report;
+}
+
+under : (known : Option (List ℕ)) (P Q : List ℕ → Type 0) → ((bytes : List ℕ) → P bytes → Q bytes) → IfSome known P
+    → IfSome known Q
+under None P Q weaken fact = tt
+under (Some bytes) P Q weaken fact = weaken bytes fact
+
+always : (known : Option (List ℕ)) (P : List ℕ → Type 0) → ((bytes : List ℕ) → P bytes) → IfSome known P
+always None P all = tt
+always (Some bytes) P all = all bytes
+
+-- the reasons that a run has, and those before it
+
+abbrev NotAccepted : Refusal → List ℕ → Type 0
+NotAccepted refusal bytes =
+    (IsAcceptedText (bytes_read bytes) → ⊥)
+    → IsRefusalOf (bytes_read bytes) refusal ⊎ (refusal ≡ bad_options_refusal)
+
+abbrev NotAcceptedByRun : Refusal → List ℕ → Type 0
+NotAcceptedByRun refusal bytes = (IsAcceptedText (bytes_read bytes) → ⊥) → IsRefusalOf (bytes_read bytes) refusal
+
+pub of_run : (known left : Option (List ℕ)) (before after : ℕ) (refusal : Refusal) → IsOfFile known left
+    → IsRunRefusal refusal
+    → (refusal.code ≤ 14 → IfSome left (λ given. RefusesFirstFault (bytes_read given) refusal))
+    → IfSome left (NotAcceptedByRun refusal)
+    → (refusal.code ≡ 20) ↔ (after ≡ before + 1) → IsReason known before after refusal
+of_run known left before after refusal same possible fault not_accepted write_fault = record {
+  possible = inl possible;
+  fault = λ code. of_reader known left (λ given. RefusesFirstFault (bytes_read given) refusal) same (fault code);
+  not_accepted = under known (NotAcceptedByRun refusal) (NotAccepted refusal) (λ bytes holds none. inl (holds none))
+      (of_reader known left (NotAcceptedByRun refusal) same not_accepted);
+  write_fault = write_fault;
+}
+
+-- a refusal that has no place, and for which nothing was written
+unread : (known : Option (List ℕ)) (failures code : ℕ) → 15 ≤ code → code ≢ 20
+    → IsRunRefusal (record { code = code; offset = None }) ⊎ (record { code = code; offset = None } ≡ bad_options_refusal)
+    → ((bytes : List ℕ) → NotAccepted (record { code = code; offset = None }) bytes)
+    → IsReason known failures failures (record { code = code; offset = None })
+unread known failures code high other possible not_accepted = record {
+  possible = possible;
+  fault = λ low. absurd (omega (arith, low, high));
+  not_accepted = always known (NotAccepted (record { code = code; offset = None })) not_accepted;
+  write_fault = (λ is. absurd (other is), λ rose. absurd (omega (arith, rose)));
+}
+
+pub bad_options_unread : (known : Option (List ℕ)) (failures : ℕ)
+    → IsReason known failures failures bad_options_refusal
+bad_options_unread known failures =
+    unread known failures 21 (omega arith) (λ h. omega (arith, h)) (inr refl) (λ bytes none. inr refl)
+
+pub starved_unread : (known : Option (List ℕ)) (failures : ℕ) → IsReason known failures failures out_of_memory
+starved_unread known failures =
+    unread known failures 15 (omega arith) (λ h. omega (arith, h))
+    (inl (run_unplaced 15 (omega arith) (omega arith) (λ h. omega (arith, h))))
+    (λ bytes none. inl (inr (inl refl)))
+
+pub not_opened_unread : (known : Option (List ℕ)) (failures : ℕ) → IsReason known failures failures read_fault
+not_opened_unread known failures =
+    unread known failures 19 (omega arith) (λ h. omega (arith, h))
+    (inl (run_unplaced 19 (omega arith) (omega arith) (λ h. omega (arith, h))))
+    (λ bytes none. inl (inr (inr refl)))
+
+of_skip : (known : Option (List ℕ)) (failures : ℕ) (skip : SkipRefusal)
+    → IsReason known failures failures (skip_refusal skip)
+of_skip known failures skipping.BadOptions = bad_options_unread known failures
+of_skip known failures skipping.OutOfMemory = starved_unread known failures
+
+pub skip_unread : (known : Option (List ℕ)) (failures : ℕ) (skip : SkipRefusal) (refusal : Refusal)
+    → refusal ≡ skip_refusal skip → IsReason known failures failures refusal
+skip_unread known failures skip refusal same =
+    subst (λ (r : Refusal). IsReason known failures failures r) (sym same) (of_skip known failures skip)
+
+-- the file and the list are those that the words give
+
+named : (bytes_at : List ℕ → Option (List ℕ)) (words : List (List ℕ)) (a : Arguments) → AreGiven words a
+    → bytes_of_file bytes_at words ≡ bytes_at a.file.now
+named bytes_at words a given = ap (option_and_then bytes_at) given.file
+
+pub of_words : (bytes_at : List ℕ → Option (List ℕ)) (words : List (List ℕ)) (a : Arguments)
+    (old new : Option (List ℕ)) → AreGiven words a
+    → IfSome (bytes_at a.file.now) (λ bytes. WritesReportOfBytes (list_of a) bytes old new)
+    → WritesReportOfFile bytes_at words old new
+of_words bytes_at words a old new given report =
+    subst (λ known. IfSome known (λ bytes. WritesReportOfBytes (text_given (codes "skip") words) bytes old new))
+    (sym (named bytes_at words a given))
+    (subst (λ list. IfSome (bytes_at a.file.now) (λ bytes. WritesReportOfBytes list bytes old new)) given.skip report)
+
+pub told_of_words : (bytes_at : List ℕ → Option (List ℕ)) (words : List (List ℕ)) (a : Arguments) (before after : ℕ)
+    (refusal : Refusal) (old new : Option (List ℕ)) → AreGiven words a
+    → IsReason (bytes_at a.file.now) before after refusal → AppendsBeginning old new (refusal_line refusal)
+    → PrintsReason (bytes_of_file bytes_at words) before after old new
+told_of_words bytes_at words a before after refusal old new given reason line = record {
+  refusal = refusal;
+  reason = subst (λ known. IsReason known before after refusal) (sym (named bytes_at words a given)) reason;
+  line = line;
+}
+
+-- out of memory is a reason for any file
+pub told_starved : (known : Option (List ℕ)) (before after : ℕ) (old new : Option (List ℕ)) → after ≡ before
+    → AppendsBeginning old new (refusal_line out_of_memory) → PrintsReason known before after old new
+told_starved known before after old new same line = record {
+  refusal = out_of_memory;
+  reason = subst (λ failures. IsReason known before failures out_of_memory) (sym same) (starved_unread known before);
+  line = line;
+}
+
+-- the refusal's line is the only one, or the first
+
+pub only : (known : Option (List ℕ)) (before after : ℕ) (old new : Option (List ℕ))
+    → PrintsReason known before after old new → PrintsReasonFirst known before after old new
+only known before after old new printed = record { between = new; first = printed; more = no_more new }
+
+pub then_more : (known : Option (List ℕ)) (before after : ℕ) (old between new : Option (List ℕ))
+    → PrintsReason known before after old between → AppendsSome between new
+    → PrintsReasonFirst known before after old new
+then_more known before after old between new printed more =
+    record { between = between; first = printed; more = more }
+
+-- without memory for the words, out of memory is the reason, whatever they are
+
+pub told_unread : (words : Option (List (List ℕ))) (bytes_at : List ℕ → Option (List ℕ)) (before after : ℕ)
+    (old new : Option (List ℕ)) → after ≡ before → AppendsBeginning old new (refusal_line out_of_memory)
+    → IfSome words (λ given. PrintsReason (bytes_of_file bytes_at given) before after old new)
+told_unread None bytes_at before after old new same line = tt
+told_unread (Some given) bytes_at before after old new same line =
+    told_starved (bytes_of_file bytes_at given) before after old new same line
+
+pub told_first_unread : (words : Option (List (List ℕ))) (bytes_at : List ℕ → Option (List ℕ)) (before after : ℕ)
+    (old new : Option (List ℕ)) → after ≡ before → AppendsBeginning old new (refusal_line out_of_memory)
+    → IfSome words (λ given. PrintsReasonFirst (bytes_of_file bytes_at given) before after old new)
+told_first_unread None bytes_at before after old new same line = tt
+told_first_unread (Some given) bytes_at before after old new same line =
+    only (bytes_of_file bytes_at given) before after old new
+    (told_starved (bytes_of_file bytes_at given) before after old new same line)
+
+-- a fact of the words that the program gets is one of the words that are known
+pub of_known : (known : Option (List (List ℕ))) (words : List (List ℕ)) (P : List (List ℕ) → Type 0)
+    → IfSome known (λ given. words ≡ given) → P words → IfSome known P
+of_known None words P same holds = tt
+of_known (Some given) words P same holds = subst P same holds
