@@ -147,14 +147,23 @@ class Dump:
 
     def __init__(self, id_size=8, time=0):
         self.form, self.time, self.records, self.heap, self._texts = Format(id_size), time, b"", b"", {}
+        self._segments = []
 
     def write(self, path):
         """Writes the file `path`."""
         pathlib.Path(path).write_bytes(self.bytes())
 
     def bytes(self):
-        """Returns the whole dump."""
-        return self.form.header(self.time) + self.records + self.form.record(HEAP_DUMP, self.heap)
+        """Returns the whole dump: one record of the heap, or the segments that were cut."""
+        if not self._segments:
+            return self.form.header(self.time) + self.records + self.form.record(HEAP_DUMP, self.heap)
+        segments = [self.form.record(SEGMENT, heap) for heap in [*self._segments, self.heap]]
+        return self.form.header(self.time) + self.records + b"".join(segments) + self.form.record(END)
+
+    def cut(self):
+        """Begins a new segment."""
+        self._segments.append(self.heap)
+        self.heap = b""
 
     def record(self, tag, *parts):
         """Writes a record."""
