@@ -32,10 +32,12 @@ field.
 
 Each line is the difference of two reports of heapmark: of the dump, and of the
 dump in which the field is a number, so that it leads nowhere; of a local
-variable or a thread the roots are null. heapmark gets the dump from a pipe; no
-file is written. The heapmark that runs is what the variable HEAPMARK names,
-else the one beside this tool, else the one built in this repository, else that
-of PATH. If SIGINT, SIGTERM or SIGHUP ends this tool, the exit status is 130.
+variable or a thread the roots are null. Two lists hold only what is held
+anyway, and do not count: the classes of a loader, and the threads of a group.
+heapmark gets the dump from a pipe; no file is written. The heapmark that runs
+is what the variable HEAPMARK names, else the one beside this tool, else the one
+built in this repository, else that of PATH. If SIGINT, SIGTERM or SIGHUP ends
+this tool, the exit status is 130.
 
 With two dumps, see leaks: it shows what holds that which grew.
 

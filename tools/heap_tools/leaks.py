@@ -118,7 +118,7 @@ def printed(lines, column):
 
 def heads(comparison, probe):
     """Returns what stands above the lines on a terminal: how much the heap grew, and the heads of the columns."""
-    was, now = (size(each.whole.bytes) for each in (probe.earlier, probe))
+    was, now = (size(each.runs.report.total(probe.families).bytes) for each in (probe.earlier, probe))
     what = probe.families[0] if probe.families and len(probe.families) == 1 else "reachable"
     took = comparison.last.dump.time - comparison.first.dump.time
     head = f"{what} {was} to {now}" + f" in {duration(took)}" * (took > 0)
