@@ -11,8 +11,8 @@ from heap_tools.page.words import Html, clock, fill, joined, percent, plain, siz
 #: The chart and the treemap are drawn twice, for wide and for narrow screens: name, width, height of each.
 CHARTS = [("wide", 1080, 250), ("narrow", 360, 220)]
 TREEMAPS = [("wide", 1080, 460), ("narrow", 360, 520)]
-#: The most points of a line, and the size of a small line.
-MOST_POINTS, SMALL_WIDTH, SMALL_HEIGHT = 60, 120, 28
+#: The most points of a line, how many are few, and the size of a small line.
+MOST_POINTS, FEW, SMALL_WIDTH, SMALL_HEIGHT = 60, 8, 120, 28
 #: The room around the chart's lines: left, right, top and bottom.
 LEFT, RIGHT, TOP, BOTTOM = 58, 30, 26, 26
 #: The height of a group's name in the treemap, and of a line of text; the width of a letter, and of a digit in bold.
@@ -82,7 +82,7 @@ def path_of(points):
 def line_of(series, scale):
     """Returns a line of the chart, with a dot at each point if there are few."""
     points = [(scale.x(place), scale.y(number)) for place, number in series.points]
-    dots = joined(fill("dot", x=f"{x:.1f}", y=f"{y:.1f}") for x, y in points) if len(points) <= 20 else Html()
+    dots = joined(fill("dot", x=f"{x:.1f}", y=f"{y:.1f}") for x, y in points) if len(points) <= 2 * FEW else Html()
     floor = f"{scale.y(0):.1f}"
     ends = {"first": f"{points[0][0]:.1f}", "last": f"{points[-1][0]:.1f}", "floor": floor}
     return fill("series", kind=series.kind, points=path_of(points), dots=dots, **ends)
@@ -108,10 +108,10 @@ class Label:
         return left.begin + DIGIT * (len(left.text) + 1) <= right.begin
 
 
-def labels_of(places, texts, scale):
-    """Returns the labels for which there is room: the last, the first, and those between."""
+def labels_of(places, texts, scale, between):
+    """Returns the labels for which there is room: of the last point, of the first, and of those `between` them."""
     labels, last = [], len(places) - 1
-    for number in [last, 0, *range(1, last)]:
+    for number in [last, 0, *between]:
         anchor = "end" if number == last else "start" if number == 0 else "middle"
         label = Label(number, scale.x(places[number]), texts[number], anchor)
         if all(label.is_clear_of(other) for other in labels):
@@ -120,8 +120,11 @@ def labels_of(places, texts, scale):
 
 
 def numbers_of(series, above, scale, spell):
-    """Returns the numbers at the points of a line. They are below the line if another line is close above it."""
-    labels = labels_of([place for place, _ in series.points], [spell(value) for _, value in series.points], scale)
+    """Returns the numbers at the points of a line, of many points only at the ends and at the highest. They are below
+    the line if another line is close above it."""
+    places, values = zip(*series.points)
+    between = range(1, len(values) - 1) if len(values) <= FEW else [values.index(max(values))]
+    labels = labels_of(places, [spell(value) for value in values], scale, between)
     below = any(scale.y(value) - scale.y(other) < 30 for (_, value), (_, other) in zip(series.points, above))
     texts = []
     for label in labels:
@@ -135,7 +138,7 @@ def numbers_of(series, above, scale, spell):
 def ticks_of(places, texts, scale):
     """Returns the times below the chart."""
     y = f"{scale.height - 6:.1f}"
-    labels = labels_of(places, texts, scale)
+    labels = labels_of(places, texts, scale, range(1, len(places) - 1))
     return joined(fill("tick", x=f"{label.x:.1f}", y=y, anchor=label.anchor, text=label.text) for label in labels)
 
 
@@ -149,17 +152,17 @@ def grid_of(scale, spell):
 
 
 def series_of(leak, places):
-    """Returns the lines of the chart: what is reachable, what is unreachable if that is much, and what is held by the
-    first holder, which is known of the first and the last dump."""
+    """Returns the lines of the chart: what is reachable, what is held by the first holder, which is known of the first
+    and the last dump, and what is unreachable if that is much."""
     reachable = [getattr(dump.reachable, leak.by) for dump in leak.dumps]
     unreachable = [getattr(dump.unreachable, leak.by) for dump in leak.dumps]
     found = [Series("reachable", sampled(list(zip(places, reachable))))]
-    if max(unreachable) > max(reachable) / 50:
-        found.append(Series("unreachable", sampled(list(zip(places, unreachable)))))
     if leak.holders and leak.is_of_all:
         first = leak.holders[0]
         ends = [(places[0], getattr(first.before, leak.by)), (places[-1], getattr(first.after, leak.by))]
         found.append(Series("held", ends))
+    if max(unreachable) > max(reachable) / 50:
+        found.append(Series("unreachable", sampled(list(zip(places, unreachable)))))
     return found
 
 

@@ -250,6 +250,22 @@ fn line_is_printed<T: AllocGlobal + Threads + Wait + Sync>(
         )
 }
 
+/// Tests whether the process is refused with 15 if an allocation fails after `readable` words of `line`.
+fn is_starved<T: AllocGlobal + Threads + Wait + Sync>(
+    rt: &T,
+    dump: &[u8],
+    line: &[&str],
+    readable: usize,
+    is_terminal: bool,
+) -> bool {
+    let words = KnownWords {
+        words: line,
+        readable,
+    };
+    let printed = processed(rt, dump, &words, is_terminal);
+    is_printed(&printed, 1, "", OUT_OF_MEMORY, "")
+}
+
 /// Tests whether the process is refused with 15 if an allocation fails while any word of `line` is read.
 fn no_word_is_read<T: AllocGlobal + Threads + Wait + Sync>(
     rt: &T,
@@ -257,15 +273,10 @@ fn no_word_is_read<T: AllocGlobal + Threads + Wait + Sync>(
     line: &[&str],
 ) -> bool {
     for readable in 0..line.len() {
-        for is_terminal in [false, true] {
-            let words = KnownWords {
-                words: line,
-                readable,
-            };
-            let printed = processed(rt, dump, &words, is_terminal);
-            if !is_printed(&printed, 1, "", OUT_OF_MEMORY, "") {
-                return false;
-            }
+        if !is_starved(rt, dump, line, readable, false)
+            || !is_starved(rt, dump, line, readable, true)
+        {
+            return false;
         }
     }
     true
