@@ -41,31 +41,34 @@ class Comparison:
             raise Fault(UNREADABLE, f"{self.last.path}: {text}")
 
     def probe(self):
-        """Returns what asks the first and the last dump."""
-        options, known = self.options, [Holders(each.dump, self.options.weak) for each in (self.first, self.last)]
+        """Returns what asks the first and the last dump about the growth."""
+        families, column = None, "objects" if self.options.objects else "bytes"
+        if self.options.of_class:
+            families = [family_of(self.options.of_class, self.last.dump, self.last.report)]
+        probe = self._gains(families, column)
+        if getattr(probe.growth, column) > 0:
+            return probe
+        return self._gains(self._grown_families(probe), "objects")
+
+    def _gains(self, families, column):
+        """Returns what asks the first and the last dump about these families, or about all if it is None."""
+        known = [Holders(each.dump, self.options.weak) for each in (self.first, self.last)]
         for runs, holders in zip((self.first, self.last), known):
             holders.prepare(runs)
-        families, column = None, "objects" if options.objects else "bytes"
-        if options.of_class:
-            families = [family_of(options.of_class, self.last.dump, self.last.report)]
         earlier = Earlier(self.first, known[0], families, column)
-        probe = Gains(earlier, options.at_least, self.last, known[1], families, column)
-        if getattr(probe.growth, column) <= 0:
-            families = self._grown_families(probe)
-            earlier = Earlier(self.first, known[0], families, "objects")
-            probe = Gains(earlier, options.at_least, self.last, known[1], families, "objects")
-        return probe
+        return Gains(earlier, self.options.at_least, self.last, known[1], families, column)
 
     def _grown_families(self, probe):
-        """Returns the classes of which there are more objects, if the whole did not grow, and says so."""
+        """Returns the classes of which there are more objects, if what is compared has not more bytes, and says so."""
         what = probe.families[0] if probe.families else "reachable"
         was, now = (getattr(each, probe.column) for each in (probe.earlier.whole, probe.whole))
         text = f"{what}: {was} {probe.column}, then {now}: no growth"
-        grown = growth.growths([probe.earlier.base, probe.base])
-        families = [each.name for each in grown if each.objects > 0 and each.name != names.CLASSES]
-        if probe.families or not families:
+        grown = [each.name for each in growth.growths([probe.earlier.base, probe.base]) if each.objects > 0]
+        wanted = probe.families or [name for name in grown if not name.startswith("<")]
+        families = [name for name in grown if name in wanted]
+        if not families:
             raise Fault(NOTHING, text)
-        say(f"leaks: {text}; so the shares are of the objects of the classes that grew")
+        say(f"leaks: {text}; so the shares are of the objects of {'it' if probe.families else 'the classes that grew'}")
         return families
 
 

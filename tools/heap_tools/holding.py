@@ -5,7 +5,7 @@ from dataclasses import dataclass
 from typing import Dict, FrozenSet, NamedTuple
 
 from heap_tools.hprof import OBJECT
-from heap_tools.names import family, is_own
+from heap_tools.names import family, is_own, printable
 
 STATIC, FIELD, LOCAL, THREAD, THREADS = "static", "field", "local", "thread", "threads"
 WEAK = "java/lang/ref/Reference.referent"
@@ -135,7 +135,7 @@ class Holders:
         if self._threads is None:
             names, roots = self.dump.thread_names(), defaultdict(list)
             for root in self.dump.roots:
-                roots[names.get(root.thread, "")].append(root)
+                roots[printable(names.get(root.thread, ""))].append(root)
             found = [self._of_roots(THREAD, name, of_name) for name, of_name in roots.items()]
             self._threads = sorted(found, key=lambda each: (each.count, each.name))
         return self._threads

@@ -179,6 +179,16 @@ class LeaksTest(ToolTest):
             self.assertEqual(first, line(60, 480, 100, 160, 640, 1, self.PATH))
         said = "leaks: shop/Product: 800 bytes, then 800: no growth"
         self.expect(["--class=shop/Product", "monday", "friday"], said=said, status=3)
+        for count, name in ((20, "before"), (80, "after")):
+            dump = Service()
+            dump.of_class(6, "shop/Job", {"ALL": 600})
+            dump.array(600, 4, *range(5000, 5000 + count))
+            for number in range(5000, 5000 + count):
+                dump.instance(number, 6)
+            dump.root(6)
+            dump.write(name)
+        said = f"leaks: shop/Job: 0 bytes, then 0: no growth; so the shares are of the objects of it\n{self.COST}"
+        self.expect(["--class=shop/Job", "before", "after"], line(60, 0, 100, 20, 80, 1, "static shop/Job.ALL"), said)
         said = "leaks: Order: no class of the dump has this name: did you mean shop/Order?"
         self.expect(["--class=Order", "monday", "friday"], said=said, status=6)
 

@@ -16,6 +16,11 @@ def shown(raw):
     return "".join(chr(byte) if 0x21 <= byte <= 0x7E and byte != 0x5C else f"\\x{byte:02x}" for byte in raw)
 
 
+def printable(text):
+    """Spells a text of a dump in one line: what does not print, quotes and backslashes as `\\x` and a number."""
+    return "".join(each if each.isprintable() and each not in '"\\' else f"\\x{ord(each):02x}" for each in text)
+
+
 def family(name):
     """Returns the name of a hidden class without its counter and address, and any other name as it is."""
     return re.sub(r"(\$[0-9]+)?\+0x[0-9a-f]+", "", name, count=1)

@@ -76,6 +76,12 @@ class NamesTest(ToolTest):
             for each in [name, *spellings]:
                 self.assertIn(name, names.families(each), each)
 
+    def test_printable(self):
+        """Names of threads have one line, without codes of a terminal and marks of direction."""
+        odd = ('a\n"b"\\\x1b[2J', r"a\x0a\x22b\x22\x5c\x1b[2J")
+        for text, spelt in (("http-ü 0", "http-ü 0"), odd, ("\u202e", r"\x202e")):
+            self.assertEqual(names.printable(text), spelt)
+
     def test_others(self):
         """holders, leaks and held take each name as a user may write it."""
         for _, name, spellings in [*ODD, *ARRAYS, ("[B", "byte[]", ["[B"])]:
