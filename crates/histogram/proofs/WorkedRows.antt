@@ -63,7 +63,7 @@ two =
 abbrev graph_of_two : ObjectGraph
 graph_of_two = record {
   ids = 0x100 ∷ 0x201 ∷ 0x202 ∷ [];
-  held = (0 ∷ 0 ∷ 0 ∷ 0 ∷ []) ∷ (0x100 ∷ 0x202 ∷ []) ∷ (0x100 ∷ 0x201 ∷ []) ∷ [];
+  id_lists = (0 ∷ 0 ∷ 0 ∷ 0 ∷ []) ∷ (0x100 ∷ 0x202 ∷ []) ∷ (0x100 ∷ 0x201 ∷ []) ∷ [];
   references = [] ∷ (0 ∷ 2 ∷ []) ∷ (0 ∷ 1 ∷ []) ∷ [];
   root_names = 0x201 ∷ [];
   roots = 1 ∷ [];
@@ -102,7 +102,7 @@ abbrev AreIdsOfTwo : List ℕ → SubRecord → Type 0
 AreIdsOfTwo ids o = AreIdsIn (is_skipped two []) 4 (heap_of two) o ids
 
 two_id_lists : (n : ℕ) (o : SubRecord) (ids : List ℕ) → slice_get (objects (heap_of two)) n ≡ Some o
-    → slice_get graph_of_two.held n ≡ Some ids → AreIdsOfTwo ids o
+    → slice_get graph_of_two.id_lists n ≡ Some ids → AreIdsOfTwo ids o
 unfolding size_of
 two_id_lists zero o ids e f = subst (AreIdsOfTwo ids) (some_inj e) (sym (some_inj f))
 two_id_lists (suc zero) o ids e f =
@@ -130,7 +130,7 @@ two_is_its_graph = record {
 abbrev graph_of_four : ObjectGraph
 graph_of_four = record {
   ids = 0x100 ∷ 0x201 ∷ 0x202 ∷ 0x203 ∷ 0x204 ∷ [];
-  held = graph_of_two.held ++ (0x100 ∷ 0x204 ∷ []) ∷ (0x100 ∷ 0x203 ∷ []) ∷ [];
+  id_lists = graph_of_two.id_lists ++ (0x100 ∷ 0x204 ∷ []) ∷ (0x100 ∷ 0x203 ∷ []) ∷ [];
   references = [] ∷ (0 ∷ 2 ∷ []) ∷ (0 ∷ 1 ∷ []) ∷ (0 ∷ 4 ∷ []) ∷ (0 ∷ 3 ∷ []) ∷ [];
   root_names = 0x201 ∷ [];
   roots = 1 ∷ [];

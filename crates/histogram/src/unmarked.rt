@@ -124,6 +124,7 @@ fn count_in_turn<A: Allocator, B: Allocator>(graph: &Graph<'_, A>, marks: &Marke
 
 /// Counts the objects `numbers` in parts, at most one for each thread of `team`. `Err(AllocError)` if the allocation for
 /// the results of the parts fails.
+#[tactic(auto, using(crate::proofs::PartTotals::chunk_are_objects))]
 fn count_in_parts<T: Threads + Sync, A: Allocator + Copy + Send, B: Allocator + Sync>(
     team: &Team<'_, T>,
     alloc: A,

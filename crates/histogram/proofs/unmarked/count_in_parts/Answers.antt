@@ -3,13 +3,9 @@ use Rattle.std.proofs.Common.{◌≡◌, ℕ, ◌%◌, ◌*◌, ◌+◌, ◌/◌
 use Rattle.std.proofs.lemmas.Grind.{div_ceil_times}
 use Rattle.histogram.specs.declared.unmarked.Unmarked.{Unmarked}
 use Rattle.histogram.specs.working.Unmarked.{totals_of}
-use Rattle.histogram.proofs.PartTotals.{AreTotalsOfParts, all_counted, chunk_are_objects, next_chunk, none_counted}
+use Rattle.histogram.proofs.PartTotals.{AreTotalsOfParts, all_counted, next_chunk, none_counted}
 use Rattle.histogram.proofs.UnmarkedLaws.{counted_more, more_add_up}
 use Rattle.histogram.proofs.unmarked.count_in_parts.Goals as goal
-
-pub map_parts-requires : goal.map_parts-requires
-map_parts-requires g c κs within = λ size start part is.
-    chunk_are_objects c.args.graph.now c.args.numbers.now part.now size start is c.requires
 
 pub loop-part-init : goal.loop-part-init
 loop-part-init g c =
