@@ -2,7 +2,7 @@
 
 ghost use Rattle.std.specs.Prelude.{IfOk, length, ◌<◌, ◌^◌, ◌≡◌};
 
-use super::beside::answers_all;
+use super::beside::{answers_all, finds};
 use super::lists::LISTS;
 use id_index::{IdIndex, WideEntriesBuilder};
 use limited_heap::{LimitedHeap, requests_of};
@@ -63,8 +63,7 @@ fn spread(alloc: Global, apart: u64) -> Result<Vec<u64>, AllocError> {
 fn count_found<A: Allocator>(index: &IdIndex<A>, ids: &[u64]) -> (usize, usize) {
     let (mut found, mut guessed) = (0usize, 0usize);
     for (number, id) in ids.iter().enumerate() {
-        let right = index.find(*id) == Some(number as u32 % (1 << 31));
-        if right && index.find(id.wrapping_add(1)).is_none() {
+        if finds(index, *id, Some(number)) && finds(index, id.wrapping_add(1), None) {
             found = found.saturating_add(1);
             guessed = guessed.saturating_add(usize::from(index.is_guessed(*id)));
         }
