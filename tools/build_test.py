@@ -48,6 +48,8 @@ class BuildTest(unittest.TestCase):
     def start(self, *words, path=None):
         environment = {**os.environ, "PATH": path or f"{self.top}/bin:{os.environ['PATH']}"}
         how = {"stdout": subprocess.PIPE, "stderr": subprocess.PIPE, "universal_newlines": True, "env": environment}
+        # A background job of a script ignores interrupts, and what it starts would, too.
+        how["preexec_fn"] = lambda: signal.signal(signal.SIGINT, signal.SIG_DFL)
         return subprocess.Popen([str(self.top / "tools/build"), *words], **how)
 
     def ended(self, *words, **how):
