@@ -115,7 +115,7 @@ two_is_its_graph : IsGraphOf 4 two [] graph_of_two
 unfolding size_of
 two_is_its_graph = record {
   ids_are = refl;
-  held_are = record { one_each = refl; each = two_id_lists };
+  id_lists_are = record { one_each = refl; each = two_id_lists };
   references_are = refl;
   root_names_are = refl;
   roots_are = refl;
