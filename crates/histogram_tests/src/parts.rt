@@ -74,7 +74,7 @@ fn dump(alloc: Global) -> Result<Bytes, AllocError> {
 }
 
 /// Tests whether `team` makes the right rows on `heap`.
-fn rows_of_team<T: Threads + Sync, A: Allocator + Copy>(
+fn rows_of_team<T: Threads + Sync, A: Allocator + Copy + Send>(
     team: &Team<'_, T>,
     alloc: Global,
     heap: A,
