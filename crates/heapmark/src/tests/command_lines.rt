@@ -10,7 +10,7 @@ use super::texts::{
     HEXADECIMAL_TAG, NO_FILE, NO_FILE_BUT_WORKERS, NO_VALUE, SKIP_TWICE, TAG_AFTER_THE_LAST,
     UNKNOWN_OPTION, VERSION, WORKERS_0, WORKERS_65, WORKERS_TWICE,
 };
-use crate::{Counted, program};
+use crate::{Counted, Dumps, program};
 use std::env::Env;
 use std::process::Abort;
 use std::rt::Files;
@@ -163,7 +163,7 @@ static LINES: [(&str, Sample, &str, &[Line]); 6] = [
 
 /// Checks that the program has the status of `line` on a file of `sample`, also if standard error fails. Checks that it
 /// prints just the text of `line` on standard error, and on the output `report` at status 0, otherwise nothing.
-fn check_line<T: Abort + AllocGlobal + Env + Files + Threads + Wait + Sync>(
+fn check_line<T: Abort + AllocGlobal + Dumps<Dump = T::File> + Env + Files + Threads + Wait + Sync>(
     rt: &T,
     name: &str,
     sample: Sample,
@@ -203,7 +203,7 @@ static TEXTS: [(&str, &str); 4] = [
 ];
 
 /// Returns the status for `word` if both streams fail, and the number of failures of the output.
-fn asked_in_vain<T: Files + AllocGlobal + Threads + Wait + Sync>(rt: &T, word: &str) -> (u8, u64) {
+fn asked_in_vain<T: AllocGlobal + Dumps + Threads + Wait + Sync>(rt: &T, word: &str) -> (u8, u64) {
     let mut out = Counted::new(Broken);
     let status = program(rt, &["heapmark", word], &mut out, &mut Broken);
     (status, out.failures())

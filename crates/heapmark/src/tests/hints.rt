@@ -6,7 +6,7 @@ use super::dumps::Sub::{Raw, Root};
 use super::dumps::{Bytes, Record, two_objects};
 use super::program::{Asked, answered_to_people, told_on};
 use crate::hint::advise;
-use crate::{Arguments, Refusal};
+use crate::{Arguments, Dumps, Refusal};
 use std::env::Env;
 use std::rt::Files;
 use std::sync::Wait;
@@ -125,7 +125,7 @@ fn each_hint_says_what_to_do(rt: HostRuntime) {
 
 /// Tests whether the program refuses a file of `bytes` by the line `refusal`. At a terminal, a line that ends with
 /// `want` must follow, or no line if `want` is empty.
-fn is_told<T: AllocGlobal + Env + Files + Threads + Wait + Sync>(
+fn is_told<T: AllocGlobal + Dumps<Dump = T::File> + Env + Files + Threads + Wait + Sync>(
     rt: &T,
     bytes: &[u8],
     refusal: &str,
@@ -195,7 +195,7 @@ fn a_file_is_told_by_its_first_bytes(rt: HostRuntime) {
 
 /// Tests whether the program refuses the first `length` bytes of the dump of two objects by the line `refusal`, and
 /// says at a terminal that the file ends too early.
-fn cut_is_told<T: AllocGlobal + Env + Files + Threads + Wait + Sync>(
+fn cut_is_told<T: AllocGlobal + Dumps<Dump = T::File> + Env + Files + Threads + Wait + Sync>(
     rt: &T,
     length: usize,
     refusal: &str,
@@ -221,7 +221,7 @@ fn a_cut_file_is_told(rt: HostRuntime) {
 }
 
 /// Like [`is_told`], for a file with the dump of `records`.
-fn dump_is_told<T: AllocGlobal + Env + Files + Threads + Wait + Sync>(
+fn dump_is_told<T: AllocGlobal + Dumps<Dump = T::File> + Env + Files + Threads + Wait + Sync>(
     rt: &T,
     records: &[Record],
     refusal: &str,

@@ -2,7 +2,7 @@
 
 use super::dumps::{Sample, TWO_OBJECTS_REPORT};
 use super::program::{Asked, answered_on};
-use crate::{Counted, process};
+use crate::{Counted, Dumps, process};
 use std::alloc::{AllocError, Global};
 use std::env::{Env, FillError};
 use std::rt::Files;
@@ -52,7 +52,7 @@ heapmark: /nowhere/heapmark.hprof: No such file or directory (os error 2)
 
 /// Returns the status of the process for `words`, whether it prints nothing on the output, and whether it prints `told`
 /// on standard error.
-fn answered<T: AllocGlobal + Files + Threads + Wait + Sync>(
+fn answered<T: AllocGlobal + Dumps + Threads + Wait + Sync>(
     rt: &T,
     words: &[&[u8]],
     is_terminal: bool,
@@ -91,7 +91,7 @@ fn each_line_has_its_status(rt: HostRuntime) {
 }
 
 /// Returns the status of the process for `words`, and whether `report` is all that it prints on the output.
-fn reported_of<T: AllocGlobal + Files + Threads + Wait + Sync>(
+fn reported_of<T: AllocGlobal + Dumps + Threads + Wait + Sync>(
     rt: &T,
     words: &[&[u8]],
     is_terminal: bool,
@@ -109,7 +109,7 @@ fn bytes_of<'a>(alloc: Global, words: &[&'a str]) -> Result<Vec<&'a [u8]>, Alloc
 }
 
 /// Like [`reported_of`], for words that are text.
-pub fn reported<T: AllocGlobal + Files + Threads + Wait + Sync>(
+pub fn reported<T: AllocGlobal + Dumps<Dump = T::File> + Files + Threads + Wait + Sync>(
     rt: &T,
     words: &[&str],
     is_terminal: bool,
@@ -123,7 +123,7 @@ pub fn reported<T: AllocGlobal + Files + Threads + Wait + Sync>(
 
 /// Returns the status of the process for `words`, and whether it prints just `report` on the output and just `told` on
 /// standard error.
-pub fn processed<T: AllocGlobal + Files + Threads + Wait + Sync>(
+pub fn processed<T: AllocGlobal + Dumps + Threads + Wait + Sync>(
     rt: &T,
     words: &[&str],
     is_terminal: bool,

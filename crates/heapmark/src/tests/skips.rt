@@ -9,7 +9,7 @@ use super::dumps::{Bytes, Record, Sample};
 use super::program::{Asked, answered, answered_on};
 use super::rows::{Line, report_of};
 use super::{answer, usual};
-use crate::{Skip, SkipRefusal};
+use crate::{Dumps, Skip, SkipRefusal};
 use names::NAMES;
 use std::alloc::Global;
 use std::env::Env;
@@ -180,7 +180,7 @@ fn fields_are_skipped_by_both_names(rt: HostRuntime) {
 }
 
 /// Tests whether the program writes the report of `lines` for the command line `line`.
-fn is_reported<T: AllocGlobal + Env + Files + Threads + Wait + Sync>(
+fn is_reported<T: AllocGlobal + Dumps<Dump = T::File> + Env + Files + Threads + Wait + Sync>(
     rt: &T,
     line: &str,
     lines: &[Line],
@@ -196,7 +196,7 @@ fn is_reported<T: AllocGlobal + Env + Files + Threads + Wait + Sync>(
 }
 
 /// Like [`is_reported`], for a command line with `list`.
-fn list_is_reported<T: AllocGlobal + Env + Files + Threads + Wait + Sync>(
+fn list_is_reported<T: AllocGlobal + Dumps<Dump = T::File> + Env + Files + Threads + Wait + Sync>(
     rt: &T,
     list: Option<&'static str>,
     lines: &[Line],
@@ -219,7 +219,7 @@ fn the_words_list_the_fields(rt: HostRuntime) {
 }
 
 /// Checks that the program refuses `words` with just the line `refusal` on standard error, and writes no report.
-fn is_refused<T: Abort + Files + AllocGlobal + Threads + Wait + Sync>(
+fn is_refused<T: Abort + AllocGlobal + Dumps<Dump = T::File> + Files + Threads + Wait + Sync>(
     rt: &T,
     words: &[&str],
     refusal: &str,

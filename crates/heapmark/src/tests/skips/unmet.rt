@@ -1,6 +1,7 @@
 //! The lines that follow the report at a terminal: each is about an entry of `--skip` that names no field of the dump.
 
 use super::{ALL, REFERENCES, SUPERCLASS_SKIPPED};
+use crate::Dumps;
 use crate::tests::dumps::Record::{Heap, Load, Text};
 use crate::tests::dumps::Sub::{Root, Static};
 use crate::tests::dumps::{Record, Sample};
@@ -106,7 +107,7 @@ fn lines_about(alloc: Global, entries: &[&str]) -> Result<String, AllocError> {
 }
 
 /// Tests whether the process writes the report of `case` and just `told` on standard error.
-fn is_printed<T: AllocGlobal + Env + Files + Threads + Wait + Sync>(
+fn is_printed<T: AllocGlobal + Dumps<Dump = T::File> + Env + Files + Threads + Wait + Sync>(
     rt: &T,
     case: &Unmet,
     is_terminal: bool,
@@ -125,7 +126,7 @@ fn is_printed<T: AllocGlobal + Env + Files + Threads + Wait + Sync>(
 }
 
 /// Tests whether the process writes the report of `case` and just the lines about `entries` on standard error.
-fn is_told<T: AllocGlobal + Env + Files + Threads + Wait + Sync>(
+fn is_told<T: AllocGlobal + Dumps<Dump = T::File> + Env + Files + Threads + Wait + Sync>(
     rt: &T,
     case: &Unmet,
     is_terminal: bool,
@@ -159,7 +160,7 @@ fn long_line(alloc: Global) -> Result<String, AllocError> {
 }
 
 /// Tests whether the process, run with [`long_line`], writes the report without the field of the last entry.
-fn long_line_is_read<T: AllocGlobal + Env + Files + Threads + Wait + Sync>(
+fn long_line_is_read<T: AllocGlobal + Dumps<Dump = T::File> + Env + Files + Threads + Wait + Sync>(
     rt: &T,
     is_terminal: bool,
 ) -> bool {
