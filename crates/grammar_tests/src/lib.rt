@@ -3,9 +3,9 @@
 //!
 //! `worked_file` tests the places and faults of the worked dump of 174 bytes, `tags_and_types` each tag and type code,
 //! and orders of records. `fields` reads each field of a dump with one sub-record of every kind (`dumps`). `parts`
-//! tests a dump that threads read in parts, `team` the threads and parts of a team, `requests` the number of allocations
-//! of a read, and `refusals` the text of a refusal. `proofs/WorkedFile.antt` computes that the worked dump is a dump by
-//! the definitions.
+//! tests a dump that threads read in parts, `team` the threads and parts of a team, `requests` the number of
+//! allocations of a read, and `refusals` the text of a refusal. `proofs/WorkedFile.antt` computes that the worked dump
+//! is a dump by the definitions.
 
 #![tactic(auto)]
 

@@ -18,12 +18,12 @@ const MOST: u32 = 9;
 /// Each third object is a class, from the first on. The others are arrays.
 const CLASSES_EACH: u32 = 3;
 
-/// An order of identifiers at sixteen places: the place of the first, and the distance of each from the one before it,
-/// modulo 16.
+/// An order of identifiers at sixteen granules: the granule of the first, and the distance of each from the one before
+/// it, modulo 16.
 type Order = (u32, u32);
 
-/// Ascending, descending, and neither. In descending order each object would be a run, so two or more such objects are
-/// indexed by pairs.
+/// Ascending, descending, and neither. In descending order each object would be an extent, so two or more such objects
+/// are indexed by narrow entries.
 const ORDERS: [Order; 3] = [(0, 1), (15, 15), (3, 5)];
 
 /// Returns the identifiers of `count` objects in `order`. The identifier of object `odd`, if that exists, has other
@@ -273,10 +273,10 @@ fn requests_in_order<T: Threads + Sync>(
     Ok(requests_by_one(rt, alloc, &ids))
 }
 
-/// Objects in descending order take no more allocations than objects in ascending order: all their pairs are allocated
-/// at once, and so are all page words. A list of their runs would grow step by step.
+/// Objects in descending order take no more allocations than objects in ascending order: all their entries are
+/// allocated at once, and so are all page words. A list of their extents would grow step by step.
 #[test]
-fn pairs_are_asked_for_at_once(rt: HostRuntime) -> Result<(), Fail> {
+fn entries_are_asked_for_at_once(rt: HostRuntime) -> Result<(), Fail> {
     let ascending = requests_in_order(&rt, rt.alloc(), (0, 1))?;
     let descending = requests_in_order(&rt, rt.alloc(), (15, 15))?;
     assert!(rt;

@@ -1,6 +1,7 @@
-//! Which index a dump gets, by the number of allocations that its graph takes: objects in order are indexed by runs,
-//! objects in no order by pairs if they are close together, and otherwise by their whole identifiers. The dumps have
-//! arrays without elements. Dumps with the same number of objects take the same number of allocations but for the index.
+//! Which index a dump gets, by the number of allocations that its graph takes: objects in order are indexed by extents,
+//! objects in no order by narrow entries if they are close together, and otherwise by their whole identifiers. The
+//! dumps have arrays without elements. Dumps with the same number of objects take the same number of allocations but
+//! for the index.
 
 use crate::graphs::build;
 use heap_graph::Skip;
@@ -20,9 +21,9 @@ const BYTE: u8 = 8;
 enum Order {
     /// Each object is the neighbour of the one before it.
     Ascending,
-    /// In no order, each place taken.
+    /// In no order, each granule taken.
     Close,
-    /// In no order, each thousandth place taken.
+    /// In no order, each thousandth granule taken.
     Far,
     /// In no order, and some objects have other lowest bits than the rest.
     Unaligned,
@@ -36,8 +37,8 @@ enum Order {
 const UNSEEN: u64 = 1050;
 
 impl Order {
-    /// Returns the place of object `number` of `count`.
-    fn place_of(self, number: u64, count: u64) -> u64 {
+    /// Returns the granule of object `number` of `count`.
+    fn granule_of(self, number: u64, count: u64) -> u64 {
         // 7919 is a prime, and no divisor of a count of this file.
         let scattered = number.wrapping_mul(7919) % count.max(1);
         match self {
@@ -58,7 +59,7 @@ impl Order {
             _ => 0,
         };
         0x7f00_0000u64
-            .wrapping_add(self.place_of(number, count).wrapping_mul(8))
+            .wrapping_add(self.granule_of(number, count).wrapping_mul(8))
             .wrapping_add(low)
     }
 }
@@ -109,8 +110,8 @@ fn more_than_far<T: Threads + Sync>(
 /// with one thread and with four.
 ///
 /// Objects far apart take one allocation, for their entries; 4,096 objects or more take another, for the table of where
-/// entries begin. Pairs take two, also if they do not serve: then others follow. If the ends of all identifiers are
-/// read in parts, the result of each part takes one.
+/// entries begin. Narrow entries take two, also if they do not serve: then others follow. If the ends of all
+/// identifiers are read in parts, the result of each part takes one.
 const INDEXES: [(u32, Order, u64, u64); 5] = [
     (2000, Order::Far, 0, 0),
     (2000, Order::Close, 1, 1),
@@ -130,9 +131,9 @@ fn dumps_in_no_order_get_their_index(rt: HostRuntime) -> Result<(), Fail> {
     Ok(())
 }
 
-/// Runs are gathered in lists that grow, so they take more allocations than pairs.
+/// Extents are gathered in lists that grow, so they take more allocations than entries.
 #[test]
-fn dumps_in_order_get_runs(rt: HostRuntime) -> Result<(), Fail> {
+fn dumps_in_order_get_extents(rt: HostRuntime) -> Result<(), Fail> {
     for threads in [1, 4] {
         let more = more_than_far(&rt, rt.alloc(), threads, Order::Ascending, 2000)?;
         assert!(rt; more > Some(1), "{more:?}, {threads} threads");

@@ -103,7 +103,8 @@ module _ (bytes : List ℕ) (s : ℕ) (places : List ℕ) (dump : Places) (are :
         → AreIndexed w places (heap_of are.is.records) i
     are_indexed v w i known v_bytes v_size w_bytes w_size same indexed =
         let here = objects (heap_of are.is.records) in
-        let stand = subst (λ (xs : List ℕ). StandInTurn (Stands v) xs here) (sym same) (objects_stand v v_bytes v_size) in
+        let stand = subst (λ (xs : List ℕ). StandInTurn (Stands v) xs here) (sym same)
+        (objects_stand v v_bytes v_size) in
         let it = indexed (heap_of are.is.records) stand in
         record {
           are = record { stand = objects_stand w w_bytes w_size; ids_are = it.are.ids_are };
@@ -164,7 +165,8 @@ graph_made o records skip linked told = record {
 module _ {A : Type 0} (o : Objects A) (plan : Plan A) (records : List Record) (roots : List ℕ)
     (classes : List ClassEntry) (unresolved : ℕ) (skip : List SkipEntry) where
   pub stand_for : ((at : ℕ) (sub : SubRecord) → Stands o.view at sub
-      → at + length (spelling_of o.view.id_size sub) ≤ length o.view.bytes) → length (root_ids (heap_of records)) ≤ limit
+      → at + length (spelling_of o.view.id_size sub) ≤ length o.view.bytes)
+      → length (root_ids (heap_of records)) ≤ limit
       → (linked : AreLinkedOf o (heap_of records)) → (told : HaveFatesOf o (heap_of records))
       → AreNamedOf records skip o plan classes → AreRootsOf (heap_of records) roots unresolved
       → StandFor o plan roots classes unresolved skip

@@ -30,7 +30,8 @@ module _ (skips : Class → Member → Bool) (s : ℕ) (c : Class) where
       let followed = not (skips c m) && (m.type == 2) in
       map-append (λ p. big_number s (drop p values)) (if followed then at ∷ [] else [])
       (id_places (skips c) s (at + size) ms)
-      ∙ ap (λ (ids : List ℕ). ids ++ ids_at s (id_places (skips c) s (at + size) ms) values) (id_at s at values followed)
+      ∙ ap (λ (ids : List ℕ). ids ++ ids_at s (id_places (skips c) s (at + size) ms) values)
+      (id_at s at values followed)
       ∙ ap (λ (ids : List ℕ). (if followed then big_number s (take s (drop at values)) ∷ [] else []) ++ ids)
       (ids_at_places (at + size) ms values
       ∙ ap (field_ids skips s (map (λ x. (c, x)) ms)) (sym (drop-drop size at values)))

@@ -16,7 +16,8 @@ module _ {A : Type 0} {o : Objects A} {plan : Plan A} {roots : List ℕ} {classe
       → StandFor o plan roots classes unresolved skip now
   seen e stand = subst (StandFor o plan roots classes unresolved skip) e stand
 
-  module _ {g : ObjectGraph} (stand : StandFor o plan roots classes unresolved skip g) {n : ℕ} {row : RowKey} {bytes : ℕ}
+  module _ {g : ObjectGraph}
+      (stand : StandFor o plan roots classes unresolved skip g) {n : ℕ} {row : RowKey} {bytes : ℕ}
       {class : Option ℕ} {ids : List ℕ}
       (read : (skips : Class → Member → Bool) (heap : List SubRecord) → AreLinkedOf o heap → HaveFatesOf o heap
       → IsPlanOf skips o heap plan → IsVisitOf skips o heap n row bytes class ids) where

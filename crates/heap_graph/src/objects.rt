@@ -10,7 +10,7 @@ pub(crate) mod class_table;
 mod gathering;
 mod ids_by_kind;
 pub(crate) mod indexing;
-mod pairing;
+mod unordered;
 mod visit_of;
 
 ghost use Rattle.hprof_grammar.specs.SubRecord.{SubRecord};

@@ -21,9 +21,9 @@ pub struct Visit<'g, A: Allocator> {
     rest: ObjectTargets<'g, A>,
 }
 
-/// The remaining references of an object. The variant says where the object's identifiers are, so that a caller can have
-/// a loop of its own for each. `Nothing`, `Fields` and `Elements` have two parts: the class, if it is known without a
-/// look-up and was not returned yet, and an iterator over the objects that the other identifiers name.
+/// The remaining references of an object. The variant says where the object's identifiers are, so that a caller can
+/// have a loop of its own for each. `Nothing`, `Fields` and `Elements` have two parts: the class, if it is known
+/// without a look-up and was not returned yet, and an iterator over the objects that the other identifiers name.
 // The kinds are not those of objects (`ObjectKind`): an instance is among the `Fields`, or is `Any`.
 #[derive(Drop)]
 pub enum ByKind<'g, A: Allocator> {

@@ -6,7 +6,8 @@ use Rattle.command_line.specs.declared.parsed_arguments.Arguments.{Arguments}
 use Rattle.heap_graph.specs.Skips.{SkipEntry}
 use Rattle.heap_graph.specs.declared.skip.refusal.SkipRefusal.{SkipRefusal}
 use Rattle.heap_graph.specs.declared.skip.refusal.SkipRefusal.TheVariants as skipping
-use Rattle.heapmark.specs.Answer.{IsAcceptedText, IsRefusalOf, IsRunRefusal, RefusesFirstFault, WritesReport, bytes_read}
+use Rattle.heapmark.specs.Answer.{IsAcceptedText, IsRefusalOf, IsRunRefusal, RefusesFirstFault, WritesReport}
+use Rattle.heapmark.specs.Answer.{bytes_read}
 use Rattle.heapmark.specs.OfFile.{IsReason, PrintsReason, PrintsReasonFirst, WritesReportOfBytes, WritesReportOfFile}
 use Rattle.heapmark.specs.OfFile.{AppendsSome, bytes_of_file}
 use Rattle.heapmark.specs.RefusalCodes.{bad_options_refusal, skip_refusal}
@@ -73,7 +74,8 @@ of_run known left before after refusal same possible fault not_accepted write_fa
 
 -- a refusal that has no place, and for which nothing was written
 unread : (known : Option (List ℕ)) (failures code : ℕ) → 15 ≤ code → code ≢ 20
-    → IsRunRefusal (record { code = code; offset = None }) ⊎ (record { code = code; offset = None } ≡ bad_options_refusal)
+    → IsRunRefusal (record { code = code; offset = None }) ⊎
+    (record { code = code; offset = None } ≡ bad_options_refusal)
     → ((bytes : List ℕ) → NotAccepted (record { code = code; offset = None }) bytes)
     → IsReason known failures failures (record { code = code; offset = None })
 unread known failures code high other possible not_accepted = record {

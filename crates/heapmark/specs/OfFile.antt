@@ -4,7 +4,8 @@ use Rattle.std.specs.Prelude.{IfSome, List, Option, codes, option_and_then, ℕ,
 use Rattle.std.specs.Io.KnownBytes.{Appends}
 use Rattle.command_line.specs.Line.{text_given}
 use Rattle.heap_graph.specs.Skips.{SkipEntry}
-use Rattle.heapmark.specs.Answer.{IsAcceptedText, IsRefusalOf, IsRunRefusal, RefusesFirstFault, WritesReport, bytes_read}
+use Rattle.heapmark.specs.Answer.{IsAcceptedText, IsRefusalOf, IsRunRefusal, RefusesFirstFault, WritesReport}
+use Rattle.heapmark.specs.Answer.{bytes_read}
 use Rattle.heapmark.specs.RefusalCodes.{bad_options_refusal}
 use Rattle.heapmark.specs.RefusalText.{refusal_line}
 use Rattle.heapmark.specs.SkippedFields.{IsSkipListOf}

@@ -13,8 +13,8 @@
 //! All but `main` take the words as any `CommandWords` and the files as any `Dumps`. So their clauses can say what they
 //! do for known words and known bytes, and they can only read a file.
 //!
-//! The headline is defined in `specs/Headline.antt`, what it says of the program in `specs/OfFile.antt`, the refusals in
-//! `specs/RunRefusals.antt`. The README of the repository has them in words, and `docs/ARCHITECTURE.md` says where
+//! The headline is defined in `specs/Headline.antt`, what it says of the program in `specs/OfFile.antt`, the refusals
+//! in `specs/RunRefusals.antt`. The README of the repository has them in words, and `docs/ARCHITECTURE.md` says where
 //! everything else is.
 #![tactic(auto)]
 

@@ -36,9 +36,9 @@ const READ_LIMIT: usize = LIMIT as usize + 1;
 ///
 /// If a contract can name the bytes of the reader, as those of a slice, the clause `headline` holds at `Ok`, and an
 /// error with a code of 1 to 14 is the first fault of the bytes. Bytes that are no accepted dump are then refused with
-/// their first fault, or with 15 or 19 if an allocation or the reader failed first; an accepted dump may be refused with
-/// 15, 16 or 18 to 20. For any other reader, such as a file, the clauses only say that the report of some accepted dump
-/// was written and flushed, and which code an error may have.
+/// their first fault, or with 15 or 19 if an allocation or the reader failed first; an accepted dump may be refused
+/// with 15, 16 or 18 to 20. For any other reader, such as a file, the clauses only say that the report of some accepted
+/// dump was written and flushed, and which code an error may have.
 pub fn run<T, A, R, W, B, G>(
     rt: &T,
     alloc: A,

@@ -13,8 +13,8 @@ use std::io;
 /// printed as four if it is that of a control character.
 const MOST: usize = 17_000;
 
-/// Prints `heapmark: `, `text` and a newline on `err`, as far as `err` takes them. Prints nothing if the line would have
-/// more than [`MOST`] bytes.
+/// Prints `heapmark: `, `text` and a newline on `err`, as far as `err` takes them. Prints nothing if the line would
+/// have more than [`MOST`] bytes.
 #[tactic(auto, using(crate::proofs::PrintedLine::nothing, crate::proofs::PrintedLine::some_of))]
 pub(crate) fn print_line<E: io::Write, D: Display>(err: &mut E, text: &D)
     ensures line { IfSome (D.output text.now) (λ output.

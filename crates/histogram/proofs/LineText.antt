@@ -44,7 +44,8 @@ module _ (old : List ℕ) where
       → named ≡ numbers ++ name → all ≡ named ++ 10 ∷ [] → all ≡ old ++ line count bytes name
   unfolding line
   line_appended in_10 in_14 numbers named all count bytes name ten fourteen a b c =
-      rw (c, b, a, ten, fourteen, right_aligned 10 (decimal count), right_aligned 14 (decimal bytes)) (simp append_assoc)
+      rw (c, b, a, ten, fourteen, right_aligned 10 (decimal count), right_aligned 14 (decimal bytes))
+      (simp append_assoc)
 
   -- a byte that is not plain
   pub escaped : (new : List ℕ) (byte : ℕ) → byte < 256 → is_plain byte ≡ false

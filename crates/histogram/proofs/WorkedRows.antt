@@ -1,5 +1,6 @@
 -- The definitions on small dumps, by computation.
-use Rattle.std.proofs.Common.{Bool, List, Some, [], codes, refl, true, false, ℕ, ◌++◌, ◌∷◌, ◌≡◌, reverse, slice_get, subst, sym}
+use Rattle.std.proofs.Common.{Bool, List, Some, [], codes, refl, true, false, ℕ, ◌++◌, ◌∷◌, ◌≡◌, reverse, slice_get}
+use Rattle.std.proofs.Common.{subst, sym}
 use Rattle.std.proofs.Common.{zero, suc}
 use Rattle.std.specs.Fmt.{digits}
 use Rattle.hprof_grammar.specs.TagsAndTypes.{size_of}

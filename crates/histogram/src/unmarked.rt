@@ -60,8 +60,8 @@ impl Unmarked {
 }
 
 /// Counts the objects that are not marked, by a walk over each. If there are many (`Team::splits`), takes them in
-/// batches, and `team` counts each batch in parts (`Team::map_parts`). If there are few, or if an allocation fails, takes
-/// one object after the other, from the first on.
+/// batches, and `team` counts each batch in parts (`Team::map_parts`). If there are few, or if an allocation fails,
+/// takes one object after the other, from the first on.
 pub(crate) fn count_unmarked<
     T: Threads + Sync,
     A: Allocator + Copy + Send,
@@ -122,8 +122,8 @@ fn count_in_turn<A: Allocator, B: Allocator>(graph: &Graph<'_, A>, marks: &Marke
     left
 }
 
-/// Counts the objects `numbers` in parts, at most one for each thread of `team`. `Err(AllocError)` if the allocation for
-/// the results of the parts fails.
+/// Counts the objects `numbers` in parts, at most one for each thread of `team`. `Err(AllocError)` if the allocation
+/// for the results of the parts fails.
 #[tactic(auto, using(crate::proofs::PartTotals::chunk_are_objects))]
 fn count_in_parts<T: Threads + Sync, A: Allocator + Copy + Send, B: Allocator + Sync>(
     team: &Team<'_, T>,

@@ -1,6 +1,7 @@
 -- Identifiers that agree in their lowest bits, by the bits above those.
 use Rattle.id_index.proofs.Words.{IsFirstRepeat, List, None, Option, Some, ap, arith, div-add-mod', div-mul-add, eq-eqb}
-use Rattle.id_index.proofs.Words.{eqb-false, eqb-true, ext_get_or, get_or, get_or-map, get_or_from_slice_get, length, length-map}
+use Rattle.id_index.proofs.Words.{eqb-false, eqb-true, ext_get_or, get_or, get_or-map, get_or_from_slice_get, length}
+use Rattle.id_index.proofs.Words.{length-map}
 use Rattle.id_index.proofs.Words.{mod-mul-add, ne_eqb, position, position-Some, slice_get, slice_get-get_or}
 use Rattle.id_index.proofs.Words.{slice_get_within, sym, whole_id, whole_ids, ℕ, ◌%◌, ◌*◌, ◌+◌, ◌/◌, ◌<◌, ◌==◌, ◌^◌}
 use Rattle.id_index.proofs.Words.{◌∙◌, ◌≡◌, ◌≢◌}

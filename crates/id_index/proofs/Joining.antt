@@ -1,10 +1,11 @@
 -- The objects of one list, and then those of another.
 use Rattle.id_index.proofs.Words.{AreBuilt, AreComplete, AreFewBuilt, AreInTurn, AreSound, Contains}
 use Rattle.id_index.proofs.Words.{Contains-append_cases, Contains-append_left, Contains-append_right, Contains-get_or}
-use Rattle.id_index.proofs.Words.{HasBearer, List, None, Option, Run, Some, ap, append-nil, arith, cases_lt}
+use Rattle.id_index.proofs.Words.{HasBearer, List, None, Option, Extent, Some, ap, append-nil, arith, cases_lt}
 use Rattle.id_index.proofs.Words.{common_steps, end_of, get_or-append-add, get_or-map, get_or_append_left, gets}
-use Rattle.id_index.proofs.Words.{ids_built, ids_of_runs, inl, inr, length, length-append, length-map, map, no_run}
-use Rattle.id_index.proofs.Words.{number_in, raised_by, run_in, slice_get, subst, sym, with_last, ℕ, ◌%◌, ◌++◌, ◌+◌}
+use Rattle.id_index.proofs.Words.{ids_built, ids_of_extents, inl, inr, length, length-append, length-map, map}
+use Rattle.id_index.proofs.Words.{no_extent}
+use Rattle.id_index.proofs.Words.{number_in, raised_by, extent_in, slice_get, subst, sym, with_last, ℕ, ◌%◌, ◌++◌, ◌+◌}
 use Rattle.id_index.proofs.Words.{◌-◌, ◌<◌, ◌^◌, ◌∙◌, ◌≡◌, ◌≤◌}
 use Rattle.id_index.proofs.Built.{all_built, gives, ids_count}
 
@@ -25,54 +26,55 @@ from_second : (xs ys : List ℕ) (k x : ℕ) → length xs ≤ k → slice_get (
     → slice_get ys (k - length xs) ≡ Some x
 from_second xs ys k x h e = grind (arith, common_steps, gets)
 
--- ---- the runs of the second list, raised by the number of objects in the first
+-- ---- the extents of the second list, raised by the number of objects in the first
 
-module _ (xs ys : List Run) (ids more : List ℕ) where
-  abbrev raised : Run → Run
+module _ (xs ys : List Extent) (ids more : List ℕ) where
+  abbrev raised : Extent → Extent
   raised = raised_by (length ids)
 
-  abbrev all : List Run
+  abbrev all : List Extent
   all = xs ++ map raised ys
 
   many : length all ≡ length xs + length ys
   many = omega (arith, length-append xs (map raised ys), length-map ys raised)
 
-  in_first : (k : ℕ) → k < length xs → run_in all k ≡ run_in xs k
-  in_first k h = get_or_append_left xs (map raised ys) no_run k h
+  in_first : (k : ℕ) → k < length xs → extent_in all k ≡ extent_in xs k
+  in_first k h = get_or_append_left xs (map raised ys) no_extent k h
 
-  in_second : (k : ℕ) → length xs ≤ k → k < length all → run_in all k ≡ raised (run_in ys (k - length xs))
+  in_second : (k : ℕ) → length xs ≤ k → k < length all → extent_in all k ≡ raised (extent_in ys (k - length xs))
   in_second k from h =
       let at : length xs + (k - length xs) ≡ k = omega (arith, from) in
-      sym (ap (λ (n : ℕ). run_in all n) at) ∙ get_or-append-add xs (map raised ys) (k - length xs) no_run
-      ∙ get_or-map raised ys (k - length xs) no_run no_run (omega (arith, from, h, many))
+      sym (ap (λ (n : ℕ). extent_in all n) at) ∙ get_or-append-add xs (map raised ys) (k - length xs) no_extent
+      ∙ get_or-map raised ys (k - length xs) no_extent no_extent (omega (arith, from, h, many))
 
-  -- a raised run is one of the second list
-  lowered : (run : Run) → Contains (map raised ys) run → (own : Run) × Contains ys own × (raised own ≡ run)
-  lowered run has =
+  -- a raised extent is one of the second list
+  lowered : (extent : Extent) → Contains (map raised ys) extent → (own : Extent) × Contains ys own
+      × (raised own ≡ extent)
+  lowered extent has =
       let within : has.0 < length ys = omega (arith, has.1, length-map ys raised) in (
-        run_in ys has.0,
-        Contains-get_or ys has.0 no_run within,
-        sym (get_or-map raised ys has.0 no_run run within) ∙ has.2,
+        extent_in ys has.0,
+        Contains-get_or ys has.0 no_extent within,
+        sym (get_or-map raised ys has.0 no_extent extent within) ∙ has.2,
       )
 
-  lifted : (run : Run) → Contains ys run → Contains (map raised ys) (raised run)
-  lifted run has = (
+  lifted : (extent : Extent) → Contains ys extent → Contains (map raised ys) (raised extent)
+  lifted extent has = (
     has.0,
     omega (arith, has.1, length-map ys raised),
-    get_or-map raised ys has.0 run (raised run) has.1
+    get_or-map raised ys has.0 extent (raised extent) has.1
         ∙ ap raised has.2,
   )
 
   sound : AreSound xs ids → AreSound ys more → AreSound all (ids ++ more)
-  sound first second run id has bearer =
-      elim (Contains-append_cases xs (map raised ys) run has) [
-        | inl here ↦ get_first ids more (number_in run (id % 64)) id (first run id here bearer)
+  sound first second extent id has bearer =
+      elim (Contains-append_cases xs (map raised ys) extent has) [
+        | inl here ↦ get_first ids more (number_in extent (id % 64)) id (first extent id here bearer)
         | inr there ↦
-            let (own, is, same) = lowered run there in
+            let (own, is, same) = lowered extent there in
             let mine : HasBearer (raised own) id = rw same bearer in
             let told = second own id is (record { page = mine.page; set = mine.set }) in
-            let number : length ids + number_in own (id % 64) ≡ number_in run (id % 64) =
-            omega (arith, ap (λ (l : Run). number_in l (id % 64)) same) in
+            let number : length ids + number_in own (id % 64) ≡ number_in extent (id % 64) =
+            omega (arith, ap (λ (l : Extent). number_in l (id % 64)) same) in
             subst (λ (n : ℕ). slice_get (ids ++ more) n ≡ Some id) number
             (get_second ids more (number_in own (id % 64)) id told)
       ]
@@ -81,12 +83,12 @@ module _ (xs ys : List Run) (ids more : List ℕ) where
   complete first second id n e =
       elim (cases_lt n (length ids)) [
         | inl below ↦
-            let (run, has, bearer, number) = first id n (from_first ids more n id below e) in
-            (run, Contains-append_left xs (map raised ys) run has, bearer, number)
+            let (extent, has, bearer, number) = first id n (from_first ids more n id below e) in
+            (extent, Contains-append_left xs (map raised ys) extent has, bearer, number)
         | inr from ↦
-            let (run, has, bearer, number) = second id (n - length ids) (from_second ids more n id from e) in (
-              raised run,
-              Contains-append_right xs (map raised ys) (raised run) (lifted run has),
+            let (extent, has, bearer, number) = second id (n - length ids) (from_second ids more n id from e) in (
+              raised extent,
+              Contains-append_right xs (map raised ys) (raised extent) (lifted extent has),
               record { page = bearer.page; set = bearer.set },
               omega (arith, number, from),
             )
@@ -106,7 +108,7 @@ module _ (xs ys : List Run) (ids more : List ℕ) where
       ]
 
   before : AreBuilt xs ids → AreBuilt ys more → (i : ℕ) → i < length all
-      → end_of (run_in all i) ≤ length (ids ++ more)
+      → end_of (extent_in all i) ≤ length (ids ++ more)
   before first second i within =
       elim (cases_lt i (length xs)) [
         | inl below ↦ rw (in_first i below) (omega (arith, first.before i below, length-append ids more))
@@ -127,18 +129,18 @@ module _ (xs ys : List Run) (ids more : List ℕ) where
 
 -- ---- what a builder has
 
--- the builder's last run joins the others
-pub all_few : (runs : List Run) (last : Option Run) (count : ℕ)
-    → AreFewBuilt runs last (ids_built runs last count) count
-    → AreFewBuilt (with_last runs last) None (ids_built (with_last runs last) None count) count
-all_few runs last count it = record {
-  built = subst (λ (ls : List Run). AreBuilt (with_last runs last) (ids_of_runs ls count))
-      (sym (append-nil (with_last runs last))) (all_built runs last (ids_built runs last count) it.built);
-  fewer = omega (arith, it.fewer, ap (λ (ls : List Run). length ls) (append-nil (with_last runs last)));
+-- the builder's last extent joins the others
+pub all_few : (extents : List Extent) (last : Option Extent) (count : ℕ)
+    → AreFewBuilt extents last (ids_built extents last count) count
+    → AreFewBuilt (with_last extents last) None (ids_built (with_last extents last) None count) count
+all_few extents last count it = record {
+  built = subst (λ (ls : List Extent). AreBuilt (with_last extents last) (ids_of_extents ls count))
+      (sym (append-nil (with_last extents last))) (all_built extents last (ids_built extents last count) it.built);
+  fewer = omega (arith, it.fewer, ap (λ (ls : List Extent). length ls) (append-nil (with_last extents last)));
   few = it.few;
 }
 
-module _ (xs ys : List Run) (last next : Option Run) (count many : ℕ)
+module _ (xs ys : List Extent) (last next : Option Extent) (count many : ℕ)
     (it : AreFewBuilt xs last (ids_built xs last count) count)
     (other : AreFewBuilt ys next (ids_built ys next many) many) where
   pub few_both : (ids more : List ℕ) → ids_built xs last count ≡ ids → ids_built ys next many ≡ more
@@ -154,18 +156,18 @@ module _ (xs ys : List Run) (last next : Option Run) (count many : ℕ)
 
   -- no number is too large to be raised
   pub may_raise : count + many < 2 ^ 32 → (k : ℕ) → k < length (with_last ys next)
-      → (run_in (with_last ys next) k).first + count < 2 ^ 32
+      → (extent_in (with_last ys next) k).first + count < 2 ^ 32
   may_raise few k h =
       let end = (all_built ys next (ids_built ys next many) other.built).before k h in
       omega (arith, end, ids_count ys next many, few)
 
-  abbrev both : List Run
+  abbrev both : List Extent
   both = with_last xs last ++ map (raised_by count) (with_last ys next)
 
-  -- the runs after `push_raised`
-  pub both_runs : (runs front more : List Run) → runs ≡ front ++ map (raised_by count) more
-      → front ≡ with_last xs last → more ≡ with_last ys next → runs ≡ both
-  both_runs runs front more are closed closed_more =
+  -- the extents after `push_raised`
+  pub both_extents : (extents front more : List Extent) → extents ≡ front ++ map (raised_by count) more
+      → front ≡ with_last xs last → more ≡ with_last ys next → extents ≡ both
+  both_extents extents front more are closed closed_more =
       rw (are, closed, closed_more)
 
   all_both : AreBuilt both (ids_built xs last count ++ ids_built ys next many)
@@ -194,7 +196,7 @@ module _ (xs ys : List Run) (last next : Option Run) (count many : ℕ)
       other.fewer,
       length-append (with_last xs last) (map (raised_by count) (with_last ys next)),
       length-map (with_last ys next) (raised_by count),
-      ap (λ (ls : List Run). length ls) (append-nil both),
+      ap (λ (ls : List Extent). length ls) (append-nil both),
     );
     few = few;
   }

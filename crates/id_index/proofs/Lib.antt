@@ -14,6 +14,6 @@ pub mod Telling
 pub mod Repeating
 pub mod Aligning
 pub mod Joining
-pub mod Pairing
+pub mod Narrow
 pub mod Placing
 pub mod Wide

@@ -1,4 +1,4 @@
--- The number of set bits below a place.
+-- The number of set bits below a granule.
 use Rattle.id_index.proofs.Words.{and_comm, and_mask, and_or_self, ap, arith, bit_and, bit_at, bit_at-lt, bit_at_above}
 use Rattle.id_index.proofs.Words.{bit_at_or, bit_at_set_other, bit_at_set_same, bit_or, cases_lt, count_ones}
 use Rattle.id_index.proofs.Words.{div-eq_of_lt, inl, inr, le-max_left, le_or_l, lt_of_not-le, mod-pow-add, mod_below}
@@ -16,7 +16,7 @@ ones_of_bit b h = elim (zero_or_one b h) [
   | inr e ↦ ap count_ones e ∙ sym e
 ]
 
--- one more place: its bit is counted
+-- one more granule: its bit is counted
 pub rank_more : (n k : ℕ) → rank n (k + 1) ≡ bit_at n k + rank n k
 rank_more n k =
     let turn : k + 1 ≡ 1 + k = omega arith in
@@ -29,12 +29,12 @@ pub rank_none : (n : ℕ) → rank n 0 ≡ 0
 unfolding lib.Count.ones
 rank_none n = let e : n % 1 ≡ 0 = omega (arith, mod_below n 1 (omega arith)) in ap count_ones e
 
--- masking n by the places below k keeps the bits that `rank` counts
+-- masking n by the granules below k keeps the bits that `rank` counts
 pub rank_masked : (n k : ℕ) → k < 64 → count_ones (bit_and n (1 * 2 ^ k % 2 ^ 64 - 1)) ≡ rank n k
 rank_masked n k h =
     ap (λ (m : ℕ). count_ones (bit_and n (m - 1))) (one_shl k 64 h) ∙ ap count_ones (and_mask n k)
 
--- the set bits are those below a place and those from it on
+-- the set bits are those below a granule and those from it on
 pub ones_split : (n k : ℕ) → count_ones n ≡ count_ones (n / 2 ^ k) + rank n k
 ones_split n k =
     ap count_ones (sym (shr_split n k)) ∙ ones_cat k (n / 2 ^ k) (n % 2 ^ k) (mod_below n (2 ^ k) (pow_pos k))
@@ -56,7 +56,7 @@ rank_grows n i (suc d) =
     let e : i + suc d ≡ i + d + 1 = omega arith in
     subst (λ (m : ℕ). rank n i ≤ rank n m) (sym e) (omega (arith, rank_grows n i d, rank_more n (i + d)))
 
--- numbers with the same bits below a place have the same rank there
+-- numbers with the same bits below a granule have the same rank there
 pub rank_same : (a b k : ℕ) → ((i : ℕ) → i < k → bit_at a i ≡ bit_at b i) → rank a k ≡ rank b k
 rank_same a b zero same = rank_none a ∙ sym (rank_none b)
 rank_same a b (suc k) same =
@@ -65,49 +65,51 @@ rank_same a b (suc k) same =
     subst (λ (m : ℕ). rank a m ≡ rank b m) (sym e)
     (omega (arith, below, rank_more a k, rank_more b k, same k (omega arith)))
 
--- ---- a word that is shifted up until the bit at a place is the highest
+-- ---- a word that is shifted up until the bit at a granule is the highest
 
-module _ (n place up : ℕ) (whole : place + 1 + up ≡ 64) where
-  -- only the bits up to the place remain
-  moved : n * 2 ^ up % 2 ^ 64 ≡ n % 2 ^ (place + 1) * 2 ^ up
+module _ (n granule up : ℕ) (whole : granule + 1 + up ≡ 64) where
+  -- only the bits up to the granule remain
+  moved : n * 2 ^ up % 2 ^ 64 ≡ n % 2 ^ (granule + 1) * 2 ^ up
   moved =
-      let kept : n * 2 ^ up % 2 ^ 64 ≡ n * 2 ^ up / 2 ^ up % 2 ^ (place + 1) * 2 ^ up + n * 2 ^ up % 2 ^ up =
-      subst (λ (k : ℕ). n * 2 ^ up % 2 ^ k ≡ n * 2 ^ up / 2 ^ up % 2 ^ (place + 1) * 2 ^ up + n * 2 ^ up % 2 ^ up) whole
-      (mod-pow-add (n * 2 ^ up) (place + 1) up) in
+      let kept : n * 2 ^ up % 2 ^ 64 ≡ n * 2 ^ up / 2 ^ up % 2 ^ (granule + 1) * 2 ^ up + n * 2 ^ up % 2 ^ up =
+      subst (λ (k : ℕ). n * 2 ^ up % 2 ^ k ≡ n * 2 ^ up / 2 ^ up % 2 ^
+      (granule + 1) * 2 ^ up + n * 2 ^ up % 2 ^ up) whole
+      (mod-pow-add (n * 2 ^ up) (granule + 1) up) in
       kept ∙ rw (shl-shr n up) (omega (arith, mul-mod_left n (2 ^ up)))
 
-  pub ones_moved : count_ones (n * 2 ^ up % 2 ^ 64) ≡ bit_at n place + rank n place
+  pub ones_moved : count_ones (n * 2 ^ up % 2 ^ 64) ≡ bit_at n granule + rank n granule
   ones_moved =
-      let cat : count_ones (n % 2 ^ (place + 1) * 2 ^ up + 0) ≡ rank n (place + 1) + count_ones 0 =
-      ones_cat up (n % 2 ^ (place + 1)) 0 (pow_pos up) in
-      let same : count_ones (n * 2 ^ up % 2 ^ 64) ≡ count_ones (n % 2 ^ (place + 1) * 2 ^ up + 0) =
+      let cat : count_ones (n % 2 ^ (granule + 1) * 2 ^ up + 0) ≡ rank n (granule + 1) + count_ones 0 =
+      ones_cat up (n % 2 ^ (granule + 1)) 0 (pow_pos up) in
+      let same : count_ones (n * 2 ^ up % 2 ^ 64) ≡ count_ones (n % 2 ^ (granule + 1) * 2 ^ up + 0) =
       ap count_ones (omega (arith, moved)) in
-      omega (arith, same, cat, ones_of_bit 0 (omega arith), rank_more n place)
+      omega (arith, same, cat, ones_of_bit 0 (omega arith), rank_more n granule)
 
   -- the highest bit, and what is below it
-  parts : (n * 2 ^ up % 2 ^ 64 ≡ bit_at n place * 2 ^ 63 + n % 2 ^ place * 2 ^ up) × (n % 2 ^ place * 2 ^ up < 2 ^ 63)
+  parts : (n * 2 ^ up % 2 ^ 64 ≡ bit_at n granule * 2 ^ 63 + n % 2 ^ granule * 2 ^ up)
+      × (n % 2 ^ granule * 2 ^ up < 2 ^ 63)
   parts =
-      let turn : place + 1 ≡ 1 + place = omega arith in
-      let bits : n % 2 ^ (place + 1) ≡ bit_at n place * 2 ^ place + n % 2 ^ place =
-      rw turn (mod-pow-add n 1 place) in
-      let below : place + up ≡ 63 = omega (arith, whole) in
-      let high : 2 ^ place * 2 ^ up ≡ 2 ^ 63 = rw below at (sym (pow-add 2 place up)) in
-      let low : n % 2 ^ place * 2 ^ up < 2 ^ 63 =
-      rw below at (shl_below (n % 2 ^ place) place up (mod_below n (2 ^ place) (pow_pos place))) in
+      let turn : granule + 1 ≡ 1 + granule = omega arith in
+      let bits : n % 2 ^ (granule + 1) ≡ bit_at n granule * 2 ^ granule + n % 2 ^ granule =
+      rw turn (mod-pow-add n 1 granule) in
+      let below : granule + up ≡ 63 = omega (arith, whole) in
+      let high : 2 ^ granule * 2 ^ up ≡ 2 ^ 63 = rw below at (sym (pow-add 2 granule up)) in
+      let low : n % 2 ^ granule * 2 ^ up < 2 ^ 63 =
+      rw below at (shl_below (n % 2 ^ granule) granule up (mod_below n (2 ^ granule) (pow_pos granule))) in
       (moved ∙ rw bits (grind (arith, high)), low)
 
-module _ (n place : ℕ) (inside : place < 64) where
-  whole : place + 1 + (63 - place) ≡ 64
+module _ (n granule : ℕ) (inside : granule < 64) where
+  whole : granule + 1 + (63 - granule) ≡ 64
   whole = omega (arith, inside)
 
-  pub ones_up_to : count_ones (n * 2 ^ (63 - place) % 2 ^ 64) ≡ bit_at n place + rank n place
-  ones_up_to = ones_moved n place (63 - place) whole
+  pub ones_up_to : count_ones (n * 2 ^ (63 - granule) % 2 ^ 64) ≡ bit_at n granule + rank n granule
+  ones_up_to = ones_moved n granule (63 - granule) whole
 
-  pub top_bit : 2 ^ 63 ≤ n * 2 ^ (63 - place) % 2 ^ 64 → bit_at n place ≡ 1
-  top_bit h = let it = parts n place (63 - place) whole in omega (arith, it.0, it.1, h, bit_at-lt n place)
+  pub top_bit : 2 ^ 63 ≤ n * 2 ^ (63 - granule) % 2 ^ 64 → bit_at n granule ≡ 1
+  top_bit h = let it = parts n granule (63 - granule) whole in omega (arith, it.0, it.1, h, bit_at-lt n granule)
 
-  pub top_bit_not : n * 2 ^ (63 - place) % 2 ^ 64 < 2 ^ 63 → bit_at n place ≢ 1
-  top_bit_not h = λ set. let it = parts n place (63 - place) whole in omega (arith, it.0, h, set)
+  pub top_bit_not : n * 2 ^ (63 - granule) % 2 ^ 64 < 2 ^ 63 → bit_at n granule ≢ 1
+  top_bit_not h = λ set. let it = parts n granule (63 - granule) whole in omega (arith, it.0, h, set)
 
 -- ---- more bits
 
@@ -149,29 +151,29 @@ ones_grow a b fits some =
 -- ---- a bit that is set above all others
 
 abbrev with_bit : ℕ → ℕ → ℕ
-with_bit n place = bit_or n (1 * 2 ^ place % 2 ^ 64)
+with_bit n granule = bit_or n (1 * 2 ^ granule % 2 ^ 64)
 
-module _ (n place : ℕ) (inside : place < 64) (above : n < 2 ^ place) where
-  pub set_here : bit_at (with_bit n place) place ≡ 1
-  set_here = bit_at_set_same w64 n place inside
+module _ (n granule : ℕ) (inside : granule < 64) (above : n < 2 ^ granule) where
+  pub set_here : bit_at (with_bit n granule) granule ≡ 1
+  set_here = bit_at_set_same w64 n granule inside
 
-  pub set_elsewhere : (i : ℕ) → i ≢ place → bit_at (with_bit n place) i ≡ bit_at n i
-  set_elsewhere i other = bit_at_set_other w64 n place inside i other
+  pub set_elsewhere : (i : ℕ) → i ≢ granule → bit_at (with_bit n granule) i ≡ bit_at n i
+  set_elsewhere i other = bit_at_set_other w64 n granule inside i other
 
-  -- bits that were set before are below the place
-  pub set_before : (i : ℕ) → bit_at n i ≡ 1 → i < place
-  set_before i set = lt_of_not-le {n = place} {m = i} (λ le. omega (arith, bit_at_above n place i above le, set))
+  -- bits that were set before are below the granule
+  pub set_before : (i : ℕ) → bit_at n i ≡ 1 → i < granule
+  set_before i set = lt_of_not-le {n = granule} {m = i} (λ le. omega (arith, bit_at_above n granule i above le, set))
 
-  pub rank_below_set : (i : ℕ) → i ≤ place → rank (with_bit n place) i ≡ rank n i
-  rank_below_set i le = rank_same (with_bit n place) n i
+  pub rank_below_set : (i : ℕ) → i ≤ granule → rank (with_bit n granule) i ≡ rank n i
+  rank_below_set i le = rank_same (with_bit n granule) n i
       (λ j less. set_elsewhere j (λ e. omega (arith, e, less, le)))
 
-  pub rank_at_set : rank (with_bit n place) place ≡ count_ones n
-  rank_at_set = rank_below_set place (omega arith) ∙ rank_whole n place above
+  pub rank_at_set : rank (with_bit n granule) granule ≡ count_ones n
+  rank_at_set = rank_below_set granule (omega arith) ∙ rank_whole n granule above
 
-  pub ones_set : count_ones (with_bit n place) ≡ count_ones n + 1
+  pub ones_set : count_ones (with_bit n granule) ≡ count_ones n + 1
   ones_set =
-      let shifted : 1 * 2 ^ place % 2 ^ 64 ≡ 1 * 2 ^ place = omega (arith, one_shl place 64 inside) in
-      let sum : with_bit n place ≡ 1 * 2 ^ place + n =
-      ap (λ (m : ℕ). bit_or n m) shifted ∙ or_shifted_r 1 place n above in
-      omega (arith, ap count_ones sum ∙ ones_cat place 1 n above, ones_of_bit 1 (omega arith))
+      let shifted : 1 * 2 ^ granule % 2 ^ 64 ≡ 1 * 2 ^ granule = omega (arith, one_shl granule 64 inside) in
+      let sum : with_bit n granule ≡ 1 * 2 ^ granule + n =
+      ap (λ (m : ℕ). bit_or n m) shifted ∙ or_shifted_r 1 granule n above in
+      omega (arith, ap count_ones sum ∙ ones_cat granule 1 n above, ones_of_bit 1 (omega arith))

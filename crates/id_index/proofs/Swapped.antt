@@ -2,7 +2,7 @@
 use Rattle.id_index.proofs.Words.{List, ap, cases_eq, get_or, inl, inr, length, refl, swap, swapped_from_swap, ℕ, ◌<◌}
 use Rattle.id_index.proofs.Words.{◌∙◌, ◌≡◌, ◌⊎◌}
 
--- the place that an element had before a swap
+-- the index that an element had before a swap
 pub came_from : {X : Type 0} (xs : List X) (d : X) (a b i : ℕ) → a < length xs → b < length xs → i < length xs
     → (k : ℕ) × (k < length xs) × (get_or (swap xs a b) i d ≡ get_or xs k d)
     × (((i ≡ a) × (k ≡ b)) ⊎ (((i ≡ b) × (k ≡ a)) ⊎ ((i ≡ a → ⊥) × ((i ≡ b → ⊥) × (k ≡ i)))))

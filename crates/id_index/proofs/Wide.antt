@@ -1,7 +1,8 @@
 -- Entries of full width: their order, searching them by halving, and the identifiers that agree with them.
 use Rattle.std.specs.List.Sorted.{IsNonDecreasingBy}
 use Rattle.id_index.specs.working.WideEntries.{AreDistinct, AreEntriesOf, AreNumbered, AreOrdered, IsBefore}
-use Rattle.id_index.specs.working.WideEntries.{IsBetween, IsFirstFrom, IsLeastRepeat, IsRepeatAt, entry_in, entry_of, id_numbered}
+use Rattle.id_index.specs.working.WideEntries.{IsBetween, IsFirstFrom, IsLeastRepeat, IsRepeatAt, entry_in, entry_of}
+use Rattle.id_index.specs.working.WideEntries.{id_numbered}
 use Rattle.id_index.specs.working.WideEntries.{id_of, ids_of_entries, is_numbered, key_of}
 use Rattle.id_index.specs.declared.wide_entries.WideEntry.{WideEntry}
 use Rattle.id_index.proofs.Words.{All-from_get_or, All-permutation, Bool, Contains, Contains-get_or}
@@ -19,7 +20,7 @@ use Rattle.id_index.proofs.Swapped.{came_from}
 abbrev pub no_entry : WideEntry
 no_entry = entry_of 0 0 0
 
--- the place of an entry
+-- the index of an entry
 stands : (entries : List WideEntry) (x : WideEntry) → Contains entries x
     → (k : ℕ) × (k < length entries) × (entry_in entries k ≡ x)
 stands entries x h = (h.0, h.1, sym (get_or_read entries h.0 x h.1 (sym h.2) no_entry))
@@ -135,7 +136,7 @@ module _ (entries : List WideEntry) (ids : List ℕ) (up : AreOrdered entries) (
 module _ (entries : List WideEntry) (ids : List ℕ) (up : AreOrdered entries) (it : AreEntriesOf entries ids)
     (number : ℕ) (least : IsLeastRepeat entries (length entries) (length entries) number)
     (long : length ids ≡ length entries) where
-  -- the place of an object's entry
+  -- the index of an object's entry
   entry_at : (id n : ℕ) → slice_get ids n ≡ Some id → (k : ℕ) × (k < length entries)
       × (id_of (entry_in entries k) ≡ id) × ((entry_in entries k).number ≡ n)
   entry_at id n e =
@@ -268,7 +269,11 @@ module _ (entries sorted : List WideEntry) (same : IsPermutation entries sorted)
       omega (arith, distinct i j in_i h e, less) in
       elim (cases_lt (id_of (entry_in sorted i)) (id_of (entry_in sorted j))) [
         | inl lower ↦ inl lower
-        | inr higher ↦ inr (omega (arith, keys, higher, fits_i, fits_j), omega (arith, keys, higher, fits_i, fits_j, differ))
+        | inr higher ↦ inr (
+          omega (arith, keys, higher, fits_i, fits_j),
+          omega
+              (arith, keys, higher, fits_i, fits_j, differ),
+        )
       ]
 
   -- the entries are those of the identifiers in the order of the file

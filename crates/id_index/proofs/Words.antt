@@ -1,4 +1,4 @@
--- The definitions and lemmas of std, and the definitions of specs/, that the proofs use, in one place.
+-- The definitions and lemmas of std, and the definitions of specs/, that the proofs use, in one module.
 pub use Rattle.std.proofs.Common.{Bool, Contains, IsPermutation, IsSorted, List, None, Option, Some, [], ap, arith}
 pub use Rattle.std.proofs.Common.{false, get_or, inl, inr, length, length-append, map, max, min, position, refl}
 pub use Rattle.std.proofs.Common.{slice_get, slice_index, subst, suc, sym, take, true, zero, ℕ, ◌%◌, ◌*◌, ◌++◌, ◌+◌}
@@ -45,12 +45,13 @@ pub use Rattle.std.specs.Prelude.{vec_len, ◌==◌, ◌↔◌}
 pub use Rattle.id_index.specs.Aligned.{whole_id, whole_ids}
 pub use Rattle.id_index.specs.working.Beginnings.{IsAround, IsBeginning, bucket_of}
 pub use Rattle.id_index.specs.working.Building.{AreBuilt, AreBuiltUpTo, AreFewBuilt, AreInTurn, AreOpen}
-pub use Rattle.id_index.specs.working.Building.{ArePairwiseApart, IsApart, ids_built, raised_by, run_cmp, with_last}
+pub use Rattle.id_index.specs.working.Building.{ArePairwiseApart, IsApart, ids_built, raised_by, extent_cmp, with_last}
 pub use Rattle.id_index.specs.Repeats.{IsFirstRepeat}
-pub use Rattle.id_index.specs.working.RunRepeats.{AreSeen, IsLeastRepeat, IsLowered, IsRepeatAt}
-pub use Rattle.id_index.specs.working.Runs.{AreAscending, AreComplete, AreFewAPage, AreSound, DoPagesRise, HasBearer}
-pub use Rattle.id_index.specs.working.Runs.{IsBearerAt, IsFirstBearer, IsFirstFrom, IsNumberAt, Tell, end_of, id_in}
-pub use Rattle.id_index.specs.working.Runs.{id_of_number, ids_of_runs, no_run, number_in, page_in, place_of, rank}
-pub use Rattle.id_index.specs.working.Runs.{run_in, run_of, stands_at}
+pub use Rattle.id_index.specs.working.ExtentRepeats.{AreSeen, IsLeastRepeat, IsLowered, IsRepeatAt}
+pub use Rattle.id_index.specs.working.Extents.{AreAscending, AreComplete, AreFewAPage, AreSound, DoPagesRise, HasBearer}
+pub use Rattle.id_index.specs.working.Extents.{IsBearerAt, IsFirstBearer, IsFirstFrom, IsNumberAt, Tell, end_of, id_in}
+pub use Rattle.id_index.specs.working.Extents.{id_of_number, ids_of_extents, no_extent, number_in, page_in, granule_of}
+pub use Rattle.id_index.specs.working.Extents.{rank}
+pub use Rattle.id_index.specs.working.Extents.{extent_in, extent_of, stands_at}
 pub use Rattle.id_index.specs.working.Pruning.{AreFewSeen, AreKept, ArePrunedBefore, AreSorted, IsKeptIfNew}
-pub use Rattle.id_index.specs.declared.runs.Run.{Run}
+pub use Rattle.id_index.specs.declared.extents.Extent.{Extent}

@@ -5,6 +5,6 @@ use Rattle.id_index.specs.declared.index.Form.TheVariants as forms
 
 -- the identifiers by which objects are found
 abbrev pub ids_held : {A : Type 0} → Form A → List ℕ
-ids_held (forms.Runs ids) = ids
-ids_held (forms.Pairs ids) = ids
+ids_held (forms.Extents ids) = ids
+ids_held (forms.Narrow ids) = ids
 ids_held (forms.Wide ids) = ids

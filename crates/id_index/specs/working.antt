@@ -1,8 +1,8 @@
 -- Definitions that only private clauses use.
-pub mod Runs
+pub mod Extents
 pub mod Beginnings
 pub mod Building
 pub mod Pruning
-pub mod Pairs
-pub mod RunRepeats
+pub mod NarrowEntries
+pub mod ExtentRepeats
 pub mod WideEntries

@@ -1,24 +1,25 @@
-//! The table of where pages begin among ascending runs, by the leading bits of pages.
+//! The table of where pages begin among ascending extents, by the leading bits of pages.
 
 ghost use Rattle.std.specs.Prelude.{IfOk, MatchOption, length, ◌+◌, ◌-◌, ◌/◌, ◌<◌, ◌≤◌, ◌^◌, ◌≡◌, ℕ};
 ghost use Rattle.id_index.specs.working.Beginnings.{AreBeginnings, IsAround, IsBeginning, bucket_of};
-ghost use Rattle.id_index.specs.working.Runs.{DoPagesRise, IsNoPage, page_in};
+ghost use Rattle.id_index.specs.working.Extents.{DoPagesRise, IsNoPage, page_in};
 
-use crate::runs::Run;
+use crate::extents::Extent;
 use std::alloc::{AllocError, Allocator};
 
-/// The beginnings of buckets in ascending runs. The bucket of a page is the page's distance from the least page,
+/// The beginnings of buckets in ascending extents. The bucket of a page is the page's distance from the least page,
 /// shifted right by `shift`.
 #[derive(Drop)]
 pub(crate) struct Beginnings<A: Allocator> {
-    /// The least page, or 0 if there is no run.
+    /// The least page, or 0 if there is no extent.
     pub(crate) least: u64,
     /// The distance of the greatest page from the least one.
     pub(crate) span: u64,
     pub(crate) shift: u32,
     /// A word in which only the lowest `shift` bits are set: a guess takes these bits of a distance.
     pub(crate) mask: u64,
-    /// For each bucket the index of the first run that is not in a bucket before it, and at the end the number of runs.
+    /// For each bucket the index of the first extent that is not in a bucket before it, and at the end the number of
+    /// extents.
     pub(crate) starts: Vec<u32, A>,
 }
 
@@ -37,52 +38,52 @@ pub(crate) fn shift_for(span: u64, buckets: u64) -> u32
     63
 }
 
-/// Returns the least and the greatest page of ascending runs, or 0 for both if there is no run.
-fn ends_of(runs: &[Run]) -> (u64, u64)
-    requires { DoPagesRise runs.now }
+/// Returns the least and the greatest page of ascending extents, or 0 for both if there is no extent.
+fn ends_of(extents: &[Extent]) -> (u64, u64)
+    requires { DoPagesRise extents.now }
     ensures order { result.0 ≤ result.1 }
-    ensures low { (k : ℕ) → k < length runs.now → result.0 ≤ page_in runs.now k }
-    ensures high { (k : ℕ) → k < length runs.now → page_in runs.now k ≤ result.1 }
+    ensures low { (k : ℕ) → k < length extents.now → result.0 ≤ page_in extents.now k }
+    ensures high { (k : ℕ) → k < length extents.now → page_in extents.now k ≤ result.1 }
 {
-    match runs.len() {
+    match extents.len() {
         0 => return (0, 0),
-        count => return (runs[0].page, runs[count - 1].page),
+        count => return (extents[0].page, extents[count - 1].page),
     }
 }
 
-/// Returns the index of the first run that is not in a bucket before `bucket`, or the number of runs if there is none.
-/// No run before index `from` is such a run.
-fn start_of(runs: &[Run], least: u64, shift: u32, from: usize, bucket: u64) -> usize
-    requires rise { DoPagesRise runs.now }
-    requires low { (k : ℕ) → k < length runs.now → least ≤ page_in runs.now k }
+/// Returns the index of the first extent that is not in a bucket before `bucket`, or the number of extents if there is
+/// none. No extent before index `from` is such an extent.
+fn start_of(extents: &[Extent], least: u64, shift: u32, from: usize, bucket: u64) -> usize
+    requires rise { DoPagesRise extents.now }
+    requires low { (k : ℕ) → k < length extents.now → least ≤ page_in extents.now k }
     requires shifted { shift < 64 }
-    requires within { from ≤ length runs.now }
-    requires passed { (k : ℕ) → k < from → bucket_of least shift (page_in runs.now k) < bucket }
-    ensures { IsBeginning runs.now least shift bucket result }
+    requires within { from ≤ length extents.now }
+    requires passed { (k : ℕ) → k < from → bucket_of least shift (page_in extents.now k) < bucket }
+    ensures { IsBeginning extents.now least shift bucket result }
 {
-    for at in from..runs.len() {
-        if (runs[at].page - least) >> shift >= bucket {
+    for at in from..extents.len() {
+        if (extents[at].page - least) >> shift >= bucket {
             return at;
         }
     }
-    runs.len()
+    extents.len()
 }
 
 impl<A: Allocator> Beginnings<A> {
-    /// Creates the table of `runs`. `AllocError` if an allocation fails.
-    pub(crate) fn of(alloc: A, runs: &[Run]) -> Result<Self, AllocError>
-        requires rise { DoPagesRise runs.now }
-        requires few { length runs.now < 2 ^ 32 }
-        ensures { IfOk result (λ b. AreBeginnings runs.now b) }
+    /// Creates the table of `extents`. `AllocError` if an allocation fails.
+    pub(crate) fn of(alloc: A, extents: &[Extent]) -> Result<Self, AllocError>
+        requires rise { DoPagesRise extents.now }
+        requires few { length extents.now < 2 ^ 32 }
+        ensures { IfOk result (λ b. AreBeginnings extents.now b) }
     {
-        let (least, greatest) = ends_of(runs);
+        let (least, greatest) = ends_of(extents);
         let span = greatest - least;
-        let shift = shift_for(span, (runs.len() as u64 / 2).max(2));
+        let shift = shift_for(span, (extents.len() as u64 / 2).max(2));
         let count = (span >> shift) + 2;
         let mut starts = Vec::with_capacity(alloc, count as usize)?;
         let mut at = 0;
         for bucket in 0..count {
-            at = start_of(runs, least, shift, at, bucket);
+            at = start_of(extents, least, shift, at, bucket);
             starts.push(at as u32)?;
         }
         Ok(Beginnings {
@@ -94,16 +95,16 @@ impl<A: Allocator> Beginnings<A> {
         })
     }
 
-    /// Returns where the runs of the bucket of `page` begin and end. Returns `None` if `page` is below the least page
-    /// or above the greatest: then no run is of `page`.
+    /// Returns where the extents of the bucket of `page` begin and end. Returns `None` if `page` is below the least
+    /// page or above the greatest: then no extent is of `page`.
     // Inlined, as `guess` is: each look-up takes the two numbers, which a call would return through memory.
     #[inline(always)]
-    pub(crate) fn around(&self, runs: &[Run], page: u64) -> Option<(usize, usize)>
-        requires rise { DoPagesRise runs.now }
-        requires begun { AreBeginnings runs.now self.now }
-        ensures { MatchOption result (IsNoPage runs.now page) (λ range. IsAround runs.now page range.0 range.1) }
+    pub(crate) fn around(&self, extents: &[Extent], page: u64) -> Option<(usize, usize)>
+        requires rise { DoPagesRise extents.now }
+        requires begun { AreBeginnings extents.now self.now }
+        ensures { MatchOption result (IsNoPage extents.now page) (λ range. IsAround extents.now page range.0 range.1) }
     {
-        // The distance of a page below the least one is greater than that of any run's page, since it wraps.
+        // The distance of a page below the least one is greater than that of any extent's page, since it wraps.
         let distance = page.wrapping_sub(self.least);
         if distance > self.span {
             return None;
@@ -115,9 +116,9 @@ impl<A: Allocator> Beginnings<A> {
         ))
     }
 
-    /// Guesses the index of the first run of `page`. The runs of its bucket are those from index `begin` up to `end`:
-    /// the guess takes their pages as evenly spread over the bucket. If the product wraps, the guess may be any index.
-    /// Only time rests on a guess.
+    /// Guesses the index of the first extent of `page`. The extents of its bucket are those from index `begin` up to
+    /// `end`: the guess takes their pages as evenly spread over the bucket. If the product wraps, the guess may be any
+    /// index. Only time rests on a guess.
     // Inlined, as `around` is.
     #[inline(always)]
     pub(crate) fn guess(&self, page: u64, begin: usize, end: usize) -> usize

@@ -1,15 +1,15 @@
 //! The index of objects by their identifiers, which agree in their lowest bits, and its builder for objects that are
-//! mostly in order. Runs and pairs are made of the bits above those, so that the pages of objects at multiples of eight
-//! are dense.
+//! mostly in order. Extents and narrow entries are made of the bits above those, so that the pages of objects at
+//! multiples of eight are dense.
 
 ghost use Rattle.std.specs.Prelude.{Contains, IfOk, IsTrue, [], length, position, take};
 ghost use Rattle.std.specs.Prelude.{◌==◌, ◌≡◌, ◌↔◌, ◌%◌, ◌+◌, ◌++◌, ◌∷◌, ◌<◌, ◌^◌};
 ghost use Rattle.id_index.specs.Aligned.{whole_ids};
 ghost use Rattle.id_index.specs.Repeats.{IsFirstRepeat};
 
-use crate::builder::RunIndexBuilder;
-use crate::pairs::PairIndex;
-use crate::run_index::RunIndex;
+use crate::builder::ExtentIndexBuilder;
+use crate::extent_index::ExtentIndex;
+use crate::narrow_entries::NarrowIndex;
 use crate::wide_entries::WideIndex;
 use std::alloc::{AllocError, Allocator};
 use std::marker::Model;
@@ -26,10 +26,10 @@ pub struct LowBits {
 /// What an index searches.
 #[derive(Drop)]
 pub(crate) enum Form<A: Allocator> {
-    /// Runs of neighbours.
-    Runs(RunIndex<A>),
-    /// Pairs of identifier and number.
-    Pairs(PairIndex<A>),
+    /// Extents of neighbours.
+    Extents(ExtentIndex<A>),
+    /// Entries of numbers and of identifiers as distances from the least one.
+    Narrow(NarrowIndex<A>),
     /// Entries of whole identifiers and numbers.
     Wide(WideIndex<A>),
 }
@@ -87,8 +87,8 @@ impl<A: Allocator> IdIndex<A> {
             return None;
         }
         match &self.form {
-            Form::Runs(runs) => return runs.find(id >> self.bits.shift),
-            Form::Pairs(pairs) => return pairs.find(id >> self.bits.shift),
+            Form::Extents(extents) => return extents.find(id >> self.bits.shift),
+            Form::Narrow(entries) => return entries.find(id >> self.bits.shift),
             Form::Wide(entries) => return entries.find(id >> self.bits.shift),
         }
     }
@@ -99,8 +99,8 @@ impl<A: Allocator> IdIndex<A> {
         ensures { IsTrue result → Contains self.now id }
     {
         let guessed = match &self.form {
-            Form::Runs(runs) => runs.is_guessed(id >> self.bits.shift),
-            Form::Pairs(pairs) => pairs.is_guessed(id >> self.bits.shift),
+            Form::Extents(extents) => extents.is_guessed(id >> self.bits.shift),
+            Form::Narrow(entries) => entries.is_guessed(id >> self.bits.shift),
             Form::Wide(entries) => entries.is_guessed(id >> self.bits.shift),
         };
         match self.find(id) {
@@ -125,8 +125,8 @@ impl<A: Allocator> IdIndex<A> {
         ensures { IsFirstRepeat self.now result }
     {
         match &self.form {
-            Form::Runs(runs) => return runs.first_repeat(),
-            Form::Pairs(pairs) => return pairs.first_repeat(),
+            Form::Extents(extents) => return extents.first_repeat(),
+            Form::Narrow(entries) => return entries.first_repeat(),
             Form::Wide(entries) => return entries.first_repeat(),
         }
     }
@@ -136,7 +136,7 @@ impl<A: Allocator> IdIndex<A> {
 /// There are at most 2^32 - 1 objects.
 #[derive(Drop)]
 pub struct IdIndexBuilder<A: Allocator> {
-    runs: RunIndexBuilder<A>,
+    extents: ExtentIndexBuilder<A>,
     bits: LowBits,
 }
 
@@ -147,7 +147,7 @@ impl<A: Allocator> Model for IdIndexBuilder<A> {
     ghost Value = { AlignedIds };
 
     ghost view = { λ b. record {
-      ids = whole_ids b.bits.shift b.bits.low b.runs;
+      ids = whole_ids b.bits.shift b.bits.low b.extents;
       shift = b.bits.shift;
       low = b.bits.low;
     } };
@@ -168,7 +168,7 @@ impl<A: Allocator> IdIndexBuilder<A> {
         ensures low { result.low ≡ bits.low }
     {
         IdIndexBuilder {
-            runs: RunIndexBuilder::new(alloc),
+            extents: ExtentIndexBuilder::new(alloc),
             bits,
         }
     }
@@ -180,8 +180,8 @@ impl<A: Allocator> IdIndexBuilder<A> {
         id % (1 << self.bits.shift) == self.bits.low
     }
 
-    /// Adds the next object, which has the identifier `id`. Allocates only if the object begins a run. `AllocError` if
-    /// an allocation fails; no clause says what the builder has then.
+    /// Adds the next object, which has the identifier `id`. Allocates only if the object begins an extent. `AllocError`
+    /// if an allocation fails; no clause says what the builder has then.
     pub fn push(&mut self, id: u64) -> Result<(), AllocError>
         requires fits { id % 2 ^ self.old.shift ≡ self.old.low }
         requires few { length self.old.ids + 1 < 2 ^ 32 }
@@ -189,7 +189,7 @@ impl<A: Allocator> IdIndexBuilder<A> {
         ensures shift { self.new.shift ≡ self.old.shift }
         ensures low { self.new.low ≡ self.old.low }
     {
-        self.runs.push(id >> self.bits.shift)
+        self.extents.push(id >> self.bits.shift)
     }
 
     /// Adds the objects of `other`, which has the same lowest bits, after those of `self`. `AllocError` if an
@@ -202,16 +202,16 @@ impl<A: Allocator> IdIndexBuilder<A> {
         ensures shift { self.new.shift ≡ self.old.shift }
         ensures low { self.new.low ≡ self.old.low }
     {
-        self.runs.append(other.runs)
+        self.extents.append(other.extents)
     }
 
-    /// Returns the index of the added objects. `AllocError` if an allocation fails: for the last run, for sorting the
-    /// runs, or for the table of where pages begin, which is taken from `alloc`.
+    /// Returns the index of the added objects. `AllocError` if an allocation fails: for the last extent, for sorting
+    /// the extents, or for the table of where pages begin, which is taken from `alloc`.
     pub fn finish(self, alloc: A) -> Result<IdIndex<A>, AllocError>
         ensures { IfOk result (λ index. index ≡ self.ids) }
     {
         let bits = self.bits;
-        let runs = self.runs.finish(alloc)?;
-        Ok(IdIndex::of(Form::Runs(runs), bits))
+        let extents = self.extents.finish(alloc)?;
+        Ok(IdIndex::of(Form::Extents(extents), bits))
     }
 }

@@ -1,10 +1,11 @@
-//! Probes: a search reads a run, and counts that. A search begins with a number of probes, and its proof fails if the search
-//! could take more. No contract has this number, so no clause refuses a search that reads runs without a probe.
+//! Probes: a search reads an extent, and counts that. A search begins with a number of probes, and its proof fails if
+//! the search could take more. No contract has this number, so no clause refuses a search that reads extents without a
+//! probe.
 
 ghost use Rattle.std.specs.Prelude.{length, ◌+◌, ◌<◌, ◌≡◌};
-ghost use Rattle.id_index.specs.working.Runs.{page_in};
+ghost use Rattle.id_index.specs.working.Extents.{page_in};
 
-use crate::runs::Run;
+use crate::extents::Extent;
 
 /// The remaining probes. Their number is for clauses: no code reads it, so a build omits it.
 #[derive(Drop)]
@@ -22,15 +23,15 @@ impl Probes {
         Probes { left }
     }
 
-    /// Takes a probe: returns the page of the run at index `at`.
+    /// Takes a probe: returns the page of the extent at index `at`.
     #[inline(always)]
-    pub(crate) fn page(&mut self, runs: &[Run], at: usize) -> u64
+    pub(crate) fn page(&mut self, extents: &[Extent], at: usize) -> u64
         requires left { 0 < self.old.left }
-        requires within { at < length runs.now }
+        requires within { at < length extents.now }
         ensures left { self.new.left + 1 ≡ self.old.left }
-        ensures page { result ≡ page_in runs.now at }
+        ensures page { result ≡ page_in extents.now at }
     {
         self.left -= 1;
-        runs[at].page
+        extents[at].page
     }
 }

@@ -55,8 +55,8 @@ impl<A: Allocator> WideEntriesBuilder<A> {
         Ok(())
     }
 
-    /// Returns the index of the added objects. `AllocError` if the allocation from `alloc` fails: for the table of where
-    /// entries begin.
+    /// Returns the index of the added objects. `AllocError` if the allocation from `alloc` fails: for the table of
+    /// where entries begin.
     pub fn finish(self, alloc: A) -> Result<IdIndex<A>, AllocError>
         ensures { IfOk result (λ index. index ≡ self) }
     {

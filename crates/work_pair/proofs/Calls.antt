@@ -1,4 +1,4 @@
--- The effect of the calls of a pair follows from the effects on its places.
+-- The effect of the calls of a pair follows from the effects on its positions.
 use Rattle.std.proofs.Common.{◌≡◌, ◌≢◌, ◌⊎◌, ℕ, ◌<◌, ◌≤◌, Bool, true, false, List, [], ◌∷◌, ◌++◌, length, Option, Some}
 use Rattle.std.proofs.Common.{None, Result, Ok, Err, refl, sym, ap, subst, ◌∙◌, inl, inr, ⊎_elim, arith}
 use Rattle.mark_core.specs.declared.which.Which.{Which}
@@ -15,7 +15,7 @@ use Rattle.work_pair.specs.declared.stop.Stop.{Stop}
 use Rattle.work_pair.specs.declared.stop.Stop.TheVariants.{TagSpent, OutOfMemory}
 use Rattle.work_pair.specs.working.Asks.{IsBackedAt, MayRenew, MayTrade}
 use Rattle.work_pair.specs.working.Steps.{BalanceAnswers, EndsOut, FindsNone, IsLocal, PublishAnswers, PublishesAt}
-use Rattle.work_pair.specs.working.Steps.{PutAnswers, RenewAnswers, Renews, Trades, next_of, places, pushed_part}
+use Rattle.work_pair.specs.working.Steps.{PutAnswers, RenewAnswers, Renews, Trades, next_of, positions, pushed_part}
 use Rattle.work_pair.proofs.Effects.{moves_effect}
 use Rattle.work_pair.proofs.Locals.{put_first, swapped}
 use Rattle.work_pair.proofs.Renewing.{out_alone}
@@ -47,7 +47,7 @@ pushes_told (Some k) h ms is push full =
     is ∙ ap (λ (q : Which). Took Empty h ∷ Gave q k ∷ [])
     (pushed_full (shelf_of k.items) h k (subst HasPushOnFull is (push (full k refl))))
 
--- a place with items that was renewed was published
+-- a position with items that was renewed was published
 pub publish_renewed : (old : Option HeldBuffer) (b : Book) (new third : Option HeldBuffer) (c : Book) (done : Bool)
     → items_at old ≢ [] → RenewAnswers false Empty old b new third c (Ok done)
     → PublishesAt old b new third c (Ok tt)
@@ -80,8 +80,8 @@ pub none_last : (xs ys : List ℕ) → xs ++ ys ≡ [] → ys ≡ []
 none_last [] ys none = none
 none_last (x ∷ xs) ys none = absurd (omega (arith, ap length none))
 
--- if a pair has no items, none of its places has
-pub none_at : (f s t : Option HeldBuffer) → pair_items (places f s t) ≡ []
+-- if a pair has no items, none of its positions has
+pub none_at : (f s t : Option HeldBuffer) → pair_items (positions f s t) ≡ []
     → (items_at f ≡ []) × (items_at s ≡ []) × (items_at t ≡ [])
 none_at f s t none =
     let both = none_first (items_at f ++ items_at s) (items_at t) none in (
@@ -98,7 +98,7 @@ gives_lower : (f s t n third : Option HeldBuffer) (h : HeldBuffer) (ms : List Mo
     → items_at s ≡ []
     → ms ≡ Took Empty h ∷ shelving_of (pushed_part true f) → n ≡ Some (next_of true f h)
     → (items_at f ≢ [] → HasPushOnFull ms)
-    → GivesLowerPart (places f s t) ms (places n s third)
+    → GivesLowerPart (positions f s t) ms (positions n s third)
 gives_lower None s t n third h ms many none is n_is push = absurd (omega (arith, many))
 gives_lower (Some k) s t n third h ms many none is n_is push =
     let low : HeldBuffer = record k { items = lower_part k.items } in
@@ -116,10 +116,10 @@ gives_lower (Some k) s t n third h ms many none is n_is push =
 pub some_items : (xs : List ℕ) → 0 < length xs → xs ≢ []
 some_items xs some none = omega (arith, some, ap length none)
 
--- the places of a pair that may be traded may be renewed
+-- the positions of a pair that may be traded may be renewed
 module _ {p : PairState} {w : Owner} {pool : TableId} {besides : List ℕ} (may : MayTrade w pool p besides) where
-  may_renew : (place : Option HeldBuffer) → IsBackedAt place w.book → MayRenew w pool place p.third
-  may_renew place backed = record { same = may.same; vacant = may.third; backed = backed; busy = may.busy }
+  may_renew : (position : Option HeldBuffer) → IsBackedAt position w.book → MayRenew w pool position p.third
+  may_renew position backed = record { same = may.same; vacant = may.third; backed = backed; busy = may.busy }
 
   pub may_renew_first : MayRenew w pool p.first p.third
   may_renew_first = may_renew p.first (first_backed may.backed)
@@ -128,12 +128,12 @@ module _ {p : PairState} {w : Owner} {pool : TableId} {besides : List ℕ} (may 
   may_renew_second = may_renew p.second (second_backed may.backed)
 
 module _ {f s t : Option HeldBuffer} {w : Owner} {pool : TableId} {besides : List ℕ}
-    (may : MayTrade w pool (places f s t) besides) where
-  -- both buffers were full and exchanged places, and then the first place was renewed
+    (may : MayTrade w pool (positions f s t) besides) where
+  -- both buffers were full and exchanged positions, and then the first position was renewed
   module _ {p y : Option HeldBuffer} (p_is : p ≡ s) (y_is : y ≡ f) (n third : Option HeldBuffer) (c : Book) where
-    abbrev renewed_then : Renews p w.book n third c → Trades (places f s t) w.book [] [] (places n y third) c
+    abbrev renewed_then : Renews p w.book n third c → Trades (positions f s t) w.book [] [] (positions n y third) c
     renewed_then r =
-        let turned : Trades (places f s t) w.book [] [] (places p y t) w.book =
+        let turned : Trades (positions f s t) w.book [] [] (positions p y t) w.book =
         still (swapped p_is y_is) may.backed.sized in
         on_and_on turned (first_renewed may.third r (rw y_is may.backed.sized.first))
 
@@ -142,11 +142,11 @@ module _ {f s t : Option HeldBuffer} {w : Owner} {pool : TableId} {besides : Lis
         → RenewAnswers false Empty p w.book n third c (Ok true) → n ≡ Some h
         → g ≡ Some (record h { items = h.items ++ o ∷ [] })
         → ((k : HeldBuffer) → p ≡ Some k → k.items ≡ [] → ⊥)
-        → PutAnswers o (places f s t) w.book (places g y third) c (Ok true)
+        → PutAnswers o (positions f s t) w.book (positions g y third) c (Ok true)
     put_told h o g told n_is g_is full =
         let k = told.4.0 in
         let so_far = renewed_then told.0 in
-        let last : Trades (places n y third) c (o ∷ []) [] (places g y third) c =
+        let last : Trades (positions n y third) c (o ∷ []) [] (positions g y third) c =
         still (put_first n_is g_is) (sized_after so_far) in
         let moves = append-nil told.0.moves ∙ pushes_told p k told.0.moves told.4.1 told.2 full
         ∙ ap (λ (q : Option HeldBuffer). Took Empty k ∷ push_of q) p_is in
@@ -156,41 +156,42 @@ module _ {f s t : Option HeldBuffer} {w : Owner} {pool : TableId} {besides : Lis
         (on_and_on so_far last, told.1, out_on told.0.moves [] told.3 (λ x. x), inr (k, moves, alone, y_is))
 
     pub put_refused : RenewAnswers false Empty p w.book n third c (Ok false)
-        → FindsNone (places f s t) w.book (places n y third) c
+        → FindsNone (positions f s t) w.book (positions n y third) c
     put_refused told =
-        let change : IsLocal (places f s t) (places n y t) [] [] = swapped (told.2 ∙ p_is) y_is in
-        let alike : AreAlike (places f s t) (places n y t) =
+        let change : IsLocal (positions f s t) (positions n y t) [] [] = swapped (told.2 ∙ p_is) y_is in
+        let alike : AreAlike (positions f s t) (positions n y t) =
         record { items = λ o. omega (arith, change.items o); buffers = λ i. omega (arith, change.buffers i) } in (
           renewed_then told.0,
           told.1,
           told.4,
-          subst (λ (x : Option HeldBuffer). AreAlike (places f s t) (places n y x)) (may.third ∙ sym told.1) alike,
+          subst (λ (x : Option HeldBuffer). AreAlike (positions f s t) (positions n y x))
+              (may.third ∙ sym told.1) alike,
         )
 
     pub put_stopped : (stop : Stop) → RenewAnswers false Empty p w.book n third c (Err stop)
-        → EndsOut (places f s t) w.book (places n y third) c stop
+        → EndsOut (positions f s t) w.book (positions n y third) c stop
     put_stopped (TagSpent token) told = (renewed_then told.0, told.1, told.2)
     put_stopped OutOfMemory none = absurd none
 
   module _ (n third : Option HeldBuffer) (c : Book) where
-    abbrev gave_second : Renews s w.book n third c → Trades (places f s t) w.book [] [] (places f n third) c
+    abbrev gave_second : Renews s w.book n third c → Trades (positions f s t) w.book [] [] (positions f n third) c
     gave_second r = second_renewed may.third r may.backed.sized.first
 
-    abbrev gave_first : Renews f w.book n third c → Trades (places f s t) w.book [] [] (places n s third) c
+    abbrev gave_first : Renews f w.book n third c → Trades (positions f s t) w.book [] [] (positions n s third) c
     gave_first r = first_renewed may.third r may.backed.sized.second
 
     pub second_stopped : (stop : Stop) → RenewAnswers false Empty s w.book n third c (Err stop)
-        → EndsOut (places f s t) w.book (places f n third) c stop
+        → EndsOut (positions f s t) w.book (positions f n third) c stop
     second_stopped (TagSpent token) told = (gave_second told.0, told.1, told.2)
     second_stopped OutOfMemory none = absurd none
 
     pub first_stopped : (stop : Stop) → RenewAnswers true Empty f w.book n third c (Err stop)
-        → EndsOut (places f s t) w.book (places n s third) c stop
+        → EndsOut (positions f s t) w.book (positions n s third) c stop
     first_stopped (TagSpent token) told = (gave_first told.0, told.1, told.2)
     first_stopped OutOfMemory none = absurd none
 
     pub second_balanced : (done : Bool) → RenewAnswers false Empty s w.book n third c (Ok done) → items_at s ≢ []
-        → BalanceAnswers (places f s t) w.book (places f n third) c (Ok tt)
+        → BalanceAnswers (positions f s t) w.book (positions f n third) c (Ok tt)
     second_balanced true told some = (
       gave_second told.0,
       told.1,
@@ -215,7 +216,7 @@ module _ {f s t : Option HeldBuffer} {w : Owner} {pool : TableId} {besides : Lis
 
     pub first_balanced : (done : Bool) → RenewAnswers true Empty f w.book n third c (Ok done)
         → 4 < length (items_at f) → items_at s ≡ []
-        → BalanceAnswers (places f s t) w.book (places n s third) c (Ok tt)
+        → BalanceAnswers (positions f s t) w.book (positions n s third) c (Ok tt)
     first_balanced true told some none = (
       gave_first told.0,
       told.1,
@@ -233,34 +234,34 @@ module _ {f s t : Option HeldBuffer} {w : Owner} {pool : TableId} {besides : Lis
 
     -- the first buffer was published, and then the second
     pub publish_stopped : (stop : Stop) → PublishesAt f w.book n third c (Err stop)
-        → EndsOut (places f s t) w.book (places n s third) c stop
+        → EndsOut (positions f s t) w.book (positions n s third) c stop
     publish_stopped (TagSpent token) told = (gave_first told.0, told.1, told.2)
     publish_stopped OutOfMemory none = absurd none
 
     module _ (done : Unit) (first : PublishesAt f w.book n third c (Ok done)) where
-      -- after that the second place may be renewed
+      -- after that the second position may be renewed
       pub may_publish_second : (v : Owner) → v.pool ≡ w.pool → v.book ≡ c → MayRenew v pool s third
       may_publish_second v same book =
           record {
             same = same ∙ may.same;
             vacant = first.1;
-            backed = rw book (second_backed (backed_after (backed_less (places f s t) besides w.book may.backed)
+            backed = rw book (second_backed (backed_after (backed_less (positions f s t) besides w.book may.backed)
                 (gave_first first.0)));
             busy = rw book (busy_then (gave_first first.0) may.busy);
           }
 
       module _ (m last : Option HeldBuffer) (d : Book) where
-        abbrev both : Renews s c m last d → Trades (places f s t) w.book [] [] (places n m last) d
+        abbrev both : Renews s c m last d → Trades (positions f s t) w.book [] [] (positions n m last) d
         both second =
             let so_far = gave_first first.0 in
             on_and_on so_far (second_renewed first.1 second (sized_after so_far).first)
 
         pub both_published : (r : Result Unit Stop) → PublishesAt s c m last d r
-            → PublishAnswers (places f s t) w.book (places n m last) d r
+            → PublishAnswers (positions f s t) w.book (positions n m last) d r
         both_published (Ok again) second =
             let e₁ = moves_effect first.0.moves w.book c first.0.books in
             let e₂ = moves_effect second.0.moves c d second.0.books in
-            let seen : WasSeenEmpty Empty w.book d ⊎ (pair_items (places n m last) ≡ []) =
+            let seen : WasSeenEmpty Empty w.book d ⊎ (pair_items (positions n m last) ≡ []) =
             ⊎_elim (λ saw. inl (omega (arith, saw, e₂.empties)))
             (λ none. ⊎_elim (λ saw. inl (omega (arith, saw, e₁.empties)))
             (λ none₂. inr (none_of (items_at n) (items_at m) (items_at last) none none₂ (ap items_at second.1)))
@@ -280,7 +281,7 @@ module _ {f s t : Option HeldBuffer} {w : Owner} {pool : TableId} {besides : Lis
 
   -- the second buffer has no items and the first at most four: there is nothing to give
   pub few_left : length (items_at s) ≤ 0 → length (items_at f) ≤ 4
-      → BalanceAnswers (places f s t) w.book (places f s t) w.book (Ok tt)
+      → BalanceAnswers (positions f s t) w.book (positions f s t) w.book (Ok tt)
   few_left none few = (
     untouched may.backed.sized,
     may.third,

@@ -9,7 +9,7 @@ use Rattle.work_pair.specs.Moves.{Move, Spent, Moved, HasPushOnFull, HasPopFromF
 use Rattle.work_pair.specs.PairState.{PairState, items_at, pair_items, IsBacked}
 use Rattle.work_pair.specs.declared.stop.Stop.{Stop}
 use Rattle.work_pair.specs.declared.stop.Stop.TheVariants.{TagSpent, OutOfMemory}
-use Rattle.work_pair.specs.working.Steps.{Clears, ClearsAt, ClearAnswers, Trades, places}
+use Rattle.work_pair.specs.working.Steps.{Clears, ClearsAt, ClearAnswers, Trades, positions}
 use Rattle.work_pair.proofs.Calls.{none_at}
 use Rattle.work_pair.proofs.Renewing.{cleared}
 use Rattle.work_pair.proofs.Trading.{at_first, at_second, at_third, backed_after, busy_then, end_on, on_and_on}
@@ -35,13 +35,13 @@ module _ {p q : PairState} {b c : Book} (so_far : Clears p b q c) where
       )
 
 -- the worker backs the buffers, and is not idle if they have items
-module _ {f s t : Option HeldBuffer} {b : Book} (backed : IsBacked (places f s t) [] b)
-    (busy : pair_items (places f s t) ≢ [] → IsBusy b.account) where
+module _ {f s t : Option HeldBuffer} {b : Book} (backed : IsBacked (positions f s t) [] b)
+    (busy : pair_items (positions f s t) ≢ [] → IsBusy b.account) where
   pub first_busy : items_at f ≢ [] → IsBusy b.account
   first_busy some = busy (λ none. some (none_at f s t none).0)
 
   -- both still hold during a clearing
-  module _ {q : PairState} {c : Book} (so_far : Clears (places f s t) b q c) where
+  module _ {q : PairState} {c : Book} (so_far : Clears (positions f s t) b q c) where
     pub backed_then : IsBacked q [] c
     backed_then = backed_after backed so_far.trades
 
@@ -51,29 +51,29 @@ module _ {f s t : Option HeldBuffer} {b : Book} (backed : IsBacked (places f s t
     pub third_busy : items_at t ≢ [] → IsBusy c.account
     third_busy some = busy_then so_far.trades (busy (λ none. some (none_at f s t none).2))
 
-  abbrev begun : Clears (places f s t) b (places f s t) b
+  abbrev begun : Clears (positions f s t) b (positions f s t) b
   begun = record { trades = untouched backed.sized; quiet = λ none push. push; out = λ pop. pop }
 
   -- a clearing by the moves `moves`
   abbrev ClearsBy : List Move → PairState → Book → Type 0
-  ClearsBy moves q c = (all : Clears (places f s t) b q c) × (all.trades.moves ≡ moves)
+  ClearsBy moves q c = (all : Clears (positions f s t) b q c) × (all.trades.moves ≡ moves)
 
   module _ (n : Option HeldBuffer) (c : Book) where
-    -- after the first place
-    pub first_cleared : (done : Unit) → ClearsAt f b n c (Ok done) → ClearsBy (shelving_of f) (places n s t) c
+    -- after the first position
+    pub first_cleared : (done : Unit) → ClearsAt f b n c (Ok done) → ClearsBy (shelving_of f) (positions n s t) c
     first_cleared done told =
         let r = cleared f b c told.1 in
         rw told.0 (clears_on begun (at_first r.0 backed.sized) (λ none. r.1 (none_at f s t none).0) r.2, r.3)
 
     pub first_stuck : (stop : Stop) → ClearsAt f b n c (Err stop)
-        → ClearAnswers (places f s t) b (places n s t) c (Err stop)
+        → ClearAnswers (positions f s t) b (positions n s t) c (Err stop)
     first_stuck OutOfMemory none = absurd none
     first_stuck (TagSpent token) told = rw told.0 (stuck begun c told.1.0 told.1.1)
 
-    -- after the second place
+    -- after the second position
     module _ (m : Option HeldBuffer) (d : Book) where
-      pub second_cleared : ClearsBy (shelving_of f) (places n s t) c → (done : Unit) → ClearsAt s c m d (Ok done)
-          → ClearsBy (shelving_of f ++ shelving_of s) (places n m t) d
+      pub second_cleared : ClearsBy (shelving_of f) (positions n s t) c → (done : Unit) → ClearsAt s c m d (Ok done)
+          → ClearsBy (shelving_of f ++ shelving_of s) (positions n m t) d
       second_cleared first done told =
           let r = cleared s c d told.1 in
           rw told.0 (
@@ -81,21 +81,21 @@ module _ {f s t : Option HeldBuffer} {b : Book} (backed : IsBacked (places f s t
             λ k. first.1 k ++ r.3 k,
           )
 
-      pub second_stuck : ClearsBy (shelving_of f) (places n s t) c → (stop : Stop) → ClearsAt s c m d (Err stop)
-          → ClearAnswers (places f s t) b (places n m t) d (Err stop)
+      pub second_stuck : ClearsBy (shelving_of f) (positions n s t) c → (stop : Stop) → ClearsAt s c m d (Err stop)
+          → ClearAnswers (positions f s t) b (positions n m t) d (Err stop)
       second_stuck first OutOfMemory none = absurd none
       second_stuck first (TagSpent token) told = rw told.0 (stuck first.0 d told.1.0 told.1.1)
 
-      -- after the third place
-      module _ (second : ClearsBy (shelving_of f ++ shelving_of s) (places n m t) d) (k : Option HeldBuffer)
+      -- after the third position
+      module _ (second : ClearsBy (shelving_of f ++ shelving_of s) (positions n m t) d) (k : Option HeldBuffer)
           (e : Book) where
         pub third_told : (r : Result Unit Stop) → n ≡ None → m ≡ None → ClearsAt t d k e r
-            → ClearAnswers (places f s t) b (places n m k) e r
+            → ClearAnswers (positions f s t) b (positions n m k) e r
         third_told (Ok done) none₁ none₂ told =
             let r = cleared t d e told.1 in
             let moves = shelving_of f ++ shelving_of s ++ shelving_of t in
-            subst (λ (x : Option HeldBuffer). ClearsBy moves (places x None None) e) none₁
-            (subst (λ (y : Option HeldBuffer). ClearsBy moves (places n y None) e) none₂ (
+            subst (λ (x : Option HeldBuffer). ClearsBy moves (positions x None None) e) none₁
+            (subst (λ (y : Option HeldBuffer). ClearsBy moves (positions n y None) e) none₂ (
               clears_on second.0 (at_third r.0 (sized_after second.0.trades)) (λ none. r.1 (none_at f s t none).2) r.2,
               λ k. second.1 k ++ r.3 k,
             ))

@@ -15,7 +15,7 @@ use Rattle.work_pair.specs.declared.stop.Stop.TheVariants.{TagSpent, OutOfMemory
 use Rattle.work_pair.specs.declared.buffers.Buffers.{Buffers}
 use Rattle.work_pair.specs.working.Asks.{IsBackedAt, MayRenew}
 use Rattle.work_pair.specs.working.Buffers.{as_pair}
-use Rattle.work_pair.specs.working.Steps.{Ends, GetAnswers, PopsOne, PutsOut, Renews, Takes, Trades, places}
+use Rattle.work_pair.specs.working.Steps.{Ends, GetAnswers, PopsOne, PutsOut, Renews, Takes, Trades, positions}
 use Rattle.work_pair.proofs.Effects.{found_none, found_none_closes, found_none_tells, moves_effect}
 use Rattle.work_pair.proofs.Renewing.{put_out_done, put_out_stopped, still_backed, still_busy}
 use Rattle.work_pair.proofs.Trading.{backed_after, busy_then, end_on, first_backed, first_renewed, found_none_at}
@@ -98,12 +98,12 @@ module _ {A : Type 0} {old : PairState} {b₀ : Book} (backed : IsBacked old [] 
           }
 
       module _ (n third : Option HeldBuffer) (c : Book) where
-        abbrev put_back : Renews q.first b n third c → Trades old b₀ [] [] (places n q.second third) c
+        abbrev put_back : Renews q.first b n third c → Trades old b₀ [] [] (positions n q.second third) c
         put_back r = on_and_on looked (first_renewed still_vacant r (sized_after looked).second)
 
         pub turned : (popped : List HeldBuffer) → Refills popped old so_far.moves (as_pair p) → (done : Unit)
             → PutsOut q.first h mid n third c (Ok done)
-            → RefillsBy old b₀ (places n q.second third) c × (third ≡ None)
+            → RefillsBy old b₀ (positions n q.second third) c × (third ≡ None)
         turned popped refills done out =
             let told = put_out_done false Full h mid backed_here took_next (λ half. absurd (false≢true half)) n third c
             done out in
@@ -121,7 +121,7 @@ module _ {A : Type 0} {old : PairState} {b₀ : Book} (backed : IsBacked old [] 
             )
 
         pub put_stopped : (stop : Stop) → PutsOut q.first h mid n third c (Err stop)
-            → Ends old b₀ (places n q.second third) c stop
+            → Ends old b₀ (positions n q.second third) c stop
         put_stopped OutOfMemory none = absurd none
         put_stopped (TagSpent token) out =
             let told = put_out_stopped false Full h mid backed_here took_next (λ half. absurd (false≢true half)) n third

@@ -15,7 +15,7 @@ use Rattle.work_pair.specs.PairState.{PairState, empty_pair, IsBacked, IsNew}
 use Rattle.work_pair.specs.declared.stop.Stop.{Stop}
 use Rattle.work_pair.specs.declared.stop.Stop.TheVariants.{TagSpent, OutOfMemory}
 use Rattle.work_pair.specs.working.Asks.{IsBackedAt}
-use Rattle.work_pair.specs.working.Steps.{ClearsAt, PopsOne, Renews, Trades, places}
+use Rattle.work_pair.specs.working.Steps.{ClearsAt, PopsOne, Renews, Trades, positions}
 use Rattle.work_pair.proofs.Effects.{found_none, move_effect}
 use Rattle.work_pair.proofs.Renewing.{cleared, took_size}
 use Rattle.work_pair.proofs.Spilling.{listed, listed_effect}
@@ -47,20 +47,20 @@ StopsWith b c stop = IsTagSpent stop × ((left : PairState) × (left.stopped ≡
     × TouchesNoFull empty_pair b left c)
 
 -- the trades since the start, from an empty pair
-module _ {b c : Book} {x y z : Option HeldBuffer} (u : Trades empty_pair b [] [] (places x y z) c) where
+module _ {b c : Book} {x y z : Option HeldBuffer} (u : Trades empty_pair b [] [] (positions x y z) c) where
   abbrev from_nothing : (now : Bool) → (now ≡ true → EndAtLastTag u.moves)
-      → CallEffect empty_pair b [] [] (listed (places x y z) [] now false) c
+      → CallEffect empty_pair b [] [] (listed (positions x y z) [] now false) c
   from_nothing now ends = listed_effect refl refl (λ o. refl) (nothing_backed b) u ends
 
   abbrev quietly : (now : Bool) → (now ≡ true → EndAtLastTag u.moves) → AreQuiet u.moves
-      → TouchesNoFull empty_pair b (listed (places x y z) [] now false) c
+      → TouchesNoFull empty_pair b (listed (positions x y z) [] now false) c
   quietly now ends quiet = (from_nothing now ends, quiet.0, quiet.1)
 
   stops_with : (stop : Stop) → IsTagSpent stop → AreQuiet u.moves → EndAtLastTag u.moves → StopsWith b c stop
   stops_with stop at_tag quiet ends =
-      (at_tag, (listed (places x y z) [] true false, refl, quietly true (λ stopped. ends) quiet))
+      (at_tag, (listed (positions x y z) [] true false, refl, quietly true (λ stopped. ends) quiet))
 
--- a buffer was popped into a vacant place
+-- a buffer was popped into a vacant position
 module _ (h : HeldBuffer) (b c : Book) (took : PopsOne Empty b c (Ok (Some h))) where
   abbrev taken : Renews None b (Some h) None c
   taken =
@@ -103,7 +103,7 @@ module _ (b : Book) where
 
   module _ (h : HeldBuffer) (mid : Book) (took : PopsOne Empty b mid (Ok (Some h))) where
     abbrev just : PairState
-    just = places (Some h) None None
+    just = positions (Some h) None None
 
     abbrev one : Trades empty_pair b [] [] just mid
     one = at_first (taken h b mid took) (nothing_backed b).sized
@@ -121,11 +121,11 @@ module _ (b : Book) where
 
     -- a second buffer was found
     module _ (k : HeldBuffer) (c : Book) (more : PopsOne Empty mid c (Ok (Some k))) where
-      abbrev pair : Trades empty_pair b [] [] (places (Some h) (Some k) None) c
+      abbrev pair : Trades empty_pair b [] [] (positions (Some h) (Some k) None) c
       pair = on_and_on one (at_second (taken k mid c more) (sized_after one))
 
-      pub both_taken : IsNew (places (Some h) (Some k) None)
-          × TouchesNoFull empty_pair b (places (Some h) (Some k) None) c
+      pub both_taken : IsNew (positions (Some h) (Some k) None)
+          × TouchesNoFull empty_pair b (positions (Some h) (Some k) None) c
       both_taken = (
         record {
           going = record { going = refl; third = refl };
@@ -137,7 +137,7 @@ module _ (b : Book) where
         quietly pair false (λ x. cc) (quiet_on (Took Empty h ∷ []) (Took Empty k ∷ []) (took_quiet h) (took_quiet k)),
       )
 
-      pub opens_two : OpensTwo b (places (Some h) (Some k) None) c
+      pub opens_two : OpensTwo b (positions (Some h) (Some k) None) c
       opens_two =
           (from_nothing pair false (λ x. cc), h, k, refl {a = Took Empty h ∷ Took Empty k ∷ []}, refl, refl)
 

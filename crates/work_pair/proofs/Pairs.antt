@@ -1,4 +1,4 @@
--- The effect of a call on a pair follows from its effect on the three places.
+-- The effect of a call on a pair follows from its effect on the three positions.
 use Rattle.std.proofs.Common.{◌≡◌, ℕ, Bool, true, false, List, [], ◌∷◌, ◌++◌, Option, Some, None, IfSome, IfNone}
 use Rattle.std.proofs.Common.{IfErr, IfOk, OnOk, is_err, Result, Ok, Err, refl, sym, ap, subst, ◌∙◌, inl, inr, ⊎_elim}
 use Rattle.std.proofs.Common.{arith}
@@ -20,7 +20,7 @@ use Rattle.work_pair.specs.declared.stop.Stop.TheVariants.{TagSpent, OutOfMemory
 use Rattle.work_pair.specs.working.Asks.{MayTrade}
 use Rattle.work_pair.specs.working.Buffers.{as_pair}
 use Rattle.work_pair.specs.working.Steps.{BalanceAnswers, Clears, ClearAnswers, EndsOut, FindsNone, GetAnswers}
-use Rattle.work_pair.specs.working.Steps.{PublishAnswers, PutAnswers, Trades, places}
+use Rattle.work_pair.specs.working.Steps.{PublishAnswers, PutAnswers, Trades, positions}
 use Rattle.work_pair.proofs.Renewing.{out_alone}
 use Rattle.work_pair.proofs.Spilling.{beside, listed, listed_effect, listed_sum, spilled, unspilled}
 use Rattle.work_pair.proofs.Trading.{backed_less, untouched}
@@ -48,12 +48,12 @@ by_rule i q moves r told = (
   told.6,
 )
 
--- the first place is as it was, so a call that began with it began with the pair
+-- the first position is as it was, so a call that began with it began with the pair
 pub put_from : {A : Type 0} (m : Buffers A) {first : Option HeldBuffer} → first ≡ m.first → (object : ℕ) (b : Book)
-    (q : PairState) (c : Book) (r : Result Bool Stop) → PutAnswers object (places first m.second m.third) b q c r
+    (q : PairState) (c : Book) (r : Result Bool Stop) → PutAnswers object (positions first m.second m.third) b q c r
     → PutAnswers object (as_pair m) b q c r
 put_from m same object b q c r told =
-    subst (λ (f : Option HeldBuffer). PutAnswers object (places f m.second m.third) b q c r) same told
+    subst (λ (f : Option HeldBuffer). PutAnswers object (positions f m.second m.third) b q c r) same told
 
 -- a pair that is not stopped owes no last tag
 not_ended : {now : Bool} → now ≡ false → (ms : List Move) → now ≡ true → EndAtLastTag ms

@@ -1,4 +1,4 @@
--- The effect of calls on one place.
+-- The effect of calls on one position.
 use Rattle.std.proofs.Common.{◌≡◌, ◌≢◌, ℕ, ◌+◌, Bool, true, false, Contains, List, [], ◌∷◌, ◌++◌, Option, Some, None}
 use Rattle.std.proofs.Common.{Ok, Err, refl, sym, ap, subst, ◌∙◌, inl, inr, ⊎_elim, arith, length, ◌-◌, ◌/◌}
 use Rattle.std.proofs.lemmas.List.{append-nil, length-take, take-append-drop}
@@ -43,18 +43,18 @@ shelf_full h some = go h.items refl
 shelf_quiet : (h : HeldBuffer) → h.items ≡ [] → IsOnFull (Gave (shelf_of h.items) h) → ⊥
 shelf_quiet h none = subst (λ (items : List ℕ). IsOnFull (Gave (shelf_of items) h) → ⊥) (sym none) (λ x. x)
 
--- moves that push the buffer at a place and pop none: on full if it has items, and not on full if it has none
-record IsPushOf (place : Option HeldBuffer) (moves : List Move) : Type 0 where
-  given : pushed_items moves ≡ items_at place
-  number : pushed_numbers moves ≡ buffer_number place
+-- moves that push the buffer at a position and pop none: on full if it has items, and not on full if it has none
+record IsPushOf (position : Option HeldBuffer) (moves : List Move) : Type 0 where
+  given : pushed_items moves ≡ items_at position
+  number : pushed_numbers moves ≡ buffer_number position
   none : popped_items moves ≡ []
   no_number : popped_numbers moves ≡ []
   filled : AreFilled moves
-  full : items_at place ≢ [] → HasPushOnFull moves
-  quiet : items_at place ≡ [] → HasPushOnFull moves → ⊥
+  full : items_at position ≢ [] → HasPushOnFull moves
+  quiet : items_at position ≡ [] → HasPushOnFull moves → ⊥
   out : HasPopFromFull moves → ⊥
 
-shelving : (place : Option HeldBuffer) → IsPushOf place (shelving_of place)
+shelving : (position : Option HeldBuffer) → IsPushOf position (shelving_of position)
 shelving None = grind arith
 shelving (Some h) =
     record {
@@ -68,7 +68,7 @@ shelving (Some h) =
       out = λ pop. ⊎_elim (λ x. x) (λ x. x) pop;
     }
 
-shelved : (place : Option HeldBuffer) (b c : Book) → Leaves place b c → Moves b (shelving_of place) c
+shelved : (position : Option HeldBuffer) (b c : Book) → Leaves position b c → Moves b (shelving_of position) c
 shelved None b c left = left
 shelved (Some h) b c left = (c, left, refl)
 
@@ -77,14 +77,14 @@ from_full : (q : Which) (h : HeldBuffer) → IsFromFull (Took q h) → IsFull q
 from_full Full h took = tt
 from_full Empty h none = absurd none
 
--- a place that may be renewed and is as it was
-module _ {w : Owner} {pool : TableId} {place third : Option HeldBuffer} (may : MayRenew w pool place third) where
+-- a position that may be renewed and is as it was
+module _ {w : Owner} {pool : TableId} {position third : Option HeldBuffer} (may : MayRenew w pool position third) where
   left_sized : IsOfSize w.book.setup.size third
   left_sized = rw may.vacant tt
 
-  pub publish_nothing : items_at place ≡ [] → PublishesAt place w.book place third w.book (Ok tt)
+  pub publish_nothing : items_at position ≡ [] → PublishesAt position w.book position third w.book (Ok tt)
   publish_nothing none =
-      let r : Renews place w.book place third w.book =
+      let r : Renews position w.book position third w.book =
       record {
         moves = [];
         books = refl;
@@ -96,7 +96,7 @@ module _ {w : Owner} {pool : TableId} {place third : Option HeldBuffer} (may : M
       } in (r, may.vacant, inr none, λ pop. pop, inl (refl, none, refl))
 
   module _ (half : Bool) (c : Book) where
-    abbrev unchanged : (move : Move) → Moved move w.book c → IsIdle move → Renews place w.book place third c
+    abbrev unchanged : (move : Move) → Moved move w.book c → IsIdle move → Renews position w.book position third c
     unchanged move moved idle =
         record {
           moves = move ∷ [];
@@ -117,7 +117,7 @@ module _ {w : Owner} {pool : TableId} {place third : Option HeldBuffer} (may : M
         }
 
     pub found_nothing : PopsOne Empty w.book c (Ok None)
-        → RenewAnswers half Empty place w.book place third c (Ok false)
+        → RenewAnswers half Empty position w.book position third c (Ok false)
     found_nothing moved = (
       unchanged (FoundNone Empty) moved (refl, refl, tt),
       may.vacant,
@@ -127,12 +127,12 @@ module _ {w : Owner} {pool : TableId} {place third : Option HeldBuffer} (may : M
     )
 
     pub stopped_at_once : (stop : Stop) → PopsOne Empty w.book c (Err stop)
-        → RenewAnswers half Empty place w.book place third c (Err stop)
+        → RenewAnswers half Empty position w.book position third c (Err stop)
     stopped_at_once (TagSpent token) moved =
         (unchanged (Spent Empty) moved (refl, refl, tt), ([], Empty, refl), λ pop. ⊎_elim (λ x. x) (λ x. x) pop)
     stopped_at_once OutOfMemory none = absurd none
 
--- the objects that are pushed and those at the place after it are those at the place before it and those popped
+-- the objects that are pushed and those at the position after it are those at the position before it and those popped
 parts_share : (half : Bool) (old : Option HeldBuffer) (h : HeldBuffer) → (half ≡ true → h.items ≡ []) → (o : ℕ)
     → times o (items_at (pushed_part half old)) + times o (next_of half old h).items
     ≡ times o (items_at old) + times o h.items
@@ -180,7 +180,7 @@ module _ (q : Which) (h : HeldBuffer) (b mid : Book) (took : Moved (Took q h) b 
   pub took_size : h.size ≡ b.setup.size
   took_size = took.2.4 ∙ ap (λ (e : Setup). e.size) (lost_pops q b took.0 took.1).setup
 
--- buffer h was popped; the buffer at the place, or its lower part, is pushed next
+-- buffer h was popped; the buffer at the position, or its lower part, is pushed next
 module _ (half : Bool) (q : Which) (h : HeldBuffer) (mid : Book) {old : Option HeldBuffer} {b : Book}
     (backed : IsBackedAt old b) (took : Moved (Took q h) b mid) (bare : half ≡ true → q ≡ Empty) where
   shared : (o : ℕ) → times o (items_at (pushed_part half old)) + times o (next_of half old h).items
@@ -204,12 +204,12 @@ module _ (half : Bool) (q : Which) (h : HeldBuffer) (mid : Book) {old : Option H
     pub put_out_done : (done : Unit) → PutsOut (pushed_part half old) (next_of half old h) mid new third c (Ok done)
         → RenewAnswers half q old b new third c (Ok true)
     put_out_done done out =
-        let place = pushed_part half old in
-        let push = shelving place in
+        let position = pushed_part half old in
+        let push = shelving position in
         let r : Renews old b (Some (next_of half old h)) None c =
         record {
-          moves = Took q h ∷ shelving_of place;
-          books = (mid, took, shelved place mid c out.2);
+          moves = Took q h ∷ shelving_of position;
+          books = (mid, took, shelved position mid c out.2);
           items = λ o. omega (
             arith,
             shared o,
@@ -265,8 +265,8 @@ module _ (half : Bool) (q : Which) (h : HeldBuffer) (mid : Book) {old : Option H
 pub out_alone : (ms : List Move) → ms ≡ FoundNone Empty ∷ [] → HasPopFromFull ms → ⊥
 out_alone ms is pop = ⊎_elim (λ x. x) (λ x. x) (subst HasPopFromFull is pop)
 
--- the buffer at a place is held, its items are in the charge, and it is of the pool's size
-pub stands : {place : Option HeldBuffer} {h : HeldBuffer} {b : Book} → place ≡ Some h → IsBackedAt place b
+-- the buffer at a position is held, its items are in the charge, and it is of the pool's size
+pub stands : {position : Option HeldBuffer} {h : HeldBuffer} {b : Book} → position ≡ Some h → IsBackedAt position b
     → Contains b.account.held h.index × IsPart h.items b.account.charge × (h.size ≡ b.setup.size)
 stands {h} {b} is backed =
     let at = subst (λ (p : Option HeldBuffer). IsBackedAt p b) is backed in (
@@ -275,7 +275,7 @@ stands {h} {b} is backed =
       at.sized,
     )
 
--- the buffer at the place was pushed
+-- the buffer at the position was pushed
 pub cleared : (f : Option HeldBuffer) (b c : Book) → Leaves f b c → (r : Renews f b None None c)
     × (items_at f ≡ [] → HasPushOnFull r.moves → ⊥) × (HasPopFromFull r.moves → ⊥) × (r.moves ≡ shelving_of f)
 cleared f b c left =

@@ -1,4 +1,4 @@
--- Trades in sequence: changes of a pair without a move, and effects on one of its places.
+-- Trades in sequence: changes of a pair without a move, and effects on one of its positions.
 use Rattle.std.proofs.Common.{◌≡◌, ◌⊎◌, ℕ, ◌+◌, ◌≤◌, List, [], ◌∷◌, ◌++◌, append_assoc, length, Option, None, refl, sym}
 use Rattle.std.proofs.Common.{ap, subst, ◌∙◌, inl, inr, ⊎_elim, arith}
 use Rattle.mark_core.specs.declared.which.Which.{Which}
@@ -14,7 +14,7 @@ use Rattle.work_pair.specs.Moves.{IsFilled, HasPushOnFull, HasPopFromFull, EndAt
 use Rattle.work_pair.specs.PairState.{PairState, buffered_items, items_at, buffer_number, pair_items, numbers_of}
 use Rattle.work_pair.specs.PairState.{IsOfSize, AreOfSize, IsBacked}
 use Rattle.work_pair.specs.working.Asks.{IsBackedAt}
-use Rattle.work_pair.specs.working.Steps.{IsLocal, Renews, Trades, places}
+use Rattle.work_pair.specs.working.Steps.{IsLocal, Renews, Trades, positions}
 use Rattle.work_pair.proofs.Effects.{busy_after, moves_effect}
 
 -- a list of length 0 is empty
@@ -22,23 +22,23 @@ pub none_in : (xs : List ℕ) → length xs ≤ 0 → xs ≡ []
 none_in [] short = refl
 none_in (x ∷ xs) short = absurd (omega (arith, short))
 
--- how often x is in the lists that `told` makes of the three places, for example their items
-abbrev pub in_places : (Option HeldBuffer → List ℕ) → ℕ → PairState → ℕ
-in_places told x p = times x (told p.first) + times x (told p.second) + times x (told p.third)
+-- how often x is in the lists that `told` makes of the three positions, for example their items
+abbrev pub in_positions : (Option HeldBuffer → List ℕ) → ℕ → PairState → ℕ
+in_positions told x p = times x (told p.first) + times x (told p.second) + times x (told p.third)
 
-places_sum : (told : Option HeldBuffer → List ℕ) (x : ℕ) (p : PairState)
-    → times x (told p.first ++ told p.second ++ told p.third) ≡ in_places told x p
-places_sum told x p = omega (
+positions_sum : (told : Option HeldBuffer → List ℕ) (x : ℕ) (p : PairState)
+    → times x (told p.first ++ told p.second ++ told p.third) ≡ in_positions told x p
+positions_sum told x p = omega (
   arith,
   sum_of-append (only x) (told p.first ++ told p.second) (told p.third),
   sum_of-append (only x) (told p.first) (told p.second),
 )
 
-pub items_sum : (o : ℕ) (p : PairState) → times o (pair_items p) ≡ times o p.spill + in_places items_at o p
-items_sum o p = omega (arith, sum_of-append (only o) p.spill (buffered_items p), places_sum items_at o p)
+pub items_sum : (o : ℕ) (p : PairState) → times o (pair_items p) ≡ times o p.spill + in_positions items_at o p
+items_sum o p = omega (arith, sum_of-append (only o) p.spill (buffered_items p), positions_sum items_at o p)
 
-pub numbers_sum : (i : ℕ) (p : PairState) → times i (numbers_of p) ≡ in_places buffer_number i p
-numbers_sum i p = places_sum buffer_number i p
+pub numbers_sum : (i : ℕ) (p : PairState) → times i (numbers_of p) ≡ in_positions buffer_number i p
+numbers_sum i p = positions_sum buffer_number i p
 
 -- moves may be continued by further moves
 pub moves_on : (ms ns : List Move) (a b c : Book) → Moves a ms b → Moves b ns c → Moves a (ms ++ ns) c
@@ -161,10 +161,10 @@ on_and_on {new} {b} {c} {d} s t =
           subst (λ (e : Setup). AreOfSize e.size new) (moves_effect s.moves b c s.books).setup t.sized;
     }
 
--- an effect on one place is one on the pair, if the contents of the places are otherwise the same
+-- an effect on one position is one on the pair, if the contents of the positions are otherwise the same
 abbrev renewed : (p q : PairState) {f g third : Option HeldBuffer} {b c : Book} → q.spill ≡ p.spill
     → ((told : Option HeldBuffer → List ℕ) (x : ℕ) → told None ≡ []
-    → in_places told x q + times x (told f) ≡ in_places told x p + times x (told g) + times x (told third))
+    → in_positions told x q + times x (told f) ≡ in_positions told x p + times x (told g) + times x (told third))
     → Renews f b g third c → AreOfSize b.setup.size q → Trades p b [] [] q c
 renewed p q spill even r sized =
     record {
@@ -183,51 +183,53 @@ renewed p q spill even r sized =
       sized = sized;
     }
 
--- a vacant place has nothing
+-- a vacant position has nothing
 pub none_told : {t : Option HeldBuffer} → t ≡ None → (told : Option HeldBuffer → List ℕ) (x : ℕ) → told None ≡ []
     → times x (told t) ≡ 0
 none_told vacant told x none = ap (λ (p : Option HeldBuffer). times x (told p)) vacant ∙ ap (times x) none
 
--- the third place was vacant, and gets what is left over from the first, or from the second
+-- the third position was vacant, and gets what is left over from the first, or from the second
 module _ {f s t g third : Option HeldBuffer} {b c : Book} (vacant : t ≡ None) where
   abbrev pub first_renewed : Renews f b g third c → IsOfSize b.setup.size s
-      → Trades (places f s t) b [] [] (places g s third) c
+      → Trades (positions f s t) b [] [] (positions g s third) c
   first_renewed r sized =
-      renewed (places f s t) (places g s third) refl (λ told x none. omega (arith, none_told vacant told x none)) r
+      renewed (positions f s t) (positions g s third) refl
+      (λ told x none. omega (arith, none_told vacant told x none)) r
       (record { first = r.sized; second = sized; third = r.left_sized })
 
   abbrev pub second_renewed : Renews s b g third c → IsOfSize b.setup.size f
-      → Trades (places f s t) b [] [] (places f g third) c
+      → Trades (positions f s t) b [] [] (positions f g third) c
   second_renewed r sized =
-      renewed (places f s t) (places f g third) refl (λ told x none. omega (arith, none_told vacant told x none)) r
+      renewed (positions f s t) (positions f g third) refl
+      (λ told x none. omega (arith, none_told vacant told x none)) r
       (record { first = sized; second = r.sized; third = r.left_sized })
 
--- an effect on one place, with the others as they were
+-- an effect on one position, with the others as they were
 module _ {f s t g : Option HeldBuffer} {b c : Book} where
-  abbrev pub at_first : Renews f b g None c → AreOfSize b.setup.size (places f s t)
-      → Trades (places f s t) b [] [] (places g s t) c
+  abbrev pub at_first : Renews f b g None c → AreOfSize b.setup.size (positions f s t)
+      → Trades (positions f s t) b [] [] (positions g s t) c
   at_first r sized =
-      renewed (places f s t) (places g s t) refl (λ told x none. omega (arith, ap (times x) none)) r
+      renewed (positions f s t) (positions g s t) refl (λ told x none. omega (arith, ap (times x) none)) r
       (record { first = r.sized; second = sized.second; third = sized.third })
 
-  abbrev pub at_second : Renews s b g None c → AreOfSize b.setup.size (places f s t)
-      → Trades (places f s t) b [] [] (places f g t) c
+  abbrev pub at_second : Renews s b g None c → AreOfSize b.setup.size (positions f s t)
+      → Trades (positions f s t) b [] [] (positions f g t) c
   at_second r sized =
-      renewed (places f s t) (places f g t) refl (λ told x none. omega (arith, ap (times x) none)) r
+      renewed (positions f s t) (positions f g t) refl (λ told x none. omega (arith, ap (times x) none)) r
       (record { first = sized.first; second = r.sized; third = sized.third })
 
-  abbrev pub at_third : Renews t b g None c → AreOfSize b.setup.size (places f s t)
-      → Trades (places f s t) b [] [] (places f s g) c
+  abbrev pub at_third : Renews t b g None c → AreOfSize b.setup.size (positions f s t)
+      → Trades (positions f s t) b [] [] (positions f s g) c
   at_third r sized =
-      renewed (places f s t) (places f s g) refl (λ told x none. omega (arith, ap (times x) none)) r
+      renewed (positions f s t) (positions f s g) refl (λ told x none. omega (arith, ap (times x) none)) r
       (record { first = sized.first; second = sized.second; third = r.sized })
 
--- a worker that backs a pair backs each of its places
+-- a worker that backs a pair backs each of its positions
 module _ {p : PairState} {besides : List ℕ} {b : Book} (backed : IsBacked p besides b) where
-  at_place : (h : Option HeldBuffer)
-      → ((told : Option HeldBuffer → List ℕ) (x : ℕ) → times x (told h) ≤ in_places told x p)
+  at_position : (h : Option HeldBuffer)
+      → ((told : Option HeldBuffer → List ℕ) (x : ℕ) → times x (told h) ≤ in_positions told x p)
       → IsOfSize b.setup.size h → IsBackedAt h b
-  at_place h among sized =
+  at_position h among sized =
       record {
         held = λ i. omega (arith, backed.held i, among buffer_number i, numbers_sum i p);
         charged = λ o. omega (
@@ -241,13 +243,13 @@ module _ {p : PairState} {besides : List ℕ} {b : Book} (backed : IsBacked p be
       }
 
   pub first_backed : IsBackedAt p.first b
-  first_backed = at_place p.first (λ told x. omega arith) backed.sized.first
+  first_backed = at_position p.first (λ told x. omega arith) backed.sized.first
 
   pub second_backed : IsBackedAt p.second b
-  second_backed = at_place p.second (λ told x. omega arith) backed.sized.second
+  second_backed = at_position p.second (λ told x. omega arith) backed.sized.second
 
   pub third_backed : IsBackedAt p.third b
-  third_backed = at_place p.third (λ told x. omega arith) backed.sized.third
+  third_backed = at_position p.third (λ told x. omega arith) backed.sized.third
 
 -- a worker that backs a pair and the objects `besides` backs the pair alone
 pub backed_less : (p : PairState) (besides : List ℕ) (b : Book) → IsBacked p besides b → IsBacked p [] b

@@ -83,7 +83,7 @@ OpensTwo before opened after =
     (effect : CallEffect empty_pair before [] [] opened after) × (h : HeldBuffer) × (k : HeldBuffer)
     × (effect.moves ≡ Took Empty h ∷ Took Empty k ∷ []) × (opened.first ≡ Some h) × (opened.second ≡ Some k)
 
--- the push on full of the buffer at a place, if there is one
+-- the push on full of the buffer at a position, if there is one
 abbrev pub push_of : Option HeldBuffer → List Move
 push_of None = []
 push_of (Some h) = Gave Full h ∷ []
@@ -95,7 +95,7 @@ upper_half xs = drop (length xs - length xs / 2) xs
 abbrev pub lower_part : List ℕ → List ℕ
 lower_part xs = take (length xs - length xs / 2) xs
 
--- the second buffer had items and was pushed whole; an empty one is at its place, and the first is as before
+-- the second buffer had items and was pushed whole; an empty one is at its position, and the first is as before
 abbrev pub GivesSecond : PairState → List Move → PairState → Type 0
 GivesSecond old moves new =
     (h : HeldBuffer) × (h.items ≡ []) × (items_at old.second ≢ [])
@@ -132,22 +132,22 @@ FillsNext old object moves new =
     (h : HeldBuffer) × (moves ≡ Took Empty h ∷ push_of old.second)
     × (new.first ≡ Some (record h { items = object ∷ [] })) × (new.second ≡ old.first)
 
--- the effect of a publishing on one place: it has no items, and stays; or no empty buffer was found, and it stays; or
--- its buffer was pushed on full, and the popped one is at its place
-abbrev pub PublishesPlace : Option HeldBuffer → List Move → Option HeldBuffer → Type 0
-PublishesPlace old moves new =
+-- the effect of a publishing on one position: it has no items, and stays; or no empty buffer was found, and it stays;
+-- or its buffer was pushed on full, and the popped one is at its position
+abbrev pub PublishesPosition : Option HeldBuffer → List Move → Option HeldBuffer → Type 0
+PublishesPosition old moves new =
     ((moves ≡ []) × (items_at old ≡ []) × (new ≡ old))
     ⊎ (((moves ≡ FoundNone Empty ∷ []) × (items_at old ≢ []) × (new ≡ old))
     ⊎ ((h : HeldBuffer) × (h.items ≡ []) × (items_at old ≢ []) × (moves ≡ Took Empty h ∷ push_of old)
     × (new ≡ Some h)))
 
--- the effect of a publishing on the first place, and then on the second
+-- the effect of a publishing on the first position, and then on the second
 abbrev pub Publishes : PairState → List Move → PairState → Type 0
 Publishes old moves new =
     (first : List Move) × (second : List Move) × (moves ≡ first ++ second)
-    × PublishesPlace old.first first new.first × PublishesPlace old.second second new.second
+    × PublishesPosition old.first first new.first × PublishesPosition old.second second new.second
 
--- a publishing: its effect on the book and on both places
+-- a publishing: its effect on the book and on both positions
 abbrev pub PublishesBoth : PairState → Book → PairState → Book → Type 0
 PublishesBoth old before new after =
     (effect : CallEffect old before [] [] new after) × Publishes old effect.moves new
@@ -164,20 +164,20 @@ Puts old before object new after =
     × ((HasRoom old × (effect.moves ≡ []))
     ⊎ ((effect.moves ≡ FoundNone Empty ∷ []) ⊎ FillsNext old object effect.moves new))
 
--- the last item of the buffer at a place was taken
+-- the last item of the buffer at a position was taken
 abbrev pub TakesLast : Option HeldBuffer → ℕ → Option HeldBuffer → Type 0
 TakesLast old object new =
     (h : HeldBuffer) × (rest : List ℕ) × (old ≡ Some h) × (h.items ≡ rest ++ object ∷ [])
     × (new ≡ Some (record h { items = rest }))
 
 -- the object was taken from the first buffer; or the first had no item, the object was taken from the second, and the
--- two exchanged places
+-- two exchanged positions
 abbrev pub TakesOwn : PairState → ℕ → PairState → Type 0
 TakesOwn old object new =
     (TakesLast old.first object new.first × (new.second ≡ old.second))
     ⊎ ((items_at old.first ≡ []) × TakesLast old.second object new.first × (new.second ≡ old.first))
 
--- neither buffer had an item, and the two exchanged places
+-- neither buffer had an item, and the two exchanged positions
 abbrev pub FindsNoOwn : PairState → PairState → Type 0
 FindsNoOwn old new =
     (items_at old.first ≡ []) × (items_at old.second ≡ [])

@@ -35,7 +35,7 @@ abbrev pub shelf_of : List ℕ → Which
 shelf_of [] = Empty
 shelf_of (o ∷ os) = Full
 
--- the push of the buffer at a place, if there is one, on the stack that it belongs to
+-- the push of the buffer at a position, if there is one, on the stack that it belongs to
 abbrev pub shelving_of : Option HeldBuffer → List Move
 shelving_of None = []
 shelving_of (Some h) = Gave (shelf_of h.items) h ∷ []

@@ -16,7 +16,7 @@ pub record PairState : Type 0 where
   -- a call ran out of memory
   pub starved : Bool
 
--- the items of the buffer at a place, and its number
+-- the items of the buffer at a position, and its number
 abbrev pub items_at : Option HeldBuffer → List ℕ
 items_at None = []
 items_at (Some h) = h.items
@@ -25,7 +25,7 @@ abbrev pub buffer_number : Option HeldBuffer → List ℕ
 buffer_number None = []
 buffer_number (Some h) = h.index ∷ []
 
--- the number of items of the buffer at a place, if there is one
+-- the number of items of the buffer at a position, if there is one
 abbrev pub count_at : Option HeldBuffer → Option ℕ
 count_at None = None
 count_at (Some h) = Some (length h.items)
@@ -59,7 +59,7 @@ pub record IsOpen (p : PairState) : Type 0 where
   pub going : p.stopped ≡ false
   pub third : p.third ≡ None
 
--- the place has a buffer that takes one more item
+-- the position has a buffer that takes one more item
 abbrev pub HasRoomAt : Option HeldBuffer → Type 0
 HasRoomAt None = ⊥
 HasRoomAt (Some h) = length h.items < h.size
@@ -91,7 +91,7 @@ pub record IsNew (p : PairState) : Type 0 where
   pub first : (h : HeldBuffer) × (p.first ≡ Some h) × (h.items ≡ [])
   pub second : (h : HeldBuffer) × (p.second ≡ Some h) × (h.items ≡ [])
 
--- the buffer at a place, if there is one, is of the size `size`: it takes at most `size` items
+-- the buffer at a position, if there is one, is of the size `size`: it takes at most `size` items
 abbrev pub IsOfSize : ℕ → Option HeldBuffer → Type 0
 IsOfSize size None = Unit {0}
 IsOfSize size (Some h) = h.size ≡ size

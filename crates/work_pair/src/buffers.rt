@@ -1,7 +1,7 @@
 //! The buffers of a pair, and the part of its calls that concerns them.
 ghost use Rattle.std.specs.Prelude.{◌≡◌, None};
 
-use crate::place::{clear_at, put_at, put_out, renew, take_at};
+use crate::position::{clear_at, put_at, put_out, renew, take_at};
 use crate::steps::pop_one;
 use crate::stop::Stop;
 use buffer_pool::{Held, Pool, Which, Worker};
@@ -30,7 +30,7 @@ impl<A: Allocator> Buffers<A> {
 
     /// Puts `object` into the second buffer, which becomes the first, or else into a popped empty buffer. The first
     /// buffer must have no room. Returns `false` if no empty buffer was found. Then the two buffers have exchanged
-    /// places, and nothing else has changed.
+    /// positions, and nothing else has changed.
     // Not inlined, so that the many puts that find room neither save registers for it nor clear its locals.
     #[inline(never)]
     pub(crate) fn put_elsewhere<R: Wait>(

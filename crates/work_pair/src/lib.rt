@@ -15,7 +15,7 @@
 
 mod buffers;
 mod pair;
-mod place;
+mod position;
 mod steps;
 mod stop;
 

@@ -2,7 +2,7 @@
 ghost use Rattle.std.specs.Prelude.{◌≡◌, None};
 
 use crate::buffers::Buffers;
-use crate::place::{clear_at, count_at, put_at, take_at};
+use crate::position::{clear_at, count_at, put_at, take_at};
 use crate::steps::pop_one;
 use crate::stop::Stop;
 use buffer_pool::{Held, Pool, Which, Worker};
@@ -15,7 +15,7 @@ mod spill_list;
 use spill_list::SpillList;
 
 /// Two buffers of a worker. Objects are put into the first and got from there. If the first has no room at a put, or no
-/// items at a get, the two exchange places. Buffers with items go to the pool's full stack and come from there; the
+/// items at a get, the two exchange positions. Buffers with items go to the pool's full stack and come from there; the
 /// others go to its empty stack and come from that. An object for which no empty buffer is found goes to the pair's
 /// spill list, which takes 4 bytes an object, and doubles when it has no room.
 ///
@@ -79,8 +79,8 @@ impl<A: Allocator> Pair<A> {
         }
     }
 
-    /// Creates a pair with two vacant places, which count as full when an object is put and as empty when one is got.
-    /// Makes no allocation.
+    /// Creates a pair with two vacant positions, which count as full when an object is put and as empty when one is
+    /// got. Makes no allocation.
     pub fn bare(alloc: A) -> Self
         ensures { result ≡ empty_pair }
     {
@@ -115,8 +115,8 @@ impl<A: Allocator> Pair<A> {
         if let Some(second) = pop_one(rt, pool, worker, Which::Empty)? {
             return Ok(Some(Pair::of(alloc, Some(first), Some(second))));
         }
-        let mut place = Some(first);
-        clear_at(rt, pool, worker, &mut place)?;
+        let mut position = Some(first);
+        clear_at(rt, pool, worker, &mut position)?;
         Ok(None)
     }
 
@@ -303,8 +303,8 @@ impl<A: Allocator> Pair<A> {
         }
     }
 
-    /// Returns how many objects each place of the pair has, and `None` for a place without a buffer. The places are the
-    /// first, the second, and the one for what a stopped call left over.
+    /// Returns how many objects each position of the pair has, and `None` for a position without a buffer. The
+    /// positions are the first, the second, and the one for what a stopped call left over.
     pub fn lens(&self) -> [Option<u32>; 3]
         ensures { result ≡ count_at self.now.first ∷ count_at self.now.second ∷ count_at self.now.third ∷ [] }
     {

@@ -7,9 +7,9 @@ use limited_heap::{LimitedHeap, requests_of};
 use std::alloc::{AllocError, Allocator, Global};
 use std::test::Fail;
 
-/// Identifiers that repeat at once, after a run of the same page and after a run of another page; runs that overlap;
-/// pages that alternate; identifiers at both ends of 64 bits; identifiers with other lowest bits than the first one;
-/// and identifiers that crowd into one bucket.
+/// Identifiers that repeat at once, after an extent of the same page and after an extent of another page; extents that
+/// overlap; pages that alternate; identifiers at both ends of 64 bits; identifiers with other lowest bits than the
+/// first one; and identifiers that crowd into one bucket.
 pub const LISTS: [&[u64]; 21] = [
     &[],
     &[7],

@@ -4,7 +4,7 @@ ghost use Rattle.std.specs.Prelude.{◌<◌};
 
 use super::beside::answers_all;
 use super::making::index_of;
-use super::pairing::paired_index;
+use super::narrow::narrow_index;
 use super::wide::wide_index;
 use std::alloc::{AllocError, Global};
 use std::test::Fail;
@@ -109,9 +109,9 @@ impl Numbers {
     }
 }
 
-/// Tests whether an index of `ids` by pairs is made exactly if `repeats` is false, and whether it and an index of whole
-/// identifiers agree with a search one by one. Places are noted in at most `parts` parts.
-fn is_paired<T: Threads + Sync>(
+/// Tests whether an index of narrow entries of `ids` is made exactly if `repeats` is false, and whether it and an index
+/// of whole identifiers agree with a search one by one. Places are noted in at most `parts` parts.
+fn agrees_with_narrow<T: Threads + Sync>(
     rt: &T,
     alloc: Global,
     ids: &[u64],
@@ -125,7 +125,7 @@ fn is_paired<T: Threads + Sync>(
         return Ok(false);
     }
     let low = ids.first().copied().unwrap_or(0) % 8;
-    match paired_index(rt, alloc, ids, low, parts)? {
+    match narrow_index(rt, alloc, ids, low, parts)? {
         Some(index) => Ok(!repeats && answers_all(&index, ids)),
         None => Ok(repeats),
     }
@@ -138,7 +138,7 @@ fn scattered_lists(rt: HostRuntime) -> Result<(), Fail> {
     for list in 0..SCATTERED {
         let mut ids = numbers.scattered(rt.alloc())?;
         let repeats = list % 2 == 1 && numbers.repeat_one(&mut ids);
-        let right = is_paired(&rt, rt.alloc(), &ids, repeats, list % 7);
+        let right = agrees_with_narrow(&rt, rt.alloc(), &ids, repeats, list % 7);
         assert_eq!(rt; right, Ok(true), "list {list}");
     }
     Ok(())

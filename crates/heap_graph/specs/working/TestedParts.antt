@@ -26,7 +26,8 @@ pub record HasTested {A : Type 0} (o : Objects A) (repeat start : ℕ) (part : L
       → AreFine o.view.id_size heap start → IsFaultOf o.view.id_size heap o.places.items f)
 
 -- the result of the part with number `n`, where each part has `size` objects, and the last one perhaps fewer
-pub record IsOfPart {A : Type 0} (o : Objects A) (repeat size n : ℕ) (result : Result (Unit {0}) LinkFault) : Type 0 where
+pub record IsOfPart {A : Type 0} (o : Objects A) (repeat size n : ℕ)
+    (result : Result (Unit {0}) LinkFault) : Type 0 where
   pub part : List ℕ
   pub within : n * size + length part ≤ length o.places.items
   pub long : length part ≡ min size (length o.places.items - n * size)

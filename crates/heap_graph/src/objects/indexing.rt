@@ -1,9 +1,9 @@
 //! Indexes objects by their identifiers, which are read at the places of the objects.
 //!
 //! In most dumps the identifiers are the addresses of objects, and all have the same lowest three bits. The index omits
-//! these bits, so that neighbours share a run. If an identifier has other lowest bits, all identifiers are gathered
-//! again and indexed with all their bits. Objects in no order are indexed without runs ([`scattered`]). In each case the
-//! numbers of the class dumps are noted on the way, so that only class dumps are read for the class table.
+//! these bits, so that neighbours share an extent. If an identifier has other lowest bits, all identifiers are gathered
+//! again and indexed with all their bits. Objects in no order are indexed without extents ([`scattered`]). In each case
+//! the numbers of the class dumps are noted on the way, so that only class dumps are read for the class table.
 
 ghost use Rattle.hprof_grammar.specs.Standing.{StandInTurn, Stands};
 ghost use Rattle.hprof_grammar.specs.SubRecord.{SubRecord};
@@ -13,7 +13,7 @@ ghost use Rattle.heap_graph.specs.working.ClassNumbers.{AreIndexed};
 ghost use Rattle.heap_graph.specs.working.GatheredParts.{MayIndex};
 
 use crate::objects::gathering::{Gathered, gather};
-use crate::objects::pairing::scattered;
+use crate::objects::unordered::scattered;
 use hprof_grammar::{Team, View};
 use id_index::{IdIndex, LowBits};
 use std::alloc::{AllocError, Allocator};

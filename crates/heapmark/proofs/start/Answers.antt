@@ -38,7 +38,8 @@ returns-in-Ok-2-clause-known g c =
     IsStatusOf words c.program.result g.W.Write.contents c.args.out.now c.program.new.out in
     of_known (g.L.CommandWords.words c.args.line.now) (map string_bytes c.in-Ok.texts.items) P c.in-Ok.ensures.same
     (subst P
-    (ap texts_of c.as_slice-in-Ok-2.ensures.value ∙ c.in-Ok-words_of.ensures ∙ ap (map string_bytes) c.deref.ensures.value)
+    (ap texts_of c.as_slice-in-Ok-2.ensures.value ∙ c.in-Ok-words_of.ensures
+    ∙ ap (map string_bytes) c.deref.ensures.value)
     (record {
       most = c.program.ensures.status;
       usage = c.program.ensures.usage;
@@ -61,7 +62,8 @@ returns-in-Ok-2-clause-of_file g c =
     (g.W.Write.contents (inner_of c.args.out.now)) (g.W.Write.contents (inner_of c.program.new.out)) in
     of_known (g.L.CommandWords.words c.args.line.now) (map string_bytes c.in-Ok.texts.items) P c.in-Ok.ensures.same
     (subst P
-    (ap texts_of c.as_slice-in-Ok-2.ensures.value ∙ c.in-Ok-words_of.ensures ∙ ap (map string_bytes) c.deref.ensures.value)
+    (ap texts_of c.as_slice-in-Ok-2.ensures.value ∙ c.in-Ok-words_of.ensures
+    ∙ ap (map string_bytes) c.deref.ensures.value)
     c.program.ensures.of_file)
 
 pub returns-in-Ok-2-clause-told : goal.returns-in-Ok-2-clause-told
@@ -72,7 +74,8 @@ returns-in-Ok-2-clause-told g c =
     λ one. of_known (g.L.CommandWords.words c.args.line.now) (map string_bytes c.in-Ok.texts.items) P
     c.in-Ok.ensures.same
     (subst P
-    (ap texts_of c.as_slice-in-Ok-2.ensures.value ∙ c.in-Ok-words_of.ensures ∙ ap (map string_bytes) c.deref.ensures.value)
+    (ap texts_of c.as_slice-in-Ok-2.ensures.value ∙ c.in-Ok-words_of.ensures
+    ∙ ap (map string_bytes) c.deref.ensures.value)
     (only _ _ _ _ _ (c.program.ensures.told one)))
 
 pub returns-in-Ok-2-clause-told_only : goal.returns-in-Ok-2-clause-told_only
@@ -83,5 +86,6 @@ returns-in-Ok-2-clause-told_only g c =
     λ one no_terminal. of_known (g.L.CommandWords.words c.args.line.now) (map string_bytes c.in-Ok.texts.items) P
     c.in-Ok.ensures.same
     (subst P
-    (ap texts_of c.as_slice-in-Ok-2.ensures.value ∙ c.in-Ok-words_of.ensures ∙ ap (map string_bytes) c.deref.ensures.value)
+    (ap texts_of c.as_slice-in-Ok-2.ensures.value ∙ c.in-Ok-words_of.ensures
+    ∙ ap (map string_bytes) c.deref.ensures.value)
     (c.program.ensures.told one))

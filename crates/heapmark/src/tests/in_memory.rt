@@ -133,8 +133,8 @@ fn is_printed(printed: &Printed, status: u8, report: &str, told: &str, after: &s
     *is == status && out.as_slice() == report.as_bytes() && rest == Some(after.as_bytes())
 }
 
-/// A dump, the words after the program's name, the exit status, the output, standard error, and what follows on standard
-/// error at a terminal.
+/// A dump, the words after the program's name, the exit status, the output, standard error, and what follows on
+/// standard error at a terminal.
 type Row = (
     Sample,
     &'static [&'static str],

@@ -21,8 +21,8 @@ const MANY: u64 = 1 << 32;
 enum Refused {
     /// All.
     Each,
-    /// All but the first.
-    EachButOne,
+    /// All but this many, which come first.
+    AllAfter(u32),
     /// The first, and no other.
     First,
 }
@@ -41,7 +41,7 @@ fn heap_of_a_pool(alloc: Global, refused: Refused) -> Result<LimitedHeap<Global>
     let requests = requests_of_a_pool(alloc)?;
     Ok(match refused {
         Refused::Each => LimitedHeap::new(alloc, requests),
-        Refused::EachButOne => LimitedHeap::new(alloc, requests + 1),
+        Refused::AllAfter(granted) => LimitedHeap::new(alloc, requests + u64::from(granted)),
         Refused::First => LimitedHeap::refusing(alloc, requests),
     })
 }
@@ -66,8 +66,16 @@ const THIRTEENTH: Run = (
     End::InVain(12, 4),
 );
 
+/// Each block of the spill list is twice as large as the one before. So six blocks have room for 128 objects, and the
+/// next object is returned.
+const DOUBLED: Run = (
+    "the seventh block in vain",
+    &[Fill(136), Spilled(128)],
+    End::InVain(136, 128),
+);
+
 /// If the spill list's first block is refused once, the ninth object is returned, and the next object is put and got as
-/// usual. Each of the two puts has exchanged the pair's buffers, so the buffers are at their first places again.
+/// usual. Each of the two puts has exchanged the pair's buffers, so the buffers are at their first positions again.
 const TENTH: Run = (
     "the tenth behind a ninth in vain",
     &[
@@ -105,9 +113,10 @@ const SIX: Run = (
 type Row = (Run, u32, Refused, u64);
 
 /// The run of six objects makes no request: the heap would refuse each, and refuses none.
-const ROWS: [Row; 4] = [
+const ROWS: [Row; 5] = [
     (NINTH, 2, Refused::Each, 1),
-    (THIRTEENTH, 2, Refused::EachButOne, 1),
+    (THIRTEENTH, 2, Refused::AllAfter(1), 1),
+    (DOUBLED, 2, Refused::AllAfter(6), 1),
     (TENTH, 2, Refused::First, 1),
     (SIX, 8, Refused::Each, 0),
 ];
@@ -135,14 +144,14 @@ fn runs_without_memory(rt: HostRuntime) -> Result<(), Fail> {
     Ok(())
 }
 
-/// Returns what the places of a pair without buffers have.
+/// Returns what the positions of a pair without buffers have.
 fn bare_lens<A: Allocator + Copy>(alloc: A) -> Result<Lens, PoolFault> {
     let (pool, worker) = pool_of_roots(alloc, 4, 8, 0)?;
     Ok(bare(alloc, &pool, &worker).lens())
 }
 
 /// Creates a pair without buffers on a heap that refuses every request after the opening of the pool. Returns what its
-/// places have, how many requests are left, and how many were refused.
+/// positions have, how many requests are left, and how many were refused.
 fn bare_pair_without_memory(alloc: Global) -> Result<(Lens, u64, u64), PoolFault> {
     let heap = heap_of_a_pool(alloc, Refused::Each)?;
     let lens = bare_lens(&heap)?;

@@ -27,7 +27,7 @@ pub(crate) enum Step {
     Get(&'static [u32]),
     NoneLeft,
     FullIsEmpty(bool),
-    /// The places have these numbers of objects.
+    /// The positions have these numbers of objects.
     Has(Lens),
     /// The spill list has this number of objects.
     Spilled(usize),
@@ -159,7 +159,7 @@ fn finish<R: Wait + Abort, A: Allocator>(
     }
 }
 
-/// Opens a pair on a new pool of four buffers, makes `run`, and disposes of the pair. Returns what the places of the
+/// Opens a pair on a new pool of four buffers, makes `run`, and disposes of the pair. Returns what the positions of the
 /// pair have if a last tag stops the disposal, and `None` otherwise.
 pub(crate) fn left_after<R: Wait + Abort, A: Allocator + Copy>(
     rt: &R,

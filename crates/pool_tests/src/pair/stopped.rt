@@ -24,7 +24,7 @@ enum Call {
     Gets,
 }
 
-/// What the places of a pair have after a last tag stopped a call, and what they have if a last tag then stops the
+/// What the positions of a pair have after a last tag stopped a call, and what they have if a last tag then stops the
 /// disposal too.
 type Stopped = (Lens, Option<Lens>);
 
@@ -117,8 +117,8 @@ fn stopped_after<R: Wait + Abort>(
     })
 }
 
-/// The first tag, the steps, how often another worker then calls [`exchange_full_twice`], the call, and what the places
-/// of the pair have after the call, and after the disposal if a last tag stops that too.
+/// The first tag, the steps, how often another worker then calls [`exchange_full_twice`], the call, and what the
+/// positions of the pair have after the call, and after the disposal if a last tag stops that too.
 type Row = (u64, &'static [Step], u32, Call, Lens, Option<Lens>);
 
 const ROWS: [Row; 3] = [

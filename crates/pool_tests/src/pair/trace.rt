@@ -16,10 +16,11 @@ type Two = (u32, [Option<u32>; 2]);
 /// The buffers of a stack, its top first.
 type Stack = [Option<Two>; 4];
 
-/// The buffers at a pair's first and second place, the full stack, the empty stack, and the number of spilled objects.
+/// The buffers at a pair's first and second position, the full stack, the empty stack, and the number of spilled
+/// objects.
 #[derive(Clone, Copy, PartialEq, Eq)]
 struct Seen {
-    places: [Option<Two>; 2],
+    positions: [Option<Two>; 2],
     full: Stack,
     empty: Stack,
     spilled: usize,
@@ -36,9 +37,9 @@ fn two_of<A: Allocator>(held: Held<A>) -> Two {
     }
 }
 
-/// Returns the number and the objects of the buffer at a place, if there is one.
-fn two_at<A: Allocator>(place: Option<Held<A>>) -> Option<Two> {
-    match place {
+/// Returns the number and the objects of the buffer at a position, if there is one.
+fn two_at<A: Allocator>(position: Option<Held<A>>) -> Option<Two> {
+    match position {
         Some(held) => Some(two_of(held)),
         None => None,
     }
@@ -72,8 +73,8 @@ fn buffers_on<R: Wait + Abort, A: Allocator>(
     ensures { IsWorker OBJECTS pool.now worker.new }
 {
     let mut stack: Stack = [None; 4];
-    for place in &mut stack {
-        *place = two_at(pop_one(rt, pool, worker, which));
+    for position in &mut stack {
+        *position = two_at(pop_one(rt, pool, worker, which));
     }
     stack
 }
@@ -112,7 +113,7 @@ fn seen_after<R: Wait + Abort>(
     let spilled = pair.spilled();
     let (first, second, _) = pair.into_buffers();
     Ok(Seen {
-        places: [two_at(first), two_at(second)],
+        positions: [two_at(first), two_at(second)],
         full: buffers_on(rt, &pool, &mut worker, Which::Full),
         empty: buffers_on(rt, &pool, &mut worker, Which::Empty),
         spilled,
@@ -168,9 +169,9 @@ const ROWS: [Row; 8] = [
 
 /// Tests whether a new pair is seen as `row` says after the puts of `row`.
 fn is_seen<R: Wait + Abort>(rt: &R, alloc: Global, row: &Row) -> Result<bool, PoolFault> {
-    let (puts, publishes, places, full, empty, spilled) = *row;
+    let (puts, publishes, positions, full, empty, spilled) = *row;
     let wanted = Seen {
-        places,
+        positions,
         full,
         empty,
         spilled,

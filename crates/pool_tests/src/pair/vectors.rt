@@ -41,7 +41,7 @@ const NINE: Run = (
     AllGot,
 );
 
-/// A run, the size of a buffer, the first tag, and what the pair's places have if a last tag stops the disposal.
+/// A run, the size of a buffer, the first tag, and what the pair's positions have if a last tag stops the disposal.
 type Row = (Run, u32, u64, Option<Lens>);
 
 /// In the run `FIVE` the head of the empty stack changes six times. So its first tag must be at least six below the

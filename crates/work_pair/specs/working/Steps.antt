@@ -6,7 +6,7 @@ use Rattle.mark_core.specs.declared.which.Which.TheVariants.{Full, Empty}
 use Rattle.mark_core.specs.Lists.{times}
 use Rattle.buffer_pool.specs.Book.{Book}
 use Rattle.buffer_pool.specs.Calls.{HeldBuffer, Owner}
-use Rattle.work_pair.specs.CallEffects.{FillsNext, FindsNoOwn, GetsBy, Gives, HasMore, Publishes, PublishesPlace}
+use Rattle.work_pair.specs.CallEffects.{FillsNext, FindsNoOwn, GetsBy, Gives, HasMore, Publishes, PublishesPosition}
 use Rattle.work_pair.specs.CallEffects.{TakesOwn, lower_part, upper_half}
 use Rattle.work_pair.specs.Moves.{Move, Took, Gave, FoundNone, Spent, Moved, Moves, popped_items, popped_numbers}
 use Rattle.work_pair.specs.Moves.{pushed_items, pushed_numbers, AreFilled, HasPushOnFull, HasPopFromFull, EndAtLastTag}
@@ -16,9 +16,9 @@ use Rattle.work_pair.specs.PairState.{AreAlike, AreOfSize, HasRoom}
 use Rattle.work_pair.specs.declared.stop.Stop.{Stop}
 use Rattle.work_pair.specs.declared.stop.Stop.TheVariants.{TagSpent, OutOfMemory}
 
--- a pair with three places, and nothing else
-abbrev pub places : Option HeldBuffer → Option HeldBuffer → Option HeldBuffer → PairState
-places first second third =
+-- a pair with three positions, and nothing else
+abbrev pub positions : Option HeldBuffer → Option HeldBuffer → Option HeldBuffer → PairState
+positions first second third =
     record { first = first; second = second; third = third; spill = []; stopped = false; starved = false }
 
 -- one pop
@@ -33,12 +33,12 @@ abbrev pub Shelves : HeldBuffer → Book → Book → Result Unit HeldBuffer →
 Shelves h old new (Ok done) = Moved (Gave (shelf_of h.items) h) old new
 Shelves h old new (Err back) = (back ≡ h) × Moved (Spent (shelf_of h.items)) old new
 
--- the buffer at a place, if there is one, was pushed
+-- the buffer at a position, if there is one, was pushed
 abbrev pub Leaves : Option HeldBuffer → Book → Book → Type 0
 Leaves None old new = new ≡ old
 Leaves (Some h) old new = Moved (Gave (shelf_of h.items) h) old new
 
--- the buffer at a place was pushed, and the next one took its place; or a last tag was loaded, and the next one is
+-- the buffer at a position was pushed, and the next one took its place; or a last tag was loaded, and the next one is
 -- left over
 abbrev pub PutsOut : Option HeldBuffer → HeldBuffer → Book → Option HeldBuffer → Option HeldBuffer → Book
     → Result Unit Stop → Type 0
@@ -47,7 +47,7 @@ PutsOut old next before new third after (Err (TagSpent token)) = (new ≡ old) �
     × Moved (Spent q) before after)
 PutsOut old next before new third after (Err OutOfMemory) = ⊥
 
--- the buffer at a place, if there is one, was pushed; or a last tag was loaded, and it is still there
+-- the buffer at a position, if there is one, was pushed; or a last tag was loaded, and it is still there
 abbrev pub ClearsAt : Option HeldBuffer → Book → Option HeldBuffer → Book → Result Unit Stop → Type 0
 ClearsAt old before new after (Ok done) = (new ≡ None) × Leaves old before after
 ClearsAt old before new after (Err (TagSpent token)) = (new ≡ old) × ((q : Which) × Moved (Spent q) before after)
@@ -64,7 +64,7 @@ Takes old new (Some object) =
     IsLocal old new [] (object ∷ []) × (new.third ≡ old.third) × TakesOwn old object new
 Takes old new None = IsLocal old new [] [] × (new.third ≡ old.third) × FindsNoOwn old new
 
--- the effect on one place: its buffer before, the buffer there after, and the one left over
+-- the effect on one position: its buffer before, the buffer there after, and the one left over
 pub record Renews (old : Option HeldBuffer) (before : Book) (new third : Option HeldBuffer) (after : Book)
     : Type 0 where
   pub moves : List Move
@@ -82,13 +82,13 @@ abbrev pub IsFull : Which → Type 0
 IsFull Full = Unit {0}
 IsFull Empty = ⊥
 
--- what is pushed of the buffer at a place, if there is one: all of it, or its lower part if it is halved
+-- what is pushed of the buffer at a position, if there is one: all of it, or its lower part if it is halved
 abbrev pub pushed_part : Bool → Option HeldBuffer → Option HeldBuffer
 pushed_part false old = old
 pushed_part true None = None
 pushed_part true (Some k) = Some (record k { items = lower_part k.items })
 
--- the buffer that is at the place afterwards: the popped one, with the upper half of the items if the old one was
+-- the buffer that is at the position afterwards: the popped one, with the upper half of the items if the old one was
 -- halved
 abbrev pub next_of : Bool → Option HeldBuffer → HeldBuffer → HeldBuffer
 next_of false old h = h
@@ -110,18 +110,18 @@ RenewAnswers half q old before new third after (Err (TagSpent token)) = (r : Ren
     × EndAtLastTag r.moves × (HasPopFromFull r.moves → IsFull q)
 RenewAnswers half q old before new third after (Err OutOfMemory) = ⊥
 
--- one place was published: its buffer was pushed on full and replaced if it had items, unless no empty buffer was
+-- one position was published: its buffer was pushed on full and replaced if it had items, unless no empty buffer was
 -- found; or a last tag was loaded
 abbrev pub PublishesAt : Option HeldBuffer → Book → Option HeldBuffer → Option HeldBuffer → Book
     → Result Unit Stop → Type 0
 PublishesAt old before new third after (Ok done) = (r : Renews old before new third after)
     × (third ≡ None) × (WasSeenEmpty Empty before after ⊎ (items_at new ≡ [])) × (HasPopFromFull r.moves → ⊥)
-    × PublishesPlace old r.moves new
+    × PublishesPosition old r.moves new
 PublishesAt old before new third after (Err (TagSpent token)) = (r : Renews old before new third after)
     × EndAtLastTag r.moves × (HasPopFromFull r.moves → ⊥)
 PublishesAt old before new third after (Err OutOfMemory) = ⊥
 
--- the effect on all three places
+-- the effect on all three positions
 pub record Trades (old : PairState) (before : Book) (put got : List ℕ) (new : PairState) (after : Book) : Type 0 where
   pub moves : List Move
   pub books : Moves before moves after

@@ -1,7 +1,7 @@
 //! How a pair's buffers give objects to other workers, and how many objects are too few to give.
 
 use crate::buffers::Buffers;
-use crate::place::{halve, len_at, publish_at, renew};
+use crate::position::{halve, len_at, publish_at, renew};
 use crate::stop::Stop;
 use buffer_pool::{Pool, Worker};
 use std::alloc::Allocator;

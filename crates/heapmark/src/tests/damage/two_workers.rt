@@ -13,8 +13,8 @@ use std::thread::Threads;
 const PLACES: usize = 8;
 
 /// Returns options with two workers and eight buffers of two objects each, two buffers more than the least. With the
-/// least, a worker may find too few buffers for a pair. It then ends without ever having been idle, and the other worker
-/// waits for it in all of its turns, some 0.4 s.
+/// least, a worker may find too few buffers for a pair. It then ends without ever having been idle, and the other
+/// worker waits for it in all of its turns, some 0.4 s.
 fn two_workers() -> Options {
     let Ok(options) = Options::new(2, 2, 8, 0) else {
         unreachable!();

@@ -27,7 +27,8 @@ and-left-requires g c =
     let graph = c.args.graph.now in
     let marks = c.args.marks.now.marks in
     more_add_up graph (unmarked_from marks 0) c.loop-first.numbers c.as_slice.result.now c.batch_from.new.self
-    c.loop-first.left c.in_ok-counted.counted c.loop-first.invariant.2 (next_batch g (goal.at.and-left-requires g c).After-as_slice)
+    c.loop-first.left c.in_ok-counted.counted c.loop-first.invariant.2
+    (next_batch g (goal.at.and-left-requires g c).After-as_slice)
     c.in_ok-counted.ensures c.len-objects.ensures.whole (unmarked_are_objects marks graph c.requires)
 
 pub loop-first-smaller : goal.loop-first-smaller

@@ -1,9 +1,9 @@
--- The old runs are followed by the runs so far, raised, and there is room for the rest.
+-- The old extents are followed by the extents so far, raised, and there is room for the rest.
 use Rattle.id_index.proofs.Words.{length, map, raised_by, take, vec_capacity, vec_len, ◌++◌, ◌+◌, ◌-◌, ◌≡◌, ◌≤◌}
 use Rattle.id_index.proofs.builder.push_raised.Given as goal
 
-abbrev pub invariant-loop-run : goal.invariant-loop-run
-invariant-loop-run g l = record {
-  so_far : l.runs.items ≡ l.fn.runs.items ++ map (raised_by l.by) (take l.run-index l.more);
-  room : vec_len l.runs + (length l.more - l.run-index) ≤ vec_capacity l.runs;
+abbrev pub invariant-loop-extent : goal.invariant-loop-extent
+invariant-loop-extent g l = record {
+  so_far : l.extents.items ≡ l.fn.extents.items ++ map (raised_by l.by) (take l.extent-index l.more);
+  room : vec_len l.extents + (length l.more - l.extent-index) ≤ vec_capacity l.extents;
 }

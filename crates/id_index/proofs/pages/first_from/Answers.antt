@@ -1,5 +1,5 @@
--- The way down ends at the last run of a smaller page or at the low end, the way up at the first run of no smaller
--- page.
+-- The way down ends at the last extent of a smaller page or at the low end, the way up at the first extent of no
+-- smaller page.
 use Rattle.id_index.proofs.Words.{arith, page_in, ◌-◌, ◌≤◌}
 use Rattle.id_index.proofs.Halving.{first_in_turn}
 use Rattle.id_index.proofs.pages.first_from.Goals as goal
@@ -12,7 +12,7 @@ loop-at-2-init c =
       c.loop-at.invariant.2,
       elim c.loop-at-test.branch [
         | then-loop-at-test+else-page w ↦ λ k h.
-            let rise : page_in c.args.runs.now k ≤ page_in c.args.runs.now (c.loop-at.at - 1) =
+            let rise : page_in c.args.extents.now k ≤ page_in c.args.extents.now (c.loop-at.at - 1) =
             c.requires.rise k (c.loop-at.at - 1) (omega (arith, h))
             (omega (arith, h, c.loop-at.invariant.2, around.within)) in
             omega (arith, rise, w.if-page.false)
@@ -25,6 +25,6 @@ loop-at-2-init c =
     )
 
 pub returns-else-page-2 : goal.returns-else-page-2
-returns-else-page-2 c = first_in_turn c.args.runs.now c.args.page c.loop-at-2.at c.requires.rise
+returns-else-page-2 c = first_in_turn c.args.extents.now c.args.page c.loop-at-2.at c.requires.rise
     (omega (arith, c.loop-at-2-test.true, c.loop-at-2.invariant.0.within)) c.loop-at-2.invariant.2
     (omega (arith, c.if-page-2.false))

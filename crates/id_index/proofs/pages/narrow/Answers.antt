@@ -1,4 +1,4 @@
--- Each probe halves the range, and after 58 halvings at most 64 of fewer than 2^64 runs are left.
+-- Each probe halves the range, and after 58 halvings at most 64 of fewer than 2^64 extents are left.
 use Rattle.id_index.proofs.Words.{arith, inl, inr, pow_mono, ◌-◌, ◌/◌, ◌^◌, ◌≤◌}
 use Rattle.id_index.proofs.Halving.{half_left, probe_left}
 use Rattle.id_index.proofs.pages.narrow.Goals as goal

@@ -1,4 +1,4 @@
--- The runs that descend are no more than those that were looked at.
+-- The extents that descend are no more than those that were looked at.
 use Rattle.std.proofs.Common.{◌≤◌}
 use Rattle.id_index.proofs.sorting.descends_often.Given as goal
 

@@ -1,5 +1,5 @@
--- The results are those of the parts. No object of the parts so far breaks a rule, and the first repeat is none of these
--- objects.
+-- The results are those of the parts. No object of the parts so far breaks a rule, and the first repeat is none of
+-- these objects.
 use Rattle.heap_graph.proofs.Words.{AreFine, AreOf, HaveFatesOf, List, SubRecord, length, min, ℕ, ◌*◌, ◌≤◌}
 use Rattle.heap_graph.specs.working.TestedParts.{AreOfParts}
 use Rattle.heap_graph.proofs.objects.Objects.check.Given as goal

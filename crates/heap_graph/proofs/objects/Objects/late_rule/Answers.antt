@@ -1,5 +1,6 @@
 -- The object at the place is of the kind that was read there, so it is tested by the rules of its kind.
-use Rattle.heap_graph.proofs.Words.{IsLateRule, Some, Stands, SubRecord, class_dump, instance_dump, refl, subst, sym, ◌≡◌}
+use Rattle.heap_graph.proofs.Words.{IsLateRule, Some, Stands, SubRecord, class_dump, instance_dump, refl, subst, sym}
+use Rattle.heap_graph.proofs.Words.{◌≡◌}
 use Rattle.heap_graph.proofs.Words.{object_array_dump, object_kind}
 use Rattle.heap_graph.proofs.Standings.{IsDumpBy, is_class_dump, is_instance_dump}
 use Rattle.hprof_grammar.specs.declared.kinds.ObjectKind.TheVariants as kinds

@@ -15,26 +15,26 @@ returns-then-id-self g c =
     (λ e. omega (arith, c.if-id-self.true, masked, e))
     ∙ ap (λ (ids : List ℕ). position (λ x. x == c.args.id) ids) c.self.view_is
 
-pub returns-in-Pairs : goal.returns-in-Pairs
-returns-in-Pairs g c =
+pub returns-in-Narrow : goal.returns-in-Narrow
+returns-in-Narrow g c =
     let i = c.self.inside in
     let masked : bit_and c.args.id i.mask ≡ c.args.id % 2 ^ i.bits.shift =
     rw c.self.invariant.mask (and_mask c.args.id i.bits.shift) in
-    found i.bits.shift i.bits.low c.self.invariant.low c.in-Pairs.pairs c.args.id c.find-in-Pairs.result
-    (omega (arith, masked, c.if-id-self.false)) c.find-in-Pairs.ensures
+    found i.bits.shift i.bits.low c.self.invariant.low c.in-Narrow.entries c.args.id c.find-in-Narrow.result
+    (omega (arith, masked, c.if-id-self.false)) c.find-in-Narrow.ensures
     ∙ ap (λ (form : Form g.row.A.Denot). position (λ x. x == c.args.id)
-    (whole_ids i.bits.shift i.bits.low (ids_held form))) (sym c.in-Pairs.is)
+    (whole_ids i.bits.shift i.bits.low (ids_held form))) (sym c.in-Narrow.is)
     ∙ ap (λ (ids : List ℕ). position (λ x. x == c.args.id) ids) c.self.view_is
 
-pub returns-in-Runs : goal.returns-in-Runs
-returns-in-Runs g c =
+pub returns-in-Extents : goal.returns-in-Extents
+returns-in-Extents g c =
     let i = c.self.inside in
     let masked : bit_and c.args.id i.mask ≡ c.args.id % 2 ^ i.bits.shift =
     rw c.self.invariant.mask (and_mask c.args.id i.bits.shift) in
-    found i.bits.shift i.bits.low c.self.invariant.low c.in-Runs.runs c.args.id c.find.result
+    found i.bits.shift i.bits.low c.self.invariant.low c.in-Extents.extents c.args.id c.find.result
     (omega (arith, masked, c.if-id-self.false)) c.find.ensures
     ∙ ap (λ (form : Form g.row.A.Denot). position (λ x. x == c.args.id)
-    (whole_ids i.bits.shift i.bits.low (ids_held form))) (sym c.in-Runs.is)
+    (whole_ids i.bits.shift i.bits.low (ids_held form))) (sym c.in-Extents.is)
     ∙ ap (λ (ids : List ℕ). position (λ x. x == c.args.id) ids) c.self.view_is
 
 pub returns-in-Wide : goal.returns-in-Wide

@@ -17,8 +17,11 @@ returns-then-id g c =
     get_or_read i.entries.items at c.index.result.now inside c.index.ensures no_entry in
     let again : c.index-then-id.result.now ≡ entry_in i.entries.items at =
     get_or_read i.entries.items at c.index-then-id.result.now inside c.index-then-id.ensures no_entry in
-    let is : id_of (entry_in i.entries.items at) ≡ c.args.id = omega (arith, c.if-id.true, c.id.ensures, ap id_of read) in
-    ap (λ (e : WideEntry). Some e.number) again ∙ found i.entries.items (ids_of_entries i.entries.items) c.self.invariant.ordered c.self.invariant.are c.args.id at
+    let is : id_of (entry_in i.entries.items at) ≡ c.args.id =
+    omega (arith, c.if-id.true, c.id.ensures, ap id_of read) in
+    ap (λ (e : WideEntry). Some e.number) again
+    ∙ found i.entries.items
+    (ids_of_entries i.entries.items) c.self.invariant.ordered c.self.invariant.are c.args.id at
     first inside is
     ∙ ap (λ (ids : List ℕ). position (λ x. x == c.args.id) ids) c.self.view_is
 

@@ -18,25 +18,25 @@ returns-in_err-renew-clause-balances g c =
     let n = c.renew.new in
     let p = err_from_is_err_and c.from_residual.result c.from_residual.ensures.1 in
     rw (p.1, p.2)
-    (second_stopped c.requires n.place n.third n.worker.book c.in_err-renew.field-0.0 c.in_err-renew.ensures.renews)
+    (second_stopped c.requires n.position n.third n.worker.book c.in_err-renew.field-0.0 c.in_err-renew.ensures.renews)
 
 pub returns-in_err-halve-clause-balances : goal.returns-in_err-halve-clause-balances
 returns-in_err-halve-clause-balances g c =
     let n = c.halve.new in
     let p = err_from_is_err_and c.from_residual-in_err-halve.result c.from_residual-in_err-halve.ensures.1 in
     rw (p.1, p.2)
-    (first_stopped c.requires n.place n.third n.worker.book c.in_err-halve.field-0.0 c.in_err-halve.ensures.renews)
+    (first_stopped c.requires n.position n.third n.worker.book c.in_err-halve.field-0.0 c.in_err-halve.ensures.renews)
 
 pub returns-in_ok-renew-clause-balances : goal.returns-in_ok-renew-clause-balances
 returns-in_ok-renew-clause-balances g c =
     let n = c.renew.new in
-    second_balanced c.requires n.place n.third n.worker.book c.in_ok-renew.field-0 c.in_ok-renew.ensures.renews
+    second_balanced c.requires n.position n.third n.worker.book c.in_ok-renew.field-0 c.in_ok-renew.ensures.renews
     (some_items (items_at c.args.self.now.second) (omega (arith, c.if-len_at-gt0.true, c.len_at.ensures)))
 
 pub returns-in_ok-halve-clause-balances : goal.returns-in_ok-halve-clause-balances
 returns-in_ok-halve-clause-balances g c =
     let n = c.halve.new in
-    first_balanced c.requires n.place n.third n.worker.book c.in_ok-halve.field-0 c.in_ok-halve.ensures.renews
+    first_balanced c.requires n.position n.third n.worker.book c.in_ok-halve.field-0 c.in_ok-halve.ensures.renews
     (omega (arith, c.if-len_at-gt-FEW.true, c.len_at-else-len_at-gt0.ensures))
     (none_in (items_at c.args.self.now.second) (omega (arith, c.if-len_at-gt0.false, c.len_at.ensures)))
 

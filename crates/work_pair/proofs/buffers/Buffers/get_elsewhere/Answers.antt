@@ -82,7 +82,7 @@ loop-preserved g c =
     let so_far = c.loop.invariant in
     let both =
     turned c.requires.backed c.loop.self so_far.trades.0 so_far.third c.take.new.self c.in_default.ensures
-    c.in-Some-2.next c.pop_one.new.worker.book (popped g (goal.at.loop-preserved g c).In-Some-2) c.put_out.new.place
+    c.in-Some-2.next c.pop_one.new.worker.book (popped g (goal.at.loop-preserved g c).In-Some-2) c.put_out.new.position
     c.put_out.new.third c.put_out.new.worker.book so_far.trades.1 so_far.trades.2 c.in_ok-put_out.field-0
     c.in_ok-put_out.ensures.out in
     record {
@@ -101,7 +101,7 @@ returns-in_err-put_out g c =
     (record {
       pool = c.put_out.ensures.pool ∙ c.pop_one.ensures.pool ∙ so_far.pool;
       gets = put_stopped c.requires.backed c.loop.self so_far.trades.0 so_far.third c.take.new.self
-          c.in_default.ensures c.in-Some-2.next c.pop_one.new.worker.book (popped g at.In-Some-2) c.put_out.new.place
+          c.in_default.ensures c.in-Some-2.next c.pop_one.new.worker.book (popped g at.In-Some-2) c.put_out.new.position
           c.put_out.new.third c.put_out.new.worker.book c.in_err-put_out.field-0.0 c.in_err-put_out.ensures.out;
       own = λ some. none_own g at.In_default some;
     })

@@ -1,7 +1,7 @@
--- The first place is renewed if it has objects, and then the second, which the book still backs.
+-- The first position is renewed if it has objects, and then the second, which the book still backs.
 use Rattle.std.proofs.Common.{refl, ◌∙◌}
 use Rattle.std.proofs.lemmas.Result.{err_from_is_err_and}
-use Rattle.work_pair.specs.working.Steps.{places}
+use Rattle.work_pair.specs.working.Steps.{positions}
 use Rattle.work_pair.proofs.Calls.{both_published, may_publish_second, may_renew_first, none_at, publish_stopped}
 use Rattle.work_pair.proofs.buffers.Buffers.publish.Goals as goal
 
@@ -13,21 +13,21 @@ returns-in_err-publish_at-clause-publishes g c =
     let one = c.publish_at.new in
     let p = err_from_is_err_and c.from_residual.result c.from_residual.ensures.1 in
     rw (p.1, p.2)
-    (publish_stopped c.requires one.place one.third one.worker.book c.in_err-publish_at.field-0.0
+    (publish_stopped c.requires one.position one.third one.worker.book c.in_err-publish_at.field-0.0
     c.in_err-publish_at.ensures.publishes)
 
 pub publish_at-requires-2 : goal.publish_at-requires-2
 publish_at-requires-2 g c =
     let one = c.publish_at.new in
-    may_publish_second c.requires one.place one.third one.worker.book c.in_ok-publish_at.field-0
+    may_publish_second c.requires one.position one.third one.worker.book c.in_ok-publish_at.field-0
     c.in_ok-publish_at.ensures.publishes one.worker c.publish_at.ensures.pool refl
 
 pub returns-clause-publishes : goal.returns-clause-publishes
 returns-clause-publishes g c =
     let one = c.publish_at.new in
     let two = c.publish_at-2.new in
-    both_published c.requires one.place one.third one.worker.book c.in_ok-publish_at.field-0
-    c.in_ok-publish_at.ensures.publishes two.place two.third two.worker.book c.publish_at-2.result
+    both_published c.requires one.position one.third one.worker.book c.in_ok-publish_at.field-0
+    c.in_ok-publish_at.ensures.publishes two.position two.third two.worker.book c.publish_at-2.result
     c.publish_at-2.ensures.publishes
 
 pub returns-clause-nothing : goal.returns-clause-nothing
@@ -36,4 +36,4 @@ returns-clause-nothing g c none =
     let empty = none_at m.first m.second m.third none in
     let first = c.in_ok-publish_at.ensures.none empty.0 in
     let second = c.publish_at-2.ensures.none empty.1 in
-    (λ k. places (first.0 k) (second.0 k) ((second.1 ∙ first.1) k), second.2 ∙ first.2, second.3)
+    (λ k. positions (first.0 k) (second.0 k) ((second.1 ∙ first.1) k), second.2 ∙ first.2, second.3)

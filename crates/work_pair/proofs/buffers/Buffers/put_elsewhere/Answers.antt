@@ -1,4 +1,4 @@
--- After the two buffers exchanged places, the object goes into the former second one, or into an empty one that was
+-- After the two buffers exchanged positions, the object goes into the former second one, or into an empty one that was
 -- popped.
 use Rattle.std.proofs.Common.{refl, inl, inr, sym, ◌∙◌}
 use Rattle.std.proofs.lemmas.Bool.{false≢true}
@@ -33,7 +33,7 @@ returns-in_err-renew g c =
     (record {
       pool = c.renew.ensures.pool;
       puts = put_stopped c.requires.may (c.if-put_at.ensures.full ∙ c.swap.ensures.x_after) c.swap.ensures.y_after
-          c.renew.new.place c.renew.new.third c.renew.new.worker.book c.in_err-renew.field-0.0
+          c.renew.new.position c.renew.new.third c.renew.new.worker.book c.in_err-renew.field-0.0
           c.in_err-renew.ensures.renews;
       room = λ has. absurd (c.if-put_at.ensures.no_room (rw c.swap.ensures.x_after has));
     })
@@ -43,7 +43,7 @@ returns-then-not-branch g c =
     record {
       pool = c.renew.ensures.pool;
       puts = put_refused c.requires.may (c.if-put_at.ensures.full ∙ c.swap.ensures.x_after) c.swap.ensures.y_after
-          c.renew.new.place c.renew.new.third c.renew.new.worker.book
+          c.renew.new.position c.renew.new.third c.renew.new.worker.book
           (rw c.if-not-branch.true at c.in_ok-renew.ensures.renews);
       room = λ has. absurd (c.if-put_at.ensures.no_room (rw c.swap.ensures.x_after has));
     }
@@ -57,7 +57,7 @@ returns g c =
     (record {
       pool = c.renew.ensures.pool;
       puts = put_told c.requires.may (c.if-put_at.ensures.full ∙ c.swap.ensures.x_after) c.swap.ensures.y_after
-          c.renew.new.place c.renew.new.third c.renew.new.worker.book put.0 c.args.object c.put_at-2.new.place
+          c.renew.new.position c.renew.new.third c.renew.new.worker.book put.0 c.args.object c.put_at-2.new.position
           told put.1 put.2
           (λ k is none. false≢true
           (sym c.if-put_at.false ∙ c.put_at.ensures.room k (sym c.if-put_at.ensures.full ∙ is) none));

@@ -27,13 +27,13 @@ returns-in-Some-take_at-clause-got g c =
     let n = c.pop.new.self in
     let b = c.args.worker.now.book in
     let m = i.buffers in
-    let place = c.take_at.new.place in
+    let position = c.take_at.new.position in
     let o = c.in-Some-take_at.object in
     let may = may_trade i c.self.view_is {w = c.args.worker.now} c.requires.pool c.requires.going c.requires.backed
     c.requires.busy in
-    let left : Buffers _ = record m { first = place } in
+    let left : Buffers _ = record m { first = position } in
     let told = got may.backed m (untouched may.backed.sized) may.third [] (refl, refl, refl) left o
-    (taken_first m.first m.second m.third place o c.in-Some-take_at.ensures) in
+    (taken_first m.first m.second m.third position o c.in-Some-take_at.ensures) in
     got_told i c.self.view_is b left b c.requires.backed n (sym (c.in_default.ensures.items ∙ append-nil n))
     (Ok (Some o)) (still_going i c.self.view_is c.requires.going) told
 
@@ -43,13 +43,13 @@ returns-in-Some-take_at-clause-gets g c none =
     let n = c.pop.new.self in
     let b = c.args.worker.now.book in
     let m = i.buffers in
-    let place = c.take_at.new.place in
+    let position = c.take_at.new.position in
     let o = c.in-Some-take_at.object in
     let may = may_trade i c.self.view_is {w = c.args.worker.now} c.requires.pool c.requires.going c.requires.backed
     c.requires.busy in
-    let left : Buffers _ = record m { first = place } in
+    let left : Buffers _ = record m { first = position } in
     let told = got may.backed m (untouched may.backed.sized) may.third [] (refl, refl, refl) left o
-    (taken_first m.first m.second m.third place o c.in-Some-take_at.ensures) in
+    (taken_first m.first m.second m.third position o c.in-Some-take_at.ensures) in
     gets_told i c.self.view_is b left b c.requires.backed n (sym (c.in_default.ensures.items ∙ append-nil n))
     (Ok (Some o)) (still_going i c.self.view_is c.requires.going) told
 

@@ -86,19 +86,19 @@ returns-in_err-clear_at-clause-spent g c =
     let p = err_from_is_err_and c.from_residual-in_err-clear_at.result c.from_residual-in_err-clear_at.ensures.1 in
     rw (p.1, p.2)
     (back_stopped c.args.worker.now.book c.in-Some.first c.pop_one.new.worker.book (took_first g at.In-Some)
-    c.pop_one-2.new.worker.book (missing_second g at.In_default-2) c.clear_at.new.place c.clear_at.new.worker.book
+    c.pop_one-2.new.worker.book (missing_second g at.In_default-2) c.clear_at.new.position c.clear_at.new.worker.book
     c.in_err-clear_at.field-0.0 c.in_err-clear_at.ensures.clears)
 
 pub returns-clause-none : goal.returns-clause-none
 returns-clause-none g c =
     let at = goal.at.returns-clause-none g c in
     given_back c.args.worker.now.book c.in-Some.first c.pop_one.new.worker.book (took_first g at.In-Some)
-    c.pop_one-2.new.worker.book (missing_second g at.In_default-2) c.clear_at.new.place c.clear_at.new.worker.book
+    c.pop_one-2.new.worker.book (missing_second g at.In_default-2) c.clear_at.new.position c.clear_at.new.worker.book
     c.in_ok-clear_at.field-0 c.in_ok-clear_at.ensures.clears
 
 pub returns-clause-not_found : goal.returns-clause-not_found
 returns-clause-not_found g c =
     let at = goal.at.returns-clause-not_found g c in
     gave_back c.args.worker.now.book c.in-Some.first c.pop_one.new.worker.book (took_first g at.In-Some)
-    c.pop_one-2.new.worker.book (missing_second g at.In_default-2) c.clear_at.new.place c.clear_at.new.worker.book
+    c.pop_one-2.new.worker.book (missing_second g at.In_default-2) c.clear_at.new.position c.clear_at.new.worker.book
     c.in_ok-clear_at.field-0 c.in_ok-clear_at.ensures.clears

@@ -24,7 +24,7 @@ returns-then-put_at-clause-put g c =
     let put = c.if-put_at.ensures.put in
     let may = may_trade i c.self.view_is {w = c.args.worker.now} c.requires.pool c.requires.going c.requires.backed
     c.requires.busy in
-    puts i c.self.view_is b (record i.buffers { first = c.put_at.new.place }) b c.requires.going c.args.object
+    puts i c.self.view_is b (record i.buffers { first = c.put_at.new.position }) b c.requires.going c.args.object
     c.requires.backed (
       still (put_first put.1 put.2) may.backed.sized,
       may.third,

@@ -1,0 +1,7 @@
+-- The identifiers and class dumps so far are those that gathering from the first object on would have.
+use Rattle.heap_graph.specs.working.GatheredParts.{HasGathered}
+use Rattle.heap_graph.proofs.objects.unordered.filled.Given as goal
+
+abbrev pub invariant-loop-number : goal.invariant-loop-number
+invariant-loop-number g l =
+    HasGathered l.view l.places l.fn.bits 0 l.number (record { ids = l.ids; class_dumps = l.class_dumps })
