@@ -1,8 +1,19 @@
-"""The table of dev/EDITS.md: what refuses each must-fail edit, in the prover's words."""
+"""The table dev/edits.tsv: what refuses each must-fail edit, in the prover's words.
+
+Each row has a wrong body of `crates/*/must-fail/`, the functions that it leaves unproved, and why:
+
+- A goal stays open. `returns-clause-did` is the clause `did` on return (docs/RATTLE.md, "How a proof is written").
+- `an answer to GOAL`: a proof written by hand does not fit the body. Then the row may lack other open goals.
+
+Functions that only call an unproved one are omitted. dev/gate_costs and dev/try_edits compare each row with what the
+prover says, and `try_edits --write` writes it: sorted by edit within its crate, cells of several parts with commas.
+"""
 
 import re
 
-PAGE = "dev/EDITS.md"
+PAGE = "dev/edits.tsv"
+#: What a part of a cell begins with if a proof written by hand does not fit.
+ANSWER = "an answer"
 
 
 def refused_by(said):
@@ -16,58 +27,44 @@ def refused_by(said):
         searched = re.match(r"fn \w+::(\S+): no proof.*`search` did not prove (.*)$", line)
         by_hand = re.match(r"\./proofs/(\S+)/(?:Answers|Proof)\.antt:\S+ error: (?:`([\w+-]+)`)?", line)
         if searched:
-            found.setdefault(searched[1], []).extend(f"`{it}`" for it in re.findall(r"`([\w+-]+)`", searched[2]))
+            found.setdefault(searched[1], []).extend(re.findall(r"`([\w+-]+)`", searched[2]))
         elif by_hand:
-            answer = f"an answer to `{by_hand[2]}`" if by_hand[2] else "an answer"
+            answer = f"{ANSWER} to {by_hand[2]}" if by_hand[2] else ANSWER
             found.setdefault(by_hand[1].replace("/", "::"), []).append(answer)
         else:
-            found.setdefault("", []).append(line[:80].replace("`", "'").replace("|", " "))
+            found.setdefault("", []).append(line[:80].replace("`", "'").replace("\t", " "))
     return found
 
 
-def row(edit, found):
-    """Returns the line of the table for `edit`. `found` is what refuses it, as `refused_by` returns it."""
-    functions = ", ".join(f"`{it}`" for it in found if it)
+def row(crate, edit, found):
+    """Returns the row of `edit`. `found` is what refuses it, as `refused_by` returns it."""
     goals = [goal for function in found for goal in sorted(set(found[function]))]
-    return f"| `{edit}` | {functions} | {', '.join(dict.fromkeys(goals))} |"
+    return "\t".join((crate, edit, ", ".join(it for it in found if it), ", ".join(dict.fromkeys(goals))))
 
 
 def told_by(line):
-    """Returns what a line of the table says, without its order and without the remark after a goal."""
-    cells = [re.sub(r"(?<=`): .*", "", cell) for cell in line.strip("| ").split(" | ")]
-    return [set(re.findall(r"`([^`]+)`", cell)) for cell in cells]
+    """Returns the functions and the goals of a row. An answer counts as its goal, or not at all if it names none."""
+    functions, goals = (set(cell.split(", ")) for cell in line.split("\t")[2:])
+    return functions - {""}, {it.replace(f"{ANSWER} to ", "") for it in goals - {"", ANSWER}}
 
 
-def read(page):
-    """Returns the lines of the table, by crate and edit."""
-    crate, lines = "", {}
-    for line in page.splitlines():
-        if heading := re.match(r"## `(\w+)`$", line):
-            crate = heading[1]
-        elif cell := re.match(r"\| `(\w+)` \|", line):
-            lines[crate, cell[1]] = line
-    return lines
+def read(text):
+    """Returns the rows of the table `text`, by crate and edit."""
+    return {tuple(line.split("\t")[:2]): line for line in text.splitlines()[1:]}
 
 
-def compared(lines, crate, edit, found):
-    """Tests whether the table's line of an edit says what the prover said. If `found` only says how a proof ended, the
-    line is not compared."""
-    line = lines.get((crate, edit), "")
-    return bool(line) and ("" in found or told_by(line) == told_by(row(edit, found)))
+def compared(rows, crate, edit, found):
+    """Tests whether the row of an edit says what the prover said. If `found` only says how a proof ended, the row is
+    not compared."""
+    line = rows.get((crate, edit), "")
+    return bool(line) and ("" in found or told_by(line) == told_by(row(crate, edit, found)))
 
 
-def written(page, crate, edit, found):
-    """Returns the page with what the prover said of an edit in its line, or in a new one at the end of the crate's
-    table."""
-    lines, at = page.split("\n"), None
-    heading = lines.index(f"## `{crate}`")
-    for number in range(heading + 1, len(lines)):
-        if lines[number].startswith("## "):
-            break
-        if lines[number].startswith(f"| `{edit}` |"):
-            lines[number] = row(edit, found)
-            return "\n".join(lines)
-        if lines[number].startswith("|"):
-            at = number + 1
-    lines.insert(at, row(edit, found))
-    return "\n".join(lines)
+def written(text, crate, edit, found):
+    """Returns the table `text` with what the prover said of an edit in its row, or in a new one. A new crate becomes
+    the last."""
+    rows = read(text)
+    rows[crate, edit] = row(crate, edit, found)
+    crates = list(dict.fromkeys(of for of, _ in rows))
+    ordered = sorted(rows, key=lambda it: (crates.index(it[0]), it[1]))
+    return "\n".join([text.splitlines()[0], *(rows[it] for it in ordered), ""])
