@@ -2,18 +2,18 @@
 use Rattle.std.proofs.Common.{◌≡◌, ◌≢◌, ℕ, zero, suc, ◌<◌, ◌==◌, List, [], ◌∷◌, ◌++◌, map, Option, Some, None, set}
 use Rattle.std.proofs.Common.{slice_index, slice_set, ap, sym, refl, subst, ◌∙◌, Contains, length-set, arith}
 use Rattle.buffer_pool.proofs.Words.{none, some, some-ne-none, ℕ_discrete, get_elem?, either, State, Me, Allows, step}
-use Rattle.buffer_pool.proofs.Words.{keeps, takes, at_map, set_else, Head, head_of, after, Which, Empty, StandsAt}
+use Rattle.buffer_pool.proofs.Words.{keeps, takes, at_map, set_else, head_of, after, Which, Empty, StandsAt}
 use Rattle.buffer_pool.proofs.Words.{times, only, look_of, after_pop, Setup, Marking, items_of, put_which, CanPop, Pop}
-use Rattle.buffer_pool.proofs.Words.{Fail, IsBusy, effect, stack_popped as popped_event, count_failure, linear}
+use Rattle.buffer_pool.proofs.Words.{Fail, IsBusy, effect, stack_popped as popped_event, linear}
 use Rattle.buffer_pool.proofs.Words.{stands_times, sum_of-append, term_le, only-same, only-other, SeatView, popped}
 use Rattle.buffer_pool.proofs.Words.{failed, HasMissed, HasTaken, IsOurs, top_taken, mark_in, first_mark, head_word}
-use Rattle.buffer_pool.proofs.Words.{link_word, Reading, IsTied, Rests, free, slot_of, Reached, Rule, marking_of}
+use Rattle.buffer_pool.proofs.Words.{link_word, Reading, IsTied, Rests, free, slot_of, Rule, marking_of}
 use Rattle.buffer_pool.proofs.Words.{TableId, IsSound, logged, at_one, at_get_or}
 use mathlib.Core.Option as maybe
 use Rattle.buffer_pool.proofs.Bits.{marked_object}
-use Rattle.buffer_pool.proofs.States.{Seated, left, agrees, lawful, changed, accounts_set, accounts_same, counts_same}
-use Rattle.buffer_pool.proofs.States.{counts_changed, slots_set, sized_set, happened, story_now, rests_after, log_after}
-use Rattle.buffer_pool.proofs.States.{Goes, nothing_out, said_all, written_again, own_setup, told, on_top, stacked_free}
+use Rattle.buffer_pool.proofs.States.{Seated, left, agrees, lawful, changed, accounts_set, counts_same}
+use Rattle.buffer_pool.proofs.States.{slots_set, sized_set, happened, story_now, rests_after, log_after}
+use Rattle.buffer_pool.proofs.States.{Goes, nothing_out, said_all, written_again, own_setup, on_top, stacked_free}
 use Rattle.buffer_pool.proofs.States.{freed, did_event, missed_reached}
 use Rattle.buffer_pool.proofs.Loads.{noticed, same_head}
 use Rattle.buffer_pool.proofs.TableWords.{one_head, exchange_hit, exchange_miss, link_beside_head, links_beside_head}

@@ -1,11 +1,11 @@
 -- Extents that are apart stay apart in another order, and ascending extents of a page are in the order of their
 -- objects.
 use Rattle.id_index.proofs.Words.{AreInTurn, ArePairwiseApart, DoPagesRise, IsApart, IsPermutation, IsPermutation-keeps}
-use Rattle.id_index.proofs.Words.{IsSorted, IsStrictWeakOrder, List, Extent, ap, arith, cases_eq, cases_lt, count_ones}
+use Rattle.id_index.proofs.Words.{IsSorted, IsStrictWeakOrder, List, Extent, ap, arith, cases_lt, count_ones}
 use Rattle.id_index.proofs.Words.{end_of, false, inl, inr, is_lt, length, length-swap, nat_cmp_total, nat_tests}
 use Rattle.id_index.proofs.Words.{no_extent}
-use Rattle.id_index.proofs.Words.{on_total, page_in, ranks_by, refl, extent_cmp, extent_in, sorted_far, subst, swap}
-use Rattle.id_index.proofs.Words.{swapped_from_swap, sym, then_total, zero_from_ones, ℕ, ◌<◌, ◌∙◌, ◌≡◌, ◌≤◌, ◌⊎◌}
+use Rattle.id_index.proofs.Words.{on_total, page_in, ranks_by, extent_cmp, extent_in, sorted_far, subst, swap}
+use Rattle.id_index.proofs.Words.{sym, then_total, zero_from_ones, ℕ, ◌<◌, ◌∙◌, ◌≡◌, ◌≤◌, ◌⊎◌}
 use Rattle.id_index.proofs.Ones.{ones_of_bit}
 use Rattle.id_index.proofs.Swapped.{came_from}
 

@@ -1,6 +1,6 @@
 -- Entries of full width: their order, searching them by halving, and the identifiers that agree with them.
 use Rattle.std.specs.List.Sorted.{IsNonDecreasingBy}
-use Rattle.id_index.specs.working.WideEntries.{AreDistinct, AreEntriesOf, AreNumbered, AreOrdered, IsBefore}
+use Rattle.id_index.specs.working.WideEntries.{AreDistinct, AreEntriesOf, AreNumbered, AreOrdered}
 use Rattle.id_index.specs.working.WideEntries.{IsBetween, IsFirstFrom, IsLeastRepeat, IsRepeatAt, entry_in, entry_of}
 use Rattle.id_index.specs.working.WideEntries.{id_numbered}
 use Rattle.id_index.specs.working.WideEntries.{id_of, ids_of_entries, is_numbered, key_of}
@@ -10,9 +10,9 @@ use Rattle.id_index.proofs.Words.{Contains-permutation, IsFirstRepeat, IsPermuta
 use Rattle.id_index.proofs.Words.{IsPermutation-sym, List, None, Some, [], ap, arith, cases_eq, cases_lt, eq-eqb}
 use Rattle.id_index.proofs.Words.{eqb-true, fails_before_first, false, fill_by_all, get_or, get_or-append}
 use Rattle.id_index.proofs.Words.{get_or-append_seam, get_or-map, get_or_from_slice_get, get_or_read, inl, inr, length}
-use Rattle.id_index.proofs.Words.{length-append, length-map, length-swap, length_permutation, lt_of_not-le, map, min}
-use Rattle.id_index.proofs.Words.{ne_eqb, passes_at_first, position, position_or_len, refl, slice_get}
-use Rattle.id_index.proofs.Words.{slice_get-get_or, slice_get_within, subst, swap, sym, true, ℕ, ◌++◌, ◌+◌, ◌-◌, ◌*◌}
+use Rattle.id_index.proofs.Words.{length-append, length-map, length-swap, lt_of_not-le, map, min}
+use Rattle.id_index.proofs.Words.{ne_eqb, passes_at_first, position, position_or_len, slice_get}
+use Rattle.id_index.proofs.Words.{slice_get-get_or, slice_get_within, subst, swap, sym, true, ℕ, ◌++◌, ◌+◌, ◌-◌}
 use Rattle.id_index.proofs.Words.{◌<◌, ◌==◌, ◌^◌, ◌∙◌, ◌∷◌, ◌≡◌, ◌≢◌, ◌≤◌}
 use Rattle.id_index.proofs.Bearers.{before_in, in_before, position_is, position_none}
 use Rattle.id_index.proofs.Swapped.{came_from}

@@ -14,12 +14,12 @@ overflow_add-self-2 g c = omega (arith, may_add _ _ _ c.self.invariant _ c.self.
 pub invariant_of-self : goal.invariant_of-self
 invariant_of-self g c =
     (joins _ _ _ c.self.invariant c.args.id (may_add _ _ _ c.self.invariant _ c.self.view_is c.requires)
-    c.in-Some.extent' c.in-Some.is (omega (arith, c.if-extent-page.true)) (omega (arith, c.if-extent-bit.true))).0
+    c.in-Some.extent c.in-Some.is (omega (arith, c.if-extent-page.true)) (omega (arith, c.if-extent-bit.true))).0
 
 pub returns-then-extent-bit : goal.returns-then-extent-bit
 returns-then-extent-bit g c =
     (joins _ _ _ c.self.invariant c.args.id (may_add _ _ _ c.self.invariant _ c.self.view_is c.requires)
-    c.in-Some.extent' c.in-Some.is (omega (arith, c.if-extent-page.true)) (omega (arith, c.if-extent-bit.true))).1
+    c.in-Some.extent c.in-Some.is (omega (arith, c.if-extent-page.true)) (omega (arith, c.if-extent-bit.true))).1
     ∙ ap (λ (xs : List ℕ). xs ++ c.args.id ∷ []) c.self.view_is
 
 -- ---- the object begins an extent

@@ -1,7 +1,7 @@
 -- Sorting loses no entry, and the entries still have the same objects.
 use Rattle.std.proofs.Common.{rules}
 use Rattle.std.proofs.lemmas.List.Sorted.{IsNonDecreasingBy-from_sort, answers_always}
-use Rattle.id_index.proofs.Words.{IsFirstRepeat, List, arith, length, length-map, length_permutation, map, subst, sym}
+use Rattle.id_index.proofs.Words.{IsFirstRepeat, List, length, length-map, length_permutation, map, subst, sym}
 use Rattle.id_index.proofs.Words.{ℕ, ◌∙◌, ◌≡◌}
 use Rattle.id_index.specs.working.WideEntries.{AreEntriesOf, AreOrdered, IsLeastRepeat, id_of, ids_of_entries, key_of}
 use Rattle.id_index.specs.declared.wide_entries.WideEntry.{WideEntry}

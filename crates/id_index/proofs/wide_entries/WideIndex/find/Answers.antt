@@ -1,5 +1,5 @@
 -- If an object has the identifier, the entry that halving finds is that of the first such object.
-use Rattle.id_index.proofs.Words.{List, None, Some, ap, arith, get_or_read, length, position, ℕ, ◌<◌, ◌==◌, ◌∙◌, ◌≡◌}
+use Rattle.id_index.proofs.Words.{List, Some, ap, arith, get_or_read, length, position, ℕ, ◌<◌, ◌==◌, ◌∙◌, ◌≡◌}
 use Rattle.id_index.specs.working.WideEntries.{IsFirstFrom, entry_in, id_of, ids_of_entries}
 use Rattle.id_index.specs.declared.wide_entries.WideEntry.{WideEntry}
 use Rattle.id_index.proofs.Wide.{found, missing, no_entry}
