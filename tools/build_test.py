@@ -78,6 +78,13 @@ class BuildTest(unittest.TestCase):
         self.assertIn("begin right lib --jobs 1", self.log())
         self.assertIn("begin heapmark run --jobs 4 -- data/two_objects.hprof", self.log())
 
+    def test_urgent_crates_share_the_processes(self):
+        (self.top / "docs/GATE.md").write_text("| `left` | 40 | 0 |\n| `right` | 30 | 0 |\n| `low` | 9 | 0 |\n")
+        self.ended("--crates", "2", "--jobs", "4")
+        self.assertIn("begin low lib --jobs 4", self.log())
+        self.assertIn("begin left lib --jobs 2", self.log())
+        self.assertIn("begin right lib --jobs 1", self.log())
+
     def test_a_crate_that_is_not_proved(self):
         self.set(bad="left")
         status, out, _ = self.ended()
