@@ -1,18 +1,18 @@
-//! Look-ups of objects by ID. There are runs of neighbours in order, with a table of where they begin; or, for objects
-//! in no order, pairs of ID and number.
+//! Look-ups of objects by ID. There are extents of neighbours in order, with a table of where they begin; or, for
+//! objects in no order, entries of ID and number.
 
 mod beginnings;
-mod pairs;
-mod runs;
+mod entries;
+mod extents;
 #[cfg(test)]
 mod tests;
 
 use beginnings::Beginnings;
-use pairs::Pairs;
-use runs::{PLACES, Run, gather, settle, sort};
+use entries::Entries;
+use extents::{Extent, GRANULES, gather, settle, sort};
 
 /// The lowest bits, which are the same in all IDs, and how many they are. They are cut off before an ID is split into
-/// page and place.
+/// page and granule.
 #[derive(Clone, Copy)]
 pub struct LowBits {
     count: u32,
@@ -26,20 +26,20 @@ impl LowBits {
         [LowBits { count: 3, bits: first % 8 }, LowBits { count: 0, bits: 0 }]
     }
 
-    /// The page of `id` and its place on the page, if it has these lowest bits.
-    fn page_and_place(self, id: u64) -> Option<(u64, u32)> {
+    /// The page of `id` and its granule on the page, if it has these lowest bits.
+    fn page_and_granule(self, id: u64) -> Option<(u64, u32)> {
         let cut = id >> self.count;
-        (id % (1 << self.count) == self.bits).then_some((cut / PLACES, (cut % PLACES) as u32))
+        (id % (1 << self.count) == self.bits).then_some((cut / GRANULES, (cut % GRANULES) as u32))
     }
 }
 
 /// Finds objects by their IDs. If several objects have one ID, finds the first.
 pub struct Index {
     low: LowBits,
-    /// In place of the runs, for objects in no order.
-    pairs: Option<Pairs>,
+    /// In place of the extents, for objects in no order.
+    entries: Option<Entries>,
     /// In order, at most 64 of each page.
-    runs: Vec<Run>,
+    extents: Vec<Extent>,
     beginnings: Beginnings,
     repeat: Option<u32>,
 }
@@ -53,25 +53,25 @@ impl Index {
         mut ids: impl Iterator<Item = u64>,
         low: LowBits,
     ) -> Option<Index> {
-        let pairs = Pairs::of(count, id, ids.by_ref(), low);
-        let mut runs = match pairs {
+        let entries = Entries::of(count, id, ids.by_ref(), low);
+        let mut extents = match entries {
             Some(_) => vec![],
-            None => gather(ids.map(|id| low.page_and_place(id)))?,
+            None => gather(ids.map(|id| low.page_and_granule(id)))?,
         };
-        sort(&mut runs);
-        let repeat = settle(&mut runs);
-        let beginnings = Beginnings::of(&runs);
-        Some(Index { low, pairs, runs, beginnings, repeat })
+        sort(&mut extents);
+        let repeat = settle(&mut extents);
+        let beginnings = Beginnings::of(&extents);
+        Some(Index { low, entries, extents, beginnings, repeat })
     }
 
     pub fn find(&self, id: u64) -> Option<u32> {
-        let (page, place) = self.low.page_and_place(id)?;
-        if let Some(pairs) = &self.pairs {
-            return pairs.find(page, place);
+        let (page, granule) = self.low.page_and_granule(id)?;
+        if let Some(entries) = &self.entries {
+            return entries.find(page, granule);
         }
-        let first = self.beginnings.first_from(&self.runs, page)?;
-        let mut of_page = self.runs[first..].iter().take_while(|run| run.page == page);
-        of_page.find(|run| run.has(place)).map(|run| run.number_at(place))
+        let first = self.beginnings.first_from(&self.extents, page)?;
+        let mut of_page = self.extents[first..].iter().take_while(|extent| extent.page == page);
+        of_page.find(|extent| extent.has(granule)).map(|extent| extent.number_at(granule))
     }
 
     /// The least number of an object whose ID an earlier object has.

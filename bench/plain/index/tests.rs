@@ -1,7 +1,7 @@
 //! Compares indexes with a search one by one.
 
-use super::pairs::Pairs;
-use super::runs::{Run, descend_often, sort};
+use super::entries::Entries;
+use super::extents::{Extent, descend_often, sort};
 use super::{Index, LowBits};
 
 fn index_of(ids: &[u64]) -> Index {
@@ -39,7 +39,7 @@ fn in_falling_pages(pages: u64, count: u64) -> Vec<u64> {
     (0..count).map(|number| 0x1000 + (pages - 1 - number % pages) * 512 + number / pages * 8).collect()
 }
 
-/// For each list the number of runs, or else the number of pairs, and the number of low bits that are omitted.
+/// For each list the number of extents, or else the number of entries, and the number of low bits that are omitted.
 #[test]
 fn lists() {
     let rows: [(&str, Vec<u64>, usize, usize, u32); 28] = [
@@ -48,7 +48,7 @@ fn lists() {
         ("0", vec![0], 1, 0, 3),
         ("the last ID", vec![u64::MAX], 1, 0, 3),
         ("both ends", vec![u64::MAX, 0], 2, 0, 0),
-        ("both ends of places that eight divides", vec![u64::MAX - 7, 0], 2, 0, 3),
+        ("both ends of granules that eight divides", vec![u64::MAX - 7, 0], 2, 0, 3),
         ("63 neighbours", neighbours(0x1000, 63), 1, 0, 3),
         ("64 neighbours", neighbours(0x1000, 64), 1, 0, 3),
         ("65 neighbours", neighbours(0x1000, 65), 2, 0, 3),
@@ -56,31 +56,31 @@ fn lists() {
         ("ascending", neighbours(0, 1000), 16, 0, 3),
         ("ascending with gaps", (0..100).map(|number| 72 * number).collect(), 14, 0, 3),
         ("descending", falling(0x1000, 200), 0, 200, 3),
-        ("all places of a page, descending", falling(0x1000, 64), 0, 64, 3),
+        ("all granules of a page, descending", falling(0x1000, 64), 0, 64, 3),
         ("alike modulo eight, but no multiples", (0..64).map(|number| 0x1005 + 8 * number).collect(), 1, 0, 3),
         ("not alike modulo eight", (0..128).map(|number| 0x1000 + number).collect(), 2, 0, 0),
         ("alike modulo eight, but for the last", [neighbours(0x1000, 64), vec![0x1201]].concat(), 9, 0, 0),
-        ("two runs of one page that overlap", [0, 16, 32, 8, 24, 40].to_vec(), 2, 0, 3),
+        ("two extents of one page that overlap", [0, 16, 32, 8, 24, 40].to_vec(), 2, 0, 3),
         ("two objects of one ID", vec![0x1000, 0x1000], 1, 0, 3),
         ("one ID again and again", vec![0x1000; 100], 1, 0, 3),
-        ("a repeat that begins a run", [neighbours(0x1000, 4), vec![0x1008, 0x1020]].concat(), 2, 0, 3),
-        ("a repeat amid a run", [neighbours(0x1000, 4), vec![0x0ff8, 0x1010]].concat(), 2, 0, 3),
-        ("a run of which all is repeated", [neighbours(0x1000, 9), vec![0], neighbours(0x1008, 5)].concat(), 2, 0, 3),
+        ("a repeat that begins an extent", [neighbours(0x1000, 4), vec![0x1008, 0x1020]].concat(), 2, 0, 3),
+        ("a repeat amid an extent", [neighbours(0x1000, 4), vec![0x0ff8, 0x1010]].concat(), 2, 0, 3),
+        ("an extent wholly repeated", [neighbours(0x1000, 9), vec![0], neighbours(0x1008, 5)].concat(), 2, 0, 3),
         ("a page again and again", falling(0x1000, 64).repeat(3), 64, 0, 3),
         ("two pages in turn", (0..128).map(|number| 0x1000 + number % 2 * 512 + number / 2 * 8).collect(), 0, 128, 3),
         ("falling pages, each full", in_falling_pages(16, 1024), 0, 1024, 3),
         ("the same, and one ID again", [in_falling_pages(16, 1024), vec![0x1008]].concat(), 1024, 0, 3),
         ("falling pages, and one that is far", [in_falling_pages(16, 1024), vec![0x100_0000]].concat(), 1025, 0, 3),
     ];
-    for (name, ids, runs, pairs, low) in rows {
+    for (name, ids, extents, entries, low) in rows {
         let index = sees(&ids, &[]);
-        let found = (index.runs.len(), index.pairs.as_ref().map_or(0, Pairs::len), index.low.count);
-        assert_eq!(found, (runs, pairs, low), "{name}");
+        let found = (index.extents.len(), index.entries.as_ref().map_or(0, Entries::len), index.low.count);
+        assert_eq!(found, (extents, entries, low), "{name}");
     }
 }
 
-/// All runs but one are in one slot of the table. In all lists but `full` reversed these are more than the `MANY` that
-/// a look-up steps through.
+/// All extents but one are in one slot of the table. In all lists but `full` reversed these are more than the `MANY`
+/// that a look-up steps through.
 #[test]
 fn crowded_into_one_slot() {
     let even = neighbours(0, 500).into_iter().map(|id| 64 * id);
@@ -136,21 +136,21 @@ fn lists_at_random() {
     assert!((30_000..70_000).contains(&repeats), "{repeats}");
 }
 
-/// `count` runs, `descents` of which have a lower page than the run before.
-fn zigzag(descents: usize, count: usize) -> Vec<Run> {
-    let page = |place: usize| if place % 2 == 1 && place < 2 * descents { 0 } else { place as u64 + 1 };
-    (0..count).map(|place| Run { page: page(place), places: 1, first: place as u32 }).collect()
+/// `count` extents, `descents` of which have a lower page than the extent before.
+fn zigzag(descents: usize, count: usize) -> Vec<Extent> {
+    let page = |granule: usize| if granule % 2 == 1 && granule < 2 * descents { 0 } else { granule as u64 + 1 };
+    (0..count).map(|granule| Extent { page: page(granule), granules: 1, first: granule as u32 }).collect()
 }
 
 #[test]
-fn order_of_runs() {
+fn order_of_extents() {
     let rows =
         [(0, 0, false), (0, 16, false), (1, 16, false), (2, 16, true), (1, 15, true), (6, 100, false), (7, 100, true)];
     for (descents, count, often) in rows {
-        let mut runs = zigzag(descents, count);
-        assert_eq!(descend_often(&runs), often, "{descents} of {count}");
-        sort(&mut runs);
-        assert!(runs.windows(2).all(|pair| (pair[0].page, pair[0].first) < (pair[1].page, pair[1].first)));
+        let mut extents = zigzag(descents, count);
+        assert_eq!(descend_often(&extents), often, "{descents} of {count}");
+        sort(&mut extents);
+        assert!(extents.windows(2).all(|entry| (entry[0].page, entry[0].first) < (entry[1].page, entry[1].first)));
     }
-    assert!(size_of::<Run>() <= 24);
+    assert!(size_of::<Extent>() <= 24);
 }
