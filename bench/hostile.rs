@@ -273,12 +273,12 @@ fn far_page(_: File, count: u64) -> File {
     arrays(falling(pages, count).chain([on_page(3 * pages, 0)]))
 }
 
-/// `count` objects, two on each page, on as many pages as pairs may span.
+/// `count` objects, two on each page, on as many pages as narrow entries may span.
 fn sparse_pages(_: File, count: u64) -> File {
     arrays(falling(count / 2, count))
 }
 
-/// `count` objects on more pages than pairs may span.
+/// `count` objects on more pages than narrow entries may span.
 fn too_sparse_pages(_: File, count: u64) -> File {
     arrays(falling(count / 2 + 2, count))
 }
