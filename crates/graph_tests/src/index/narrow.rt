@@ -21,8 +21,8 @@ fn ends_of(ids: &[u64]) -> (u64, u64) {
 }
 
 /// Returns the index of narrow entries of objects with the identifiers `ids`, if their three lowest bits are `low` and
-/// pairs serve, and `None` otherwise. Places are noted in at most `parts` parts. `ends` are the least and the greatest
-/// identifier of a sample: a granule far outside them is not noted, and then narrow entries do not serve.
+/// such entries serve, and `None` otherwise. Granules are noted in at most `parts` parts. `ends` are the least and the
+/// greatest identifier of a sample: a granule far outside them is not noted, and then narrow entries do not serve.
 fn narrow_between<T: Threads + Sync, A: Allocator + Copy>(
     rt: &T,
     alloc: A,

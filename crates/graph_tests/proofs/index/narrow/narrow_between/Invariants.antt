@@ -1,6 +1,6 @@
 -- The builder has the identifiers so far.
 use Rattle.std.proofs.Common.{take, ◌≡◌}
-use Rattle.graph_tests.proofs.index.pairing.paired_between.Given as goal
+use Rattle.graph_tests.proofs.index.narrow.narrow_between.Given as goal
 
 abbrev pub invariant-loop-id : goal.invariant-loop-id
 invariant-loop-id g l = record {
