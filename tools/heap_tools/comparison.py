@@ -5,7 +5,8 @@ import time
 from heap_tools import growth, names
 from heap_tools.console import say
 from heap_tools.faults import NOTHING, UNREADABLE, Fault
-from heap_tools.holders import family_of
+from heap_tools.figures import counted
+from heap_tools.holders import OMITTED, family_of
 from heap_tools.holding import Holders
 from heap_tools.program import Heapmark, Runs
 from heap_tools.search import Earlier, Gains
@@ -58,6 +59,16 @@ class Comparison:
         earlier = Earlier(self.first, known[0], families, column)
         return Gains(earlier, self.options.at_least, self.last, known[1], families, column)
 
+    def more_unreachable(self):
+        """Returns how much more is unreachable in the last dump than in the first."""
+        return self.last.report.unreachable.minus(self.first.report.unreachable)
+
+    def why_missing(self):
+        """Returns how much more is unreachable, and why. What leaks may be there."""
+        more = self.more_unreachable()
+        text = f"{counted(more.objects, 'object')} more, {counted(more.bytes, 'byte')} more are unreachable"
+        return f"{text}: garbage in dumps with -all; in live dumps {OMITTED}: see grown with jmap -histo:live"
+
     def _grown_families(self, probe):
         """Returns the classes of which there are more objects, if what is compared has not more bytes, and says so."""
         what = probe.families[0] if probe.families else "reachable"
@@ -67,7 +78,7 @@ class Comparison:
         wanted = probe.families or [name for name in grown if not name.startswith("<")]
         families = [name for name in grown if name in wanted]
         if not families:
-            raise Fault(NOTHING, text)
+            raise Fault(NOTHING, text + (f"; {self.why_missing()}" if max(self.more_unreachable()) > 0 else ""))
         say(f"leaks: {text}; so the shares are of the objects of {'it' if probe.families else 'the classes that grew'}")
         return families
 

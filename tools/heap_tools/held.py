@@ -9,6 +9,7 @@ from heap_tools.console import say, write
 from heap_tools.faults import MORE, NO_SUCH_NAME, UNREADABLE, Fault
 from heap_tools.hprof import OBJECT
 from heap_tools.holders import why_unknown
+from heap_tools.holding import LOCAL, THREAD, Holders
 from heap_tools.program import Heapmark, LaterFault, Runs
 
 ABOUT = """
@@ -19,15 +20,17 @@ NOTES = """
 A field belongs to the class that declares it. The class is spelt as heapmark,
 grown or jmap shows it, in quotes if it has a `$`; letters beyond ASCII may
 stand as they are, and dots in place of slashes. Without `$14+0x..` a hidden
-class means all of that name. What a line of holders or leaks ends with may be
-pasted: `static A.x` and `together static A.x, static B.y` mean these fields,
-and `A.x > B.y` means B.y.
+class means all of that name. A line of holders or leaks may be pasted, or what
+it ends with: `static A.x` and `together static A.x, static B.y` mean these
+fields, `A.x > B.y` means B.y, `local A.f` the local variables of a method, and
+`thread "NAME"` all that a thread of this name holds.
 
 It runs heapmark on DUMP, and on DUMP with these fields declared as numbers, so
 that they lead nowhere, and shows where the reports differ, as grown does
 between two dumps; grown --help says how names are shown and which heapmark
-runs. A line on standard error says if an entry of FIELDS names no field, or
-nothing hangs by FIELDS alone. A name that begins with a hyphen goes after `--`.
+runs. The roots of local variables and threads are null in their place. A line
+on standard error says if an entry of FIELDS names no field, or nothing hangs by
+FIELDS alone. A name that begins with a hyphen goes after `--`.
 
 Exit status:
   0  done: what hangs by FIELDS, if anything, was printed
@@ -42,6 +45,8 @@ Exit status:
 Example:
   $ held app.hprof 'java/lang/ThreadLocal$ThreadLocalMap$Entry.value'
 """
+#: What a line of holders calls by these words.
+NOUNS = {LOCAL: "local variable", THREAD: "thread"}
 
 
 def parser():
@@ -55,9 +60,17 @@ def parser():
     return it
 
 
+def root_of(text):
+    """Returns the kind and the name of the local variable or the thread that a line of holders or leaks ends with, or
+    None if it ends with something else. Names have no blanks, and those of threads no quotes."""
+    found = re.search(r"(?:^| > |  )(local|thread) (\S+|\"[^\"]*\")$", text)
+    return found and (found[1], found[2].strip('"'))
+
+
 def entries_of(text):
-    """Returns the entries of a list of fields, which may be what a line of holders or leaks ends with."""
-    last = re.sub("^together ", "", text.rpartition(" > ")[2])
+    """Returns the entries of a list of fields, which may be a line of holders or leaks."""
+    last = re.sub("^ *[0-9]+ +[0-9]+ +[0-9]+% +[0-9 ]+ ", "", text).rpartition(" > ")[2]
+    last = re.sub("^together ", "", last)
     return [re.sub("^static ", "", entry) for entry in last.replace(", ", ",").split(",")]
 
 
@@ -87,14 +100,27 @@ def places_of(entry, dump):
     return places
 
 
-def reports_of(path, entries):
-    """Returns three values: the report without the fields of `entries`, or None if the dump has none of them; the
-    report with all fields; and whether each entry names a field."""
-    heapmark = Heapmark()
-    heapmark.check_fields(",".join(entries))
+def changes_of(entry, dump):
+    """Returns the changes of the dump by which what `entry` names leads nowhere. Says why if there are none."""
+    root = root_of(entry)
+    if not root:
+        code = dump.number_code()
+        return {place: code for place in places_of(entry, dump)}
+    changes = Holders(dump).changes(root)
+    if not changes:
+        say(f"held: {entry.strip()}: no {NOUNS[root[0]]} of the dump has this name")
+    return changes
+
+
+def reports_of(path, text):
+    """Returns three values: the report without what `text` names, or None if the dump has nothing of it; the whole
+    report; and whether each entry of `text` names something."""
+    heapmark, entries = Heapmark(), [text] if root_of(text) else entries_of(text)
+    if not root_of(text):
+        heapmark.check_fields(",".join(entries))
     runs = Runs(heapmark, path, "held")
-    found = [places_of(entry, runs.dump) for entry in entries]
-    changes = {place: runs.dump.number_code() for places in found for place in places}
+    found = [changes_of(entry, runs.dump) for entry in entries]
+    changes = {place: new for each in found for place, new in each.items()}
     if not changes:
         return None, runs.report, False
     try:
@@ -106,7 +132,7 @@ def reports_of(path, entries):
 def main(words):
     """Does what the words of the command line ask for, and returns the exit status."""
     options = parser().read(words)
-    without, whole, all_found = reports_of(options.dump, entries_of(options.fields))
+    without, whole, all_found = reports_of(options.dump, options.fields)
     if not without:
         return NO_SUCH_NAME
     column = "bytes" if options.bytes else "objects"

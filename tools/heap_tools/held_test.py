@@ -5,6 +5,7 @@ import shutil
 import unittest
 
 from heap_tools.dump_writer import INT, LONG, Dump
+from heap_tools.holders_test import threads
 from heap_tools.testing import ToolTest, report
 
 KEY, VALUE = "Cache$Entry.key", "Cache$Entry.value"
@@ -96,6 +97,7 @@ class HeldTest(ToolTest):
                 "static plain/Other.list",
                 f"together static {other}.first, static {other}.second",
                 f"static Größe.all > {other}.list",
+                f"        20              0   80%         1  static {other}.list",
                 f"{lambdas}$15+0x00007fee61009a10.arg$1",
                 f"{lambdas}$15/0x00007fee61009a10.arg$1",
             ):
@@ -107,6 +109,20 @@ class HeldTest(ToolTest):
             numbers = "held: Cache.int_value: this field holds numbers, no references"
             self.expect(["static.hprof", "Cache.int_value"], said=numbers, status=6)
         self.assertNotEqual(INT, LONG)
+
+    def test_threads(self):
+        """Local variables and threads, as lines of holders and leaks have them."""
+        threads().write("threads.hprof")
+        served = line(5, 0, "Message") + line(1, 40, "[LMessage;") + line(1, 0, "<class>")
+        for end in ("local com/shop/Server.serve", 'thread "http-0" > local com/shop/Server.serve'):
+            for begin in ("", "         5              0   62%         1  ", "  5    0   62%     0     5    1  "):
+                self.expect(["threads.hprof", begin + end], served)
+        self.expect(["threads.hprof", "local com/shop/Worker.take"], line(2, 0, "Message"))
+        ended = self.ran("threads.hprof", '        6   0   75%   1  thread "http-0"')
+        self.assertIn(line(6, 0, "Message"), ended.out)
+        for kind, name, noun in (("local", "A.f", "local variable"), ("thread", '"http, 1"', "thread")):
+            said = f"held: {kind} {name}: no {noun} of the dump has this name"
+            self.expect(["threads.hprof", f"{kind} {name}"], said=said, status=6)
 
     def test_no_such_name(self):
         """Names that match nothing, and what may have been meant."""

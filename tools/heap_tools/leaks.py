@@ -9,8 +9,8 @@ from heap_tools.comparison import Comparison
 from heap_tools.console import Progress, is_terminal, say, write
 from heap_tools.faults import WRONG_USE, Fault
 from heap_tools.figures import counted, duration, size
-from heap_tools.holders import OMITTED, spelled
-from heap_tools.leaks_page import page_of, require_folder, write_page
+from heap_tools.holders import spelled
+from heap_tools.leaks_page import page_of, require_place, write_page
 from heap_tools.paths import Paths
 from heap_tools.reports import Amount
 from heap_tools.search import Held, Search
@@ -125,17 +125,16 @@ def heads(comparison, probe):
     return f"{head}\n{'objects':>10} {'bytes':>14} share {'before':>14} {'after':>14} {'holders':>9}  field\n"
 
 
-def say_rest(lines, search, probe):
+def say_rest(lines, search, comparison, probe):
     """Says what the lines do not."""
     if search.is_cut:
         say("leaks: fields with more holders may hold as much: see --top")
     if not lines:
         more = ": see --at-least" * (search.at_least > 1)
         say(f"leaks: no field, local variable or thread alone holds {search.at_least}% of the growth{more}")
-    more = probe.runs.report.unreachable.minus(probe.earlier.runs.report.unreachable)
-    if max(more) > 0 and getattr(more, probe.column) > getattr(probe.growth, probe.column):
-        text = f"{more.objects:,} objects more, {more.bytes:,} bytes more are unreachable"
-        say(f"leaks: {text}: garbage in dumps with -all; in live dumps {OMITTED}: see grown with jmap -histo:live")
+    more = getattr(comparison.more_unreachable(), probe.column)
+    if more > getattr(probe.growth, probe.column):
+        say(f"leaks: {comparison.why_missing()}")
 
 
 def compared(options, words):
@@ -156,14 +155,14 @@ def main(words):
         raise Fault(WRONG_USE, f"one dump: holders {options.before} shows what holds its objects")
     if 1 + len(options.after) > MOST_FILES:
         raise Fault(WRONG_USE, f"{1 + len(options.after)} dumps: at most {MOST_FILES}")
-    if options.html:
-        require_folder(options.html)
+    if options.html is not None:
+        require_place(options.html)
     comparison, probe, lines, search = compared(options, words)
     top = heads(comparison, probe) if is_terminal(sys.stdout) and lines else ""
     write(top + printed(lines, probe.column))
-    if options.html:
+    if options.html is not None:
         write_page(options.html, page_of(comparison, probe, lines))
-    say_rest(lines, search, probe)
+    say_rest(lines, search, comparison, probe)
     cost = f"{counted(search.all, 'field')}, {counted(comparison.heapmark.runs, 'run')} of heapmark"
     say(f"leaks: {cost}, {time.time() - comparison.began:.1f} s")
     return 0

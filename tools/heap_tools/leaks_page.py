@@ -6,8 +6,9 @@ import shlex
 import time
 
 from heap_tools import VERSION, growth, names, page
-from heap_tools.faults import UNWRITABLE, Fault
+from heap_tools.faults import UNWRITABLE, WRONG_USE, Fault
 from heap_tools.holders import OMITTED, spelled
+from heap_tools.program import is_dump
 
 
 def page_of(comparison, probe, lines):
@@ -24,7 +25,7 @@ def page_of(comparison, probe, lines):
         grown=[page.GrownClass(each.name, [report.amount(each.name) for report in reports]) for each in grown],
         holders=[holder_of(line, probe) for line in lines],
         last=reports[-1].families,
-        omitted=omitted(probe),
+        omitted=omitted(comparison.more_unreachable()),
         making=making(comparison),
         by=probe.column,
         share_of=whole,
@@ -51,9 +52,8 @@ def holder_of(line, probe):
     return page.Holder(kind, name, line.held.count(), *shares, [spelled(each.holders) for each in line.above])
 
 
-def omitted(probe):
-    """Returns what these dumps do not show, in sentences."""
-    more = probe.runs.report.unreachable.minus(probe.earlier.runs.report.unreachable)
+def omitted(more):
+    """Returns what these dumps do not show, in sentences. `more` is what is unreachable in the last dump only."""
     if max(more) <= 0:
         return []
     what = f"{more.objects:,} objects more ({more.bytes:,} bytes) are unreachable in the last dump"
@@ -76,8 +76,11 @@ def write_page(path, leak):
         raise Fault(UNWRITABLE, f"{path}: the page cannot be written: {fault.strerror}") from None
 
 
-def require_folder(path):
-    """Raises `Fault` if a page cannot be written into the file `path`, before the dumps are searched."""
+def require_place(path):
+    """Raises `Fault` if a page cannot be written into the file `path`, or if that is a dump, before the dumps are
+    searched."""
+    if is_dump(path):
+        raise Fault(WRONG_USE, f"{path}: a dump: --html wants the name of the page before the dumps")
     folder = os.path.dirname(os.path.realpath(path))
-    if os.path.isdir(path) or not os.access(path if os.path.exists(path) else folder, os.W_OK):
+    if not path or os.path.isdir(path) or not os.access(path if os.path.exists(path) else folder, os.W_OK):
         raise Fault(UNWRITABLE, f"{path}: the page cannot be written")

@@ -236,7 +236,13 @@ class LeaksTest(ToolTest):
         moved(60).write("after")
         said = f"leaks: reachable: 816 bytes, then 816: no growth; so the shares are of the objects of *\n{self.COST}"
         self.expect(["before", "after"], line(50, 0, 100, 10, 60, 1, "static shop/Catalog.SOLD"), said)
-        self.expect(["friday", "friday"], said="leaks: reachable: * bytes, then *: no growth", status=3)
+        said = "leaks: reachable: 6508 bytes, then 6508: no growth"
+        self.expect(["friday", "friday"], said=said, status=3)
+        lost = cache(80, minutes=20)
+        lost.values(9000, BYTE, bytes(500))
+        lost.write("lost")
+        more = "1 object more, 500 bytes more are unreachable: *waiting virtual threads hold them*: see grown *"
+        self.expect(["friday", "lost"], said=f"{said}; {more}", status=3)
 
     def test_several(self):
         """Further dumps, up to 30 and too many."""
@@ -298,13 +304,20 @@ class LeaksTest(ToolTest):
         self.assertIn('"2880"', page)
         said = "leaks: /dev/full: the page cannot be written: No space left on device"
         self.expect(["--html", "/dev/full", "monday", "friday"], out, said, 4)
-        for path in ("no/page.html", "."):
+        for path in ("no/page.html", ".", ""):
             said = f"leaks: {path}: the page cannot be written"
             self.expect(["--html", path, "monday", "friday"], said=said, status=4)
+        dump, said = pathlib.Path("monday").read_bytes(), "leaks: monday: a dump: --html wants the name of the page *"
+        self.expect(["--html", "monday", "monday", "friday"], said=said, status=2)
+        self.assertEqual(pathlib.Path("monday").read_bytes(), dump)
 
     def test_output(self):
-        """What cannot be written, and an interrupt, which leaves no page."""
+        """Output that cannot be written, and an interrupt: neither leaves a page."""
         self.check_output(["monday", "friday"], self.ran("monday", "friday").out)
+        with open("/dev/full", "wb") as full:
+            ended = self.ran("--html", "page.html", "monday", "friday", stdout=full)
+        self.assertEqual((ended.status, ended.said), (4, "leaks: the output cannot be written\n"))
+        self.assertFalse(os.path.exists("page.html"))
         self.check_interrupt("--html", "page.html", "monday", "friday")
         self.assertFalse(os.path.exists("page.html"))
 

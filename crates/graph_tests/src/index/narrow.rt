@@ -154,7 +154,7 @@ fn ids_read<T: Threads + Sync>(
 
 /// The parts share the objects: each identifier is read once.
 #[test]
-fn places_are_noted_once(rt: HostRuntime) -> Result<(), Fail> {
+fn granules_are_noted_once(rt: HostRuntime) -> Result<(), Fail> {
     for count in [1, 2, 99, 1000] {
         for parts in 0..PARTS {
             let read = ids_read(&rt, rt.alloc(), count, parts)?;
