@@ -35,11 +35,9 @@ class Comparison:
                 raise Fault(UNREADABLE, text)
 
     def _require_one_program(self):
-        own = [own_classes(each.dump) for each in (self.first, self.last)]
-        common = len(own[0] & own[1])
-        if 2 * common < min(map(len, own)):
-            text = f"another program? it has {common} of the {len(own[0])} own classes of {self.first.path}"
-            raise Fault(UNREADABLE, f"{self.last.path}: {text}")
+        few = names.common_own(*(map(names.family, each.dump.names.values()) for each in (self.first, self.last)))
+        if few:
+            raise Fault(UNREADABLE, f"{self.last.path}: another program? it has {few} of {self.first.path}")
 
     def probe(self):
         """Returns what asks the first and the last dump about the growth."""
@@ -64,7 +62,7 @@ class Comparison:
         return self.last.report.unreachable.minus(self.first.report.unreachable)
 
     def why_missing(self):
-        """Returns how much more is unreachable, and why. What leaks may be there."""
+        """Returns a text for the user: how much more is unreachable, why, and what shows it."""
         more = self.more_unreachable()
         text = f"{counted(more.objects, 'object')} more, {counted(more.bytes, 'byte')} more are unreachable"
         return f"{text}: garbage in dumps with -all; in live dumps {OMITTED}: see grown with jmap -histo:live"
@@ -81,8 +79,3 @@ class Comparison:
             raise Fault(NOTHING, text + (f"; {self.why_missing()}" if max(self.more_unreachable()) > 0 else ""))
         say(f"leaks: {text}; so the shares are of the objects of {'it' if probe.families else 'the classes that grew'}")
         return families
-
-
-def own_classes(dump):
-    """Returns the families of the classes of a dump that are not of the JDK."""
-    return {names.family(name) for name in dump.names.values() if names.is_own(name)}

@@ -51,5 +51,5 @@ class Progress:
             self._replace("")
 
     def _replace(self, text):
-        print(f"{text:{self.width}}", end="\r", file=sys.stderr, flush=True)
+        print(text.ljust(self.width), end="\r", file=sys.stderr, flush=True)
         self.width = len(text)

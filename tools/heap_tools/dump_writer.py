@@ -37,7 +37,12 @@ class Expected:
         reachable = [sum(row[at] for _, row in rows) for at in (0, 1)]
         rows += [("(reachable)", reachable), ("(unreachable)", self.unreachable)]
         rows += [("(unresolved)", [self.unresolved, 0])]
-        return "".join(f"{count:10}  {size:14}  {name}\n" for name, (count, size) in rows).encode()
+        return "".join(row(count, size, name) for name, (count, size) in rows).encode()
+
+
+def row(count, size, name):
+    """Returns a row of a report."""
+    return f"{count:10}  {size:14}  {name}\n"
 
 
 class Format:

@@ -51,8 +51,6 @@ Exit status:
 Example:
   $ grown --top 20 monday.hprof friday.hprof
 """
-#: Of how many own classes of the smaller of two files the other must have one, if both are of one program.
-COMMON = 2
 
 
 class Snapshot(NamedTuple):
@@ -128,11 +126,10 @@ def say_unreachable(first, last):
 
 
 def say_programs(first, last):
-    """Says so if the two files seem to be of two programs: most own classes of either are not in the other."""
-    own = [{name for name in each.report.families if names.is_own(name)} for each in (first, last)]
-    common = len(own[0] & own[1])
-    if common * COMMON < min(map(len, own)):
-        say(f"grown: two programs? {last.path} has {common} of the {len(own[0])} own classes of {first.path}")
+    """Says so if the two files seem to be of two programs."""
+    few = names.common_own(first.report.families, last.report.families)
+    if few:
+        say(f"grown: two programs? {last.path} has {few} of {first.path}")
 
 
 def hours_between(first, last):

@@ -166,7 +166,8 @@ class HeldTest(ToolTest):
 
     def test_heapmark(self):
         """heapmark runs on the dump and on a pipe. It may end early, or be missing."""
-        other = self.program(f"cat <<'END'\n{report((1, 8, 'A'))}END")
+        reads = "case $* in *stdin) cat > /dev/null ;; esac"
+        other = self.program(f"{reads}\ncat <<'END'\n{report((1, 8, 'A'))}END")
         huge = {"GLIBC_TUNABLES": "glibc.malloc.hugetlb=1"}
         said = "held: nothing hangs by *"
         self.expect(["cache.hprof", VALUE], said=said, heapmark=other, variables=huge)

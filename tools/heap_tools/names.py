@@ -9,6 +9,8 @@ PRIMITIVES = dict(B="byte", C="char", D="double", F="float", I="int", J="long", 
 JDK = ("java/", "javax/", "jdk/", "sun/", "com/sun/", "netscape/", "org/ietf/jgss/", "org/w3c/dom/", "org/xml/sax/")
 #: The row of a report for the classes themselves. A class may have a name that begins with `<`, too.
 CLASSES = "<class>"
+#: Of how many own classes of the smaller of two heaps the other must have one, if both are of one program.
+COMMON = 2
 
 
 def shown(raw):
@@ -41,6 +43,14 @@ def is_own(name):
     """Tests whether a class is the user's or a library's: neither the JDK's nor an array of primitive values."""
     inner = element(name)
     return not (inner.startswith(JDK) or is_array(inner) or inner == CLASSES)
+
+
+def common_own(first, last):
+    """Returns in words how many own classes of `first` are in `last` too, if they seem to be of two programs: most own
+    classes of either are not in the other. Otherwise returns nothing."""
+    own = [{name for name in each if is_own(name)} for each in (first, last)]
+    common = len(own[0] & own[1])
+    return f"{common} of the {len(own[0])} own classes" if common * COMMON < min(map(len, own)) else ""
 
 
 def package(name):

@@ -401,6 +401,12 @@ class PageTest(unittest.TestCase):
         self.assertIn(wanted, self.outline(other).text().partition("Reachable heap")[0])
         self.assertNotIn("reached through", self.outline(leak).text().partition("Reachable heap")[0])
 
+    def test_one_object_more(self):
+        """One is no plural."""
+        one = page.GrownClass("com/acme/One", page_sample.amounts((1, 8), (2, 16)))
+        text = self.outline(bare_leak(grown=[one])).text()
+        self.assertIn("+8 bytes +1 object ", text)
+
     def test_by_objects_of_a_class(self):
         """Objects of one class, in place of bytes of all."""
         name = "com/acme/shop/metrics/MetricsService$Meter"

@@ -12,6 +12,8 @@ import time
 import unittest
 from typing import NamedTuple
 
+from heap_tools.dump_writer import row
+
 TOOLS = pathlib.Path(__file__).resolve().parent.parent
 TOP = TOOLS.parent
 HEAPMARK = os.path.realpath(os.environ.get("HEAPMARK") or TOP / "crates/heapmark/out/heapmark")
@@ -147,7 +149,7 @@ def when_written(path):
 def report(*rows, unreachable=(0, 0)):
     """Returns a report with these rows, each of objects, bytes and a class."""
     totals = [(9, 9, "(reachable)"), (*unreachable, "(unreachable)"), (0, 0, "(unresolved)")]
-    return "".join(f"{objects:10d} {size:15d}  {name}\n" for objects, size, name in [*rows, *totals])
+    return "".join(row(*each) for each in [*rows, *totals])
 
 
 def histogram(*rows):

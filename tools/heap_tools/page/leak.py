@@ -3,10 +3,11 @@
 from dataclasses import dataclass
 from typing import Dict, List, Optional, Tuple
 
+from heap_tools.holding import FIELD, LOCAL, STATIC, THREAD  # noqa: F401 (kinds of holders)
 from heap_tools.reports import Amount
 
-#: The kinds of holders.
-STATIC, FIELD, LOCAL, THREAD, TOGETHER = "static", "field", "local", "thread", "together"
+#: The kind of static fields that hold only together.
+TOGETHER = "together"
 
 
 @dataclass(frozen=True)

@@ -78,10 +78,12 @@ def growth_of(it, unit):
 def grown_row(it, unit, most, limits):
     """Returns the row of a class that grew."""
     growth, other = growth_of(it, unit), {"bytes": "objects", "objects": "bytes"}[unit]
+    more = growth_of(it, other)
+    noun = {"bytes": "", "objects": " object" if abs(more) == 1 else " objects"}[other]
     parts = {
         "name": name_of(it.name, limits.name),
         "growth": figure(growth, unit, sign=True),
-        "also": f"{signed(growth_of(it, other), spell_of(other))}{' objects' if other == 'objects' else ''}",
+        "also": f"{signed(more, spell_of(other))}{noun}",
         "bar": bar(growth, most, "growth"),
         "line": small_line([getattr(amount, unit) for amount in it.amounts], spell_of(unit)),
     }
