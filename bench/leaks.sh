@@ -14,7 +14,7 @@
 #
 # heapmark is the binary of crates/heapmark/out, or what the variable HEAPMARK names. LEAKS: a command in place of
 # tools/leaks. KEPT: a folder in which the dumps stay, NAME-before.hprof and NAME-after.hprof. SCALE: how many times as
-# large as usual catalog and leak are (1); with 24, the second dump has some 600 MB.
+# large as usual catalog and leak are (1); with 26, the second dump has some 600 MB.
 set -euo pipefail
 
 top=$(cd "$(dirname "$0")/.." && pwd)
