@@ -16,6 +16,7 @@ CRATES = "heapmark: left right\napart: low\nleft: low  # a comment: with a colon
 RT = """#!/bin/sh
 name=$(basename "$PWD")
 echo "begin $name $*" >> ../../log
+[ -f out/incremental ] && echo "keeps nothing $name" >> ../../log
 sleep "$(cat ../../seconds)"
 [ "$name" = "$(cat ../../bad)" ] && { echo "the proof fails"; exit 1; }
 echo "end $name" >> ../../log
@@ -82,8 +83,15 @@ class BuildTest(unittest.TestCase):
         (self.top / "docs/GATE.md").write_text("| `left` | 40 | 0 |\n| `right` | 30 | 0 |\n| `low` | 9 | 0 |\n")
         self.ended("--crates", "2", "--jobs", "4")
         self.assertIn("begin low lib --jobs 4", self.log())
-        self.assertIn("begin left lib --jobs 2", self.log())
-        self.assertIn("begin right lib --jobs 1", self.log())
+        self.assertIn("begin left lib --jobs 4", self.log())
+        self.assertIn("begin right lib --jobs 2", self.log())
+
+    def test_only_work_that_was_kept_before_is_kept(self):
+        (self.top / "crates/left/out/incremental").mkdir(parents=True)
+        self.ended()
+        log = [it for it in self.log() if it.startswith("keeps nothing")]
+        self.assertEqual(sorted(log), ["keeps nothing heapmark", "keeps nothing low", "keeps nothing right"])
+        self.assertEqual([it.parent.parent.name for it in self.top.glob("crates/*/out/incremental")], ["left"])
 
     def test_a_crate_that_is_not_proved(self):
         self.set(bad="left")
@@ -101,6 +109,7 @@ class BuildTest(unittest.TestCase):
         build.send_signal(signal.SIGINT)
         build.communicate(timeout=10)
         self.assertEqual(build.returncode, 130)
+        self.assertEqual(list(self.top.glob("crates/*/out/incremental")), [])
 
     def test_wrong_words_and_no_rt(self):
         self.assertEqual(self.ended("--jobs", "0")[0], 2)

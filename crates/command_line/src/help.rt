@@ -54,8 +54,9 @@ Only the option --skip changes the report.
 Bytes are those in the dump: no headers and no padding, and 8 for each reference
 of a 64-bit machine. Dumps of all objects are those of jcmd with -all, of jmap
 without live, and some at an OutOfMemoryError: there, most unreachable objects
-are garbage. In other dumps, only the virtual machine itself or fields of class
-objects keep unreachable objects alive.
+are garbage. In other dumps, only what the dump omits keeps unreachable objects
+alive: the virtual machine, some fields of class objects, and local variables of
+virtual threads that wait (JDK 21 and later).
 
 Exit status:
   0  the report was written, or the help or the version was requested
