@@ -89,9 +89,9 @@ def number(least=0, most=10**19 - 1):
 
 def run(tool, main):
     """Runs `main` of the tool with the words of the command line, and ends with the status that it returns."""
-    for each in ENDING:
-        if signal.getsignal(each) != signal.SIG_IGN:
-            signal.signal(each, signal.default_int_handler)
+    heeded = [each for each in ENDING if signal.getsignal(each) != signal.SIG_IGN]
+    for each in heeded:
+        signal.signal(each, signal.default_int_handler)
     try:
         status = main(sys.argv[1:])
     except Fault as fault:
@@ -102,5 +102,14 @@ def run(tool, main):
         say(f"{tool}: {fault.filename or ''}: {fault.strerror}")
         status = UNREADABLE
     except KeyboardInterrupt:
+        _ignore(heeded)
+        say(f"{tool}: interrupted")
         status = INTERRUPTED
+    _ignore(heeded)
     sys.exit(status)
+
+
+def _ignore(signals):
+    """Ignores signals that come when all is said."""
+    for each in signals:
+        signal.signal(each, signal.SIG_IGN)

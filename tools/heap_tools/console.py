@@ -1,17 +1,23 @@
 """Standard output, standard error, and the line on a terminal that shows how far a tool is."""
 
 import os
+import re
 import shutil
 import sys
 
 from heap_tools.faults import UNWRITABLE, Fault
 
 
+def in_one_line(text):
+    """Spells control characters, which a terminal would obey, as heapmark does: each of their bytes as `\\x..`."""
+    return re.sub("[\0-\x1f\x7f-\x9f]", lambda it: "".join(f"\\x{byte:02x}" for byte in it[0].encode()), text)
+
+
 def say(text):
     """Writes a line on standard error. If it cannot be written, nobody would read it."""
     try:
         if sys.stderr:
-            os.write(sys.stderr.fileno(), f"{text}\n".encode(errors="surrogateescape"))
+            os.write(sys.stderr.fileno(), f"{in_one_line(text)}\n".encode(errors="surrogateescape"))
     except OSError:
         pass
 
@@ -43,7 +49,7 @@ class Progress:
     def show(self, text):
         """Shows `text` in place of the line before, cut to the width of the terminal."""
         if self.is_shown:
-            self._replace(f"{self.tool}: {text}"[: shutil.get_terminal_size().columns - 1])
+            self._replace(in_one_line(f"{self.tool}: {text}")[: shutil.get_terminal_size().columns - 1])
 
     def clear(self):
         """Removes the line."""

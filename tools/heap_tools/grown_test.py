@@ -44,6 +44,7 @@ class GrownTest(ToolTest):
     BY_NUMBER = grew((7, 70, "New"), (3, 31, "Twice"), (0, 69, "Longer"))
     BY_BYTES = grew((7, 70, "New"), (0, 69, "Longer"), (3, 31, "Twice"))
     OF_DUMP = grew((2, 8, "A"), (1, 0, "<class>"))
+    HALF = "grown: half: no * (refused 1 BadHeader at 0), no whole report, and no whole histogram"
 
     def setUp(self):
         super().setUp()
@@ -120,6 +121,12 @@ class GrownTest(ToolTest):
         said = "grown: --skip: none of the files is a dump"
         self.expect(["--skip", "a.b", "monday", "friday"], said=said, status=2, heapmark=other)
 
+    def test_unmet_fields(self):
+        """On a terminal, heapmark says which entries name no field, as it does without this tool."""
+        seen = self.on_terminal("--skip", "A.none", "dump", "dump")[1]
+        self.assertEqual(seen.count("A.none"), 2, seen)
+        self.expect(["--skip", "A.none", "dump", "dump"])
+
     def test_heapmark(self):
         """A heapmark that is killed, that is missing, and one that is not wanted."""
         killed = self.program("kill -9 $$")
@@ -154,26 +161,26 @@ class GrownTest(ToolTest):
         pathlib.Path("both").write_text(histogram() + histogram())
         self.expect(["before", "both"], said="grown: both: two histograms in one file*", status=1)
         pathlib.Path("half").write_text("\n".join(text.split("\n")[:6]))
-        said = "heapmark: refused 1 BadHeader at 0*grown: half: not read: *"
-        self.expect(["before", "half"], said=said, status=1)
+        self.expect(["before", "half"], said=self.HALF, status=1)
 
     def test_refused(self):
         """What is refused, and which file the message names."""
         dump = TWO_OBJECTS.read_bytes()
         for name, content in (("cut.hprof", dump[:60]), ("header.hprof", dump[:26])):
             pathlib.Path(name).write_bytes(content)
-            said = f"heapmark: refused *grown: {name}: not read: *"
+            said = f"grown: {name}: ends too early: still being written, or cut (refused *)"
             self.expect(["dump", name], said=said, status=1)
             self.expect([name, "dump"], said=said, status=1)
         monday, friday = (pathlib.Path(name).read_text() for name in ("monday", "friday"))
         half = "".join(monday.splitlines(True)[:5])
         pathlib.Path("half").write_text(half)
-        self.expect(["monday", "half"], said="heapmark: refused 1 BadHeader at 0*grown: half: not read: *", status=1)
+        self.expect(["monday", "half"], said=self.HALF, status=1)
         for second in (friday, half):
             pathlib.Path("both").write_text(monday + second)
             self.expect(["monday", "both"], said="grown: both: two reports in one file", status=1)
         self.expect(["monday", "nowhere"], said="grown: nowhere: no such file", status=1)
-        self.expect(["monday", "."], said="heapmark: refused 19 ReadFault*grown: .: not read: *", status=1)
+        said = "grown: .: is a directory (refused 19 ReadFault), and only dumps may come from what is no plain file"
+        self.expect(["monday", "."], said=said, status=1)
         said = "grown: referent: no list of *"
         self.expect(["--skip", "referent", "dump", "dump"], said=said, status=2)
         self.expect(["--skip", b"a.\377", "dump", "dump"], said="grown: *: no list of *", status=2)
@@ -185,7 +192,7 @@ class GrownTest(ToolTest):
             self.expect(["none", path], self.OF_DUMP, pass_fds=[cat.stdout.fileno()])
         with subprocess.Popen(["cat", "monday"], stdout=subprocess.PIPE) as cat:
             path = f"/dev/fd/{cat.stdout.fileno()}"
-            said = "heapmark: refused *: not read: *, and only dumps may come from what is *"
+            said = "grown: *: no * (refused 1 BadHeader at 0), and only dumps may come from what is no plain file"
             self.expect(["none", path], said=said, status=1, pass_fds=[cat.stdout.fileno()])
 
     def test_words(self):
@@ -254,7 +261,7 @@ class GrownTest(ToolTest):
         self.expect(["--more-than", "7", "monday", "friday"])
         self.expect(["--more-than", "0", "monday", "friday"], grew(new, (3, 31, "Twice")), status=3)
         pathlib.Path("cut.hprof").write_bytes(TWO_OBJECTS.read_bytes()[:60])
-        self.expect(["--more-than", "3", "monday", "cut.hprof"], said="heapmark: refused *", status=1)
+        self.expect(["--more-than", "3", "monday", "cut.hprof"], said="grown: cut.hprof: * (refused *)", status=1)
 
     def test_output(self):
         """What cannot be written, and bars on a terminal."""

@@ -154,7 +154,7 @@ class HeldTest(ToolTest):
     def test_refused(self):
         """Files and lists that are refused, and wrong words."""
         pathlib.Path("cut.hprof").write_bytes(pathlib.Path("cache.hprof").read_bytes()[:200])
-        said = "heapmark: refused 3 Truncated at *held: cut.hprof: not read: *"
+        said = "held: cut.hprof: ends too early: still being written, or cut (refused 3 Truncated at *)"
         self.expect(["cut.hprof", VALUE], said=said, status=1)
         self.expect(["nowhere", VALUE], said="held: nowhere: no such file", status=1)
         self.expect(["/dev/null", VALUE], said="held: /dev/null: no plain file*", status=1)

@@ -342,8 +342,8 @@ class HoldersTest(ToolTest):
         os.mkfifo("pipe")
         plain = "no plain file, and holders reads it more than once"
         for name, why in (
-            ("cut.hprof", "heapmark: refused 3 Truncated at *\nholders: cut.hprof: not read: no dump that *"),
-            ("empty.hprof", "heapmark: refused 1 BadHeader at 0\nholders: empty.hprof: not read: *"),
+            ("cut.hprof", "holders: cut.hprof: ends too early: still being written, or cut (refused 3 Truncated at *)"),
+            ("empty.hprof", "holders: empty.hprof: empty: still being written, * (refused 1 BadHeader at 0)"),
             ("nowhere", "holders: nowhere: no such file"),
             ("histogram", "holders: histogram: a histogram: holders needs a dump"),
             ("pipe", f"holders: pipe: {plain}"),

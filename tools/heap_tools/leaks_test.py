@@ -3,6 +3,7 @@
 import os
 import pathlib
 import re
+import resource
 import shutil
 import unittest
 
@@ -144,6 +145,7 @@ class LeaksTest(ToolTest):
 
     tool = "leaks"
     COST = "leaks: * fields, * runs of heapmark, * s"
+    CUT = "leaks: cut: ends too early: still being written, or cut (refused 3 Truncated at [0-9]*)"
     PATH = "static shop/Service.CACHE > shop/Cache.table"
 
     def setUp(self):
@@ -229,6 +231,13 @@ class LeaksTest(ToolTest):
         rows = self.found(worker(20), worker(80))
         path = "static shop/Service.TIMER > java/util/Executor.queue"
         self.assertEqual([row[-1] for row in rows[:2]], [path, f"{path} > java/util/Queue.table"])
+        owned_twice = [worker(count) for count in (20, 80)]
+        for dump in owned_twice:
+            dump.of_class(10, "shop/Screen", {"SHOWN": 605}, fields=["task"])
+            dump.instance(605, 10, 600)
+            dump.root(10)
+        path = path.replace("static", "together static shop/Screen.SHOWN, static")
+        self.assertEqual(self.found(*owned_twice)[0][-1], path)
 
     def test_no_growth(self):
         """The whole did not grow, or nothing did."""
@@ -266,9 +275,10 @@ class LeaksTest(ToolTest):
         for words, said in (
             (["friday", "monday"], "leaks: monday: wrong order? it was dumped earlier than friday"),
             (["monday", "other"], "leaks: other: another program? it has 0 of the * own classes of monday"),
-            (["monday", "cut"], "heapmark: refused 3 Truncated at *\nleaks: cut: not read: *"),
-            (["cut", "friday"], "heapmark: refused 3 Truncated at *\nleaks: cut: not read: *"),
+            (["monday", "cut"], self.CUT),
+            (["cut", "friday"], self.CUT),
             (["monday", "nowhere"], "leaks: nowhere: no such file"),
+            (["monday", "no\nwhere\x1b"], r"leaks: no\x0awhere\x1b: no such file"),
             (["monday", "histogram"], "leaks: histogram: a histogram: leaks needs a dump"),
             (["monday", "pipe"], "leaks: pipe: no plain file, and leaks reads it more than once"),
             (["/dev/stdin", "friday"], "leaks: /dev/stdin: no plain file, and leaks reads it more than once"),
@@ -304,6 +314,13 @@ class LeaksTest(ToolTest):
         self.assertIn('"2880"', page)
         said = "leaks: /dev/full: the page cannot be written: No space left on device"
         self.expect(["--html", "/dev/full", "monday", "friday"], out, said, 4)
+        full = {"preexec_fn": lambda: resource.setrlimit(resource.RLIMIT_FSIZE, (5000, 5000))}
+        said = "leaks: page.html: the page cannot be written: File too large"
+        self.expect(["--html", "page.html", "monday", "friday"], out, said, 4, **full)
+        self.assertEqual(pathlib.Path("page.html").read_text(encoding="utf-8"), page)
+        os.remove("page.html")
+        self.expect(["--html", "page.html", "monday", "friday"], out, said, 4, **full)
+        self.assertEqual([name for name in os.listdir() if name not in ("monday", "friday")], [])
         for path in ("no/page.html", ".", ""):
             said = f"leaks: {path}: the page cannot be written"
             self.expect(["--html", path, "monday", "friday"], said=said, status=4)

@@ -3,13 +3,17 @@
 import contextlib
 import fcntl
 import os
+import re
+import selectors
 import signal
 import struct
 import subprocess
 import sys
 from subprocess import PIPE
+from typing import List, NamedTuple
 
 from heap_tools.command import ENDING
+from heap_tools.console import in_one_line, is_terminal, say
 from heap_tools.faults import NO_HEAPMARK, UNREADABLE, WRONG_USE, Fault
 from heap_tools.hprof import MAGIC, Dump
 from heap_tools.reports import read_report, read_text
@@ -30,6 +34,14 @@ def nearest():
     return next((place for place in places if os.access(place, os.X_OK)), "heapmark")
 
 
+class Ran(NamedTuple):
+    """How a run of heapmark ended: its status, its output, and the lines of its messages."""
+
+    status: int
+    out: bytes
+    said: List[str]
+
+
 class Heapmark:
     """The program, as it was found, and how often it ran."""
 
@@ -38,25 +50,28 @@ class Heapmark:
         self.environment = {"GLIBC_TUNABLES": "glibc.malloc.hugetlb=1", **os.environ}
         self.runs, self._child = 0, None
 
-    def run(self, words, feed=None, **streams):
-        """Runs heapmark; `feed` writes to its standard input, a pipe. Returns its status and what it printed."""
-        self._child, printed = None, b""
-        if feed:
-            streams["stdin"] = PIPE
+    def run(self, words, feed=None, stdin=None, to_terminal=False):
+        """Runs heapmark; `feed` writes to its standard input, a pipe. Its messages are those that it has for a terminal
+        if `to_terminal` is set. Returns how it ended."""
+        self._child = None
+        read, written = _terminal() if to_terminal else os.pipe()
         try:
-            self._start(words, {"stdout": PIPE, **streams})
-            if feed:
-                _widen(self._child.stdin)
-                feed(self._child.stdin)
-            printed = b"".join(stream.read() for stream in (self._child.stdout, self._child.stderr) if stream)
-        except BrokenPipeError:  # it ended early, and its status says why
-            pass
+            with open(read, "rb", 0) as messages:
+                try:
+                    self._start(words, {"stdin": PIPE if feed else stdin, "stdout": PIPE, "stderr": written})
+                finally:
+                    os.close(written)
+                if feed:
+                    with self._child.stdin as pipe, contextlib.suppress(BrokenPipeError):  # then its status says why
+                        _widen(pipe)
+                        feed(pipe)
+                out, said = _contents(self._child.stdout, messages)
         except BaseException:
             if self._child:
                 self._child.kill()
                 self._child.wait()
             raise
-        return self._child.wait(), printed
+        return Ran(self._child.wait(), out, said.decode(errors="surrogateescape").splitlines())
 
     def _start(self, words, streams):
         """Starts heapmark. A signal that ends this tool is held back until `_child` is set, so that `run` can then end
@@ -72,51 +87,87 @@ class Heapmark:
 
     def version(self):
         """Returns the version that heapmark prints, or nothing if it prints none."""
-        status, printed = self.run(["--version"])
-        line = printed.split(b"\n")[0].decode(errors="replace")
-        return line.partition(" ")[2] if status == 0 else ""
+        ran = self.run(["--version"])
+        line = ran.out.split(b"\n")[0].decode(errors="replace")
+        return line.partition(" ")[2] if ran.status == 0 else ""
 
     def check_fields(self, fields):
         """Raises `Fault` if `fields` is no list. heapmark refuses such a text before it opens a file: with refusal 21,
         or with status 2 if the text is not UTF-8."""
-        status, said = self.run(["--skip=" + fields, "--", "/dev/null"], stderr=PIPE)
-        if status == 2 or b"refused 21 " in said:
+        ran = self.run(["--skip=" + fields, "--", "/dev/null"])
+        if ran.status == 2 or any("refused 21 " in line for line in ran.said):
             raise Fault(WRONG_USE, f"{fields}: no list of 1 to 64 fields Class.field with commas between")
 
     def first_report(self, path, options=(), why=""):
-        """Returns the report of the dump `path`. heapmark itself says why it refuses a dump; `why` is added to that."""
+        """Returns the report of the dump `path`. If heapmark refuses it, the fault has its reason; `why` is added."""
         if path and not os.path.lexists(path):
             raise Fault(UNREADABLE, f"{path}: no such file")
-        words, streams = [*options, "--", path], {}
+        words, stdin = [*options, "--", path], None
         try:
             path.encode()
         except UnicodeEncodeError:  # heapmark takes no such name
-            words[-1], streams["stdin"] = "/dev/stdin", _opened(path)
-        status, printed = self.run(words, **streams)
-        if status > 0:
-            raise Fault(UNREADABLE, f"{path}: not read: no dump that heapmark accepts{why}")
-        return self._judged(path, status, printed)
+            words[-1], stdin = "/dev/stdin", _opened(path)
+        # To a terminal, heapmark says what to do about a refusal. With options, it then reads the file once more.
+        ran = self.run(words, stdin=stdin, to_terminal=not options or is_terminal(sys.stderr))
+        if ran.status > 0:
+            raise Fault(UNREADABLE, f"{path}: {_reason(ran.said, words[-1])}{why}")
+        return self._judged(path, ran)
 
     def later_report(self, path, feed):
         """Returns the report of a dump that `feed` writes to a pipe, the dump `path` with changes."""
         try:
-            return self._judged(path, *self.run(["--", "/dev/stdin"], feed))
+            return self._judged(path, self.run(["--", "/dev/stdin"], feed))
         except EOFError:
             raise Fault(UNREADABLE, f"{path}: it became shorter while it was read") from None
 
-    def _judged(self, path, status, printed):
-        """Returns the report that heapmark printed, if it ended well."""
+    def _judged(self, path, ran):
+        """Returns the report that heapmark printed, if it ended well. Then its messages are passed on."""
         self.runs += 1
-        if status < 0:
-            ended = f"signal {-status}"
-        elif status > 0:
-            ended = f"status {status}"
+        if ran.status < 0:
+            ended = f"signal {-ran.status}"
+        elif ran.status > 0:
+            ended = ": ".join([f"status {ran.status}", *ran.said[:1]])
         else:
-            report = read_report(printed.splitlines(), self.program)
+            report = read_report(ran.out.splitlines(), self.program)
             if report:
+                for line in ran.said:
+                    say(line)
                 return report
             ended = "no report"
         raise LaterFault(NO_HEAPMARK, f"{self.program}: run {self.runs} on {path} failed: {ended}")
+
+
+def _reason(said, path):
+    """Returns why heapmark refused the file that it got as `path`: its advice, if it gave any, and the refusal."""
+    lines, name = [re.sub("^heapmark: ", "", line) for line in said], f"{in_one_line(path)}: "
+    advice = next((line[len(name) :] for line in lines if line.startswith(name)), "no dump that heapmark accepts")
+    return f"{advice} ({lines[0]})" if lines else advice
+
+
+def _terminal():
+    """Returns both ends of a terminal, or of a pipe if the system has no terminal left."""
+    try:
+        return os.openpty()
+    except OSError:
+        return os.pipe()
+
+
+def _contents(*streams):
+    """Reads several streams to their ends at once. Returns what came from each."""
+    found = {stream: b"" for stream in streams}
+    with selectors.DefaultSelector() as waiting:
+        for stream in streams:
+            waiting.register(stream, selectors.EVENT_READ)
+        while waiting.get_map():
+            for key, _ in waiting.select():
+                try:
+                    part = os.read(key.fd, 1 << 16)
+                except OSError:  # how Linux says that nobody has the other end of a terminal
+                    part = b""
+                found[key.fileobj] += part
+                if not part:
+                    waiting.unregister(key.fileobj)
+    return found.values()
 
 
 def _widen(pipe):

@@ -104,7 +104,7 @@ class ToolTest(unittest.TestCase):
         self.expect(words, out, stderr=None, preexec_fn=lambda: os.close(2))
 
     def check_interrupt(self, *words):
-        """Tests that a signal ends the tool and the heapmark that it runs, and that it then prints nothing."""
+        """Tests that a signal ends the tool and the heapmark that it runs, and that it then prints only that."""
         for number in ENDING:
             environment = {**os.environ, "HEAPMARK": self.program("echo $$ > pid\nexec sleep 50")}
             kept = {"stdout": subprocess.PIPE, "stderr": subprocess.PIPE, "env": environment}
@@ -115,7 +115,8 @@ class ToolTest(unittest.TestCase):
                 child.send_signal(number)
                 out, said = child.communicate(timeout=10)
             os.remove("pid")
-            self.assertEqual((child.returncode, out, said), (130, b"", b""), number.name)
+            expected = (130, b"", f"{self.tool}: interrupted\n".encode())
+            self.assertEqual((child.returncode, out, said), expected, number.name)
             self.assertFalse(os.path.exists(f"/proc/{pid}"), number.name)
 
     def on_terminal(self, *words, stream="stderr"):
