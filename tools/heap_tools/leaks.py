@@ -51,6 +51,8 @@ Exit status:
 Example:
   $ leaks monday.hprof friday.hprof
 """
+#: The number of holders up to which fields are searched first. Most lines that are printed have fewer.
+FEW = 64
 #: The most files on a command line: each is read, and each has a place in the page's charts.
 MOST_FILES = 100
 
@@ -97,7 +99,7 @@ def order(probe):
 
 def lines_of(probe, options, progress):
     """Searches the dumps, and returns the lines and the search."""
-    search = Search(probe, options.at_least, options.top, order(probe), progress)
+    search = Search(probe, options.at_least, options.top, order(probe), progress, FEW)
     search.find(probe.holders.fields(probe.base))
     paths, lines = Paths(probe, search.found, progress), []
     for held in search.first():

@@ -77,11 +77,18 @@ class Paths:
             runs.cut = kept
 
     def _search(self, probe, field):
-        """Returns the path to all instances that have `field`."""
+        """Returns the path to all instances that have `field`. If static fields hold them only together, different
+        fields lead there, and none is looked for."""
         search = Search(probe, 100, 4, lambda held: -held.heap.objects, self.progress)
-        search.find_roots()
-        lost = set().union(*(held.lost for held in search.found))
-        near = probe.holders.fields(probe.base)
-        near = [each for each in near if each.count <= field.count and each.key != field.key]
-        search.look_in([each for each in near if not lost.isdisjoint(each.classes)])
+        statics = probe.holders.statics()
+        search.expect(statics)
+        found = search.find_statics(statics)
+        if len(found) < 2:
+            search.look_in([each for each in statics if each not in found] if found else [])
+            lost = set().union(*(held.lost for held in search.found))
+            near = probe.holders.fields(probe.base)
+            near = [each for each in near if each.count <= field.count and each.key != field.key]
+            near = [each for each in near if not lost.isdisjoint(each.classes)]
+            search.expect(near)
+            search.look_in(near)
         return sorted(search.found, key=search.order)

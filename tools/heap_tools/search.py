@@ -1,9 +1,14 @@
 """The search for what holds many objects: by halves of a group, since a group holds at least what each of it does."""
 
+import operator
 from typing import Dict, List, NamedTuple
 
 from heap_tools.holding import Holder
 from heap_tools.reports import Amount
+
+
+#: How many fields are tried first after one is found: those that come next have as many holders, or some more.
+NEXT = 8
 
 
 class Held(NamedTuple):
@@ -72,9 +77,13 @@ class Probe:
         """Returns the share of an amount in percent."""
         return 100 * getattr(amount, self.column) / max(1, getattr(self.whole, self.column))
 
+    def exact(self, group):
+        """Returns the share of a group in percent."""
+        return self.percent(self.held(group).amount)
+
     def share(self, group):
         """Returns the share of a group."""
-        percent = self.percent(self.held(group).amount)
+        percent = self.exact(group)
         return Share(percent, percent)
 
     def part(self, group, _whole):
@@ -88,6 +97,15 @@ class Earlier(Probe):
     def changes(self, holder):
         """Returns the changes by which what has the name of `holder` leads nowhere in this dump."""
         return self.holders.changes(holder.key)
+
+    def bounds(self, group):
+        """Returns the most and the least that `group` can hold, by the groups that were asked for: it holds at most what
+        a group does of which it is a part, and at least what each part of it does."""
+        key = frozenset(holder.key for holder in group)
+        above = [held.amount for known, held in self._known.items() if key <= known]
+        below = [held.amount for known, held in self._known.items() if known <= key]
+        column = operator.attrgetter(self.column)
+        return min([self.whole, *above], key=column), max([Amount(), *below], key=column)
 
 
 class Gains(Probe):
@@ -107,10 +125,22 @@ class Gains(Probe):
         """Returns what a group holds more than before."""
         return self.held(group).amount.minus(self.earlier.held(group).amount)
 
-    def share(self, group):
+    def exact(self, group):
         """Returns the share of a group in the growth, or a bound of it if that is too little."""
         bound = self.percent(self.held(group).amount)
-        return Share(bound if bound < self.at_least else self.percent(self.gain(group)), bound)
+        return bound if bound < self.at_least else self.percent(self.gain(group))
+
+    def share(self, group):
+        """Returns the share of a group in the growth, or a bound of it if that says whether it is enough."""
+        bound = self.percent(self.held(group).amount)
+        if bound < self.at_least:
+            return Share(bound, bound)
+        least, most = (bound - self.percent(before) for before in self.earlier.bounds(group))
+        if least >= self.at_least:
+            return Share(least, bound)
+        if most < self.at_least:
+            return Share(most, bound)
+        return Share(self.exact(group), bound)
 
     def part(self, group, whole):
         """Returns the likely share of a part of a group whose share is `whole`: if the rest of the group holds too
@@ -122,11 +152,12 @@ class Gains(Probe):
 
 
 class Search:
-    """A search for the `top` first holders of `at_least` percent. `order` says how lines are sorted: a number for what
-    was found. `progress` shows how far it is."""
+    """A search for the `top` first holders of `at_least` percent. `order` says how lines are sorted: a key for what
+    was found. `progress` shows how far it is. Fields with at most `few` holders are tried before the others."""
 
-    def __init__(self, probe, at_least, top, order, progress):
+    def __init__(self, probe, at_least, top, order, progress, few=0):
         self.probe, self.at_least, self.top, self.order, self.progress = probe, at_least, top, order, progress
+        self.few = few
         self.found, self.statics, self.is_cut = [], None, False
         self.all = self.left = 0
         probe.watch = self.show
@@ -179,23 +210,31 @@ class Search:
 
     def look_in_likely(self, fields):
         """Finds instance fields. Between a found holder and the objects it holds are instances that are unreachable
-        without it. So fields of their classes come first, then those of own classes, then the rest."""
+        without it. So fields of their classes come first, then those of own classes, then the rest: among the fields
+        with few holders, then among all. What has few holders, such as a thread's map, also has it from few holders: so
+        after one is found, those that come next are tried first."""
         fields = self.wanted(fields)
         while fields:
             losers = set().union(*(held.lost for held in self.found))
-            group = [field for field in fields if not losers.isdisjoint(field.classes)]
-            group = group or [field for field in fields if field.is_own] or fields
-            self.look_in(group)
+            few = [field for field in fields if field.count <= self.few] or fields
+            group = [field for field in few if not losers.isdisjoint(field.classes)]
+            group = group or [field for field in few if field.is_own] or few
+            self.look_in(group, NEXT if self.few else 0)
             done = set(group)
             fields = self.wanted([field for field in fields if field not in done])
 
-    def look_in(self, group):
-        """Finds the holders of `group` each of which holds enough."""
+    def look_in(self, group, first=0):
+        """Finds the holders of `group` each of which holds enough. After one is found, the `first` next ones of a large
+        rest are tried before the others."""
         share = None
         while group:
+            known = len(self.found)
             rest, share = self.find_one(group, share)
             self.left -= len(group) - len(rest)
             group = self.wanted(rest)
+            if first and len(self.found) > known and len(group) > 3 * first:
+                self.look_in(group[:first])
+                group = self.wanted(group[first:])
 
     def wanted(self, group):
         """Returns those of `group` that may still be among the first `top`. The others have too many holders."""
@@ -217,10 +256,10 @@ class Search:
                 group, share, later = left, of_left, right + later
             else:
                 group, share = right, self.asked(right, share.minus(of_left))
-        if not self.is_enough(share) or not self.is_enough(self.probe.share(group)):
+        if not self.is_enough(share) or self.percent(group) < self.at_least:
             return later, None
         self.found.append(self.probe.held(group))
-        return later, whole.minus(share)
+        return later, whole.minus(Share(self.percent(group), share.bound))
 
     def asked(self, group, share):
         """Returns the share of `group`. A group of several whose likely share is enough is not tried: its parts will
@@ -231,7 +270,17 @@ class Search:
 
     def percent(self, holders):
         """Returns the share of `holders` in percent."""
-        return self.probe.share(holders).percent if holders else 0
+        return self.probe.exact(holders) if holders else 0
+
+    def find_statics(self, statics):
+        """Finds a few of `statics`, of own classes if these are enough, that hold enough alone or together. Returns
+        them."""
+        own, found = [each for each in statics if each.is_own], []
+        if self.percent(statics) >= self.at_least:
+            found = self.needed(own if self.percent(own) >= self.at_least else statics, [], 0, self.at_least)
+        if found:
+            self.found.append(self.probe.held(found))
+        return found
 
     def look_together(self, statics):
         """Finds static fields that hold enough only together, those of own classes first."""

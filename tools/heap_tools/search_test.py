@@ -1,0 +1,89 @@
+"""Tests how many runs the search for holders takes, with probes that know what holders hold."""
+
+import unittest
+
+from heap_tools.console import Progress
+from heap_tools.holding import FIELD, Holder
+from heap_tools.reports import Amount
+from heap_tools.search import NEXT, Earlier, Gains, Held, Search
+
+
+class Told:
+    """A probe that is told what holders hold: for each of `things`, ways to hold it, and its bytes. A way is a list of
+    names that hold it together. Notes what it is asked for."""
+
+    def __init__(self, things):
+        self.things, self.asked, self._known, self.watch = things, [], {}, lambda: None
+        self.column, self.whole = "bytes", Amount(1000, 1000)
+
+    def _difference(self, holders):
+        names = {holder.name for holder in holders}
+        self.asked.append(sorted(names))
+        size = sum(size for ways, size in self.things if any(names.issuperset(way) for way in ways))
+        return Held(holders, Amount(size, size), Amount(size, size), {})
+
+
+class ToldEarlier(Told, Earlier):
+    """An earlier dump."""
+
+
+class ToldGains(Told, Gains):
+    """A later dump, of which 100 bytes are growth."""
+
+    def __init__(self, earlier, things):
+        super().__init__(things)
+        self.earlier, self.at_least, self.growth = ToldEarlier(earlier), 30, Amount(100, 100)
+
+
+def field(name, count=1):
+    """Returns a field with `count` holders."""
+    return Holder(FIELD, name, count, {})
+
+
+class SearchTest(unittest.TestCase):
+    """What is asked for in a search."""
+
+    def search(self, probe, fields, top=4, few=64):
+        """Searches `fields`, and returns the names of what was found."""
+        found = Search(probe, 30, top, lambda held: (held.count(), str(held.holders[0])), Progress("search"), few)
+        found.all = found.left = len(fields)
+        found.look_in_likely(fields)
+        return sorted(str(held.holders[0]) for held in found.found)
+
+    def test_bounds(self):
+        """What is known of a larger or a smaller group says whether a gain is enough; else BEFORE is asked."""
+        first, second, third = (field(f"A.{name}") for name in "abc")
+        probe = ToldGains([([["A.a"]], 10), ([["A.c"]], 200)], [([["A.a"]], 60), ([["A.b"]], 50), ([["A.c"]], 210)])
+        asked = probe.earlier.asked
+        self.assertEqual(probe.share([first, second]), (100, 110))
+        self.assertEqual(asked, [["A.a", "A.b"]])
+        self.assertEqual(probe.share([first]), (50, 60))
+        self.assertEqual(probe.share([second]), (40, 50))
+        self.assertEqual(len(asked), 1)
+        self.assertEqual(probe.share([third]), (10, 210))
+        self.assertEqual(probe.share([third, field("A.d")]), (10, 210))
+        self.assertEqual(asked, [["A.a", "A.b"], ["A.c"]])
+
+    def test_few_first(self):
+        """Own fields with many holders are not tried if fields of the JDK with few holders are enough."""
+        chain = [field(f"java/A.{name}", 3) for name in "abcd"]
+        many = [field(f"shop/Item.{number}", 9000) for number in range(20)]
+        probe = ToldGains([], [([[each.name] for each in chain], 100), ([[many[0].name]], 90)])
+        self.assertEqual(self.search(probe, [*chain, *many]), [each.name for each in chain])
+        self.assertFalse(any("shop/Item.0" in names for names in probe.asked))
+        probe = ToldGains([], [([[each.name] for each in chain[:2]], 100), ([[many[0].name]], 90)])
+        self.assertEqual(self.search(probe, [*chain, *many]), ["java/A.a", "java/A.b", "shop/Item.0"])
+
+    def test_next(self):
+        """After a field is found, those next to it are tried first; those farther away are found, too."""
+        fields = [field(f"java/A.{number:03}") for number in range(500)]
+        for at, most in (([300, 301, 303], 30), ([0, 250, 499], 45), ([490, 498, 499], 40), ([7], 15), ([], 1)):
+            names = [fields[number].name for number in at]
+            probe = ToldGains([], [([[name] for name in names], 100)])
+            self.assertEqual(self.search(probe, fields), names)
+            self.assertLessEqual(len(probe.asked), most, at)
+        self.assertLess(NEXT, 20)
+
+
+if __name__ == "__main__":
+    unittest.main()
