@@ -33,10 +33,12 @@ means that only A leads to B.
 
 The growth is that of the reachable bytes, or of the objects and bytes of CLASS.
 If no more bytes are reachable than before, it is that of the objects of all
-classes that grew. Names of the last dump are looked up in the first one: hidden
-classes, such as those of lambdas, by what is common to them. Of further dumps
-only the reports are used. For what is held in one dump, see holders, which also
-says how it is found; for which classes grew, see grown.
+classes that grew. A share is above 100% if what the field does not hold shrank.
+
+Names of the last dump are looked up in the first one: hidden classes, such as
+those of lambdas, by what is common to them. Of further dumps only the reports
+are used. For what is held in one dump, see holders, which also says how it is
+found; for which classes grew, see grown.
 
 Exit status:
   0  done: what holds the growth, if anything, was printed

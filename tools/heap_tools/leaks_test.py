@@ -253,6 +253,20 @@ class LeaksTest(ToolTest):
         more = "1 object more, 500 bytes more are unreachable: *waiting virtual threads hold them*: see grown *"
         self.expect(["friday", "lost"], said=f"{said}; {more}", status=3)
 
+    def test_share(self):
+        """A share is above 100% if what the field does not hold shrank, and the help says so. Those of the page are of
+        the whole heap, and are not."""
+        before, after = cache(20), cache(80)
+        before.of_class(8, "shop/Old", {"ALL": 8000})
+        before.values(8000, BYTE, bytes(1080))
+        after.of_class(8, "shop/Old", {"ALL": 0})
+        rows = self.found(before, after, "--html", "page.html")
+        self.assertEqual(rows[0], ["120", "2160", "200%", "720", "2880", "1", self.PATH])
+        self.assertIn("A share is above 100% if what the field does not hold shrank.", self.ran("--help").out)
+        page = pathlib.Path("page.html").read_text(encoding="utf-8")
+        shares = [float(share) for share in re.findall("([0-9.]+)\u00a0%", page)]
+        self.assertTrue(shares and max(shares) <= 100, shares)
+
     def test_several(self):
         """Further dumps, up to 30 and too many."""
         cache(50, minutes=6).write("tuesday")
