@@ -2,17 +2,19 @@
 
 import collections
 import pathlib
-import re
+import sys
 
 try:
     import lzma
 except ImportError:  # a Python that was built without it
     lzma = None
 
-ROOM = pathlib.Path(__file__).resolve().parent.parent / "bench/real"
-#: What a histogram calls the rows that a report names otherwise.
-OTHER_NAMES = {"<class>": "java/lang/Class", "boolean[]": "[Z", "char[]": "[C", "float[]": "[F", "double[]": "[D"}
-OTHER_NAMES.update({"byte[]": "[B", "short[]": "[S", "int[]": "[I", "long[]": "[J"})
+TOP = pathlib.Path(__file__).resolve().parent.parent
+sys.path.insert(0, str(TOP / "tools"))
+from heap_tools.names import CLASSES
+from heap_tools.reports import read_text
+
+ROOM = TOP / "bench/real"
 
 
 class Miscounted(Exception):
@@ -31,34 +33,27 @@ def unpack(name, path):
     return (ROOM / f"{name}.report").read_bytes()
 
 
-def report_name(name):
-    """Returns the name of a class in a histogram as a report shows it."""
-    name = re.sub(r"/(?=0x)", "+", name).replace(".", "/")
-    return "".join(f"\\x{byte:02x}" if byte > 0x7E else chr(byte) for byte in name.encode())
+def read(file):
+    """Returns what the report or the histogram `file` of `ROOM` says."""
+    with open(ROOM / file, "rb") as opened:
+        return read_text(opened, file)[1]
 
 
-def histogram_counts(histogram):
-    """Returns the number of objects by class that the virtual machine counted."""
-    rows = re.findall(r"^ *\d+: +(\d+) +\d+  (\S+)", histogram, re.MULTILINE)
-    return collections.Counter({report_name(name): int(count) for count, name in rows})
-
-
-def report_counts(report):
-    """Returns the number of reachable objects by class, as a histogram names it, and the number of the unreachable."""
-    rows = [line.split() for line in report.splitlines()]
-    *rows, _, unreachable, _ = [(OTHER_NAMES.get(name, name), int(count)) for count, _, name in rows]
-    counts = collections.Counter()
-    for name, count in rows:
-        counts[name] += count
-    return counts, unreachable[1]
+def counts(report):
+    """Returns the number of objects by class. A histogram counts the classes themselves as objects of java/lang/Class,
+    a report has a row for them."""
+    found = collections.Counter()
+    for name, amount in report.rows:
+        found["java/lang/Class" if name == CLASSES else name] += amount.objects
+    return found
 
 
 def require_counts(name):
     """Requires that a report has no more objects of a class than the histogram, and that those that it has less of all
     classes are those that it calls unreachable. Returns the number of classes that have the same count in both."""
-    machine = histogram_counts((ROOM / f"{name}.histogram").read_text(encoding="utf-8"))
-    counts, unreachable = report_counts((ROOM / f"{name}.report").read_text(encoding="ascii"))
-    less = {one: machine[one] - counts[one] for one in {*machine, *counts} if machine[one] != counts[one]}
+    report = read(f"{name}.report")
+    machine, counted, unreachable = counts(read(f"{name}.histogram")), counts(report), report.unreachable.objects
+    less = {one: machine[one] - counted[one] for one in {*machine, *counted} if machine[one] != counted[one]}
     if min(less.values(), default=0) < 0 or sum(less.values()) != unreachable:
         raise Miscounted(f"{name}: {unreachable} are unreachable; the histogram has more by {less}")
     return len(machine) - len(less)

@@ -15,6 +15,7 @@ from heap_tools.processes import shared
 
 MAGIC = b"JAVA PROFILE "
 HEADER_SIZE = 31  # the last 8 bytes are the time
+RECORD_HEAD_SIZE = 9  # the last 4 bytes are the size of the body
 STRING, LOAD_CLASS, FRAME, TRACE, HEAP_DUMP, SEGMENT = 0x01, 0x02, 0x04, 0x05, 0x0C, 0x1C
 CLASS_DUMP, INSTANCE, OBJECT_ARRAY, PRIMITIVE_ARRAY = 0x20, 0x21, 0x22, 0x23
 OBJECTS = frozenset((INSTANCE, OBJECT_ARRAY, PRIMITIVE_ARRAY))
@@ -79,7 +80,8 @@ class Frame(NamedTuple):
 
 
 class Dump:
-    """The records of the dump in the plain file `file`. `nameless`: it has classes that no LOAD CLASS names."""
+    """The records of the dump in the plain file `file`. `nameless`: it has classes that no LOAD CLASS names, so that all
+    objects are walked over. `field_names` are the names of fields by the identifiers of their strings."""
 
     def __init__(self, file, nameless=False):
         self.file = file
@@ -91,7 +93,7 @@ class Dump:
         self._value_sizes = {OBJECT: self.id_size, 4: 1, CHAR: 2, 6: 4, 7: 8, BYTE: 1, 9: 2, INT: 4, LONG: 8}
         self._texts, self._loaded, self._serials, self._frames, self._traces = {}, {}, {}, {}, {}
         self._segments = []
-        self.classes, self.roots, self._field_names = {}, [], {}
+        self.classes, self.roots, self.field_names = {}, [], {}
         self._read_records()
         self._read_heap(nameless)
         self.names = {class_id: self._class_name(class_id) for class_id in self.classes}
@@ -114,12 +116,18 @@ class Dump:
 
     # Records
 
+    def records(self):
+        """Yields the tag of each record, where its body begins and where it ends."""
+        at = HEADER_SIZE
+        while at < self.size:
+            tag, body = self.bytes[at], at + RECORD_HEAD_SIZE
+            at = body + self.number(body - 4, 4)
+            yield tag, body, at
+
     def _read_records(self):
         """Keeps where strings and heap records are, how classes are called, and frames and traces."""
-        at, size = HEADER_SIZE, self.id_size
-        while at < self.size:
-            tag, body = self.bytes[at], at + 9
-            at = body + self.number(body - 4, 4)
+        size = self.id_size
+        for tag, body, at in self.records():
             if tag == STRING:
                 self._texts.setdefault(self.id(body), (body + size, at))
             elif tag == LOAD_CLASS:
@@ -215,9 +223,9 @@ class Dump:
         return at
 
     def _field_name(self, text_id):
-        if text_id not in self._field_names:
-            self._field_names[text_id] = self.text(text_id)
-        return self._field_names[text_id]
+        if text_id not in self.field_names:
+            self.field_names[text_id] = self.text(text_id)
+        return self.field_names[text_id]
 
     def lasting_classes(self):
         """Returns the identifiers of the classes that are never unloaded: those of loaders that the JDK itself keeps in
