@@ -99,7 +99,7 @@ def run(tool, main):
             say(f"{tool}: {fault}")
         status = fault.status
     except OSError as fault:
-        say(f"{tool}: {fault.filename or ''}: {fault.strerror}")
+        say(": ".join(str(part) for part in (tool, fault.filename, fault.strerror or fault) if part is not None))
         status = UNREADABLE
     except KeyboardInterrupt:
         _ignore(heeded)

@@ -61,14 +61,16 @@ class Holders:
                 if field.kind == OBJECT:
                     key = STATIC if field.is_static else FIELD, f"{owner}.{field.name}"
                     self._parts[key].append(Part(class_id, field.place, field.is_null))
-        self._threads, self._locals = None, None
+        self._threads, self._locals, self._of_kind = None, None, {}
 
     def changes(self, key):
         """Returns the changes by which what is called `key` leads nowhere: none if the dump does not have it."""
         if key[0] in (STATIC, FIELD):
             return self._field_changes(self._parts.get(key, ()))
-        known = {LOCAL: self.locals, THREAD: self.threads, THREADS: lambda: [self.all_threads()]}[key[0]]()
-        return next((each.changes for each in known if each.key == key), {})
+        if key[0] not in self._of_kind:
+            known = {LOCAL: self.locals, THREAD: self.threads, THREADS: lambda: [self.all_threads()]}[key[0]]()
+            self._of_kind[key[0]] = {each.key: each.changes for each in known}
+        return self._of_kind[key[0]].get(key, {})
 
     def _field_changes(self, parts):
         code = self.dump.number_code()

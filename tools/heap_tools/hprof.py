@@ -80,8 +80,8 @@ class Frame(NamedTuple):
 
 
 class Dump:
-    """The records of the dump in the plain file `file`. `nameless`: it has classes that no LOAD CLASS names, so that all
-    objects are walked over. `field_names` are the names of fields by the identifiers of their strings."""
+    """The records of the dump in the plain file `file`. `nameless`: it has classes that no LOAD CLASS names, so that
+    all segments are read. `field_names` are the names of fields by the identifiers of their strings."""
 
     def __init__(self, file, nameless=False):
         self.file = file

@@ -6,14 +6,15 @@ import unittest
 
 from heap_tools import hprof, processes
 from heap_tools.dump_writer import BYTE, Dump, word
+from heap_tools.faults import Fault
 
 
 class HprofTest(unittest.TestCase):
     """A test that reads and copies dumps."""
 
-    def read(self, dump):
+    def read(self, dump, nameless=False):
         """Returns what is read of a dump."""
-        return hprof.Dump(self.file(dump.bytes()))
+        return hprof.Dump(self.file(dump.bytes()), nameless)
 
     def file(self, content=b""):
         """Returns a temporary file with this content."""
@@ -103,6 +104,16 @@ class ReadingTest(HprofTest):
         wanted = [("FIRST", reference, True, False), ("NONE", reference, True, True), ("next", reference, False, False)]
         self.assertEqual(fields, wanted)
 
+    def test_records(self):
+        """The records one after the other, which are the whole dump but for its header; and the names of all fields."""
+        found = self.read(Service(), nameless=True)
+        ends = [hprof.HEADER_SIZE]
+        for tag, begin, end in found.records():
+            self.assertEqual((found.bytes[ends[-1]], begin), (tag, ends[-1] + hprof.RECORD_HEAD_SIZE))
+            ends.append(end)
+        self.assertEqual((ends[-1], len(ends) > 9), (found.size, True))
+        self.assertLessEqual({"coder", "FIRST", "next"}, set(found.field_names.values()))
+
     def test_names_of_threads(self):
         """Names of threads, in one process and in several; a thread without a name has an empty one."""
         for id_size in (4, 8):
@@ -181,7 +192,7 @@ class ProcessesTest(unittest.TestCase):
             self.assertEqual(sum(parts), 4950)
         self.assertEqual(len(parts), 1)
         if len(os.sched_getaffinity(0)) > 1:
-            with self.assertRaises(EOFError), open(os.devnull, "w") as nothing:
+            with self.assertRaises(Fault), open(os.devnull, "w") as nothing:
                 kept = os.dup(2)
                 os.dup2(nothing.fileno(), 2)
                 try:

@@ -4,6 +4,8 @@ import os
 import pickle
 import signal
 
+from heap_tools.faults import UNREADABLE, Fault
+
 
 def shared(function, items, least):
     """Calls `function` with parts of the list `items`, each in a process of its own, and returns the results. There are
@@ -39,8 +41,9 @@ def _started(function, items):
 
 
 def _all_of(stream):
-    """Returns the whole result. Raises `EOFError` if the process ended without one."""
+    """Returns the whole result. Raises `Fault` if the process ended without one: it ran out of memory, or what it read
+    changed."""
     content = stream.read()
     if not content:
-        raise EOFError("a process ended early")
+        raise Fault(UNREADABLE, "a process that reads the dump ended early")
     return content

@@ -99,8 +99,8 @@ class Earlier(Probe):
         return self.holders.changes(holder.key)
 
     def bounds(self, group):
-        """Returns the most and the least that `group` can hold, by the groups that were asked for: it holds at most what
-        a group does of which it is a part, and at least what each part of it does."""
+        """Returns the most and the least that `group` can hold, by the groups that were asked for: it holds at most
+        what a group does of which it is a part, and at least what each part of it does."""
         key = frozenset(holder.key for holder in group)
         above = [held.amount for known, held in self._known.items() if key <= known]
         below = [held.amount for known, held in self._known.items() if known <= key]

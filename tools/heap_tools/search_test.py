@@ -1,9 +1,10 @@
 """Tests how many runs the search for holders takes, with probes that know what holders hold."""
 
 import unittest
+from unittest import mock
 
 from heap_tools.console import Progress
-from heap_tools.holding import FIELD, Holder
+from heap_tools.holding import FIELD, LOCAL, THREAD, Holder, Holders
 from heap_tools.reports import Amount
 from heap_tools.search import NEXT, Earlier, Gains, Held, Search
 
@@ -38,6 +39,22 @@ class ToldGains(Told, Gains):
 def field(name, count=1):
     """Returns a field with `count` holders."""
     return Holder(FIELD, name, count, {})
+
+
+class NamesTest(unittest.TestCase):
+    """What holders of a later dump are called in an earlier one."""
+
+    def test_lookup(self):
+        """Local variables and threads are listed once, however many are looked up."""
+        dump = mock.Mock(classes={}, names={}, roots=[])
+        holders = Holders(dump)
+        for kind in LOCAL, THREAD:
+            known = [Holder(kind, f"name{number}", 1, {number: b""}) for number in range(9)]
+            with mock.patch.object(holders, f"{kind}s", return_value=known) as listed:
+                for each in known:
+                    self.assertEqual(holders.changes(each.key), each.changes)
+                self.assertEqual(holders.changes((kind, "other")), {})
+            self.assertEqual(listed.call_count, 1)
 
 
 class SearchTest(unittest.TestCase):
