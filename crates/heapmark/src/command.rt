@@ -13,6 +13,7 @@ ghost use Rattle.heapmark.specs.RunRefusals.{out_of_memory};
 ghost use Rattle.heapmark.specs.StatusOf.{IsStatusOf};
 ghost use Rattle.heapmark.specs.SkippedFields.{HasBadList, IsSkipListOf, WritesBeginningFor, WritesReportFor};
 ghost use Rattle.drain.specs.Options.{IsInRange};
+ghost use Rattle.heapmark.specs.working.Hint.{HasHint};
 ghost use Rattle.heapmark.specs.working.NoReport.{HasTooFewBuffers, bad_options, list_of, refusal_of, starved, wanted};
 ghost use Rattle.histogram.specs.Counting.{AppendsBeginning, failures_of, inner_of, is_flushed};
 
@@ -213,9 +214,11 @@ pub fn refuse_bytes<E: Write>(err: &mut E) -> u8
     WRONG_WORDS
 }
 
-/// Prints why the file could not be opened, or what can be done about the refusal, if a hint is known.
+/// Prints why the file could not be opened (code 19), or what can be done about the refusal, if a hint is known.
 fn explain<T: Dumps + AllocGlobal, E: Write>(rt: &T, err: &mut E, unreported: &Unreported<'_>)
-    ensures { AppendsSome (E.contents err.old) (E.contents err.new) }
+    ensures none { (HasHint (refusal_of unreported.now.reason).code → ⊥)
+        → (refusal_of unreported.now.reason).code ≢ 19 → Keeps (E.contents err.old) (E.contents err.new) }
+    ensures more { AppendsSome (E.contents err.old) (E.contents err.new) }
 {
     let Unreported { arguments, reason } = unreported;
     match reason {
