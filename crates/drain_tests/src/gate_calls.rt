@@ -2,7 +2,7 @@
 //! another gave objects.
 
 use crate::dumps::{dump_of, graph_of, put_class, put_instance, wide_array};
-use drain::{Gate, Options, RunFault, mark};
+use drain::{Gate, Options, mark};
 use heap_graph::{Graph, Skip};
 use std::alloc::{AllocError, Global};
 use std::sync::Wait;
@@ -114,7 +114,7 @@ fn marked_in<T: Threads + Wait + Sync, G: Gate>(
     graph: &Graph<'_, Global>,
     options: &Options,
     gate: &G,
-) -> Result<u64, RunFault> {
+) -> Result<u64, Fail> {
     let marked = mark(rt, alloc, graph, options, gate)?;
     Ok(marked.len())
 }
@@ -129,7 +129,7 @@ fn marked<T: Threads + Wait + Sync, G: Gate>(
 ) -> Result<u64, Fail> {
     let skip = Skip::none(alloc);
     let graph = graph_of(rt, alloc, dump, &skip)?;
-    Ok(marked_in(rt, alloc, &graph, options, gate)?)
+    marked_in(rt, alloc, &graph, options, gate)
 }
 
 /// Marks `roots` roots with the options `workers`, `buffer` and `buffers`. Returns the number of marked objects and

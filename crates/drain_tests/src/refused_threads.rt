@@ -4,7 +4,7 @@ use crate::dumps::{graph_of, wide_array};
 use crate::faults::Fault;
 use drain::inside::{StartHook, mark_where};
 use drain::{Gate, NoGate, Options};
-use heap_graph::Skip;
+use heap_graph::{Graph, Skip};
 use std::alloc::Global;
 use std::sync::Wait;
 use std::sync::atomic::{AtomicU64, Ordering};
@@ -25,6 +25,21 @@ impl StartHook for AllBut {
     }
 }
 
+/// Marks `graph`, and returns the number of marked objects, or the fault.
+fn marked_in<T: Threads + Wait + Sync, G: Gate, S: StartHook>(
+    rt: &T,
+    alloc: Global,
+    graph: &Graph<'_, Global>,
+    options: &Options,
+    gate: &G,
+    hook: &S,
+) -> Result<u64, Fault> {
+    match mark_where(rt, alloc, graph, options, gate, hook) {
+        Ok(marked) => Ok(marked.len()),
+        Err(fault) => Err(fault.into()),
+    }
+}
+
 /// Marks the wide array with the options `workers`, `buffer`, `buffers` and `first_tag`. Returns the number of marked
 /// objects, or the fault.
 fn marked_where<T: Threads + Wait + Sync, G: Gate, S: StartHook>(
@@ -38,10 +53,7 @@ fn marked_where<T: Threads + Wait + Sync, G: Gate, S: StartHook>(
     let dump = wide_array(alloc)?;
     let skip = Skip::none(alloc);
     let graph = graph_of(rt, alloc, dump.as_slice(), &skip)?;
-    Ok(match mark_where(rt, alloc, &graph, &options, gate, hook) {
-        Ok(marked) => Ok(marked.len()),
-        Err(fault) => Err(fault.into()),
-    })
+    Ok(marked_in(rt, alloc, &graph, &options, gate, hook))
 }
 
 /// Workers, objects in a buffer, buffers, and the first tag; the worker whose thread is refused; and the result.
