@@ -83,7 +83,7 @@ class BuildTest(unittest.TestCase):
         (self.top / "docs/GATE.md").write_text("| `left` | 40 | 0 |\n| `right` | 30 | 0 |\n| `low` | 9 | 0 |\n")
         self.ended("--crates", "2", "--jobs", "4")
         self.assertIn("begin low lib --jobs 4", self.log())
-        self.assertIn("begin left lib --jobs 4", self.log())
+        self.assertIn("begin left lib --jobs 3", self.log())
         self.assertIn("begin right lib --jobs 2", self.log())
 
     def test_only_work_that_was_kept_before_is_kept(self):
