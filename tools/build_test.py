@@ -101,15 +101,17 @@ class BuildTest(unittest.TestCase):
         self.assertEqual((self.top / "crates/left/out/build.log").read_text(), "the proof fails\n")
         self.assertFalse([it for it in self.log() if it.startswith("begin heapmark")])
 
-    def test_an_interrupt_ends_what_runs(self):
+    def test_a_signal_ends_what_runs(self):
         self.set(seconds="30")
-        build = self.start()
-        while not (self.top / "log").exists():
-            time.sleep(0.05)
-        build.send_signal(signal.SIGINT)
-        build.communicate(timeout=10)
-        self.assertEqual(build.returncode, 130)
-        self.assertEqual(list(self.top.glob("crates/*/out/incremental")), [])
+        for number in (signal.SIGINT, signal.SIGTERM, signal.SIGHUP):
+            build = self.start()
+            while not (self.top / "log").exists():
+                time.sleep(0.05)
+            build.send_signal(number)
+            build.communicate(timeout=10)
+            self.assertEqual(build.returncode, 128 + number)
+            self.assertEqual(list(self.top.glob("crates/*/out/incremental")), [])
+            (self.top / "log").unlink()
 
     def test_wrong_words_and_no_rt(self):
         self.assertEqual(self.ended("--jobs", "0")[0], 2)
@@ -117,6 +119,7 @@ class BuildTest(unittest.TestCase):
         python = os.path.dirname(shutil.which("python3"))
         status, _, err = self.ended(path=f"{python}:/usr/bin:/bin")
         self.assertEqual((status, err), (1, "tools/build: rt is not on the PATH: add the toolchain's folder bin\n"))
+        self.assertEqual(list(self.top.glob("crates/*/out/incremental")), [])
 
 
 if __name__ == "__main__":
