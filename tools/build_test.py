@@ -15,7 +15,7 @@ CRATES = "heapmark: left right\napart: low\nleft: low  # a comment: with a colon
 #: Notes when it begins and ends in the file `log`, and fails for the crate `bad` names.
 RT = """#!/bin/sh
 name=$(basename "$PWD")
-echo "begin $name $*" >> ../../log
+echo "begin $name WORD$*" >> ../../log
 [ -f out/incremental ] && echo "keeps nothing $name" >> ../../log
 sleep "$(cat ../../seconds)"
 [ "$name" = "$(cat ../../bad)" ] && { echo "the proof fails"; exit 1; }
@@ -30,13 +30,14 @@ class BuildTest(unittest.TestCase):
         self.top = pathlib.Path(self.room.name)
         for name in ("heapmark", "apart", "left", "right", "low"):
             (self.top / "crates" / name / "src").mkdir(parents=True)
-        for folder in ("tools", "docs", "bin"):
+        for folder in ("tools", "dev", "docs", "bin"):
             (self.top / folder).mkdir()
         shutil.copy(BUILD, self.top / "tools")
         (self.top / "docs/GATE.md").write_text("| `left` | 40 | 0 |\n| `right` | 4 | 0 |\n| `low` | 9 | 0 |\n")
         (self.top / "crates.txt").write_text(CRATES)
-        (self.top / "bin/rt").write_text(RT)
-        (self.top / "bin/rt").chmod(0o755)
+        for command, word in (("bin/rt", ""), ("dev/lib_of_statements", "statements ")):
+            (self.top / command).write_text(RT.replace("WORD", word))
+            (self.top / command).chmod(0o755)
         self.set(seconds="0", bad="none")
 
     def tearDown(self):
@@ -74,23 +75,25 @@ class BuildTest(unittest.TestCase):
 
     def test_the_longest_chain_gets_the_most_processes(self):
         self.ended("--crates", "2", "--jobs", "4")
-        self.assertIn("begin low lib --jobs 4", self.log())
-        self.assertIn("begin left lib --jobs 4", self.log())
-        self.assertIn("begin right lib --jobs 1", self.log())
+        self.assertIn("begin low statements --jobs 4", self.log())
+        self.assertIn("begin left statements --jobs 4", self.log())
+        self.assertIn("begin right statements --jobs 1", self.log())
         self.assertIn("begin heapmark run --jobs 4 -- data/two_objects.hprof", self.log())
 
     def test_urgent_crates_share_the_processes(self):
         (self.top / "docs/GATE.md").write_text("| `left` | 40 | 0 |\n| `right` | 30 | 0 |\n| `low` | 9 | 0 |\n")
         self.ended("--crates", "2", "--jobs", "4")
-        self.assertIn("begin low lib --jobs 4", self.log())
-        self.assertIn("begin left lib --jobs 3", self.log())
-        self.assertIn("begin right lib --jobs 2", self.log())
+        self.assertIn("begin low statements --jobs 4", self.log())
+        self.assertIn("begin left statements --jobs 3", self.log())
+        self.assertIn("begin right statements --jobs 2", self.log())
 
     def test_only_work_that_was_kept_before_is_kept(self):
         (self.top / "crates/left/out/incremental").mkdir(parents=True)
-        self.ended()
-        log = [it for it in self.log() if it.startswith("keeps nothing")]
-        self.assertEqual(sorted(log), ["keeps nothing heapmark", "keeps nothing low", "keeps nothing right"])
+        self.ended("--crates", "2", "--jobs", "4")
+        log = self.log()
+        self.assertIn("begin left lib --jobs 4", log)
+        self.assertIn("begin right statements --jobs 1", log)
+        self.assertEqual([it for it in log if it.startswith("keeps nothing")], ["keeps nothing heapmark"])
         self.assertEqual([it.parent.parent.name for it in self.top.glob("crates/*/out/incremental")], ["left"])
 
     def test_a_crate_that_is_not_proved(self):
