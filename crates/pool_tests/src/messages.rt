@@ -2,15 +2,27 @@
 
 use buffer_pool::PoolFault;
 use mark_core::OutOfMemory;
+use std::alloc::{AllocError, Global};
+use std::fmt::Display;
+use std::process::Abort;
 use std::test::Fail;
+
+/// Tests that `error` is printed as `words`.
+pub(crate) fn check_words<R: Abort, E: Display>(
+    rt: &R,
+    alloc: Global,
+    error: &E,
+    words: &str,
+) -> Result<(), AllocError> {
+    let told = format!(in alloc; "{error}")?;
+    assert_eq!(rt; told.as_str(), words);
+    Ok(())
+}
 
 #[test]
 fn each_error_has_its_message(rt: HostRuntime) -> Result<(), Fail> {
-    let outside = format!(in rt.alloc(); "{}", PoolFault::BadOptions)?;
-    assert_eq!(rt; outside.as_str(), "an option is out of its range");
-    let refused = format!(in rt.alloc(); "{}", PoolFault::OutOfMemory)?;
-    assert_eq!(rt; refused.as_str(), "out of memory");
-    let refused_to_a_world = format!(in rt.alloc(); "{OutOfMemory}")?;
-    assert_eq!(rt; refused_to_a_world.as_str(), "out of memory");
-    Ok(())
+    let outside = "an option is out of its range";
+    check_words(&rt, rt.alloc(), &PoolFault::BadOptions, outside)?;
+    check_words(&rt, rt.alloc(), &PoolFault::OutOfMemory, "out of memory")?;
+    Ok(check_words(&rt, rt.alloc(), &OutOfMemory, "out of memory")?)
 }

@@ -178,6 +178,14 @@ pub(crate) fn full_is_empty<A: Allocator>(
     pool.sees_empty(worker, buffer_pool::Which::Full)
 }
 
+/// Returns the numbers of objects in `left`, whose disposal was stopped by a last tag, as `stop` says.
+fn lens_of_stopped<R: Abort, A: Allocator>(rt: &R, left: &Pair<A>, stop: Stop) -> Lens {
+    let Stop::TagSpent(_) = stop else {
+        panic!(rt; "it takes no memory");
+    };
+    left.lens()
+}
+
 /// Disposes of the pair. Returns `None`, or, if a last tag stops the disposal, the numbers of objects in the pair that
 /// remains.
 pub(crate) fn dispose<R: Wait + Abort, A: Allocator>(
@@ -193,7 +201,6 @@ pub(crate) fn dispose<R: Wait + Abort, A: Allocator>(
 {
     match pair.dispose(rt, pool, worker) {
         Ok(()) => None,
-        Err((left, Stop::TagSpent(_))) => Some(left.lens()),
-        Err((_, Stop::OutOfMemory)) => panic!(rt; "it takes no memory"),
+        Err((left, stop)) => Some(lens_of_stopped(rt, &left, stop)),
     }
 }

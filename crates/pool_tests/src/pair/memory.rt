@@ -1,17 +1,17 @@
 //! Tests of a pair whose spill list runs out of memory. While the list need not grow, the calls of a pair make no
 //! allocation.
 ghost use Rattle.std.specs.Prelude.{◌≤◌, IfOk};
+ghost use Rattle.pool_tests.specs.Ready.{IsWorker};
 
-use super::hand::{Lens, bare, pool_of_roots};
+use super::hand::{Lens, OBJECTS, bare, pool_of_roots};
 use super::runs::{End, Run, Step, left_after};
 use End::AllGot;
 use Step::{Balance, Fill, FullIsEmpty, Get, Has, InVain, NoneLeft, Publish, Put, Spilled};
-use buffer_pool::PoolFault;
+use buffer_pool::{Pool, PoolFault, Worker};
 use limited_heap::LimitedHeap;
 use std::alloc::{Allocator, Global};
 use std::process::Abort;
 use std::sync::Wait;
-use std::test::Fail;
 
 /// More requests for memory than the opening of a pool of these tests makes.
 const MANY: u64 = 1 << 32;
@@ -27,12 +27,18 @@ enum Refused {
     First,
 }
 
-/// Returns how many requests the opening of a pool of four buffers for two objects each makes.
+/// Opens a pool of four buffers for two objects each, and drops it.
+fn open_pool<A: Allocator + Copy>(alloc: A) -> Result<(), PoolFault> {
+    let _pool = pool_of_roots(alloc, 4, 2, 0)?;
+    Ok(())
+}
+
+/// Returns how many requests [`open_pool`] makes.
 fn requests_of_a_pool(alloc: Global) -> Result<u64, PoolFault>
     ensures { IfOk result (λ n. n ≤ MANY) }
 {
     let heap = LimitedHeap::new(alloc, MANY);
-    let _pool = pool_of_roots(&heap, 4, 2, 0)?;
+    open_pool(&heap)?;
     Ok(MANY - heap.requests_left())
 }
 
@@ -108,19 +114,6 @@ const SIX: Run = (
     AllGot,
 );
 
-/// A run, the size of a buffer, the requests that the heap would refuse after the opening of the pool, and how many
-/// requests it refuses in the run.
-type Row = (Run, u32, Refused, u64);
-
-/// The run of six objects makes no request: the heap would refuse each, and refuses none.
-const ROWS: [Row; 5] = [
-    (NINTH, 2, Refused::Each, 1),
-    (THIRTEENTH, 2, Refused::AllAfter(1), 1),
-    (DOUBLED, 2, Refused::AllAfter(6), 1),
-    (TENTH, 2, Refused::First, 1),
-    (SIX, 8, Refused::Each, 0),
-];
-
 /// Makes `run` on a heap that refuses `refused` after the opening of the pool. Returns what is left of the pair, or
 /// `None` if nothing is, and how many requests were refused.
 fn refused_in<R: Wait + Abort>(
@@ -131,23 +124,46 @@ fn refused_in<R: Wait + Abort>(
     refused: Refused,
 ) -> Result<(Option<Lens>, u64), PoolFault> {
     let heap = heap_of_a_pool(alloc, refused)?;
-    let left = left_after(rt, &heap, run, size, 0)?;
-    Ok((left, heap.refusals()))
+    let left = left_after(rt, &heap, run, size, 0);
+    let refusals = heap.refusals();
+    Ok((left?, refusals))
 }
 
+/// Tests that nothing is left of the pair after `run`, and that `refusals` requests were refused.
+fn check_run<R: Wait + Abort>(
+    rt: &R,
+    alloc: Global,
+    run: Run,
+    size: u32,
+    refused: Refused,
+    refusals: u64,
+) {
+    let ended = refused_in(rt, alloc, run, size, refused);
+    assert!(rt; ended == Ok((None, refusals)), "{}", run.0);
+}
+
+// Not a loop over a table: its check goes through each nested slice at each step.
 #[test]
-fn runs_without_memory(rt: HostRuntime) -> Result<(), Fail> {
-    for (run, size, refused, refusals) in ROWS {
-        let ended = refused_in(&rt, rt.alloc(), run, size, refused)?;
-        assert!(rt; ended == (None, refusals), "{}", run.0);
-    }
-    Ok(())
+fn runs_without_memory(rt: HostRuntime) {
+    check_run(&rt, rt.alloc(), NINTH, 2, Refused::Each, 1);
+    check_run(&rt, rt.alloc(), THIRTEENTH, 2, Refused::AllAfter(1), 1);
+    check_run(&rt, rt.alloc(), DOUBLED, 2, Refused::AllAfter(6), 1);
+    check_run(&rt, rt.alloc(), TENTH, 2, Refused::First, 1);
+    // The run of six objects makes no request: the heap would refuse each, and refuses none.
+    check_run(&rt, rt.alloc(), SIX, 8, Refused::Each, 0);
 }
 
 /// Returns what the positions of a pair without buffers have.
+fn lens_of_bare<A: Allocator>(alloc: A, pool: &Pool<A>, worker: &Worker<A>) -> Lens
+    requires { IsWorker OBJECTS pool.now worker.now }
+{
+    bare(alloc, pool, worker).lens()
+}
+
+/// Calls [`lens_of_bare`] in a new pool.
 fn bare_lens<A: Allocator + Copy>(alloc: A) -> Result<Lens, PoolFault> {
     let (pool, worker) = pool_of_roots(alloc, 4, 8, 0)?;
-    Ok(bare(alloc, &pool, &worker).lens())
+    Ok(lens_of_bare(alloc, &pool, &worker))
 }
 
 /// Creates a pair without buffers on a heap that refuses every request after the opening of the pool. Returns what its
@@ -159,8 +175,7 @@ fn bare_pair_without_memory(alloc: Global) -> Result<(Lens, u64, u64), PoolFault
 }
 
 #[test]
-fn a_bare_pair_takes_no_memory(rt: HostRuntime) -> Result<(), Fail> {
-    let ended = bare_pair_without_memory(rt.alloc())?;
-    assert!(rt; ended == ([None; 3], 0, 0));
-    Ok(())
+fn a_bare_pair_takes_no_memory(rt: HostRuntime) {
+    let ended = bare_pair_without_memory(rt.alloc());
+    assert_eq!(rt; ended, Ok(([None; 3], 0, 0)));
 }

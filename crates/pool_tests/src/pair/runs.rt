@@ -1,7 +1,7 @@
 //! Runs of a pair: lists of steps, and the functions that make the steps.
 ghost use Rattle.std.specs.Prelude.{◌≡◌, ◌⊎◌, []};
 ghost use Rattle.work_pair.specs.PairState.{HasStopped};
-ghost use Rattle.pool_tests.specs.Ready.{IsReady};
+ghost use Rattle.pool_tests.specs.Ready.{IsReady, IsWorker};
 
 use super::hand::{
     Lens, OBJECTS, balance, dispose, full_is_empty, get, open, pool_of_roots, publish, put,
@@ -93,6 +93,11 @@ fn get_none<R: Wait + Abort, A: Allocator>(
     };
 }
 
+/// Tests whether the positions of the pair have the numbers of objects `wanted`.
+fn has<A: Allocator>(pair: &Pair<A>, wanted: Lens) -> bool {
+    pair.lens() == wanted
+}
+
 /// Makes one step. Returns `false` if the pair is not as the step says.
 fn does<R: Wait + Abort, A: Allocator>(
     rt: &R,
@@ -113,7 +118,7 @@ fn does<R: Wait + Abort, A: Allocator>(
         Step::Get(wanted) => get_all(rt, pool, worker, pair, wanted),
         Step::NoneLeft => get_none(rt, pool, worker, pair),
         Step::FullIsEmpty(wanted) => return full_is_empty(pool, worker, pair) == wanted,
-        Step::Has(wanted) => return pair.lens() == wanted,
+        Step::Has(wanted) => return has(pair, wanted),
         Step::Spilled(wanted) => return pair.spilled() == wanted,
     }
     true
@@ -159,8 +164,25 @@ fn finish<R: Wait + Abort, A: Allocator>(
     }
 }
 
-/// Opens a pair on a new pool of four buffers, makes `run`, and disposes of the pair. Returns what the positions of the
-/// pair have if a last tag stops the disposal, and `None` otherwise.
+/// Opens a pair, makes `steps`, ends as `end` says, and disposes of the pair. Returns what the positions of the pair
+/// have if a last tag stops the disposal, and `None` otherwise.
+fn left_of_pair<R: Wait + Abort, A: Allocator>(
+    rt: &R,
+    alloc: A,
+    pool: &Pool<A>,
+    worker: &mut Worker<A>,
+    steps: &[Step],
+    end: End,
+) -> Option<Lens>
+    requires { IsWorker OBJECTS pool.now worker.old }
+{
+    let mut pair = open(rt, alloc, pool, worker);
+    go_through(rt, pool, worker, &mut pair, steps);
+    finish(rt, pool, worker, &mut pair, end);
+    dispose(rt, pool, worker, pair)
+}
+
+/// Makes `run` with a pair on a new pool of four buffers. Returns what [`left_of_pair`] returns.
 pub(crate) fn left_after<R: Wait + Abort, A: Allocator + Copy>(
     rt: &R,
     alloc: A,
@@ -170,8 +192,5 @@ pub(crate) fn left_after<R: Wait + Abort, A: Allocator + Copy>(
 ) -> Result<Option<Lens>, PoolFault> {
     let (_, steps, end) = run;
     let (pool, mut worker) = pool_of_roots(alloc, 4, size, first_tag)?;
-    let mut pair = open(rt, alloc, &pool, &mut worker);
-    go_through(rt, &pool, &mut worker, &mut pair, steps);
-    finish(rt, &pool, &mut worker, &mut pair, end);
-    Ok(dispose(rt, &pool, &mut worker, pair))
+    Ok(left_of_pair(rt, alloc, &pool, &mut worker, steps, end))
 }

@@ -1,9 +1,12 @@
 //! Tests that a stopped pair keeps each buffer that it could not push. A last tag stops the pair in the middle of a
 //! call, before the call changed anything, or at the disposal.
+ghost use Rattle.std.specs.Prelude.{[]};
+ghost use Rattle.work_pair.specs.PairState.{HasStopped, IsBacked};
 ghost use Rattle.pool_tests.specs.Ready.{IsReady, IsWorker};
 
 use super::hand::{Lens, OBJECTS, bare, claim, dispose, get, open, pool_of_roots};
 use super::runs::{Step, go_through};
+use crate::messages::check_words;
 use Step::{Fill, Get};
 use buffer_pool::{Pool, PoolFault, Worker};
 use std::alloc::{Allocator, Global};
@@ -28,7 +31,27 @@ enum Call {
 /// disposal too.
 type Stopped = (Lens, Option<Lens>);
 
-/// Claims `object`, which is white, and tries to put it. A last tag stops the put. Then disposes of the pair.
+/// Claims `object`, which is white, and tries to put it. A last tag stops the put.
+fn put_and_stop<R: Wait + Abort, A: Allocator>(
+    rt: &R,
+    pool: &Pool<A>,
+    worker: &mut Worker<A>,
+    pair: &mut Pair<A>,
+    object: u32,
+)
+    requires { IsReady OBJECTS pool.now worker.old pair.old }
+    ensures worker { IsWorker OBJECTS pool.now worker.new }
+    ensures backed { IsBacked pair.new [] worker.new.book }
+    ensures stopped { HasStopped pair.new }
+{
+    claim(rt, pool, worker, pair, object);
+    let Err((back, Stop::TagSpent(_))) = pair.put(rt, pool, worker, object) else {
+        panic!(rt; "a last tag was to be loaded");
+    };
+    assert!(rt; back == object);
+}
+
+/// Makes [`put_and_stop`], and then disposes of the pair.
 fn stopped_by_put<R: Wait + Abort, A: Allocator>(
     rt: &R,
     pool: &Pool<A>,
@@ -38,11 +61,7 @@ fn stopped_by_put<R: Wait + Abort, A: Allocator>(
 ) -> Stopped
     requires { IsReady OBJECTS pool.now worker.old pair }
 {
-    claim(rt, pool, worker, &pair, object);
-    let Err((back, Stop::TagSpent(_))) = pair.put(rt, pool, worker, object) else {
-        panic!(rt; "a last tag was to be loaded");
-    };
-    assert!(rt; back == object);
+    put_and_stop(rt, pool, worker, &mut pair, object);
     (pair.lens(), dispose(rt, pool, worker, pair))
 }
 
@@ -73,11 +92,10 @@ fn exchange_full_twice<R: Wait + Abort, A: Allocator>(
     ensures { IsWorker OBJECTS pool.now worker.new }
 {
     let mut pair = bare(alloc, pool, worker);
-    let Some(_) = get(rt, pool, worker, &mut pair) else {
-        panic!(rt; "there is a buffer with objects");
-    };
-    let left = dispose(rt, pool, worker, pair);
-    assert!(rt; left.is_none());
+    let is_got = get(rt, pool, worker, &mut pair).is_some();
+    let is_gone = dispose(rt, pool, worker, pair).is_none();
+    assert!(rt; is_got, "there is a buffer with objects");
+    assert!(rt; is_gone);
 }
 
 /// Calls [`exchange_full_twice`] `times` times.
@@ -96,71 +114,83 @@ fn exchange_full<R: Wait + Abort, A: Allocator + Copy>(
     }
 }
 
-/// Opens a pair on a new pool of four buffers for four objects, and makes `steps`. Lets another worker call
-/// [`exchange_full_twice`] `exchanges` times. Then makes `call`, which a last tag stops.
+/// The steps of a pair, how often another worker then calls [`exchange_full_twice`], and the call that a last tag
+/// stops.
+type Stops = (&'static [Step], u32, Call);
+
+/// Opens a pair for `worker` and makes its steps of `stops`. Lets `other` exchange the full head. Then makes the call.
+fn stopped_in<R: Wait + Abort>(
+    rt: &R,
+    alloc: Global,
+    pool: &Pool<Global>,
+    worker: &mut Worker<Global>,
+    other: &mut Worker<Global>,
+    stops: Stops,
+) -> Stopped
+    requires worker { IsWorker OBJECTS pool.now worker.old }
+    requires other { IsWorker OBJECTS pool.now other.old }
+{
+    let (steps, exchanges, call) = stops;
+    let mut pair = open(rt, alloc, pool, worker);
+    go_through(rt, pool, worker, &mut pair, steps);
+    exchange_full(rt, alloc, pool, other, exchanges);
+    match call {
+        Call::Puts(object) => stopped_by_put(rt, pool, worker, pair, object),
+        Call::Gets => stopped_by_get(rt, pool, worker, pair),
+    }
+}
+
+/// Calls [`stopped_in`] with the two workers of a new pool of four buffers for four objects.
 fn stopped_after<R: Wait + Abort>(
     rt: &R,
     alloc: Global,
     first_tag: u64,
-    steps: &[Step],
-    exchanges: u32,
-    call: Call,
+    stops: Stops,
 ) -> Result<Stopped, PoolFault> {
     let (pool, worker) = pool_of_roots(alloc, 4, 4, first_tag)?;
     let (mut worker, mut other) = pool.split(worker, 1);
-    let mut pair = open(rt, alloc, &pool, &mut worker);
-    go_through(rt, &pool, &mut worker, &mut pair, steps);
-    exchange_full(rt, alloc, &pool, &mut other, exchanges);
-    Ok(match call {
-        Call::Puts(object) => stopped_by_put(rt, &pool, &mut worker, pair, object),
-        Call::Gets => stopped_by_get(rt, &pool, &mut worker, pair),
-    })
+    Ok(stopped_in(rt, alloc, &pool, &mut worker, &mut other, stops))
 }
 
-/// The first tag, the steps, how often another worker then calls [`exchange_full_twice`], the call, and what the
-/// positions of the pair have after the call, and after the disposal if a last tag stops that too.
-type Row = (u64, &'static [Step], u32, Call, Lens, Option<Lens>);
+/// Tests what the positions of a pair have after `stops` in a pool with the first tag `first_tag`.
+fn check_stopped<R: Wait + Abort>(
+    rt: &R,
+    alloc: Global,
+    first_tag: u64,
+    stops: Stops,
+    wanted: Stopped,
+) {
+    let stopped = stopped_after(rt, alloc, first_tag, stops);
+    assert!(rt; stopped == Ok(wanted), "from tag {first_tag} on");
+}
 
-const ROWS: [Row; 3] = [
-    // A put takes a buffer from the empty stack, and cannot push the pair's full buffer. Each head may be exchanged
-    // five times. The empty head is exchanged four times. The full head was exchanged five times before this put.
-    (
-        LAST_TAG - 5,
-        &[Fill(12)],
-        2,
-        Call::Puts(12),
-        [Some(4), Some(4), Some(0)],
-        Some([Some(4), Some(4), Some(0)]),
-    ),
-    // A put finds the empty stack at its last tag: the empty head was exchanged three times. The full head was
-    // exchanged once, and has tags left.
-    (
-        LAST_TAG - 3,
-        &[Fill(12)],
-        0,
-        Call::Puts(12),
-        [Some(4), Some(4), None],
-        None,
-    ),
-    // A get takes a buffer from the full stack, and cannot push the pair's empty buffer: the empty stack's head was
-    // exchanged three times.
-    (
-        LAST_TAG - 3,
-        &[Fill(9), Get(&[8, 7, 6, 5, 4])],
-        0,
-        Call::Gets,
-        [Some(0), Some(0), Some(4)],
-        Some([Some(0), Some(0), Some(4)]),
-    ),
-];
+/// A put takes a buffer from the empty stack, and cannot push the pair's full buffer. Each head may be exchanged five
+/// times. The empty head is exchanged four times. The full head was exchanged five times before this put.
+const PUT_AT_FULL: Stops = (&[Fill(12)], 2, Call::Puts(12));
 
+/// A put finds the empty stack at its last tag: the empty head was exchanged three times. The full head was exchanged
+/// once, and has tags left.
+const PUT_AT_EMPTY: Stops = (&[Fill(12)], 0, Call::Puts(12));
+
+/// A get takes a buffer from the full stack, and cannot push the pair's empty buffer: the empty stack's head was
+/// exchanged three times.
+const GET_AT_EMPTY: Stops = (&[Fill(9), Get(&[8, 7, 6, 5, 4])], 0, Call::Gets);
+
+// Not a loop over a table: its check goes through each nested slice at each step.
 #[test]
-fn stopped_pairs_keep_their_buffers(rt: HostRuntime) -> Result<(), Fail> {
-    for (first_tag, steps, exchanges, call, lens, left) in ROWS {
-        let stopped = stopped_after(&rt, rt.alloc(), first_tag, steps, exchanges, call)?;
-        assert!(rt; stopped == (lens, left), "from tag {first_tag} on");
-    }
-    Ok(())
+fn stopped_pairs_keep_their_buffers(rt: HostRuntime) {
+    let put = [Some(4), Some(4), Some(0)];
+    check_stopped(&rt, rt.alloc(), LAST_TAG - 5, PUT_AT_FULL, (put, Some(put)));
+    let full = [Some(4), Some(4), None];
+    check_stopped(&rt, rt.alloc(), LAST_TAG - 3, PUT_AT_EMPTY, (full, None));
+    let got = [Some(0), Some(0), Some(4)];
+    check_stopped(
+        &rt,
+        rt.alloc(),
+        LAST_TAG - 3,
+        GET_AT_EMPTY,
+        (got, Some(got)),
+    );
 }
 
 /// Returns the stop of a pair that was to be opened on a pool whose heads have the last tag.
@@ -174,15 +204,7 @@ fn stop_of_open<R: Wait + Abort>(rt: &R, alloc: Global) -> Result<Stop, PoolFaul
 
 #[test]
 fn each_stop_has_its_words(rt: HostRuntime) -> Result<(), Fail> {
-    for (stop, words) in [
-        (
-            stop_of_open(&rt, rt.alloc())?,
-            "a stack's last tag was loaded",
-        ),
-        (Stop::OutOfMemory, "out of memory"),
-    ] {
-        let told = format!(in rt.alloc(); "{stop}")?;
-        assert_eq!(rt; told.as_str(), words);
-    }
-    Ok(())
+    let spent = stop_of_open(&rt, rt.alloc())?;
+    check_words(&rt, rt.alloc(), &spent, "a stack's last tag was loaded")?;
+    Ok(check_words(&rt, rt.alloc(), &Stop::OutOfMemory, "out of memory")?)
 }

@@ -8,7 +8,6 @@ use buffer_pool::{Pool, PoolFault, Worker};
 use std::alloc::{Allocator, Global};
 use std::process::Abort;
 use std::sync::Wait;
-use std::test::Fail;
 use std::thread::{Threads, join};
 use work_pair::Pair;
 
@@ -287,8 +286,6 @@ fn got_by_threads<R: Threads + Wait + Abort + Sync>(
 
 /// No object is lost, and none is got twice.
 #[test]
-fn four_threads(rt: HostRuntime) -> Result<(), Fail> {
-    let all = got_by_threads(&rt, rt.alloc())?;
-    assert!(rt; all);
-    Ok(())
+fn four_threads(rt: HostRuntime) {
+    assert_eq!(rt; got_by_threads(&rt, rt.alloc()), Ok(true));
 }

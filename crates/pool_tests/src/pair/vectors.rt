@@ -1,6 +1,6 @@
 //! Small runs of one thread: the order in which objects are got, and how often the head of the empty stack changes.
 ghost use Rattle.std.specs.Prelude.{◌≡◌, []};
-ghost use Rattle.pool_tests.specs.Ready.{IsReady};
+ghost use Rattle.pool_tests.specs.Ready.{IsReady, IsWorker};
 
 use super::hand::{Lens, OBJECTS, bare, dispose, open, pool_of_roots};
 use super::runs::{End, Run, Step, go_through, left_after};
@@ -10,7 +10,6 @@ use buffer_pool::{Pool, PoolFault, Worker};
 use std::alloc::Global;
 use std::process::Abort;
 use std::sync::Wait;
-use std::test::Fail;
 use work_pair::Pair;
 
 /// Puts five objects, balances, and gets all of them. The upper half stays in the pair, and the lower part is got from
@@ -41,26 +40,30 @@ const NINE: Run = (
     AllGot,
 );
 
-/// A run, the size of a buffer, the first tag, and what the pair's positions have if a last tag stops the disposal.
-type Row = (Run, u32, u64, Option<Lens>);
+/// Tests what is left of the pair after `run` with buffers of `size` objects and the first tag `first_tag`.
+fn check_run<R: Wait + Abort>(
+    rt: &R,
+    alloc: Global,
+    run: Run,
+    size: u32,
+    first_tag: u64,
+    wanted: Option<Lens>,
+) {
+    let left = left_after(rt, alloc, run, size, first_tag);
+    assert!(rt; left == Ok(wanted), "{} from tag {first_tag} on", run.0);
+}
 
-/// In the run `FIVE` the head of the empty stack changes six times. So its first tag must be at least six below the
-/// last tag. If it is only five below, the last buffer cannot be pushed, and stays with the pair.
-const ROWS: [Row; 5] = [
-    (FIVE, 8, 0, None),
-    (FOUR, 8, 0, None),
-    (FIVE, 8, 281_474_976_710_649, None),
-    (FIVE, 8, 281_474_976_710_650, Some([None, Some(0), None])),
-    (NINE, 2, 0, None),
-];
-
+// Not a loop over a table: its check goes through each nested slice at each step.
 #[test]
-fn runs_of_one_pair(rt: HostRuntime) -> Result<(), Fail> {
-    for (run, size, first_tag, wanted) in ROWS {
-        let left = left_after(&rt, rt.alloc(), run, size, first_tag)?;
-        assert!(rt; left == wanted, "{} from tag {first_tag} on", run.0);
-    }
-    Ok(())
+fn runs_of_one_pair(rt: HostRuntime) {
+    check_run(&rt, rt.alloc(), FIVE, 8, 0, None);
+    check_run(&rt, rt.alloc(), FOUR, 8, 0, None);
+    // In the run `FIVE` the head of the empty stack changes six times. So its first tag must be at least six below the
+    // last tag. If it is only five below, the last buffer cannot be pushed, and stays with the pair.
+    check_run(&rt, rt.alloc(), FIVE, 8, 281_474_976_710_649, None);
+    let left = Some([None, Some(0), None]);
+    check_run(&rt, rt.alloc(), FIVE, 8, 281_474_976_710_650, left);
+    check_run(&rt, rt.alloc(), NINE, 2, 0, None);
 }
 
 /// A pair without buffers takes two objects, both are got again, and the pair still has no buffer.
@@ -90,26 +93,37 @@ fn left_between<R: Wait + Abort>(
     left
 }
 
-/// Calls [`left_between`] with a pair without buffers, in a new pool in which two other pairs have all four buffers at
-/// first.
+/// Calls [`left_between`] with a pair without buffers for `worker`. At first, pairs of `other` and `third` have all
+/// four buffers.
 fn left_beside_a_bare_pair<R: Wait + Abort>(
     rt: &R,
     alloc: Global,
-) -> Result<Option<Lens>, PoolFault> {
+    pool: &Pool<Global>,
+    worker: &mut Worker<Global>,
+    other: &mut Worker<Global>,
+    third: &mut Worker<Global>,
+) -> Option<Lens>
+    requires worker { IsWorker OBJECTS pool.now worker.old }
+    requires other { IsWorker OBJECTS pool.now other.old }
+    requires third { IsWorker OBJECTS pool.now third.old }
+{
+    let one = open(rt, alloc, pool, other);
+    let _two = open(rt, alloc, pool, third);
+    let pair = bare(alloc, pool, worker);
+    left_between(rt, pool, worker, pair, other, one)
+}
+
+/// Calls [`left_beside_a_bare_pair`] with three workers of a new pool.
+fn left_in_new_pool<R: Wait + Abort>(rt: &R, alloc: Global) -> Result<Option<Lens>, PoolFault> {
     let (pool, worker) = pool_of_roots(alloc, 4, 2, 0)?;
     let (mut other, worker) = pool.split(worker, 2);
     let (mut third, mut worker) = pool.split(worker, 1);
-    let one = open(rt, alloc, &pool, &mut other);
-    let _two = open(rt, alloc, &pool, &mut third);
-    let pair = bare(alloc, &pool, &worker);
-    Ok(left_between(rt, &pool, &mut worker, pair, &mut other, one))
+    Ok(left_beside_a_bare_pair(rt, alloc, &pool, &mut worker, &mut other, &mut third))
 }
 
 /// A pair without buffers keeps what is put into it, and takes a buffer at the first put at which the empty stack has
 /// one.
 #[test]
-fn a_bare_pair_takes_and_gives(rt: HostRuntime) -> Result<(), Fail> {
-    let left = left_beside_a_bare_pair(&rt, rt.alloc())?;
-    assert_eq!(rt; left, None);
-    Ok(())
+fn a_bare_pair_takes_and_gives(rt: HostRuntime) {
+    assert_eq!(rt; left_in_new_pool(&rt, rt.alloc()), Ok(None));
 }
