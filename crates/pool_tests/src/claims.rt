@@ -5,7 +5,6 @@ ghost use Rattle.pool_tests.specs.Rounds.{HasNone, HasRoots};
 use crate::edges::pool_of_roots;
 use buffer_pool::{Pool, PoolFault, Worker};
 use std::alloc::{Allocator, Global};
-use std::test::Fail;
 use std::thread::{Threads, join};
 
 /// Claims objects 0 to `objects` - 1, and returns how many were white.
@@ -45,16 +44,14 @@ fn claim_twice<R: Threads>(rt: &R, alloc: Global, objects: u32) -> Result<u32, P
 }
 
 #[test]
-fn each_object_is_claimed_once(rt: HostRuntime) -> Result<(), Fail> {
-    assert_eq!(rt; claim_twice(&rt, rt.alloc(), 1_000)?, 1_000);
-    Ok(())
+fn each_object_is_claimed_once(rt: HostRuntime) {
+    assert_eq!(rt; claim_twice(&rt, rt.alloc(), 1_000), Ok(1_000));
 }
 
 /// The marks of 64 objects are in two words, so each claim is in a word in which the other thread claims too.
 #[test]
-fn each_object_of_two_words_is_claimed_once(rt: HostRuntime) -> Result<(), Fail> {
+fn each_object_of_two_words_is_claimed_once(rt: HostRuntime) {
     for _ in 0..100 {
-        assert_eq!(rt; claim_twice(&rt, rt.alloc(), 64)?, 64);
+        assert_eq!(rt; claim_twice(&rt, rt.alloc(), 64), Ok(64));
     }
-    Ok(())
 }

@@ -1,15 +1,15 @@
 //! What no step of a pool can report, whatever a pool's author notes and proves.
 ghost use Rattle.pool_tests.specs.Forged.{NoEvenPop, NoForgedHead, NoForgedLoss, NoForgedPush};
 ghost use Rattle.pool_tests.specs.Forged.{OtherFirstHeadsWereNot, WasNotLost};
+ghost use Rattle.pool_tests.specs.Worked.{Holds};
 ghost use Rattle.buffer_pool.specs.Calls.{MayPush};
 ghost use Rattle.mark_core.specs.Shares.{whole};
-ghost use Rattle.std.specs.Prelude.{◌≡◌};
+ghost use Rattle.std.specs.Prelude.{◌≡◌, []};
 ghost use Rattle.buffer_pool.specs.working.Buffers.{buffer_reading};
 
 use crate::waiting::bare_pool;
 use buffer_pool::{Held, Pool, PoolFault, TryPopped, TryPushed, Which, Worker};
 use std::alloc::{Allocator, Global};
-use std::test::Fail;
 
 /// Does nothing. Its contract says what the rule of a pool's table excludes.
 ///
@@ -56,19 +56,27 @@ fn push_alone<A: Allocator>(
     tried
 }
 
-/// Lets the only worker of a pool pop a buffer and push it. Returns whether the buffer was pushed, or `None` if no
-/// buffer was popped.
+/// Pops a buffer from the empty stack and pushes it on the full one. Returns whether the buffer was pushed, or `None`
+/// if no buffer was popped.
+fn pop_and_push_alone<A: Allocator>(pool: &Pool<A>, worker: &mut Worker<A>) -> Option<bool>
+    requires pool { worker.old.pool ≡ pool.now }
+    requires none { Holds 2 [] worker.old }
+    requires alone { worker.old.book.account.share ≡ whole }
+{
+    let TryPopped::Took(held) = pool.try_pop(worker, Which::Empty) else {
+        return None;
+    };
+    let pushed = push_alone(pool, worker, Which::Full, held);
+    Some(matches!(pushed, TryPushed::Done))
+}
+
+/// Calls [`pop_and_push_alone`] with the only worker of a new pool.
 fn is_pushed_alone(alloc: Global) -> Result<Option<bool>, PoolFault> {
     let (pool, mut worker) = bare_pool(alloc, 0)?;
-    let TryPopped::Took(held) = pool.try_pop(&mut worker, Which::Empty) else {
-        return Ok(None);
-    };
-    let pushed = push_alone(&pool, &mut worker, Which::Full, held);
-    Ok(Some(matches!(pushed, TryPushed::Done)))
+    Ok(pop_and_push_alone(&pool, &mut worker))
 }
 
 #[test]
-fn pushes_alone(rt: HostRuntime) -> Result<(), Fail> {
-    assert_eq!(rt; is_pushed_alone(rt.alloc())?, Some(true));
-    Ok(())
+fn pushes_alone(rt: HostRuntime) {
+    assert_eq!(rt; is_pushed_alone(rt.alloc()), Ok(Some(true)));
 }

@@ -4,13 +4,19 @@
 use crate::edges::Roots;
 use buffer_pool::{Pool, PoolFault, Which};
 use limited_heap::{LimitedHeap, requests_of};
-use std::alloc::Global;
+use std::alloc::{Allocator, Global};
+
+/// Opens a pool of four buffers. Returns whether a buffer is on the empty stack.
+fn has_a_buffer<A: Allocator + Copy>(alloc: A) -> Result<bool, PoolFault> {
+    let (pool, mut worker) = Pool::new(alloc, &Roots { objects: 3 }, 4, 2, 0)?;
+    Ok(!pool.sees_empty(&mut worker, Which::Empty))
+}
 
 /// Tests whether the opening of a pool of four buffers on `heap` succeeds, with a buffer on the empty stack, or returns
 /// `OutOfMemory` after `heap` refused a request.
 fn is_right_or_told(heap: &LimitedHeap<Global>) -> bool {
-    match Pool::new(heap, &Roots { objects: 3 }, 4, 2, 0) {
-        Ok((pool, mut worker)) => !pool.sees_empty(&mut worker, Which::Empty),
+    match has_a_buffer(heap) {
+        Ok(right) => right,
         Err(fault) => heap.refusals() > 0 && fault == PoolFault::OutOfMemory,
     }
 }

@@ -2,10 +2,15 @@
 
 use crate::edges::Roots;
 use buffer_pool::{Pool, PoolFault};
+use std::alloc::Global;
+use std::process::Abort;
 use tagged_index::LAST_TAG;
 
 /// The numbers of objects and buffers, the size of a buffer and the first tag, and whether a pool may have them.
-const SIZES: [(u32, u32, u32, u64, bool); 10] = [
+type Row = (u32, u32, u32, u64, bool);
+
+/// Numbers that are just in range, or just outside.
+const SIZES: [Row; 10] = [
     (0, 4, 2, 0, true),
     (16_777_216, 4, 2, LAST_TAG, true),
     (16_777_217, 4, 2, 0, false),
@@ -18,21 +23,33 @@ const SIZES: [(u32, u32, u32, u64, bool); 10] = [
     (0, 4, 4_097, 0, false),
 ];
 
+/// Returns the fault of the opening of a pool, or `None` if it succeeds.
+fn fault_of(
+    alloc: Global,
+    objects: u32,
+    buffers: u32,
+    size: u32,
+    first_tag: u64,
+) -> Option<PoolFault> {
+    Pool::new(alloc, &Roots { objects }, buffers, size, first_tag).err()
+}
+
+/// Tests the opening of a pool with the numbers of `row`.
+fn check_row<R: Abort>(rt: &R, alloc: Global, row: Row) {
+    let (objects, buffers, size, first_tag, inside) = row;
+    let fault = fault_of(alloc, objects, buffers, size, first_tag);
+    let wanted = (!inside).then_some(PoolFault::BadOptions);
+    assert_eq!(rt;
+        fault,
+        wanted,
+        "{objects} objects, {buffers} buffers of {size}"
+    );
+}
+
 #[test]
 fn sizes_at_their_bounds(rt: HostRuntime) {
-    for (objects, buffers, size, first_tag, inside) in SIZES {
-        let fault = Pool::new(rt.alloc(), &Roots { objects }, buffers, size, first_tag).err();
-        let wanted = if inside {
-            None
-        } else {
-            Some(PoolFault::BadOptions)
-        };
-        assert_eq!(rt;
-            fault,
-            wanted,
-            "{objects} objects, {buffers} buffers of {size}"
-        );
+    for row in SIZES {
+        check_row(&rt, rt.alloc(), row);
     }
-    let past = Pool::new(rt.alloc(), &Roots { objects: 0 }, 4, 2, LAST_TAG + 1);
-    assert_eq!(rt; past.err(), Some(PoolFault::BadOptions));
+    check_row(&rt, rt.alloc(), (0, 4, 2, LAST_TAG + 1, false));
 }

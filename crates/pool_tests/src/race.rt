@@ -3,10 +3,11 @@
 //! a single processor runs the threads one after another. A test cannot hold up a call of a pool between its load and
 //! its exchange. So losses are counted and not required.
 ghost use Rattle.std.specs.Prelude.{◌≡◌, [], ◌∷◌, IfOk, MatchOption};
+ghost use Rattle.mark_core.specs.Shares.{whole};
 ghost use Rattle.pool_tests.specs.Worked.{Holds, bare};
 
 use crate::waiting::{BUFFERS, bare_pool, head, push_bare};
-use buffer_pool::{Held, Pool, Popped, TryPopped, Which, Worker};
+use buffer_pool::{Held, Pool, PoolFault, Popped, TryPopped, Which, Worker};
 use std::alloc::{Allocator, Global};
 use std::process::Abort;
 use std::sync::Wait;
@@ -167,25 +168,53 @@ fn carry_back<R: Wait + Abort>(rt: &R, pool: &Pool<Global>, racer: Racer) -> (u6
     (won, lost)
 }
 
+/// Splits `worker` in four, and runs these workers. Returns how many exchanges were won in all, and how many tries were
+/// lost.
+fn run_four<R: Threads + Wait + Abort + Sync>(
+    rt: &R,
+    pool: &Pool<Global>,
+    worker: Worker<Global>,
+) -> (u64, u64)
+    requires pool { worker.pool ≡ pool.now }
+    requires none { Holds 2 [] worker }
+    requires share { worker.book.account.share ≡ whole }
+{
+    let (first, worker) = pool.split(worker, 30_000);
+    let (second, worker) = pool.split(worker, 20_000);
+    let (third, fourth) = pool.split(worker, 10_000);
+    let (front, back) = join(
+        rt,
+        move || -> Racer
+            requires pool { (first.pool ≡ pool.now) × (second.pool ≡ pool.now) }
+            requires none { Holds 2 [] first × Holds 2 [] second }
+        { run_two(rt, pool, first, second) },
+        move || -> Racer
+            requires pool { (third.pool ≡ pool.now) × (fourth.pool ≡ pool.now) }
+            requires none { Holds 2 [] third × Holds 2 [] fourth }
+        { run_two(rt, pool, third, fourth) },
+    );
+    carry_back(rt, pool, both(pool, front, back))
+}
+
+/// The full stack's top, the tags of the full stack and of the empty one, how many exchanges were won, and how many
+/// tries were lost.
+type Race = (Option<u32>, [u64; 2], u64, u64);
+
+/// Runs four workers in a new pool.
+fn race<R: Threads + Wait + Abort + Sync>(rt: &R, alloc: Global) -> Result<Race, PoolFault> {
+    let (pool, worker) = bare_pool(alloc, 0)?;
+    let (won, lost) = run_four(rt, &pool, worker);
+    let (top, full_tag) = head(rt, &pool, Which::Full);
+    let (_, empty_tag) = head(rt, &pool, Which::Empty);
+    Ok((top, [full_tag, empty_tag], won, lost))
+}
+
 /// All pops and pushes end, even if threads lose exchanges, and the tags count the exchanges that were won. A try is
 /// lost only to an exchange that another thread won since the try's load. Each exchange that is won costs each of the
 /// three other threads at most one try.
 #[test]
 fn lost_exchanges(rt: HostRuntime) -> Result<(), Fail> {
-    let (pool, worker) = bare_pool(rt.alloc(), 0)?;
-    let (first, worker) = pool.split(worker, 30_000);
-    let (second, worker) = pool.split(worker, 20_000);
-    let (third, fourth) = pool.split(worker, 10_000);
-    let shared = &pool;
-    let handle = &rt;
-    let (front, back) = join(
-        handle,
-        move || run_two(handle, shared, first, second),
-        move || run_two(handle, shared, third, fourth),
-    );
-    let (won, lost) = carry_back(handle, shared, both(shared, front, back));
-    let (top, full_tag) = head(handle, shared, Which::Full);
-    let (_, empty_tag) = head(handle, shared, Which::Empty);
+    let (top, [full_tag, empty_tag], won, lost) = race(&rt, rt.alloc())?;
     assert_eq!(rt; top, None);
     assert_eq!(rt; full_tag.saturating_add(empty_tag), won);
     assert!(rt;

@@ -1,10 +1,11 @@
 //! Four threads that fill buffers, push them, pop them and finish the objects in them, all at the same time.
-ghost use Rattle.std.specs.Prelude.{◌≡◌, ◌≤◌, ◌+◌, ◌*◌, [], MatchOption};
+ghost use Rattle.std.specs.Prelude.{◌≡◌, ◌≤◌, ◌+◌, ◌*◌, [], IfOk, MatchOption, length};
+ghost use Rattle.mark_core.specs.Shares.{whole};
 ghost use Rattle.mark_core.specs.declared.which.Which.TheVariants.{Empty};
 ghost use Rattle.pool_tests.specs.Rounds.{HasNone, HasOne, HasRoots, IsSameWorker};
 
 use crate::edges::pool_of_roots;
-use buffer_pool::{Held, Pool, TryPopped, TryPushed, Which, Worker};
+use buffer_pool::{Held, Marks, Pool, PoolFault, TryPopped, TryPushed, Which, Worker};
 use std::alloc::{Allocator, Global};
 use std::process::Abort;
 use std::test::Fail;
@@ -218,25 +219,67 @@ fn finish_rest<R: Abort, A: Allocator>(rt: &R, pool: &Pool<A>, worker: Worker<A>
     worker
 }
 
-#[test]
-fn four_threads(rt: HostRuntime) -> Result<(), Fail> {
-    let (pool, worker) = pool_of_roots(rt.alloc(), OBJECTS, BUFFERS, ROUND)?;
+/// Splits `worker` in four, and runs these workers, each with a part of its own. Then finishes the objects that remain.
+/// Returns the four workers, joined.
+fn finish_all<R: Threads + Abort + Sync>(
+    rt: &R,
+    pool: &Pool<Global>,
+    worker: Worker<Global>,
+) -> Worker<Global>
+    requires pool { worker.pool ≡ pool.now }
+    requires roots { HasRoots OBJECTS worker }
+    requires none { HasNone worker }
+    requires share { worker.book.account.share ≡ whole }
+    ensures pool { result.pool ≡ worker.pool }
+    ensures setup { result.book.setup ≡ worker.book.setup }
+    ensures share { result.book.account.share ≡ whole }
+    ensures none { HasNone result }
+{
     let (first, worker) = pool.split(worker, 30_000);
     let (second, worker) = pool.split(worker, 20_000);
     let (third, fourth) = pool.split(worker, 10_000);
-    let shared = &pool;
-    let handle = &rt;
     let (front, back) = join(
-        handle,
-        move || go_side_by_side(handle, shared, first, second, 0),
-        move || go_side_by_side(handle, shared, third, fourth, 2 * PART),
+        rt,
+        move || -> Worker<Global>
+            requires pool { (first.pool ≡ pool.now) × (second.pool ≡ pool.now) }
+            requires roots { HasRoots OBJECTS first × HasRoots OBJECTS second }
+            requires none { HasNone first × HasNone second }
+        { go_side_by_side(rt, pool, first, second, 0) },
+        move || -> Worker<Global>
+            requires pool { (third.pool ≡ pool.now) × (fourth.pool ≡ pool.now) }
+            requires roots { HasRoots OBJECTS third × HasRoots OBJECTS fourth }
+            requires none { HasNone third × HasNone fourth }
+        { go_side_by_side(rt, pool, third, fourth, 2 * PART) },
     );
-    let worker = finish_rest(&rt, &pool, pool.join(front, back));
-    let marks = pool.close(worker);
+    finish_rest(rt, pool, pool.join(front, back))
+}
+
+/// Returns the marks of a new pool after [`finish_all`].
+fn marks_of_all<R: Threads + Abort + Sync>(
+    rt: &R,
+    alloc: Global,
+) -> Result<Marks<Global>, PoolFault>
+    ensures { IfOk result (λ m. length m ≡ OBJECTS) }
+{
+    let (pool, worker) = pool_of_roots(alloc, OBJECTS, BUFFERS, ROUND)?;
+    let worker = finish_all(rt, &pool, worker);
+    Ok(pool.close(worker))
+}
+
+/// Tests that all objects are finished.
+fn check_all_finished<R: Abort>(rt: &R, marks: &Marks<Global>)
+    requires { length marks.now ≡ OBJECTS }
+{
     for object in 0..OBJECTS {
         assert!(rt; marks.is_finished(object), "object {object}");
     }
     assert_eq!(rt; marks.finished_len(), u64::from(OBJECTS));
     assert_eq!(rt; marks.next_unfinished(0), None);
+}
+
+#[test]
+fn four_threads(rt: HostRuntime) -> Result<(), Fail> {
+    let marks = marks_of_all(&rt, rt.alloc())?;
+    check_all_finished(&rt, &marks);
     Ok(())
 }

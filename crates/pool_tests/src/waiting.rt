@@ -1,5 +1,5 @@
 //! Pops and pushes that try again until a try is not lost, and the stacks before and after them.
-ghost use Rattle.std.specs.Prelude.{◌≡◌, ℕ, ◌<◌, List, [], ◌∷◌, ◌++◌, Contains, IfOk};
+ghost use Rattle.std.specs.Prelude.{◌≡◌, ℕ, ◌<◌, List, [], ◌∷◌, ◌++◌, Contains, IfOk, length};
 ghost use Rattle.mark_core.specs.Lists.{remove_one};
 ghost use Rattle.mark_core.specs.Shares.{whole};
 ghost use Rattle.pool_tests.specs.Worked.{Holds, bare};
@@ -11,7 +11,6 @@ use buffer_pool::{Held, Pool, PoolFault, Popped, Which, Worker};
 use std::alloc::{Allocator, Global};
 use std::process::Abort;
 use std::sync::Wait;
-use std::test::Fail;
 use tagged_index::HeadWord;
 
 pub(crate) const BUFFERS: u32 = 4;
@@ -62,6 +61,15 @@ fn links<R: Abort, A: Allocator>(rt: &R, pool: &Pool<A>) -> [u64; 4] {
     ]
 }
 
+/// Tests that `held` is buffer `wanted` and has no items.
+fn check_bare<R: Abort, A: Allocator>(rt: &R, held: &Held<A>, wanted: u32)
+    ensures index { held.now.index ≡ wanted }
+    ensures none { length held.now.items ≡ 0 }
+{
+    assert_eq!(rt; held.index(), wanted);
+    assert_eq!(rt; held.len(), 0);
+}
+
 /// Pops a buffer, and tests that it is buffer `wanted` and has no items.
 fn pop_bare<R: Wait + Abort, A: Allocator>(
     rt: &R,
@@ -79,8 +87,7 @@ fn pop_bare<R: Wait + Abort, A: Allocator>(
     let Popped::Took(held) = pool.pop(rt, worker, which) else {
         panic!(rt; "there is a buffer, and a tag");
     };
-    assert_eq!(rt; held.index(), wanted);
-    assert_eq!(rt; held.len(), 0);
+    check_bare(rt, &held, wanted);
     held
 }
 
@@ -103,12 +110,18 @@ pub(crate) fn push_bare<R: Wait + Abort, A: Allocator>(
     };
 }
 
-fn sees_empty<A: Allocator>(pool: &Pool<A>, worker: &mut Worker<A>, which: Which) -> bool
+/// Tests that the full stack is seen empty if `wanted` is true, and that it is not if `wanted` is false.
+fn check_full_is_empty<R: Abort, A: Allocator>(
+    rt: &R,
+    pool: &Pool<A>,
+    worker: &mut Worker<A>,
+    wanted: bool,
+)
     requires pool { worker.old.pool ≡ pool.now }
     ensures pool { worker.new.pool ≡ worker.old.pool }
     ensures held { (n : ℕ) (list : List ℕ) → Holds n list worker.old → Holds n list worker.new }
 {
-    pool.sees_empty(worker, which)
+    assert_eq!(rt; pool.sees_empty(worker, Which::Full), wanted);
 }
 
 /// Pops buffers 0, 1 and 2 from the empty stack, and returns buffers 1 and 2. Buffer 0 is dropped.
@@ -143,9 +156,9 @@ fn push_two<R: Wait + Abort, A: Allocator>(
     requires two { (second ≡ bare 2 1) × (third ≡ bare 2 2) }
     ensures pool { worker.new.pool ≡ worker.old.pool }
 {
-    assert!(rt; sees_empty(pool, worker, Which::Full));
+    check_full_is_empty(rt, pool, worker, true);
     push_bare(rt, pool, worker, Which::Full, third);
-    assert!(rt; !sees_empty(pool, worker, Which::Full));
+    check_full_is_empty(rt, pool, worker, false);
     push_bare(rt, pool, worker, Which::Full, second);
 }
 
@@ -156,11 +169,11 @@ fn pop_two_push_one<R: Wait + Abort, A: Allocator>(rt: &R, pool: &Pool<A>, worke
     requires none { Holds 2 [] worker.old }
 {
     let first = pop_bare(rt, pool, worker, Which::Full, 1);
-    assert!(rt; !sees_empty(pool, worker, Which::Full));
+    check_full_is_empty(rt, pool, worker, false);
     pop_bare(rt, pool, worker, Which::Full, 2);
-    assert!(rt; sees_empty(pool, worker, Which::Full));
+    check_full_is_empty(rt, pool, worker, true);
     push_bare(rt, pool, worker, Which::Full, first);
-    assert!(rt; !sees_empty(pool, worker, Which::Full));
+    check_full_is_empty(rt, pool, worker, false);
 }
 
 /// The heads of the full stack and of the empty one, each as its index and tag, and the four link words.
@@ -188,36 +201,50 @@ fn opened<R: Abort>(
 
 /// Both heads have the first tag, and the empty stack has buffers 0 to 3 in this order.
 #[test]
-fn stacks_at_the_opening(rt: HostRuntime) -> Result<(), Fail> {
+fn stacks_at_the_opening(rt: HostRuntime) {
     for first_tag in [0, 5, tagged_index::LAST_TAG] {
         let stacks = ((None, first_tag), (Some(0), first_tag), [2, 3, 4, 0]);
-        assert_eq!(rt; opened(&rt, rt.alloc(), first_tag)?, (stacks, true, false));
+        assert_eq!(rt;
+            opened(&rt, rt.alloc(), first_tag),
+            Ok((stacks, true, false))
+        );
     }
-    Ok(())
 }
 
 /// Makes the pops and pushes of `OVERTAKEN` in `crates/core_tests/src/world/lists.rt`. Returns the stacks after two
 /// buffers were pushed, and at the end.
-fn go_in_turn<R: Wait + Abort, A: Allocator + Copy>(
+fn go_in_turn<R: Wait + Abort, A: Allocator>(
+    rt: &R,
+    pool: &Pool<A>,
+    worker: &mut Worker<A>,
+    other: &mut Worker<A>,
+) -> (Stacks, Stacks)
+    requires pool { (worker.old.pool ≡ pool.now) × (other.old.pool ≡ pool.now) }
+    requires none { Holds 2 [] worker.old × Holds 2 [] other.old }
+{
+    let (second, third) = pop_three(rt, pool, worker);
+    push_two(rt, pool, worker, second, third);
+    let pushed = stacks(rt, pool);
+    pop_two_push_one(rt, pool, other);
+    (pushed, stacks(rt, pool))
+}
+
+/// Calls [`go_in_turn`] with two workers of a new pool.
+fn stacks_of_two<R: Wait + Abort, A: Allocator + Copy>(
     rt: &R,
     alloc: A,
 ) -> Result<(Stacks, Stacks), PoolFault> {
     let (pool, worker) = bare_pool(alloc, 5)?;
     let (mut worker, mut other) = pool.split(worker, 1);
-    let (second, third) = pop_three(rt, &pool, &mut worker);
-    push_two(rt, &pool, &mut worker, second, third);
-    let pushed = stacks(rt, &pool);
-    pop_two_push_one(rt, &pool, &mut other);
-    Ok((pushed, stacks(rt, &pool)))
+    Ok(go_in_turn(rt, &pool, &mut worker, &mut other))
 }
 
 /// Each exchange of a head raises its tag by one.
 #[test]
-fn two_workers_in_turn(rt: HostRuntime) -> Result<(), Fail> {
+fn two_workers_in_turn(rt: HostRuntime) {
     let heap = heap_of_a_pool(rt.alloc());
-    let (pushed, last) = go_in_turn(&rt, &heap)?;
-    assert_eq!(rt; pushed, ((Some(1), 7), (Some(3), 8), [2, 3, 0, 0]));
-    assert_eq!(rt; last, ((Some(1), 10), (Some(3), 8), [2, 0, 0, 0]));
-    assert_eq!(rt; heap.refusals(), 0);
-    Ok(())
+    let pushed = ((Some(1), 7), (Some(3), 8), [2, 3, 0, 0]);
+    let last = ((Some(1), 10), (Some(3), 8), [2, 0, 0, 0]);
+    let stacks = stacks_of_two(&rt, &heap);
+    assert_eq!(rt; (stacks, heap.refusals()), (Ok((pushed, last)), 0));
 }

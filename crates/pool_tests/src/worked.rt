@@ -8,7 +8,6 @@ use crate::rounds::{OBJECTS, fill_buffer, finish_buffer};
 use buffer_pool::{Held, Marks, Pool, PoolFault, TryPopped, Which, Worker};
 use std::alloc::{Allocator, Global};
 use std::process::Abort;
-use std::test::Fail;
 
 /// Tests whether `object` was claimed, and whether it was finished.
 pub(crate) fn mark<A: Allocator>(marks: &Marks<A>, object: u32) -> (bool, bool)
@@ -118,6 +117,18 @@ fn told_after<R: Abort, A: Allocator + Copy>(
     Ok(told(&marks))
 }
 
+/// Calls [`told_after`] on a heap that grants only the requests of the opening of the pool. Returns also how many
+/// requests are left, and how many were refused.
+fn told_without_memory<R: Abort>(
+    rt: &R,
+    alloc: Global,
+    turns: &[(Who, Does)],
+) -> Result<(Told, u64, u64), PoolFault> {
+    let heap = heap_of_a_pool(alloc);
+    let told = told_after(rt, &heap, turns)?;
+    Ok((told, heap.requests_left(), heap.refusals()))
+}
+
 const WHITE: (bool, bool) = (false, false);
 
 const CLAIMED: (bool, bool) = (true, false);
@@ -125,60 +136,57 @@ const CLAIMED: (bool, bool) = (true, false);
 const FINISHED: (bool, bool) = (true, true);
 
 /// The turns of two workers, and then the marks of objects 0 to 4 and the number of finished objects.
-type Run = (&'static [(Who, Does)], &'static [(bool, bool)], u64);
+type Run = (&'static [(Who, Does)], Told);
 
-/// Three runs. In the first, nothing is claimed. In the second, one worker finishes objects 0 and 1, the other finishes
-/// object 2, and object 3 is only claimed. In the third, both workers claim object 1, each finishes a buffer, and then
-/// the full stack is empty.
-static RUNS: [Run; 3] = [
-    (&[], &[WHITE, WHITE, WHITE, WHITE, WHITE], 0),
-    (
-        &[
-            (Who::One, Does::Fill(0, 2)),
-            (Who::One, Does::Finish(true)),
-            (Who::One, Does::Fill(2, 3)),
-            (Who::Other, Does::Finish(true)),
-            (Who::Other, Does::Fill(3, 4)),
-        ],
-        &[FINISHED, FINISHED, FINISHED, CLAIMED, WHITE],
-        3,
-    ),
-    (
-        &[
-            (Who::One, Does::Fill(0, 2)),
-            (Who::Other, Does::Fill(1, 3)),
-            (Who::One, Does::Finish(true)),
-            (Who::Other, Does::Finish(true)),
-            (Who::Other, Does::Finish(false)),
-        ],
-        &[FINISHED, FINISHED, FINISHED, WHITE, WHITE],
-        3,
-    ),
-];
+/// Nothing is claimed.
+const NO_TURNS: Run = (&[], ([WHITE, WHITE, WHITE, WHITE, WHITE], 0));
+
+/// One worker finishes objects 0 and 1, the other finishes object 2, and object 3 is only claimed.
+const ONE_CLAIMED: Run = (
+    &[
+        (Who::One, Does::Fill(0, 2)),
+        (Who::One, Does::Finish(true)),
+        (Who::One, Does::Fill(2, 3)),
+        (Who::Other, Does::Finish(true)),
+        (Who::Other, Does::Fill(3, 4)),
+    ],
+    ([FINISHED, FINISHED, FINISHED, CLAIMED, WHITE], 3),
+);
+
+/// Both workers claim object 1, each finishes a buffer, and then the full stack is empty.
+const CLAIMED_TWICE: Run = (
+    &[
+        (Who::One, Does::Fill(0, 2)),
+        (Who::Other, Does::Fill(1, 3)),
+        (Who::One, Does::Finish(true)),
+        (Who::Other, Does::Finish(true)),
+        (Who::Other, Does::Finish(false)),
+    ],
+    ([FINISHED, FINISHED, FINISHED, WHITE, WHITE], 3),
+);
 
 #[test]
-fn marks_of_one_run(rt: HostRuntime) -> Result<(), Fail> {
-    let ((marks, finished), next) = marks_of_each_kind(&rt, rt.alloc())?;
-    assert_eq!(rt; marks, [FINISHED, FINISHED, CLAIMED, CLAIMED, WHITE]);
-    assert_eq!(rt; finished, 2);
-    assert_eq!(rt; next, [Some(2), Some(3)]);
-    Ok(())
+fn marks_of_one_run(rt: HostRuntime) {
+    let told = ([FINISHED, FINISHED, CLAIMED, CLAIMED, WHITE], 2);
+    let next = [Some(2), Some(3)];
+    assert_eq!(rt; marks_of_each_kind(&rt, rt.alloc()), Ok((told, next)));
+}
+
+/// Tests the marks after `run`, that no requests are left, and that none was refused.
+fn check_run<R: Abort>(rt: &R, alloc: Global, run: Run) {
+    let (turns, told) = run;
+    let outcome = told_without_memory(rt, alloc, turns);
+    assert_eq!(rt; outcome, Ok((told, 0, 0)));
 }
 
 /// The calls on an open pool make no allocation: they run on a heap that refuses every further request, and it refuses
 /// none. Such a heap also serves the tests of idle workers, of the last tags, of buffers' items, and of pops and pushes
 /// that try again.
 #[test]
-fn the_pool_takes_no_memory(rt: HostRuntime) -> Result<(), Fail> {
-    for (turns, wanted, wanted_finished) in &RUNS {
-        let heap = heap_of_a_pool(rt.alloc());
-        let (marks, finished) = told_after(&rt, &heap, turns)?;
-        assert_eq!(rt; &marks[..], *wanted);
-        assert_eq!(rt; finished, *wanted_finished);
-        assert_eq!(rt; heap.requests_left(), 0);
-        assert_eq!(rt; heap.refusals(), 0);
-    }
-    Ok(())
+fn the_pool_takes_no_memory(rt: HostRuntime) {
+    check_run(&rt, rt.alloc(), NO_TURNS);
+    check_run(&rt, rt.alloc(), ONE_CLAIMED);
+    check_run(&rt, rt.alloc(), CLAIMED_TWICE);
 }
 
 /// Puts `objects` into `held` until one is refused. Returns the refused object, or `None` if the buffer took all.
@@ -231,14 +239,11 @@ fn items_of_a_pool<A: Allocator + Copy>(alloc: A) -> Result<Option<Items>, PoolF
 /// Five objects fit into a buffer, and a sixth is refused. Two are moved to another buffer, and all are taken, from
 /// each buffer the last object first.
 #[test]
-fn items_of_buffers(rt: HostRuntime) -> Result<(), Fail> {
+fn items_of_buffers(rt: HostRuntime) {
     let heap = heap_of_a_pool(rt.alloc());
     let lower = ([Some(12), Some(11), Some(10)], 0);
     let upper = ([Some(14), Some(13), None], 0);
-    assert_eq!(rt;
-        items_of_a_pool(&heap)?,
-        Some((Some(15), (5, 0), lower, upper))
-    );
-    assert_eq!(rt; heap.refusals(), 0);
-    Ok(())
+    let items = items_of_a_pool(&heap);
+    let wanted = Ok(Some((Some(15), (5, 0), lower, upper)));
+    assert_eq!(rt; (items, heap.refusals()), (wanted, 0));
 }
