@@ -1,7 +1,8 @@
 //! Compares an index with a search through the list, one by one.
 
 use id_index::IdIndex;
-use std::alloc::Allocator;
+use limited_heap::LimitedHeap;
+use std::alloc::{AllocError, Allocator, Global};
 
 /// Returns the place in `ids` of the first that is `id`, or `None` if none is.
 pub fn first_of(ids: &[u64], id: u64) -> Option<usize> {
@@ -65,4 +66,39 @@ pub fn answers_all<A: Allocator>(index: &IdIndex<A>, ids: &[u64]) -> bool {
         }
     }
     answers(index, ids, 0) && index.first_repeat() == first_repeat_of(ids)
+}
+
+/// Tests whether the index `made` on `heap` agrees with a search one by one, or was not made because `heap` refused an
+/// allocation.
+pub fn agrees_or_refused<A: Allocator>(
+    made: &Result<IdIndex<A>, AllocError>,
+    heap: &LimitedHeap<Global>,
+    ids: &[u64],
+) -> bool {
+    match made {
+        Ok(index) => answers_all(index, ids),
+        Err(AllocError) => heap.refusals() > 0,
+    }
+}
+
+/// Tests whether `index` agrees with a search one by one if `serves` is true, and is `None` if `serves` is false.
+pub fn serves_as<A: Allocator>(index: Option<&IdIndex<A>>, ids: &[u64], serves: bool) -> bool {
+    match index {
+        Some(index) => serves && answers_all(index, ids),
+        None => !serves,
+    }
+}
+
+/// Like [`serves_as`], for the index `made` on `heap`. Returns `true` also if none was made because `heap` refused an
+/// allocation.
+pub fn serves_or_refused<A: Allocator>(
+    made: &Result<Option<IdIndex<A>>, AllocError>,
+    heap: &LimitedHeap<Global>,
+    ids: &[u64],
+    serves: bool,
+) -> bool {
+    match made {
+        Ok(index) => serves_as(index.as_ref(), ids, serves),
+        Err(AllocError) => heap.refusals() > 0,
+    }
 }

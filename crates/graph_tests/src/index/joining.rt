@@ -2,33 +2,12 @@
 
 ghost use Rattle.std.specs.Prelude.{IfOk, IfSome, length, ◌<◌, ◌^◌, ◌≡◌, ◌≤◌};
 
-use super::beside::answers_all;
+use super::beside::serves_or_refused;
 use super::lists::LISTS;
-use id_index::{IdIndex, IdIndexBuilder, LowBits};
+use super::making::gathered;
+use id_index::{IdIndex, LowBits};
 use limited_heap::{LimitedHeap, requests_of};
 use std::alloc::{AllocError, Allocator, Global};
-
-/// Returns a builder with `ids`, or `None` if not all have the lowest bits `bits`.
-fn gathered<A: Allocator>(
-    alloc: A,
-    ids: &[u64],
-    bits: LowBits,
-) -> Result<Option<IdIndexBuilder<A>>, AllocError>
-    requires shifted { bits.shift < 64 }
-    requires low { bits.low < 2 ^ bits.shift }
-    requires few { length ids.now < 2 ^ 32 }
-    ensures { IfOk result (λ found. IfSome found (λ builder.
-        (builder.ids ≡ ids.now) × (builder.shift ≡ bits.shift) × (builder.low ≡ bits.low))) }
-{
-    let mut builder = IdIndexBuilder::new(alloc, bits);
-    for id in ids {
-        if !builder.fits(*id) {
-            return Ok(None);
-        }
-        builder.push(*id)?;
-    }
-    Ok(Some(builder))
-}
 
 /// Returns the index of objects with the identifiers `ids`, or `None` if not all have the lowest bits `bits`. The `ids`
 /// are gathered in three lists: the first `at`, up to three after those, and the rest.
@@ -100,11 +79,8 @@ impl Joining<'_> {
         if self.ids.len() > 1000 || self.at > self.ids.len() {
             return false;
         }
-        match joined_index(heap, self.ids, self.bits(), self.at) {
-            Ok(Some(index)) => answers_all(&index, self.ids),
-            Ok(None) => self.differs(),
-            Err(AllocError) => heap.refusals() > 0,
-        }
+        let made = joined_index(heap, self.ids, self.bits(), self.at);
+        serves_or_refused(&made, heap, self.ids, !self.differs())
     }
 }
 

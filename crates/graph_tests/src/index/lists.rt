@@ -1,6 +1,6 @@
 //! Lists of identifiers, whose indexes are compared with a search one by one.
 
-use super::beside::{answers_all, finds, first_of};
+use super::beside::{agrees_or_refused, finds, first_of};
 use super::making::index_of;
 use id_index::IdIndex;
 use limited_heap::{LimitedHeap, requests_of};
@@ -111,10 +111,7 @@ fn is_right(heap: &LimitedHeap<Global>, ids: &[u64]) -> bool {
     if ids.len() > 1000 {
         return false;
     }
-    match index_of(heap, ids) {
-        Ok(index) => answers_all(&index, ids),
-        Err(AllocError) => heap.refusals() > 0,
-    }
+    agrees_or_refused(&index_of(heap, ids), heap, ids)
 }
 
 /// Each allocation fails in turn. If an index is made even so, the index agrees with a search one by one.

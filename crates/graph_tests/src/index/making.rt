@@ -15,25 +15,26 @@ fn first_low(ids: &[u64]) -> u64
     }
 }
 
-/// Returns the index of objects with the identifiers `ids`, made without the three lowest bits. Returns `None` if those
-/// bits are not `low` in all.
-fn aligned_index<A: Allocator + Copy>(
+/// Returns a builder with `ids`, or `None` if not all have the lowest bits `bits`.
+pub fn gathered<A: Allocator>(
     alloc: A,
     ids: &[u64],
-    low: u64,
-) -> Result<Option<IdIndex<A>>, AllocError>
-    requires low { low < 8 }
+    bits: LowBits,
+) -> Result<Option<IdIndexBuilder<A>>, AllocError>
+    requires shifted { bits.shift < 64 }
+    requires low { bits.low < 2 ^ bits.shift }
     requires few { length ids.now < 2 ^ 32 }
-    ensures { IfOk result (λ found. IfSome found (λ index. index ≡ ids.now)) }
+    ensures { IfOk result (λ found. IfSome found (λ builder.
+        (builder.ids ≡ ids.now) × (builder.shift ≡ bits.shift) × (builder.low ≡ bits.low))) }
 {
-    let mut builder = IdIndexBuilder::new(alloc, LowBits { shift: 3, low });
+    let mut builder = IdIndexBuilder::new(alloc, bits);
     for id in ids {
         if !builder.fits(*id) {
             return Ok(None);
         }
         builder.push(*id)?;
     }
-    Ok(Some(builder.finish(alloc)?))
+    Ok(Some(builder))
 }
 
 /// Returns the index of objects with the identifiers `ids`, made with all bits.
@@ -54,8 +55,12 @@ pub fn index_of<A: Allocator + Copy>(alloc: A, ids: &[u64]) -> Result<IdIndex<A>
     requires few { length ids.now < 2 ^ 32 }
     ensures { IfOk result (λ index. index ≡ ids.now) }
 {
-    match aligned_index(alloc, ids, first_low(ids))? {
-        Some(index) => Ok(index),
+    let bits = LowBits {
+        shift: 3,
+        low: first_low(ids),
+    };
+    match gathered(alloc, ids, bits)? {
+        Some(builder) => builder.finish(alloc),
         None => whole_index(alloc, ids),
     }
 }

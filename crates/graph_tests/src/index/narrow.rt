@@ -2,7 +2,7 @@
 
 ghost use Rattle.std.specs.Prelude.{IfOk, IfSome, length, ◌<◌, ◌^◌, ◌≡◌};
 
-use super::beside::answers_all;
+use super::beside::{answers_all, serves_or_refused};
 use id_index::{IdIndex, LowBits, NarrowEntriesBuilder, UsedIds, are_close};
 use limited_heap::{LimitedHeap, requests_of};
 use std::alloc::{AllocError, Allocator, Global};
@@ -108,11 +108,7 @@ fn is_right<T: Threads + Sync>(
     if ids.len() > 1000 {
         return false;
     }
-    match narrow_index(rt, heap, ids, 0, parts) {
-        Ok(Some(index)) => serves && answers_all(&index, ids),
-        Ok(None) => !serves,
-        Err(AllocError) => heap.refusals() > 0,
-    }
+    serves_or_refused(&narrow_index(rt, heap, ids, 0, parts), heap, ids, serves)
 }
 
 /// All numbers of parts below this one are tried.

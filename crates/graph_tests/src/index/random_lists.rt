@@ -2,7 +2,7 @@
 
 ghost use Rattle.std.specs.Prelude.{◌<◌};
 
-use super::beside::answers_all;
+use super::beside::{answers_all, serves_as};
 use super::making::index_of;
 use super::narrow::narrow_index;
 use super::wide::wide_index;
@@ -121,14 +121,10 @@ fn agrees_with_narrow<T: Threads + Sync>(
     if ids.len() > 1000 {
         return Ok(false);
     }
-    if !answers_all(&wide_index(alloc, ids)?, ids) {
-        return Ok(false);
-    }
+    let wide = answers_all(&wide_index(alloc, ids)?, ids);
     let low = ids.first().copied().unwrap_or(0) % 8;
-    match narrow_index(rt, alloc, ids, low, parts)? {
-        Some(index) => Ok(!repeats && answers_all(&index, ids)),
-        None => Ok(repeats),
-    }
+    let narrow = narrow_index(rt, alloc, ids, low, parts)?;
+    Ok(wide && serves_as(narrow.as_ref(), ids, !repeats))
 }
 
 /// In each second list, an identifier is copied to another place, or to its own.

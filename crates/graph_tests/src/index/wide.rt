@@ -2,7 +2,7 @@
 
 ghost use Rattle.std.specs.Prelude.{IfOk, length, ◌<◌, ◌^◌, ◌≡◌};
 
-use super::beside::{answers_all, finds};
+use super::beside::{agrees_or_refused, finds};
 use super::lists::LISTS;
 use id_index::{IdIndex, WideEntriesBuilder};
 use limited_heap::{LimitedHeap, requests_of};
@@ -27,10 +27,7 @@ fn is_right(heap: &LimitedHeap<Global>, ids: &[u64]) -> bool {
     if ids.len() > 1000 {
         return false;
     }
-    match wide_index(heap, ids) {
-        Ok(index) => answers_all(&index, ids),
-        Err(AllocError) => heap.refusals() > 0,
-    }
+    agrees_or_refused(&wide_index(heap, ids), heap, ids)
 }
 
 /// All entries are allocated at once, and sorted where they are. If an index is made, it agrees with a search one by

@@ -1,6 +1,6 @@
 -- The builder has the identifiers so far.
 use Rattle.std.proofs.Common.{take, ◌≡◌}
-use Rattle.graph_tests.proofs.index.joining.gathered.Given as goal
+use Rattle.graph_tests.proofs.index.making.gathered.Given as goal
 
 abbrev pub invariant-loop-id : goal.invariant-loop-id
 invariant-loop-id g l = record {
