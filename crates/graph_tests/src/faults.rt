@@ -1,7 +1,7 @@
 //! Dumps that are not linked, with the code and the place of their first fault.
 
 use crate::chains::{CHAINS, SIZES};
-use crate::graphs::build;
+use crate::graphs::count_objects;
 use heap_graph::{LinkFault, LinkRefusal, Skip};
 use hprof_grammar::Team;
 use std::alloc::{AllocError, Global};
@@ -147,14 +147,20 @@ static CHANGES: [(usize, u8, u8, u64); 5] = [
     (126, 5, 13, 127),
 ];
 
-/// Returns the code and the place of the fault for which the dump `bytes` has no graph. Returns `None` if its graph is
-/// built, or memory runs out.
-fn fault_in<T: Threads + Sync>(rt: &T, alloc: Global, bytes: &[u8]) -> Option<(u8, u64)> {
-    let skip = Skip::none(alloc);
-    match build(&Team::new(rt, 4), alloc, bytes, &skip) {
+/// Returns the code and the place of the fault that is the result `built`. Returns `None` if a graph was built, or
+/// memory ran out.
+fn fault_of(built: Result<u32, LinkRefusal>) -> Option<(u8, u64)> {
+    match built {
         Err(LinkRefusal::Fault(LinkFault { code, offset })) => Some((code, offset)),
         _ => None,
     }
+}
+
+/// Returns the code and the place of the fault for which the dump `bytes` has no graph. Returns `None` if its graph is
+/// built, or memory runs out.
+fn fault_in<T: Threads + Sync>(rt: &T, alloc: Global, bytes: &[u8]) -> Option<(u8, u64)> {
+    let team = Team::new(rt, 4);
+    fault_of(count_objects(&team, alloc, bytes, &Skip::none(alloc)))
 }
 
 /// Like [`fault_in`], for a heap dump of `subs`.
@@ -182,12 +188,24 @@ fn first_other<T: Threads + Sync>(
     Ok(None)
 }
 
+/// Returns the result of [`first_other`] for each table.
+fn first_others<T: Threads + Sync>(
+    rt: &T,
+    alloc: Global,
+) -> [Result<Option<&'static str>, AllocError>; 3] {
+    [
+        first_other(rt, alloc, &IDENTIFIERS),
+        first_other(rt, alloc, &CHAINS),
+        first_other(rt, alloc, &SIZES),
+    ]
+}
+
 #[test]
-fn first_faults(rt: HostRuntime) -> Result<(), Fail> {
-    assert_eq!(rt; first_other(&rt, rt.alloc(), &IDENTIFIERS)?, None);
-    assert_eq!(rt; first_other(&rt, rt.alloc(), &CHAINS)?, None);
-    assert_eq!(rt; first_other(&rt, rt.alloc(), &SIZES)?, None);
-    Ok(())
+fn first_faults(rt: HostRuntime) {
+    assert_eq!(rt;
+        first_others(&rt, rt.alloc()),
+        [Ok(None), Ok(None), Ok(None)]
+    );
 }
 
 /// Like [`fault_in`], for the dump of two instances with the byte at `at` changed to `byte`. Returns `None` also if the

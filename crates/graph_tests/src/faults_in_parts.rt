@@ -1,7 +1,7 @@
 //! Dumps with so many objects that the rules of the links are tested in parts. If several parts have faults, the first
 //! in the order of the file is reported, even if there is no memory for the results of the parts.
 
-use crate::graphs::build;
+use crate::graphs::{count_objects, dump_of};
 use heap_graph::{LinkFault, LinkRefusal, Skip};
 use hprof_grammar::Team;
 use limited_heap::LimitedHeap;
@@ -80,13 +80,20 @@ fn instances(alloc: Global) -> Result<Bytes, AllocError> {
 /// Returns a dump of the class and its instances.
 fn dump(alloc: Global) -> Result<Bytes, AllocError> {
     let heap = instances(alloc)?;
-    let mut file = Bytes::header(alloc, 4)?;
-    file.record(0x0C, heap.bytes.as_slice())?;
-    Ok(file)
+    dump_of(alloc, 4, &heap.bytes)
 }
 
 /// The number of objects of a graph, or the code and the place of the fault. `None` if out of memory.
 type Answer = Option<Result<u32, (u8, u64)>>;
+
+/// Returns the answer that is the result `built`.
+fn answer_of(built: Result<u32, LinkRefusal>) -> Answer {
+    match built {
+        Ok(objects) => Some(Ok(objects)),
+        Err(LinkRefusal::Fault(LinkFault { code, offset })) => Some(Err((code, offset))),
+        Err(LinkRefusal::OutOfMemory) => None,
+    }
+}
 
 /// Returns the result of a team of `threads` threads on `heap`.
 fn answer<T: Threads + Sync, A: Allocator + Copy + Send + Sync>(
@@ -96,12 +103,8 @@ fn answer<T: Threads + Sync, A: Allocator + Copy + Send + Sync>(
     bytes: &[u8],
     threads: u32,
 ) -> Answer {
-    let skip = Skip::none(alloc);
-    match build(&Team::new(rt, threads), heap, bytes, &skip) {
-        Ok(graph) => Some(Ok(graph.len())),
-        Err(LinkRefusal::Fault(LinkFault { code, offset })) => Some(Err((code, offset))),
-        Err(LinkRefusal::OutOfMemory) => None,
-    }
+    let team = Team::new(rt, threads);
+    answer_of(count_objects(&team, heap, bytes, &Skip::none(alloc)))
 }
 
 /// Makes `changes` in the dump `bytes`, and returns the results of a team of one thread and of a team of four. Then

@@ -2,8 +2,8 @@
 //! or do neither. At each place in turn, one identifier has other lowest bits than the rest; in some dumps none has.
 //! Each third object is a class. Each other object refers to all objects, so that each identifier is looked up.
 
-use crate::graphs::{build, gives};
-use heap_graph::{Graph, Skip};
+use crate::graphs::{build, dump_of, gives};
+use heap_graph::{Graph, LinkRefusal, Skip};
 use hprof_grammar::{Team, read};
 use limited_heap::{LimitedHeap, requests_of};
 use std::alloc::{AllocError, Allocator, Global};
@@ -54,20 +54,28 @@ fn put_array(heap: &mut Bytes, id: u32, class: u32, ids: &[u32]) -> Result<(), A
     Ok(())
 }
 
-/// Returns a dump of objects with the identifiers `ids`.
-fn dump(alloc: Global, ids: &[u32]) -> Result<Bytes, AllocError> {
+/// Writes object `number`, a class or an array.
+fn put_object(heap: &mut Bytes, number: usize, id: u32, ids: &[u32]) -> Result<(), AllocError> {
+    if number % CLASSES_EACH as usize == 0 {
+        return heap.sub(Class(u64::from(id), 0, &[]));
+    }
     let class = ids.first().copied().unwrap_or(0);
+    put_array(heap, id, class, ids)
+}
+
+/// Returns objects with the identifiers `ids`.
+fn objects(alloc: Global, ids: &[u32]) -> Result<Bytes, AllocError> {
     let mut heap = Bytes::new(alloc, 4);
     for (number, id) in ids.iter().enumerate() {
-        if number % CLASSES_EACH as usize == 0 {
-            heap.sub(Class(u64::from(*id), 0, &[]))?;
-        } else {
-            put_array(&mut heap, *id, class, ids)?;
-        }
+        put_object(&mut heap, number, *id, ids)?;
     }
-    let mut file = Bytes::header(alloc, 4)?;
-    file.record(0x0C, heap.bytes.as_slice())?;
-    Ok(file)
+    Ok(heap)
+}
+
+/// Returns a dump of objects with the identifiers `ids`.
+fn dump(alloc: Global, ids: &[u32]) -> Result<Bytes, AllocError> {
+    let heap = objects(alloc, ids)?;
+    dump_of(alloc, 4, &heap.bytes)
 }
 
 /// Returns what each array refers to in a dump of `count` objects: its class, and all objects in order.
@@ -132,6 +140,18 @@ fn is_right<T: Threads + Sync, A: Allocator + Copy + Send + Sync>(
     )
 }
 
+/// Tests whether `built` is a graph that has the objects and classes of `ids`. Returns `None` if it is no graph.
+fn tells_built<A: Allocator>(
+    built: &Result<Graph<'_, A>, LinkRefusal>,
+    ids: &[u32],
+    references: &[u32],
+) -> Option<bool> {
+    match built {
+        Ok(graph) => Some(tells_all(graph, ids, references)),
+        Err(_) => None,
+    }
+}
+
 /// Tests whether the graph that a team of `threads` threads makes of `bytes` on `heap` has the objects and classes of
 /// `ids`. Returns `None` if no graph is made.
 fn tells<T: Threads + Sync, A: Allocator + Copy + Send + Sync>(
@@ -145,10 +165,10 @@ fn tells<T: Threads + Sync, A: Allocator + Copy + Send + Sync>(
 ) -> Option<bool> {
     let skip = Skip::none(alloc);
     let team = Team::sharing_from(rt, threads, 1);
-    match build(&team, heap, bytes, &skip) {
-        Ok(graph) => Some(tells_all(&graph, ids, references)),
-        Err(_) => None,
-    }
+    let built = build(&team, heap, bytes, &skip);
+    let right = tells_built(&built, ids, references);
+    drop(built);
+    right
 }
 
 /// Tests whether teams of one, two and four threads make the right graph.

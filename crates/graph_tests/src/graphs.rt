@@ -3,10 +3,17 @@
 use crate::worked::{ClassRow, Object, WORKED, Worked};
 use heap_graph::{Graph, LinkRefusal, Skip, Successors, Visit};
 use hprof_grammar::{Team, read};
-use std::alloc::{Allocator, Global};
+use std::alloc::{AllocError, Allocator, Global};
 use std::test::Fail;
 use std::thread::Threads;
 use test_dumps::Bytes;
+
+/// Returns a dump whose only record is a heap dump of the sub-records `heap`.
+pub fn dump_of(alloc: Global, id_size: u32, heap: &[u8]) -> Result<Bytes, AllocError> {
+    let mut file = Bytes::header(alloc, id_size)?;
+    file.record(0x0C, heap)?;
+    Ok(file)
+}
 
 /// Reads the dump `bytes`, which is whole, and builds its graph, both on `heap`. Returns `OutOfMemory` also if the dump
 /// is not read.
@@ -16,24 +23,42 @@ pub fn build<'a, T: Threads + Sync, A: Allocator + Copy + Send + Sync>(
     bytes: &'a [u8],
     skip: &'a Skip<'_, Global>,
 ) -> Result<Graph<'a, A>, LinkRefusal> {
-    let Ok(dump) = read(team, heap, bytes) else {
-        return Err(LinkRefusal::OutOfMemory);
-    };
-    Graph::build(team, heap, bytes, dump, skip)
+    match read(team, heap, bytes) {
+        Ok(dump) => Graph::build(team, heap, bytes, dump, skip),
+        Err(_) => Err(LinkRefusal::OutOfMemory),
+    }
 }
 
-/// Returns the graph of the dump `bytes`, which is whole and linked, or `None` if no graph is built.
-pub fn graph_of<'a, T: Threads + Sync>(
+/// Like [`build`], for a team of four. Returns `None` if no graph is built.
+pub fn graph_of<'a, T: Threads + Sync, A: Allocator + Copy + Send + Sync>(
     rt: &T,
-    alloc: Global,
+    heap: A,
     bytes: &'a [u8],
     skip: &'a Skip<'_, Global>,
-) -> Option<Graph<'a, Global>> {
-    let team = Team::new(rt, 4);
-    let Ok(dump) = read(&team, alloc, bytes) else {
-        return None;
-    };
-    Graph::build(&team, alloc, bytes, dump, skip).ok()
+) -> Option<Graph<'a, A>> {
+    build(&Team::new(rt, 4), heap, bytes, skip).ok()
+}
+
+/// Returns the number of objects of the graph that was `built`.
+fn len_of<A: Allocator>(built: &Result<Graph<'_, A>, LinkRefusal>) -> Result<u32, LinkRefusal> {
+    match built {
+        Ok(graph) => Ok(graph.len()),
+        Err(refusal) => Err(*refusal),
+    }
+}
+
+/// Like [`build`], but returns only the number of objects of the graph.
+pub fn count_objects<T: Threads + Sync, A: Allocator + Copy + Send + Sync>(
+    team: &Team<'_, T>,
+    heap: A,
+    bytes: &[u8],
+    skip: &Skip<'_, Global>,
+) -> Result<u32, LinkRefusal> {
+    let built = build(team, heap, bytes, skip);
+    let objects = len_of(&built);
+    // `drop` is proved once. Without it, each function that lets a graph go is checked together with all parts of one.
+    drop(built);
+    objects
 }
 
 /// Tests whether `walk` yields exactly `objects`, and whether fewer identifiers remain after each object, and none at
@@ -49,15 +74,24 @@ pub fn gives<A: Allocator>(walk: Successors<'_, A>, objects: &[u32]) -> bool {
     walk.next().is_none() && walk.left() == 0 && walk.next().is_none()
 }
 
-/// Tests whether `visit` yields exactly `objects`, and has then counted `unresolved` identifiers that name no object.
-fn visits<A: Allocator>(visit: Visit<'_, A>, objects: &[u32], unresolved: u64) -> bool {
-    let mut visit = visit;
+/// Tests whether `visit` yields exactly `objects`.
+fn yields<A: Allocator>(visit: &mut Visit<'_, A>, objects: &[u32]) -> bool {
     for object in objects {
         if visit.next() != Some(*object) {
             return false;
         }
     }
-    visit.next().is_none() && visit.unresolved() == unresolved
+    visit.next().is_none()
+}
+
+/// Tests whether `visit` has the row and the bytes of `wanted`, yields exactly the objects of `wanted`, and has then
+/// counted as many identifiers that name no object.
+fn visits<A: Allocator>(visit: Visit<'_, A>, wanted: &Object<'_>) -> bool {
+    let mut visit = visit;
+    let (row, bytes) = (visit.row(), visit.bytes());
+    let yielded = yields(&mut visit, wanted.0);
+    let unresolved = visit.unresolved();
+    yielded && row == wanted.1 && bytes == wanted.2 && unresolved == wanted.3
 }
 
 /// Tests whether `graph` has `object`, and returns what is `wanted` of it: by a visit, by a walk, and by the calls for
@@ -67,14 +101,11 @@ pub fn tells<A: Allocator>(graph: &Graph<'_, A>, object: u32, wanted: &Object<'_
         return false;
     }
     let (references, row, bytes, unresolved) = *wanted;
-    let visit = graph.visit(object);
     graph.row_of(object) == row
         && graph.bytes_of(object) == bytes
         && graph.unresolved_of(object) == unresolved
         && gives(graph.successors(object), references)
-        && visit.row() == row
-        && visit.bytes() == bytes
-        && visits(visit, references, unresolved)
+        && visits(graph.visit(object), wanted)
 }
 
 /// Tests whether `objects` are the objects of `graph`.

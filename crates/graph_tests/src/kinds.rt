@@ -1,6 +1,6 @@
 //! Visits by the kind of the object: where its identifiers are, and that its class is known without a look-up.
 
-use crate::graphs::graph_of;
+use crate::graphs::{dump_of, graph_of};
 use heap_graph::{ByKind, Graph, IdSource, RowKey, Skip, Targets, Visit};
 use std::alloc::{AllocError, Allocator, Global};
 use std::test::Fail;
@@ -37,18 +37,23 @@ const PARTS: [Parts; 4] = [
     (Kind::Nothing, None, &[], RowKey::Primitive(8), 2, 0),
 ];
 
+/// Tests whether `rest` yields exactly `objects`.
+fn yields<A: Allocator, I: IdSource>(rest: &mut Targets<'_, A, I>, objects: &[u32]) -> bool {
+    for object in objects {
+        if rest.next() != Some(*object) {
+            return false;
+        }
+    }
+    rest.next().is_none()
+}
+
 /// Tests whether the walk `rest` has the row and the bytes of `wanted`, yields exactly the objects of `wanted`, and
 /// counts the unresolved identifiers of `wanted`.
 fn walks<A: Allocator, I: IdSource>(rest: Targets<'_, A, I>, wanted: &Parts) -> bool {
     let (_, _, objects, row, bytes, unresolved) = *wanted;
     let mut rest = rest;
     let told = rest.row() == row && rest.bytes() == bytes;
-    for object in objects {
-        if rest.next() != Some(*object) {
-            return false;
-        }
-    }
-    told && rest.next().is_none() && rest.unresolved() == unresolved
+    told && yields(&mut rest, objects) && rest.unresolved() == unresolved
 }
 
 /// Tests whether `wanted` are the parts of `visit`.
@@ -56,21 +61,39 @@ fn are_parts<A: Allocator>(visit: Visit<'_, A>, wanted: &Parts) -> bool {
     let (kind, known, _, _, _, _) = *wanted;
     match visit.by_kind() {
         ByKind::Nothing(class, rest) => {
-            kind == Kind::Nothing && class == known && walks(rest, wanted)
+            walks(rest, wanted) && kind == Kind::Nothing && class == known
         }
         ByKind::Fields(class, rest) => {
-            kind == Kind::Fields && class == known && walks(rest, wanted)
+            walks(rest, wanted) && kind == Kind::Fields && class == known
         }
         ByKind::Elements(class, rest) => {
-            kind == Kind::Elements && class == known && walks(rest, wanted)
+            walks(rest, wanted) && kind == Kind::Elements && class == known
         }
         ByKind::Any => kind == Kind::Any,
     }
 }
 
-/// Tests whether `graph` has `object`, and `wanted` are the parts of its visit.
-fn visits<A: Allocator>(graph: &Graph<'_, A>, object: u32, wanted: &Parts) -> bool {
-    object < graph.len() && are_parts(graph.visit(object), wanted)
+/// Tests whether there is a graph, it has `object`, and `wanted` are the parts of its visit.
+fn visits<A: Allocator>(graph: Option<&Graph<'_, A>>, object: u32, wanted: &Parts) -> bool {
+    match graph {
+        Some(graph) => object < graph.len() && are_parts(graph.visit(object), wanted),
+        None => false,
+    }
+}
+
+/// Like [`visits`], for the graph of the dump `bytes`.
+fn visits_in<T: Threads + Sync>(
+    rt: &T,
+    alloc: Global,
+    bytes: &[u8],
+    object: u32,
+    wanted: &Parts,
+) -> bool {
+    let skip = Skip::none(alloc);
+    let graph = graph_of(rt, alloc, bytes, &skip);
+    let right = visits(graph.as_ref(), object, wanted);
+    drop(graph);
+    right
 }
 
 /// Like [`visits`], for the graph of `EACH_KIND`.
@@ -80,18 +103,14 @@ fn has_parts<T: Threads + Sync>(
     object: u32,
     wanted: &Parts,
 ) -> Result<bool, AllocError> {
-    let skip = Skip::none(alloc);
     let file = Bytes::dump(alloc, 4, EACH_KIND)?;
-    match graph_of(rt, alloc, &file.bytes, &skip) {
-        Some(graph) => Ok(visits(&graph, object, wanted)),
-        None => Ok(false),
-    }
+    Ok(visits_in(rt, alloc, &file.bytes, object, wanted))
 }
 
 /// The number of classes, each of which has an array.
 const CLASSES: u32 = 32;
 
-/// Returns a dump of `CLASSES` classes, and of an array of each class.
+/// Returns `CLASSES` classes, and an array of each class.
 fn arrays(alloc: Global) -> Result<Bytes, AllocError> {
     let mut heap = Bytes::new(alloc, 4);
     for class in 0..CLASSES {
@@ -101,9 +120,7 @@ fn arrays(alloc: Global) -> Result<Bytes, AllocError> {
         let class = 0x1000 + u64::from(array) * 8;
         heap.sub(Objects(0x2000 + u64::from(array) * 8, class, &[0x1000]))?;
     }
-    let mut file = Bytes::header(alloc, 4)?;
-    file.record(0x0C, heap.bytes.as_slice())?;
-    Ok(file)
+    Ok(heap)
 }
 
 /// Tests whether object `object` is an array of which a visit knows, without a look-up, that its class is object
@@ -125,22 +142,36 @@ fn knows_classes<A: Allocator>(graph: &Graph<'_, A>) -> bool {
 
 /// Counts the classes of `graph` that are found by a guess.
 fn count_guessed<A: Allocator>(graph: &Graph<'_, A>) -> usize {
-    let guessed = |class: &u32| *class < graph.classes() && graph.is_class_guessed(*class);
-    (0..CLASSES).filter(guessed).count()
+    let mut guessed = 0usize;
+    for class in 0..CLASSES.min(graph.classes()) {
+        guessed = guessed.saturating_add(usize::from(graph.is_class_guessed(class)));
+    }
+    guessed
 }
 
-/// Returns the results of [`knows_classes`] and [`count_guessed`] for the graph of the dump [`arrays`], or `None` if no
-/// graph is built.
+/// Returns the results of [`knows_classes`] and [`count_guessed`], or `None` if there is no graph.
+fn known_of<A: Allocator>(graph: Option<&Graph<'_, A>>) -> Option<(bool, usize)> {
+    let graph = graph?;
+    Some((knows_classes(graph), count_guessed(graph)))
+}
+
+/// Like [`known_of`], for the graph of the dump `bytes`.
+fn known_in<T: Threads + Sync>(rt: &T, alloc: Global, bytes: &[u8]) -> Option<(bool, usize)> {
+    let skip = Skip::none(alloc);
+    let graph = graph_of(rt, alloc, bytes, &skip);
+    let known = known_of(graph.as_ref());
+    drop(graph);
+    known
+}
+
+/// Like [`known_in`], for a dump of [`arrays`].
 fn known_and_guessed<T: Threads + Sync>(
     rt: &T,
     alloc: Global,
 ) -> Result<Option<(bool, usize)>, AllocError> {
-    let skip = Skip::none(alloc);
-    let file = arrays(alloc)?;
-    match graph_of(rt, alloc, &file.bytes, &skip) {
-        Some(graph) => Ok(Some((knows_classes(&graph), count_guessed(&graph)))),
-        None => Ok(None),
-    }
+    let heap = arrays(alloc)?;
+    let file = dump_of(alloc, 4, &heap.bytes)?;
+    Ok(known_in(rt, alloc, &file.bytes))
 }
 
 /// At least three of four classes are guessed. A class is guessed if no other class was noted after it at its place.

@@ -1,7 +1,7 @@
 //! Out of memory: each allocation that it takes to read a dump and to build its graph fails in turn, once with all
 //! later ones and once alone. The calls on a graph allocate nothing.
 
-use crate::graphs::{build, is_worked, tells};
+use crate::graphs::{build, count_objects, graph_of, is_worked, tells};
 use crate::skipped::SKIPPED;
 use crate::walks::{MANY, long_array};
 use crate::worked::{WORKED, Worked};
@@ -21,7 +21,7 @@ fn is_built<T: Threads + Sync>(
     bytes: &[u8],
     skip: &Skip<'_, Global>,
 ) -> bool {
-    build(&Team::new(rt, 4), heap, bytes, skip).is_ok()
+    count_objects(&Team::new(rt, 4), heap, bytes, skip).is_ok()
 }
 
 /// Returns the number of allocations that a team of four makes to build a graph.
@@ -62,6 +62,18 @@ fn is_refusal(wanted: &Wanted<'_>, refusal: LinkRefusal, refusals: u64) -> bool 
     }
 }
 
+/// Tests whether the result `built` is what is `wanted`, or is out of memory with `refusals` above 0.
+fn is_wanted<A: Allocator>(
+    wanted: &Wanted<'_>,
+    built: &Result<Graph<'_, A>, LinkRefusal>,
+    refusals: u64,
+) -> bool {
+    match built {
+        Ok(graph) => is_graph(wanted, graph),
+        Err(refusal) => is_refusal(wanted, *refusal, refusals),
+    }
+}
+
 /// Tests whether the result of `build` on `heap` is what is `wanted`, or is out of memory after `heap` refused an
 /// allocation.
 fn comes<T: Threads + Sync>(
@@ -71,10 +83,10 @@ fn comes<T: Threads + Sync>(
     skip: &Skip<'_, Global>,
     wanted: &Wanted<'_>,
 ) -> bool {
-    match build(&Team::new(rt, 4), heap, bytes, skip) {
-        Ok(graph) => is_graph(wanted, &graph),
-        Err(refusal) => is_refusal(wanted, refusal, heap.refusals()),
-    }
+    let built = build(&Team::new(rt, 4), heap, bytes, skip);
+    let right = is_wanted(wanted, &built, heap.refusals());
+    drop(built);
+    right
 }
 
 /// Fails in turn each allocation that it takes to come to what is `wanted`. Returns the number of allocations, or
@@ -136,24 +148,58 @@ fn is_right_without<T: Threads + Sync>(
     }
 }
 
-#[test]
-fn worked_graphs_or_want_of_memory(rt: HostRuntime) -> Result<(), Fail> {
-    for worked in &WORKED {
-        assert!(rt; is_right_whole(&rt, rt.alloc(), worked)?, "{}", worked.name);
+/// Returns the name of the first dump of `table` of which [`is_right_whole`] is false, or `None` if there is none.
+fn first_wrong<T: Threads + Sync>(
+    rt: &T,
+    alloc: Global,
+    table: &[Worked],
+) -> Result<Option<&'static str>, AllocError> {
+    for worked in table {
+        if !is_right_whole(rt, alloc, worked)? {
+            return Ok(Some(worked.name));
+        }
     }
-    Ok(())
+    Ok(None)
+}
+
+/// Like [`first_wrong`], for `WORKED`.
+fn first_wrong_worked<T: Threads + Sync>(
+    rt: &T,
+    alloc: Global,
+) -> Result<Option<&'static str>, AllocError> {
+    first_wrong(rt, alloc, &WORKED)
 }
 
 #[test]
-fn graphs_without_fields_or_want_of_memory(rt: HostRuntime) -> Result<(), Fail> {
-    for (list, worked) in &SKIPPED {
-        assert!(rt;
-            is_right_without(&rt, rt.alloc(), worked, list)?,
-            "{}",
-            worked.name
-        );
+fn worked_graphs_or_want_of_memory(rt: HostRuntime) {
+    assert_eq!(rt; first_wrong_worked(&rt, rt.alloc()), Ok(None));
+}
+
+/// Returns the name of the first dump of `table` of which [`is_right_without`] is false, or `None` if there is none.
+fn first_wrong_without<T: Threads + Sync>(
+    rt: &T,
+    alloc: Global,
+    table: &[(&str, Worked)],
+) -> Result<Option<&'static str>, AllocError> {
+    for (list, worked) in table {
+        if !is_right_without(rt, alloc, worked, list)? {
+            return Ok(Some(worked.name));
+        }
     }
-    Ok(())
+    Ok(None)
+}
+
+/// Like [`first_wrong_without`], for `SKIPPED`.
+fn first_wrong_skipped<T: Threads + Sync>(
+    rt: &T,
+    alloc: Global,
+) -> Result<Option<&'static str>, AllocError> {
+    first_wrong_without(rt, alloc, &SKIPPED)
+}
+
+#[test]
+fn graphs_without_fields_or_want_of_memory(rt: HostRuntime) {
+    assert_eq!(rt; first_wrong_skipped(&rt, rt.alloc()), Ok(None));
 }
 
 /// An instance without the fields of its superclass.
@@ -180,6 +226,14 @@ fn a_fault_or_want_of_memory(rt: HostRuntime) -> Result<(), Fail> {
     Ok(())
 }
 
+/// Tests whether there is a graph, and has the array with `elements`, its row and its bytes.
+fn tells_array<A: Allocator>(graph: Option<&Graph<'_, A>>, elements: &[u32]) -> bool {
+    match graph {
+        Some(graph) => tells(graph, 3, &(elements, RowKey::Class(0), 400_000, 0)),
+        None => false,
+    }
+}
+
 /// Tests whether the graph that is built on `heap` has the array with `elements`, its row and its bytes.
 fn walks_over<T: Threads + Sync>(
     rt: &T,
@@ -188,10 +242,10 @@ fn walks_over<T: Threads + Sync>(
     skip: &Skip<'_, Global>,
     elements: &[u32],
 ) -> bool {
-    match build(&Team::new(rt, 4), heap, bytes, skip) {
-        Ok(graph) => tells(&graph, 3, &(elements, RowKey::Class(0), 400_000, 0)),
-        Err(_) => false,
-    }
+    let graph = graph_of(rt, heap, bytes, skip);
+    let right = tells_array(graph.as_ref(), elements);
+    drop(graph);
+    right
 }
 
 /// Tests the walk over the array on a heap that grants just the allocations that it takes to build the graph. Returns

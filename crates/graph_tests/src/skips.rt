@@ -1,6 +1,6 @@
 //! Texts that are lists of fields, and texts that are not.
 
-use heap_graph::{Skip, SkipRefusal};
+use heap_graph::{Skip, SkipEntry, SkipRefusal};
 use limited_heap::{LimitedHeap, requests_of};
 use std::alloc::{AllocError, Allocator, Global};
 use std::test::Fail;
@@ -43,20 +43,25 @@ static OTHERS: [&str; 13] = [
     "a.b,c.d,.f",
 ];
 
-/// Tests whether `skip` has the entries `names`.
-fn has_entries<A: Allocator>(skip: &Skip<'_, A>, names: &[Names]) -> bool {
-    for (entry, (class, field)) in skip.entries().iter().zip(names) {
-        if entry.class() != class.as_bytes() || entry.field() != field.as_bytes() {
+/// Tests whether `entry` is `field` of `class`.
+fn is_entry(entry: &SkipEntry<'_>, class: &[u8], field: &[u8]) -> bool {
+    entry.class() == class && entry.field() == field
+}
+
+/// Tests whether `entries` are the entries `names`.
+fn are_entries(entries: &[SkipEntry<'_>], names: &[Names]) -> bool {
+    for (entry, (class, field)) in entries.iter().zip(names) {
+        if !is_entry(entry, class.as_bytes(), field.as_bytes()) {
             return false;
         }
     }
-    skip.entries().len() == names.len()
+    entries.len() == names.len()
 }
 
 /// Tests whether `text` is read as a list of the entries `names`. `Err` says how it is refused.
 fn read_as(alloc: Global, text: &str, names: &[Names]) -> Result<bool, SkipRefusal> {
     let skip = Skip::new(alloc, text)?;
-    Ok(has_entries(&skip, names))
+    Ok(are_entries(skip.entries(), names))
 }
 
 #[test]
@@ -83,7 +88,7 @@ fn list_of(alloc: Global, entries: u32) -> Result<String, AllocError> {
 /// Tests whether the last entry of `skip` is `field` of `class`.
 fn ends_with<A: Allocator>(skip: &Skip<'_, A>, class: &[u8], field: &[u8]) -> bool {
     match skip.entries().last() {
-        Some(last) => last.class() == class && last.field() == field,
+        Some(last) => is_entry(last, class, field),
         None => false,
     }
 }

@@ -3,7 +3,7 @@
 //! dumps have arrays without elements. Dumps with the same number of objects take the same number of allocations but
 //! for the index.
 
-use crate::graphs::build;
+use crate::graphs::{count_objects, dump_of};
 use heap_graph::Skip;
 use hprof_grammar::Team;
 use limited_heap::LimitedHeap;
@@ -64,16 +64,20 @@ impl Order {
     }
 }
 
-/// Returns a dump of `count` objects in `order`.
-fn dump(alloc: Global, order: Order, count: u32) -> Result<Bytes, AllocError> {
+/// Returns `count` objects in `order`.
+fn objects(alloc: Global, order: Order, count: u32) -> Result<Bytes, AllocError> {
     let mut heap = Bytes::new(alloc, 8);
     for number in 0..count {
         let id = order.id_of(u64::from(number), u64::from(count));
         heap.sub(Values(id, BYTE, 0, &[]))?;
     }
-    let mut file = Bytes::header(alloc, 8)?;
-    file.record(0x0C, heap.bytes.as_slice())?;
-    Ok(file)
+    Ok(heap)
+}
+
+/// Returns a dump of `count` objects in `order`.
+fn dump(alloc: Global, order: Order, count: u32) -> Result<Bytes, AllocError> {
+    let heap = objects(alloc, order, count)?;
+    dump_of(alloc, 8, &heap.bytes)
 }
 
 /// Returns the number of allocations that a team of `threads` threads makes to read a dump of `count` objects in
@@ -89,7 +93,7 @@ fn requests<T: Threads + Sync>(
     let skip = Skip::none(alloc);
     let heap = LimitedHeap::new(alloc, u64::MAX);
     let team = Team::sharing_from(rt, threads, 1);
-    let _built = build(&team, &heap, file.bytes.as_slice(), &skip).is_ok();
+    let _built = count_objects(&team, &heap, file.bytes.as_slice(), &skip).is_ok();
     Ok(u64::MAX - heap.requests_left())
 }
 

@@ -1,7 +1,7 @@
 //! Walks over the identifiers that objects hold.
 
 use crate::graphs::graph_of;
-use crate::worked::{WORKED, Worked};
+use crate::worked::{LOADERS, MISSING_FIRST, SELF_AND_MISSING, SUBCLASS_FIRST, WHOLE_CLASS};
 use heap_graph::{Graph, Skip, Successors};
 use std::alloc::{AllocError, Allocator, Global};
 use std::test::Fail;
@@ -9,46 +9,67 @@ use std::thread::Threads;
 use test_dumps::Sub::{Class, Instance, Root};
 use test_dumps::{Bytes, Record, TWO_OBJECTS};
 
-/// A dump by its name, an object of it, and the numbers of remaining identifiers: at first, and after each call of
-/// `next` up to the first that returns `None`.
-type Walk = (&'static str, u32, &'static [u64]);
+/// A walk over the identifiers that an object of a dump holds.
+struct Walk {
+    name: &'static str,
+    id_size: u32,
+    records: &'static [Record],
+    object: u32,
+    /// The numbers of remaining identifiers: at first, and after each call of `next` up to the first that returns
+    /// `None`.
+    left: &'static [u64],
+}
 
 static WALKS: [Walk; 7] = [
-    (
-        "identifiers of 8 bytes: null, itself, and one that is missing",
-        1,
-        &[4, 3, 1, 0],
-    ),
-    (
-        "identifiers of 8 bytes: null, itself, and one that is missing",
-        2,
-        &[0, 0],
-    ),
-    (
-        "a class before its superclass: its own fields come first",
-        2,
-        &[2, 1, 0, 0],
-    ),
-    (
-        "a missing identifier before a good one, in an array, in an instance, and in static fields",
-        0,
-        &[5, 4, 2, 0, 0],
-    ),
-    (
-        "a missing identifier before a good one, in an array, in an instance, and in static fields",
-        3,
-        &[5, 0],
-    ),
-    (
-        "all that a class refers to, and not the two reserved identifiers",
-        0,
-        &[8, 7, 6, 5, 4, 3, 1, 0, 0],
-    ),
-    (
-        "loader, signers and protection domain that are missing, and a loader that is the class itself",
-        1,
-        &[5, 4, 3, 1, 0],
-    ),
+    Walk {
+        name: "null, itself, and one that is missing",
+        id_size: 8,
+        records: SELF_AND_MISSING,
+        object: 1,
+        left: &[4, 3, 1, 0],
+    },
+    Walk {
+        name: "an empty array",
+        id_size: 8,
+        records: SELF_AND_MISSING,
+        object: 2,
+        left: &[0, 0],
+    },
+    Walk {
+        name: "its own field, which is no reference, and that of the superclass",
+        id_size: 4,
+        records: SUBCLASS_FIRST,
+        object: 2,
+        left: &[2, 1, 0, 0],
+    },
+    Walk {
+        name: "a missing identifier before a good one, in an array",
+        id_size: 4,
+        records: MISSING_FIRST,
+        object: 0,
+        left: &[5, 4, 2, 0, 0],
+    },
+    Walk {
+        name: "a missing identifier in static fields",
+        id_size: 4,
+        records: MISSING_FIRST,
+        object: 3,
+        left: &[5, 0],
+    },
+    Walk {
+        name: "all that a class refers to",
+        id_size: 4,
+        records: WHOLE_CLASS,
+        object: 0,
+        left: &[8, 7, 6, 5, 4, 3, 1, 0, 0],
+    },
+    Walk {
+        name: "a loader that is the class itself, and a missing identifier in a static field",
+        id_size: 8,
+        records: LOADERS,
+        object: 1,
+        left: &[5, 4, 3, 1, 0],
+    },
 ];
 
 /// Calls `next`. Returns the number of identifiers that remained before the call, and whether the call returned an
@@ -70,57 +91,60 @@ fn leaves<A: Allocator>(walk: Successors<'_, A>, left: &[u64]) -> bool {
     true
 }
 
-/// Tests whether `graph` has `object`, and the numbers of its remaining identifiers are `left`.
-fn leaves_of<A: Allocator>(graph: &Graph<'_, A>, object: u32, left: &[u64]) -> bool {
-    object < graph.len() && leaves(graph.successors(object), left)
+/// Tests whether there is a graph, it has `object`, and the numbers of its remaining identifiers are `left`.
+fn leaves_of<A: Allocator>(graph: Option<&Graph<'_, A>>, object: u32, left: &[u64]) -> bool {
+    match graph {
+        Some(graph) => object < graph.len() && leaves(graph.successors(object), left),
+        None => false,
+    }
 }
 
-/// Tests whether the numbers of remaining identifiers of `object` are `left`, in the dump of `worked`.
+/// Tests whether the graph of the dump `bytes` has `object`, and the numbers of its remaining identifiers are `left`.
 fn leaves_in<T: Threads + Sync>(
     rt: &T,
     alloc: Global,
-    worked: &Worked,
+    bytes: &[u8],
     object: u32,
     left: &[u64],
-) -> Result<bool, AllocError> {
+) -> bool {
     let skip = Skip::none(alloc);
-    let file = Bytes::dump(alloc, worked.id_size, worked.records)?;
-    match graph_of(rt, alloc, &file.bytes, &skip) {
-        Some(graph) => Ok(leaves_of(&graph, object, left)),
-        None => Ok(false),
-    }
-}
-
-/// Returns the dump of `WORKED` with the name `name`, or `None` if there is none.
-fn worked_of(name: &str) -> Option<&'static Worked> {
-    for worked in &WORKED {
-        if worked.name == name {
-            return Some(worked);
-        }
-    }
-    None
+    let graph = graph_of(rt, alloc, bytes, &skip);
+    let right = leaves_of(graph.as_ref(), object, left);
+    drop(graph);
+    right
 }
 
 /// Tests whether the numbers of remaining identifiers in the dump of `walk` are those of `walk`.
 fn is_walk<T: Threads + Sync>(rt: &T, alloc: Global, walk: &Walk) -> Result<bool, AllocError> {
-    let (name, object, left) = *walk;
-    match worked_of(name) {
-        Some(worked) => leaves_in(rt, alloc, worked, object, left),
-        None => Ok(false),
+    let file = Bytes::dump(alloc, walk.id_size, walk.records)?;
+    Ok(leaves_in(rt, alloc, &file.bytes, walk.object, walk.left))
+}
+
+/// Returns the name of the first of `walks` of which [`is_walk`] is false, or `None` if there is none.
+fn first_wrong<T: Threads + Sync>(
+    rt: &T,
+    alloc: Global,
+    walks: &[Walk],
+) -> Result<Option<&'static str>, AllocError> {
+    for walk in walks {
+        if !is_walk(rt, alloc, walk)? {
+            return Ok(Some(walk.name));
+        }
     }
+    Ok(None)
+}
+
+/// Like [`first_wrong`], for `WALKS`.
+fn first_wrong_walk<T: Threads + Sync>(
+    rt: &T,
+    alloc: Global,
+) -> Result<Option<&'static str>, AllocError> {
+    first_wrong(rt, alloc, &WALKS)
 }
 
 #[test]
-fn identifiers_left(rt: HostRuntime) -> Result<(), Fail> {
-    for walk in &WALKS {
-        assert!(rt;
-            is_walk(&rt, rt.alloc(), walk)?,
-            "{}, object {}",
-            walk.0,
-            walk.1
-        );
-    }
-    Ok(())
+fn identifiers_left(rt: HostRuntime) {
+    assert_eq!(rt; first_wrong_walk(&rt, rt.alloc()), Ok(None));
 }
 
 /// The number of elements of a long array.
@@ -173,32 +197,60 @@ const SKIPS: [(&str, u64, u64); 3] = [
 ];
 
 /// Tests whether object 0x201 holds `left` identifiers, and `unresolved` of those of object 0x203 name no object.
-fn has_left<A: Allocator>(graph: &Graph<'_, A>, left: u64, unresolved: u64) -> bool {
-    graph.len() == 5 && graph.successors(2).left() == left && graph.unresolved_of(4) == unresolved
+fn has_left<A: Allocator>(graph: Option<&Graph<'_, A>>, (left, unresolved): (u64, u64)) -> bool {
+    let Some(graph) = graph else {
+        return false;
+    };
+    if graph.len() != 5 {
+        return false;
+    }
+    let held = graph.successors(2).left();
+    held == left && graph.unresolved_of(4) == unresolved
 }
 
-/// Like [`has_left`], for the graph of `REFERENCES` if the fields of `list` are not followed.
+/// Like [`has_left`], for the graph of the dump `bytes` if the fields of `skip` are not followed.
+fn leaves_besides<T: Threads + Sync>(
+    rt: &T,
+    alloc: Global,
+    bytes: &[u8],
+    skip: &Skip<'_, Global>,
+    wanted: (u64, u64),
+) -> bool {
+    let graph = graph_of(rt, alloc, bytes, skip);
+    let right = has_left(graph.as_ref(), wanted);
+    drop(graph);
+    right
+}
+
+/// Like [`has_left`], for the graph of the dump `bytes` if the fields of `list` are not followed.
 fn leaves_without<T: Threads + Sync>(
     rt: &T,
     alloc: Global,
+    bytes: &[u8],
     list: &str,
-    left: u64,
-    unresolved: u64,
+    wanted: (u64, u64),
+) -> bool {
+    match Skip::new(alloc, list) {
+        Ok(skip) => leaves_besides(rt, alloc, bytes, &skip, wanted),
+        Err(_) => false,
+    }
+}
+
+/// Like [`has_left`], for the graph of `REFERENCES` if the fields of `list` are not followed.
+fn references_without<T: Threads + Sync>(
+    rt: &T,
+    alloc: Global,
+    list: &str,
+    wanted: (u64, u64),
 ) -> Result<bool, AllocError> {
     let file = Bytes::dump(alloc, 4, REFERENCES)?;
-    let Ok(skip) = Skip::new(alloc, list) else {
-        return Ok(false);
-    };
-    match graph_of(rt, alloc, &file.bytes, &skip) {
-        Some(graph) => Ok(has_left(&graph, left, unresolved)),
-        None => Ok(false),
-    }
+    Ok(leaves_without(rt, alloc, &file.bytes, list, wanted))
 }
 
 #[test]
 fn fields_are_skipped(rt: HostRuntime) -> Result<(), Fail> {
     for (list, left, unresolved) in SKIPS {
-        let skipped = leaves_without(&rt, rt.alloc(), list, left, unresolved)?;
+        let skipped = references_without(&rt, rt.alloc(), list, (left, unresolved))?;
         assert!(rt; skipped, "{list}");
     }
     Ok(())

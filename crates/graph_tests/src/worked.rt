@@ -27,6 +27,87 @@ pub struct Worked {
 /// The row of an object that is a class.
 pub const A_CLASS: RowKey = RowKey::ClassObject;
 
+/// A class before its superclass, and an instance of each.
+pub const SUBCLASS_FIRST: &[Record] = &[
+    Text(1, b"A"),
+    Text(3, b"B"),
+    Load(0x100, 1),
+    Load(0x110, 3),
+    Heap(&[
+        Class(0x110, 0x100, &[10]),
+        Class(0x100, 0, &[2]),
+        Instance(0x301, 0x110, &[0, 0, 0, 5, 0, 0, 2, 2]),
+        Instance(0x202, 0x100, &[0, 0, 0, 0]),
+        Root(0x301),
+    ]),
+];
+
+/// An array of null, itself and a missing identifier, with identifiers of 8 bytes, and an empty array.
+pub const SELF_AND_MISSING: &[Record] = &[
+    Text(1, b"[Ljava/lang/Object;"),
+    Load(0x100, 1),
+    Heap(&[
+        Class(0x100, 0, &[]),
+        Objects(0x201, 0x100, &[0, 0x201, 0x999]),
+        Values(0x202, 11, 0, &[]),
+        Root(0x201),
+        Root(0x202),
+    ]),
+];
+
+/// An array, an instance and a class that hold missing identifiers.
+pub const MISSING_FIRST: &[Record] = &[Heap(&[
+    Objects(0x201, 0x100, &[0x999, 0x202, 0x999, 0x201]),
+    Instance(0x202, 0x100, &[0, 0, 9, 0x99, 0, 0, 2, 1]),
+    Class(0x100, 0, &[2, 2]),
+    Static(0x110, 2, &[0, 0, 9, 0x99]),
+    Root(0x999),
+    Root(0x202),
+])];
+
+/// A class that refers to an object by each of its parts.
+pub const WHOLE_CLASS: &[Record] = &[Heap(&[
+    Whole(ClassParts {
+        id: 0x100,
+        others: [0x110, 0x201, 0x202, 0x203, 0x204, 0x205],
+        constants: &[
+            (1, 2, &[0, 0, 2, 6]),
+            (2, 10, &[0, 0, 2, 4]),
+            (1, 2, &[0; 4]),
+        ],
+        statics: &[(2, &[0, 0, 2, 7]), (5, &[0, 0x41]), (2, &[0, 0, 2, 2])],
+        fields: &[],
+    }),
+    Class(0x110, 0, &[]),
+    Values(0x201, 8, 1, &[0]),
+    Values(0x202, 4, 2, &[0; 2]),
+    Values(0x203, 5, 1, &[0; 2]),
+    Values(0x204, 6, 1, &[0; 4]),
+    Values(0x205, 7, 1, &[0; 8]),
+    Values(0x206, 9, 1, &[0; 2]),
+    Values(0x207, 10, 1, &[0; 4]),
+    Root(0x100),
+])];
+
+/// Classes with loaders, signers and protection domains, with identifiers of 8 bytes.
+pub const LOADERS: &[Record] = &[Heap(&[
+    Whole(ClassParts {
+        id: 0x100,
+        others: [0, 0x991, 0x992, 0x993, 0x994, 0x995],
+        constants: &[],
+        statics: &[],
+        fields: &[],
+    }),
+    Whole(ClassParts {
+        id: 0x110,
+        others: [0x100, 0x110, 0, 0x100, 0, 0],
+        constants: &[],
+        statics: &[(2, &[0, 0, 0, 0, 0, 0, 9, 0x99])],
+        fields: &[2],
+    }),
+    Instance(0x201, 0x110, &[0, 0, 0, 0, 0, 0, 1, 0x10]),
+])];
+
 pub static WORKED: [Worked; 11] = [
     Worked {
         name: "two instances that refer to each other",
@@ -71,19 +152,7 @@ pub static WORKED: [Worked; 11] = [
     Worked {
         name: "a class before its superclass: its own fields come first",
         id_size: 4,
-        records: &[
-            Text(1, b"A"),
-            Text(3, b"B"),
-            Load(0x100, 1),
-            Load(0x110, 3),
-            Heap(&[
-                Class(0x110, 0x100, &[10]),
-                Class(0x100, 0, &[2]),
-                Instance(0x301, 0x110, &[0, 0, 0, 5, 0, 0, 2, 2]),
-                Instance(0x202, 0x100, &[0, 0, 0, 0]),
-                Root(0x301),
-            ]),
-        ],
+        records: SUBCLASS_FIRST,
         roots: &[2],
         objects: &[
             (&[1], A_CLASS, 0, 0),
@@ -181,17 +250,7 @@ pub static WORKED: [Worked; 11] = [
     Worked {
         name: "identifiers of 8 bytes: null, itself, and one that is missing",
         id_size: 8,
-        records: &[
-            Text(1, b"[Ljava/lang/Object;"),
-            Load(0x100, 1),
-            Heap(&[
-                Class(0x100, 0, &[]),
-                Objects(0x201, 0x100, &[0, 0x201, 0x999]),
-                Values(0x202, 11, 0, &[]),
-                Root(0x201),
-                Root(0x202),
-            ]),
-        ],
+        records: SELF_AND_MISSING,
         roots: &[1, 2],
         objects: &[
             (&[], A_CLASS, 0, 0),
@@ -204,14 +263,7 @@ pub static WORKED: [Worked; 11] = [
     Worked {
         name: "a missing identifier before a good one, in an array, in an instance, and in static fields",
         id_size: 4,
-        records: &[Heap(&[
-            Objects(0x201, 0x100, &[0x999, 0x202, 0x999, 0x201]),
-            Instance(0x202, 0x100, &[0, 0, 9, 0x99, 0, 0, 2, 1]),
-            Class(0x100, 0, &[2, 2]),
-            Static(0x110, 2, &[0, 0, 9, 0x99]),
-            Root(0x999),
-            Root(0x202),
-        ])],
+        records: MISSING_FIRST,
         roots: &[1],
         objects: &[
             (&[2, 1, 0], RowKey::Class(0), 16, 2),
@@ -225,28 +277,7 @@ pub static WORKED: [Worked; 11] = [
     Worked {
         name: "all that a class refers to, and not the two reserved identifiers",
         id_size: 4,
-        records: &[Heap(&[
-            Whole(ClassParts {
-                id: 0x100,
-                others: [0x110, 0x201, 0x202, 0x203, 0x204, 0x205],
-                constants: &[
-                    (1, 2, &[0, 0, 2, 6]),
-                    (2, 10, &[0, 0, 2, 4]),
-                    (1, 2, &[0; 4]),
-                ],
-                statics: &[(2, &[0, 0, 2, 7]), (5, &[0, 0x41]), (2, &[0, 0, 2, 2])],
-                fields: &[],
-            }),
-            Class(0x110, 0, &[]),
-            Values(0x201, 8, 1, &[0]),
-            Values(0x202, 4, 2, &[0; 2]),
-            Values(0x203, 5, 1, &[0; 2]),
-            Values(0x204, 6, 1, &[0; 4]),
-            Values(0x205, 7, 1, &[0; 8]),
-            Values(0x206, 9, 1, &[0; 2]),
-            Values(0x207, 10, 1, &[0; 4]),
-            Root(0x100),
-        ])],
+        records: WHOLE_CLASS,
         roots: &[0],
         objects: &[
             (&[1, 2, 3, 4, 7, 8, 3], A_CLASS, 10, 0),
@@ -265,23 +296,7 @@ pub static WORKED: [Worked; 11] = [
     Worked {
         name: "loader, signers and protection domain that are missing, and a loader that is the class itself",
         id_size: 8,
-        records: &[Heap(&[
-            Whole(ClassParts {
-                id: 0x100,
-                others: [0, 0x991, 0x992, 0x993, 0x994, 0x995],
-                constants: &[],
-                statics: &[],
-                fields: &[],
-            }),
-            Whole(ClassParts {
-                id: 0x110,
-                others: [0x100, 0x110, 0, 0x100, 0, 0],
-                constants: &[],
-                statics: &[(2, &[0, 0, 0, 0, 0, 0, 9, 0x99])],
-                fields: &[2],
-            }),
-            Instance(0x201, 0x110, &[0, 0, 0, 0, 0, 0, 1, 0x10]),
-        ])],
+        records: LOADERS,
         roots: &[],
         objects: &[
             (&[], A_CLASS, 0, 3),
