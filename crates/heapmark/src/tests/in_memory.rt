@@ -6,9 +6,9 @@ ghost use Rattle.command_line.specs.Line.{texts_of};
 
 use super::dumps::{Sample, TWO_OBJECTS_REPORT};
 use super::memory::SUPERCLASS_SKIPPED_REPORT;
-use super::program::BAD_TAG;
+use super::program::{BAD_TAG, answered};
 use super::skips::REFERENCES;
-use crate::{CommandWords, Counted, Dumps, process, program};
+use crate::{CommandWords, Counted, Dumps, process};
 use std::alloc::{Alloc, AllocError, Global};
 use std::io;
 use std::io::Cursor;
@@ -97,40 +97,25 @@ fn texts_before(words: &[&str], readable: usize, alloc: Global) -> Result<Vec<St
     Ok(texts)
 }
 
-/// What is printed on the output and on standard error, beside the exit status.
-type Printed = (u8, Vec<u8>, Vec<u8>);
-
-/// Calls the program on `dump`.
-fn programmed<T: AllocGlobal + Threads + Wait + Sync>(
-    rt: &T,
-    dump: &[u8],
-    words: &[&str],
-) -> Printed {
-    let mut out = Counted::new(Vec::new(rt.alloc()));
-    let mut err = Vec::new(rt.alloc());
-    let status = program(&InMemory { rt, bytes: dump }, words, &mut out, &mut err);
-    (status, out.into_inner(), err)
-}
-
-/// Calls the process on `dump`.
-fn processed<T: AllocGlobal + Threads + Wait + Sync>(
+/// Tests whether the process on `dump` has the exit status `want`, and prints just `report` on the output and just `told`
+/// and then `after` on standard error.
+fn is_processed<T: AllocGlobal + Threads + Wait + Sync>(
     rt: &T,
     dump: &[u8],
     line: &KnownWords<'_>,
     is_terminal: bool,
-) -> Printed {
+    want: u8,
+    report: &str,
+    told: &str,
+    after: &str,
+) -> bool {
     let mut out = Counted::new(Vec::new(rt.alloc()));
     let mut err = Vec::new(rt.alloc());
     let rt = InMemory { rt, bytes: dump };
     let status = process(&rt, line, &mut out, &mut err, is_terminal);
-    (status, out.into_inner(), err)
-}
-
-/// Tests whether the exit status is `status`, the output is `report`, and standard error is `told` and then `after`.
-fn is_printed(printed: &Printed, status: u8, report: &str, told: &str, after: &str) -> bool {
-    let (is, out, err) = printed;
+    let is_reported = out.into_inner().as_slice() == report.as_bytes();
     let rest = err.as_slice().strip_prefix(told.as_bytes());
-    *is == status && out.as_slice() == report.as_bytes() && rest == Some(after.as_bytes())
+    status == want && is_reported && rest == Some(after.as_bytes())
 }
 
 /// A dump, the words after the program's name, the exit status, the output, standard error, and what follows on
@@ -233,21 +218,9 @@ fn line_is_printed<T: AllocGlobal + Threads + Wait + Sync>(
         words: line,
         readable: line.len(),
     };
-    is_printed(&programmed(rt, dump, line), status, report, told, "")
-        && is_printed(
-            &processed(rt, dump, &words, false),
-            status,
-            report,
-            told,
-            "",
-        )
-        && is_printed(
-            &processed(rt, dump, &words, true),
-            status,
-            report,
-            told,
-            after,
-        )
+    answered(&InMemory { rt, bytes: dump }, line, report, told) == (status, true, true)
+        && is_processed(rt, dump, &words, false, status, report, told, "")
+        && is_processed(rt, dump, &words, true, status, report, told, after)
 }
 
 /// Tests whether the process is refused with 15 if an allocation fails after `readable` words of `line`.
@@ -262,8 +235,7 @@ fn is_starved<T: AllocGlobal + Threads + Wait + Sync>(
         words: line,
         readable,
     };
-    let printed = processed(rt, dump, &words, is_terminal);
-    is_printed(&printed, 1, "", OUT_OF_MEMORY, "")
+    is_processed(rt, dump, &words, is_terminal, 1, "", OUT_OF_MEMORY, "")
 }
 
 /// Tests whether the process is refused with 15 if an allocation fails while any word of `line` is read.
@@ -282,16 +254,23 @@ fn no_word_is_read<T: AllocGlobal + Threads + Wait + Sync>(
     true
 }
 
-/// Tests the lines of `row` by [`line_is_printed`] and [`no_word_is_read`].
+/// Tests the lines of `row` on `dump` by [`line_is_printed`] and [`no_word_is_read`].
+fn dump_is_printed<T: AllocGlobal + Threads + Wait + Sync>(rt: &T, dump: &[u8], row: &Row) -> bool {
+    match line_of(rt.alloc(), row.1) {
+        Ok(line) => {
+            let line = line.as_slice();
+            line_is_printed(rt, dump, line, row) && no_word_is_read(rt, dump, line)
+        }
+        Err(_) => false,
+    }
+}
+
+/// Like [`dump_is_printed`], on the dump of `row`.
 fn row_is_printed<T: AllocGlobal + Threads + Wait + Sync>(rt: &T, row: &Row) -> bool {
-    let Ok(dump) = row.0.dump(rt.alloc()) else {
-        return false;
-    };
-    let Ok(line) = line_of(rt.alloc(), row.1) else {
-        return false;
-    };
-    let (dump, line) = (dump.bytes.as_slice(), line.as_slice());
-    line_is_printed(rt, dump, line, row) && no_word_is_read(rt, dump, line)
+    match row.0.dump(rt.alloc()) {
+        Ok(dump) => dump_is_printed(rt, dump.bytes.as_slice(), row),
+        Err(_) => false,
+    }
 }
 
 #[test]

@@ -50,19 +50,20 @@ const NOT_THERE: &str = "heapmark: refused 19 ReadFault
 heapmark: /nowhere/heapmark.hprof: No such file or directory (os error 2)
 ";
 
-/// Returns the status of the process for `words`, whether it prints nothing on the output, and whether it prints `told`
-/// on standard error.
+/// Returns the status of the process for `words`, and whether it prints just `report` on the output and just `told` on
+/// standard error.
 fn answered<T: AllocGlobal + Dumps + Threads + Wait + Sync>(
     rt: &T,
     words: &[&[u8]],
     is_terminal: bool,
+    report: &str,
     told: &str,
 ) -> (u8, bool, bool) {
     let mut out = Counted::new(Vec::new(rt.alloc()));
     let mut err = Vec::new(rt.alloc());
     let status = process(rt, &Words { words }, &mut out, &mut err, is_terminal);
-    let is_told = err.as_slice() == told.as_bytes();
-    (status, out.into_inner().is_empty(), is_told)
+    let is_reported = out.into_inner().as_slice() == report.as_bytes();
+    (status, is_reported, err.as_slice() == told.as_bytes())
 }
 
 #[test]
@@ -85,22 +86,9 @@ fn each_line_has_its_status(rt: HostRuntime) {
         ),
     ];
     for (words, is_terminal, want, told) in cases {
-        let answer = answered(&rt, words, is_terminal, told);
+        let answer = answered(&rt, words, is_terminal, "", told);
         assert_eq!(rt; answer, (want, true, true), "{told}");
     }
-}
-
-/// Returns the status of the process for `words`, and whether `report` is all that it prints on the output.
-fn reported_of<T: AllocGlobal + Dumps + Threads + Wait + Sync>(
-    rt: &T,
-    words: &[&[u8]],
-    is_terminal: bool,
-    report: &str,
-) -> (u8, bool) {
-    let mut out = Counted::new(Vec::new(rt.alloc()));
-    let mut err = Vec::new(rt.alloc());
-    let status = process(rt, &Words { words }, &mut out, &mut err, is_terminal);
-    (status, out.into_inner().as_slice() == report.as_bytes())
 }
 
 /// Returns the bytes of each of `words`.
@@ -108,21 +96,7 @@ fn bytes_of<'a>(alloc: Global, words: &[&'a str]) -> Result<Vec<&'a [u8]>, Alloc
     words.iter().map(|word| word.as_bytes()).collect(alloc)
 }
 
-/// Like [`reported_of`], for words that are text.
-pub fn reported<T: AllocGlobal + Dumps<Dump = T::File> + Files + Threads + Wait + Sync>(
-    rt: &T,
-    words: &[&str],
-    is_terminal: bool,
-    report: &str,
-) -> (u8, bool) {
-    match bytes_of(rt.alloc(), words) {
-        Ok(words) => reported_of(rt, words.as_slice(), is_terminal, report),
-        Err(_) => (u8::MAX, false),
-    }
-}
-
-/// Returns the status of the process for `words`, and whether it prints just `report` on the output and just `told` on
-/// standard error.
+/// Like [`answered`], for words that are text.
 pub fn processed<T: AllocGlobal + Dumps + Threads + Wait + Sync>(
     rt: &T,
     words: &[&str],
@@ -130,17 +104,10 @@ pub fn processed<T: AllocGlobal + Dumps + Threads + Wait + Sync>(
     report: &str,
     told: &str,
 ) -> (u8, bool, bool) {
-    let mut out = Counted::new(Vec::new(rt.alloc()));
-    let mut err = Vec::new(rt.alloc());
-    let Ok(words) = bytes_of(rt.alloc(), words) else {
-        return (u8::MAX, false, false);
-    };
-    let line = Words {
-        words: words.as_slice(),
-    };
-    let status = process(rt, &line, &mut out, &mut err, is_terminal);
-    let is_reported = out.into_inner().as_slice() == report.as_bytes();
-    (status, is_reported, err.as_slice() == told.as_bytes())
+    match bytes_of(rt.alloc(), words) {
+        Ok(words) => answered(rt, words.as_slice(), is_terminal, report, told),
+        Err(_) => (u8::MAX, false, false),
+    }
 }
 
 /// A command line without the program's name, its status, and all that is printed on the output.

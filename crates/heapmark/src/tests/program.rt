@@ -3,7 +3,7 @@
 use super::dumps::Record::Heap;
 use super::dumps::Sub::Raw;
 use super::dumps::{Record, Sample, TWO_OBJECTS_REPORT};
-use super::process::{processed, reported};
+use super::process::processed;
 use crate::command::program_at_terminal;
 use crate::{Counted, Dumps, program};
 use std::alloc::{AllocError, Global};
@@ -44,12 +44,17 @@ pub fn file_of<T: AllocGlobal + Env + Files>(
     Ok(path)
 }
 
+/// Returns `word`, or `file` for the word FILE.
+fn word_of<'a>(word: &'a str, file: &'a str) -> &'a str {
+    if word == "FILE" { file } else { word }
+}
+
 /// Returns `heapmark` and the words of `line`, with `file` in place of the word FILE.
 fn words_of<'a>(alloc: Global, line: &'a str, file: &'a str) -> Result<Vec<&'a str>, AllocError> {
     let mut words = Vec::new(alloc);
     words.push("heapmark")?;
     for word in line.split_whitespace() {
-        words.push(if word == "FILE" { file } else { word })?;
+        words.push(word_of(word, file))?;
     }
     Ok(words)
 }
@@ -91,7 +96,7 @@ fn told<T: AllocGlobal + Dumps<Dump = T::File> + Files + Threads + Wait + Sync>(
         }
         Asked::Unheard => (answered_unheard(rt, words), true, true),
         Asked::Process(is_terminal, report) => {
-            let (status, is_reported) = reported(rt, words, is_terminal, report);
+            let (status, is_reported, _) = processed(rt, words, is_terminal, report, "");
             (status, is_reported, true)
         }
         Asked::Whole(is_terminal, report, lines) => processed(
@@ -150,17 +155,6 @@ pub fn answered_on<T: AllocGlobal + Dumps<Dump = T::File> + Env + Files + Thread
     }
 }
 
-/// Returns the status of the program for `words`, and what it prints on both streams.
-fn printed<T: AllocGlobal + Dumps + Threads + Wait + Sync>(
-    rt: &T,
-    words: &[&str],
-) -> (u8, Vec<u8>, Vec<u8>) {
-    let mut out = Counted::new(Vec::new(rt.alloc()));
-    let mut err = Vec::new(rt.alloc());
-    let status = program(rt, words, &mut out, &mut err);
-    (status, out.into_inner(), err)
-}
-
 /// Returns the status of the program for `words`, and whether it prints just `report` on the output and just `refusal`
 /// on standard error.
 pub fn answered<T: AllocGlobal + Dumps + Threads + Wait + Sync>(
@@ -169,8 +163,10 @@ pub fn answered<T: AllocGlobal + Dumps + Threads + Wait + Sync>(
     report: &str,
     refusal: &str,
 ) -> (u8, bool, bool) {
-    let (status, out, err) = printed(rt, words);
-    let is_reported = out.as_slice() == report.as_bytes();
+    let mut out = Counted::new(Vec::new(rt.alloc()));
+    let mut err = Vec::new(rt.alloc());
+    let status = program(rt, words, &mut out, &mut err);
+    let is_reported = out.into_inner().as_slice() == report.as_bytes();
     (status, is_reported, err.as_slice() == refusal.as_bytes())
 }
 
