@@ -57,6 +57,11 @@ fn least(workers: u32) -> Options
     options
 }
 
+/// Returns the program's default options with 1, 2 and 64 workers.
+fn usual_options() -> [Options; 3] {
+    [usual(1), usual(2), usual(64)]
+}
+
 /// The result of a run, and how many bytes of the wanted report it has written: `None` if it has written anything else.
 type Answered = (Result<(), Refusal>, Option<usize>);
 
@@ -127,6 +132,25 @@ where
 {
     let told = answer(rt, alloc, options, &Skip::none(alloc), reader, report);
     told == (want, Some(report.len()))
+}
+
+/// Tests whether the run with each of `options` that skips the fields of `skip` has the result `want` and writes just
+/// `report`.
+fn runs_are_answered<T: Threads + Wait + Sync>(
+    rt: &T,
+    alloc: Global,
+    options: &[Options],
+    skip: &Skip<'_, Global>,
+    dump: &[u8],
+    want: Result<(), Refusal>,
+    report: &str,
+) -> bool {
+    for options in options {
+        if answer(rt, alloc, options, skip, dump, report) != (want, Some(report.len())) {
+            return false;
+        }
+    }
+    true
 }
 
 /// Returns the result of a run that is refused with `code` at `offset`.

@@ -1,8 +1,8 @@
 //! The dump of two objects cut at each length.
 
 use super::dumps::{NOTHING_REPORT, TWO_OBJECTS_REPORT, two_objects};
-use super::{is_answered, least, refused, usual};
-use crate::Refusal;
+use super::{least, refused, runs_are_answered, usual};
+use crate::{Refusal, Skip};
 use std::alloc::Global;
 use std::sync::Wait;
 use std::thread::Threads;
@@ -78,19 +78,15 @@ fn with_body(dump: &mut Vec<u8>, length: usize) -> &[u8] {
 
 /// Tests whether the runs on `bytes` have the result `want` and write `report`: with two workers and the least buffers,
 /// and with 1, 2 and 64 workers and the program's default buffers.
-fn runs_are_answered<T: Threads + Wait + Sync>(
+fn is_answered<T: Threads + Wait + Sync>(
     rt: &T,
     alloc: Global,
     bytes: &[u8],
     want: Result<(), Refusal>,
     report: &str,
 ) -> bool {
-    for options in [least(2), usual(1), usual(2), usual(64)] {
-        if !is_answered(rt, alloc, &options, bytes, want, report) {
-            return false;
-        }
-    }
-    true
+    let options = [least(2), usual(1), usual(2), usual(64)];
+    runs_are_answered(rt, alloc, &options, &Skip::none(alloc), bytes, want, report)
 }
 
 /// Tests whether the runs on the first `length` bytes of the file are refused with `code` and `place`.
@@ -103,7 +99,7 @@ fn file_is_refused<T: Threads + Wait + Sync>(
 ) -> bool {
     let want = refused(code, Some(place));
     match two_objects(alloc) {
-        Ok(dump) => runs_are_answered(rt, alloc, front(dump.bytes.as_slice(), length), want, ""),
+        Ok(dump) => is_answered(rt, alloc, front(dump.bytes.as_slice(), length), want, ""),
         Err(_) => false,
     }
 }
@@ -120,7 +116,7 @@ fn body_is_answered<T: Threads + Wait + Sync>(
     match two_objects(alloc) {
         Ok(mut dump) => {
             let cut = with_body(&mut dump.bytes, length);
-            runs_are_answered(rt, alloc, cut, want, report)
+            is_answered(rt, alloc, cut, want, report)
         }
         Err(_) => false,
     }

@@ -3,7 +3,7 @@
 //! `rt try --test` takes some minutes for this file: `--seconds 300` lets it end.
 
 use super::dumps::{Bytes, TWO_OBJECTS};
-use super::{is_answered, run_with, usual};
+use super::{run_with, runs_are_answered, usual};
 use crate::{NoGate, Options, Skip};
 use limited_heap::LimitedHeap;
 use std::alloc::{AllocError, Global};
@@ -44,21 +44,20 @@ fn put_node(heap: &mut Bytes, number: u32, nodes: u32) -> Result<(), AllocError>
     heap.number(id_of(left.wrapping_add(1), nodes))
 }
 
-/// Returns the body of a heap dump: the class, the nodes of a tree, and a root, which is the first node.
-fn nodes_of(alloc: Global, nodes: u32) -> Result<Bytes, AllocError> {
-    let mut heap = Bytes::new(alloc, 4);
+/// Puts into `heap` the class, the nodes of a tree, and a root, which is the first node.
+fn put_tree(heap: &mut Bytes, nodes: u32) -> Result<(), AllocError> {
     heap.sub(super::dumps::Sub::Class(0x100, 0, &[2, 2]))?;
     for number in 1..=nodes {
-        put_node(&mut heap, number, nodes)?;
+        put_node(heap, number, nodes)?;
     }
     heap.raw(&[0xff])?;
-    heap.number(id_of(1, nodes))?;
-    Ok(heap)
+    heap.number(id_of(1, nodes))
 }
 
 /// Returns a dump of a tree of `nodes` nodes.
 fn tree(alloc: Global, nodes: u32) -> Result<Bytes, AllocError> {
-    let heap = nodes_of(alloc, nodes)?;
+    let mut heap = Bytes::new(alloc, 4);
+    put_tree(&mut heap, nodes)?;
     let mut dump = Bytes::dump(alloc, 4, &TWO_OBJECTS[..2])?;
     dump.record(0x0C, heap.bytes.as_slice())?;
     Ok(dump)
@@ -66,12 +65,16 @@ fn tree(alloc: Global, nodes: u32) -> Result<Bytes, AllocError> {
 
 /// Tests whether runs with 1 and 4 workers on `bytes` write the report of the tree of 20 levels.
 fn runs_are_reported<T: Threads + Wait + Sync>(rt: &T, alloc: Global, bytes: &[u8]) -> bool {
-    for workers in [1, 4] {
-        if !is_answered(rt, alloc, &usual(workers), bytes, Ok(()), REPORT) {
-            return false;
-        }
-    }
-    true
+    let options = [usual(1), usual(4)];
+    runs_are_answered(
+        rt,
+        alloc,
+        &options,
+        &Skip::none(alloc),
+        bytes,
+        Ok(()),
+        REPORT,
+    )
 }
 
 /// Tests whether runs on the tree of 20 levels write its report.
@@ -103,28 +106,37 @@ fn requests_on<T: Threads + Wait + Sync>(
     }
 }
 
+/// Returns how many allocations a run with `options` on a tree of `nodes` nodes makes, or `None` if the run is refused.
+fn requests_on_tree<T: Threads + Wait + Sync>(
+    rt: &T,
+    alloc: Global,
+    options: &Options,
+    nodes: u32,
+) -> Option<u64> {
+    match tree(alloc, nodes) {
+        Ok(dump) => requests_on(rt, alloc, options, dump.bytes.as_slice()),
+        Err(_) => None,
+    }
+}
+
 /// Returns how many more allocations a run on a tree of `SHARED` nodes makes than a run on a tree of a single node, or
 /// `None` if it makes fewer or a run is refused.
 fn requests_of_size<T: Threads + Wait + Sync>(
     rt: &T,
     alloc: Global,
     options: &Options,
-) -> Result<Option<u64>, AllocError> {
-    let (large, small) = (tree(alloc, SHARED)?, tree(alloc, 1)?);
-    let large = requests_on(rt, alloc, options, large.bytes.as_slice());
-    let small = requests_on(rt, alloc, options, small.bytes.as_slice());
-    match (large, small) {
-        (Some(large), Some(small)) => Ok(large.checked_sub(small)),
-        _ => Ok(None),
-    }
+) -> Option<u64> {
+    let large = requests_on_tree(rt, alloc, options, SHARED)?;
+    let small = requests_on_tree(rt, alloc, options, 1)?;
+    large.checked_sub(small)
 }
 
 /// Work that is shared makes more allocations, since each part of it has lists of its own. With a single processor
 /// nothing is shared.
 #[test]
 fn workers_share_the_work_before_the_marking(rt: HostRuntime) {
-    let alone = requests_of_size(&rt, rt.alloc(), &usual(1)).unwrap_or(None);
-    let shared = requests_of_size(&rt, rt.alloc(), &usual(4)).unwrap_or(None);
+    let alone = requests_of_size(&rt, rt.alloc(), &usual(1));
+    let shared = requests_of_size(&rt, rt.alloc(), &usual(4));
     let is_single = available_parallelism(&rt).is_ok_and(|processors| processors.get() == 1);
     assert!(rt;
         alone.is_some() && shared.is_some() && (shared > alone || is_single),

@@ -3,7 +3,8 @@
 //! `rt try --test` takes some minutes for this file: `--seconds 300` lets it end.
 
 use super::dumps::Bytes;
-use super::{is_answered, usual};
+use super::{runs_are_answered, usual_options};
+use crate::Skip;
 use std::alloc::{AllocError, Global};
 use std::sync::Wait;
 use std::thread::Threads;
@@ -31,39 +32,40 @@ fn classes(alloc: Global) -> Result<Bytes, AllocError> {
     Ok(dump)
 }
 
-/// Returns the report of the dump of all the classes: rows with equal bytes and objects come in the order of their
-/// names.
-fn report(alloc: Global) -> Result<String, AllocError> {
-    let mut report = String::new(alloc);
+/// Appends to `report` the lines of the dump of all the classes: rows with equal bytes and objects come in the order of
+/// their names.
+fn put_lines(report: &mut String) -> Result<(), AllocError> {
     write!(report, "{CLASSES:>10}  {:>14}  <class>\n", 0)?;
     for number in 0..CLASSES {
         write!(report, "         1               0  ?0x1{number:06x}\n")?;
     }
     write!(report, "{:>10}  {:>14}  (reachable)\n", 2 * CLASSES, 0)?;
     report.push_str("         0               0  (unreachable)\n")?;
-    report.push_str("         0               0  (unresolved)\n")?;
-    Ok(report)
+    report.push_str("         0               0  (unresolved)\n")
 }
 
-/// Tests whether each run on `bytes` writes `report`.
-fn runs_are_reported<T: Threads + Wait + Sync>(
-    rt: &T,
-    alloc: Global,
-    bytes: &[u8],
-    report: &str,
-) -> bool {
-    for workers in [1, 2, 64] {
-        if !is_answered(rt, alloc, &usual(workers), bytes, Ok(()), report) {
-            return false;
-        }
-    }
-    true
+/// Returns the report of the dump of all the classes.
+fn report(alloc: Global) -> Result<String, AllocError> {
+    let mut report = String::new(alloc);
+    put_lines(&mut report)?;
+    Ok(report)
 }
 
 /// Tests whether each run on `bytes`, the dump of the classes, writes their report.
 fn is_reported<T: Threads + Wait + Sync>(rt: &T, alloc: Global, bytes: &[u8]) -> bool {
     match report(alloc) {
-        Ok(report) => runs_are_reported(rt, alloc, bytes, report.as_str()),
+        Ok(report) => {
+            let skip = Skip::none(alloc);
+            runs_are_answered(
+                rt,
+                alloc,
+                &usual_options(),
+                &skip,
+                bytes,
+                Ok(()),
+                report.as_str(),
+            )
+        }
         Err(_) => false,
     }
 }

@@ -6,8 +6,8 @@ pub mod reported;
 
 use super::dumps::{Bytes, NOTHING_REPORT, Record, Sample, TWO_OBJECTS_REPORT, WIDE_ARRAY_REPORT};
 use super::streams::Drip;
-use super::{is_answered, least, refused, usual};
-use crate::Refusal;
+use super::{is_answered, least, refused, runs_are_answered, usual_options};
+use crate::{Refusal, Skip};
 use classes::CLASSES;
 use refused::REFUSED;
 use reported::REPORTED;
@@ -44,7 +44,7 @@ pub enum Reading {
 }
 
 /// Tests whether the runs on `dump` have the result `want` and write just `report`.
-fn runs_are_answered<T: Threads + Wait + Sync>(
+fn reads_are_answered<T: Threads + Wait + Sync>(
     rt: &T,
     alloc: Global,
     reading: Reading,
@@ -53,14 +53,15 @@ fn runs_are_answered<T: Threads + Wait + Sync>(
     report: &str,
 ) -> bool {
     match reading {
-        Reading::Whole => {
-            for workers in [1, 2, 64] {
-                if !is_answered(rt, alloc, &usual(workers), dump, want, report) {
-                    return false;
-                }
-            }
-            true
-        }
+        Reading::Whole => runs_are_answered(
+            rt,
+            alloc,
+            &usual_options(),
+            &Skip::none(alloc),
+            dump,
+            want,
+            report,
+        ),
         Reading::ByteByByte => is_answered(rt, alloc, &least(2), Drip::new(dump), want, report),
     }
 }
@@ -74,7 +75,7 @@ fn lines_are_written<T: Threads + Wait + Sync>(
     lines: &[Line],
 ) -> bool {
     match report_of(alloc, lines) {
-        Ok(report) => runs_are_answered(rt, alloc, reading, dump, Ok(()), report.as_str()),
+        Ok(report) => reads_are_answered(rt, alloc, reading, dump, Ok(()), report.as_str()),
         Err(_) => false,
     }
 }
@@ -103,7 +104,7 @@ fn is_refused<T: Threads + Wait + Sync>(
     let (_, id_size, records, code, place) = *row;
     let want = refused(code, Some(place));
     match Bytes::dump(alloc, id_size, records) {
-        Ok(dump) => runs_are_answered(rt, alloc, reading, dump.bytes.as_slice(), want, ""),
+        Ok(dump) => reads_are_answered(rt, alloc, reading, dump.bytes.as_slice(), want, ""),
         Err(_) => false,
     }
 }
@@ -117,7 +118,7 @@ fn sample_is_reported<T: Threads + Wait + Sync>(
     report: &str,
 ) -> bool {
     match sample.dump(alloc) {
-        Ok(dump) => runs_are_answered(rt, alloc, reading, dump.bytes.as_slice(), Ok(()), report),
+        Ok(dump) => reads_are_answered(rt, alloc, reading, dump.bytes.as_slice(), Ok(()), report),
         Err(_) => false,
     }
 }
@@ -185,7 +186,7 @@ fn long_string(alloc: Global) -> Result<Bytes, AllocError> {
 fn long_string_is_refused<T: Threads + Wait + Sync>(rt: &T, alloc: Global) -> bool {
     let (reading, want) = (Reading::Whole, refused(3, Some(31)));
     match long_string(alloc) {
-        Ok(dump) => runs_are_answered(rt, alloc, reading, dump.bytes.as_slice(), want, ""),
+        Ok(dump) => reads_are_answered(rt, alloc, reading, dump.bytes.as_slice(), want, ""),
         Err(_) => false,
     }
 }

@@ -8,7 +8,7 @@ use super::dumps::Sub::{Class, Instance, Root};
 use super::dumps::{Bytes, Record, Sample};
 use super::program::{Asked, answered, answered_on};
 use super::rows::{Line, report_of};
-use super::{answer, usual};
+use super::{runs_are_answered, usual_options};
 use crate::{Dumps, Skip, SkipRefusal};
 use names::NAMES;
 use std::alloc::Global;
@@ -108,24 +108,7 @@ static LISTS: [Skipped; 6] = [
     ),
 ];
 
-/// Tests whether runs with 1, 2 and 64 workers on `dump` without the fields of `skip` write `report`.
-fn runs_are_reported<T: Threads + Wait + Sync>(
-    rt: &T,
-    alloc: Global,
-    dump: &[u8],
-    skip: &Skip<'_, Global>,
-    report: &str,
-) -> bool {
-    for workers in [1, 2, 64] {
-        let told = answer(rt, alloc, &usual(workers), skip, dump, report);
-        if told != (Ok(()), Some(report.len())) {
-            return false;
-        }
-    }
-    true
-}
-
-/// Like [`runs_are_reported`], for the report of `lines`.
+/// Tests whether runs with 1, 2 and 64 workers on `dump` without the fields of `skip` write the report of `lines`.
 fn lines_are_written<T: Threads + Wait + Sync>(
     rt: &T,
     alloc: Global,
@@ -134,7 +117,15 @@ fn lines_are_written<T: Threads + Wait + Sync>(
     lines: &[Line],
 ) -> bool {
     match report_of(alloc, lines) {
-        Ok(report) => runs_are_reported(rt, alloc, dump, skip, report.as_str()),
+        Ok(report) => runs_are_answered(
+            rt,
+            alloc,
+            &usual_options(),
+            skip,
+            dump,
+            Ok(()),
+            report.as_str(),
+        ),
         Err(_) => false,
     }
 }
