@@ -65,23 +65,30 @@ pub const NINE_ROOTS_REPORT: &str = "         9               0  A
          0               0  (unresolved)
 ";
 
+/// The records that name the classes of [`wide_array`].
+const NAMES_OF_WIDE: &[Record] = &[
+    Record::Text(1, b"L"),
+    Record::Text(3, b"[LL;"),
+    Record::Load(0x100, 1),
+    Record::Load(0x110, 3),
+];
+
+/// Puts into `heap` two classes, an array of the instances `elements`, the instances, and a root, which is the array.
+fn put_wide(heap: &mut Bytes, elements: &[u64]) -> Result<(), AllocError> {
+    heap.subs(&[Sub::Class(0x100, 0, &[]), Sub::Class(0x110, 0, &[])])?;
+    heap.objects(0x200, 0x110, elements)?;
+    for id in elements {
+        heap.sub(Sub::Instance(*id, 0x100, &[]))?;
+    }
+    heap.sub(Sub::Root(0x200))
+}
+
 /// Returns a dump of an array of 64 instances. The array is the root.
 pub fn wide_array(alloc: Global) -> Result<Bytes, AllocError> {
     let elements: Vec<u64> = (0x301..0x341u64).collect(alloc)?;
     let mut heap = Bytes::new(alloc, 4);
-    heap.subs(&[Sub::Class(0x100, 0, &[]), Sub::Class(0x110, 0, &[])])?;
-    heap.objects(0x200, 0x110, elements.as_slice())?;
-    for id in elements.iter() {
-        heap.sub(Sub::Instance(*id, 0x100, &[]))?;
-    }
-    heap.sub(Sub::Root(0x200))?;
-    let names = [
-        Record::Text(1, b"L"),
-        Record::Text(3, b"[LL;"),
-        Record::Load(0x100, 1),
-        Record::Load(0x110, 3),
-    ];
-    with_heap(alloc, &names, &heap)
+    put_wide(&mut heap, elements.as_slice())?;
+    with_heap(alloc, NAMES_OF_WIDE, &heap)
 }
 
 /// The report of [`wide_array`].
@@ -93,18 +100,24 @@ pub const WIDE_ARRAY_REPORT: &str = "         1             256  [LL;
          0               0  (unresolved)
 ";
 
-/// Returns the dump of two objects with an array added, which is a root too. Each of the array's 100,000 elements is
-/// the second instance.
-pub fn long_array(alloc: Global) -> Result<Bytes, AllocError> {
-    let elements = vec![in alloc; 0x202u64; 100_000]?;
-    let mut heap = Bytes::new(alloc, 4);
+/// Puts into `heap` the class and the two objects, an array of `elements`, and two roots: the first object and the
+/// array.
+fn put_long(heap: &mut Bytes, elements: &[u64]) -> Result<(), AllocError> {
     heap.subs(&[
         Sub::Class(0x100, 0, &[2]),
         Sub::Instance(0x201, 0x100, &[0, 0, 2, 2]),
         Sub::Instance(0x202, 0x100, &[0, 0, 2, 1]),
     ])?;
-    heap.objects(0x203, 0x100, elements.as_slice())?;
-    heap.subs(&[Sub::Root(0x201), Sub::Root(0x203)])?;
+    heap.objects(0x203, 0x100, elements)?;
+    heap.subs(&[Sub::Root(0x201), Sub::Root(0x203)])
+}
+
+/// Returns the dump of two objects with an array added, which is a root too. Each of the array's 100,000 elements is
+/// the second instance.
+pub fn long_array(alloc: Global) -> Result<Bytes, AllocError> {
+    let elements = vec![in alloc; 0x202u64; 100_000]?;
+    let mut heap = Bytes::new(alloc, 4);
+    put_long(&mut heap, elements.as_slice())?;
     with_heap(alloc, &TWO_OBJECTS[..2], &heap)
 }
 

@@ -8,6 +8,7 @@ use super::{length_of, refused, run_with};
 use crate::{NoGate, Options, Refusal, Skip, SkipRefusal};
 use limited_heap::LimitedHeap;
 use std::alloc::Global;
+use std::process::Abort;
 use std::sync::Wait;
 use std::thread::Threads;
 
@@ -190,23 +191,24 @@ fn row_is_told<T: Threads + Wait + Sync>(rt: &T, alloc: Global, row: &Row) -> bo
     }
 }
 
+/// Checks each of `rows` by [`row_is_told`].
+fn all_are_told<T: Abort + Threads + Wait + Sync>(rt: &T, alloc: Global, rows: &[Row]) {
+    for (number, row) in rows.iter().enumerate() {
+        assert!(rt; row_is_told(rt, alloc, row), "row {number}");
+    }
+}
+
 #[test]
 fn want_of_memory_is_told_at_each_request(rt: HostRuntime) {
-    for (number, row) in FEW.iter().enumerate() {
-        assert!(rt; row_is_told(&rt, rt.alloc(), row), "row {number}");
-    }
+    all_are_told(&rt, rt.alloc(), &FEW);
 }
 
 #[test]
 fn want_of_memory_is_told_with_the_buffers_of_the_program(rt: HostRuntime) {
-    for (number, row) in OF_THE_PROGRAM.iter().enumerate() {
-        assert!(rt; row_is_told(&rt, rt.alloc(), row), "row {number}");
-    }
+    all_are_told(&rt, rt.alloc(), &OF_THE_PROGRAM);
 }
 
 #[test]
 fn want_of_memory_is_told_with_a_list(rt: HostRuntime) {
-    for (number, row) in WITH_A_LIST.iter().enumerate() {
-        assert!(rt; row_is_told(&rt, rt.alloc(), row), "row {number}");
-    }
+    all_are_told(&rt, rt.alloc(), &WITH_A_LIST);
 }
