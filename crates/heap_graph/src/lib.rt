@@ -5,13 +5,13 @@
 //! references: it reads the references of an object from the bytes at each visit, in order and with repeats. It does
 //! not follow the fields that a `Skip` lists.
 //!
-//! From `crates/graph_tests/src/graphs.rt`, which is proved and run with the tests:
+//! From `crates/graph_tests/src/graphs.rt`, which is proved and run with the tests (`team` is a `Team`, `heap` an
+//! allocator):
 //!
-//!     let team = Team::new(rt, 4);
-//!     let Ok(dump) = read(&team, alloc, bytes) else {
-//!         return None;
-//!     };
-//!     Graph::build(&team, alloc, bytes, dump, skip).ok()
+//!     match read(team, heap, bytes) {
+//!         Ok(dump) => Graph::build(team, heap, bytes, dump, skip),
+//!         Err(_) => Err(LinkRefusal::OutOfMemory),
+//!     }
 //!
 //! README.md beside this folder has a list of the calls. The definitions begin in `specs/ObjectGraph.antt`.
 //! `docs/FORMAT.md` says what is accepted and what is refused.
