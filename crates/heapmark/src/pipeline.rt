@@ -189,7 +189,10 @@ where
         Ok(graph) => graph,
         Err(refusal) => return Err(refusal),
     };
-    report_of_graph(rt, &team, alloc, &graph, options, gate)
+    let report = report_of_graph(rt, &team, alloc, &graph, options, gate);
+    // `drop` is proved once. At the end of this function, the parts of a graph would be gone through again.
+    drop(graph);
+    report
 }
 
 /// Marks `graph` and returns its report.
