@@ -97,8 +97,8 @@ fn texts_before(words: &[&str], readable: usize, alloc: Global) -> Result<Vec<St
     Ok(texts)
 }
 
-/// Tests whether the process on `dump` has the exit status `want`, and prints just `report` on the output and just `told`
-/// and then `after` on standard error.
+/// Tests whether the process on `dump` has the exit status `want`, and prints just `report` on the output and just
+/// `told` and then `after` on standard error.
 fn is_processed<T: AllocGlobal + Threads + Wait + Sync>(
     rt: &T,
     dump: &[u8],
