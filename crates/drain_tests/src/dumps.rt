@@ -58,6 +58,8 @@ pub(crate) fn wide_array(alloc: Global) -> Result<Vec<u8>, AllocError> {
 }
 
 /// Returns the graph of `dump`, which has to be accepted.
+// The callers end with `drop`, which is proved once. Without it each of them is checked together with all parts of a
+// graph.
 pub(crate) fn graph_of<'a, T: Threads + Sync>(
     rt: &T,
     alloc: Global,

@@ -45,5 +45,7 @@ pub fn spent_tag<T: Threads + Wait + Sync>(rt: &T, alloc: Global) -> Result<Spen
     let dump = wide_array(alloc)?;
     let skip = Skip::none(alloc);
     let graph = graph_of(rt, alloc, dump.as_slice(), &skip)?;
-    tag_spent_in(rt, alloc, &graph)
+    let token = tag_spent_in(rt, alloc, &graph);
+    drop(graph);
+    token
 }

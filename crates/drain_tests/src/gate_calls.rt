@@ -129,7 +129,9 @@ fn marked<T: Threads + Wait + Sync, G: Gate>(
 ) -> Result<u64, Fail> {
     let skip = Skip::none(alloc);
     let graph = graph_of(rt, alloc, dump, &skip)?;
-    marked_in(rt, alloc, &graph, options, gate)
+    let marked = marked_in(rt, alloc, &graph, options, gate);
+    drop(graph);
+    marked
 }
 
 /// Marks `roots` roots with the options `workers`, `buffer` and `buffers`. Returns the number of marked objects and

@@ -170,6 +170,7 @@ fn lead_over_array<T: Threads + Wait + Sync>(
         early: &early,
     };
     let done = lead_watched(rt, alloc, &watched, workers, buffers, others);
+    drop(graph);
     Ok((
         done,
         passed.load(Ordering::SeqCst).count_ones(),

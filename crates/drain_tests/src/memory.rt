@@ -92,7 +92,9 @@ fn requests_to_mark_array<T: Threads + Wait + Sync>(
     let dump = wide_array(alloc)?;
     let skip = Skip::none(alloc);
     let graph = graph_of(rt, alloc, dump.as_slice(), &skip)?;
-    Ok(requests_to_mark(rt, alloc, &graph, &options))
+    let requests = requests_to_mark(rt, alloc, &graph, &options);
+    drop(graph);
+    Ok(requests)
 }
 
 #[test]
@@ -145,7 +147,9 @@ fn array_told<T: Threads + Wait + Sync>(
     let skip = Skip::none(alloc);
     let graph = graph_of(rt, alloc, dump.as_slice(), &skip)?;
     let requests = requests_to_mark(rt, alloc, &graph, &options).unwrap_or(0);
-    Ok(told_with(rt, alloc, &graph, &options, requests))
+    let told = told_with(rt, alloc, &graph, &options, requests);
+    drop(graph);
+    Ok(told)
 }
 
 #[test]

@@ -53,7 +53,9 @@ fn marked_where<T: Threads + Wait + Sync, G: Gate, S: StartHook>(
     let dump = wide_array(alloc)?;
     let skip = Skip::none(alloc);
     let graph = graph_of(rt, alloc, dump.as_slice(), &skip)?;
-    Ok(marked_in(rt, alloc, &graph, &options, gate, hook))
+    let marked = marked_in(rt, alloc, &graph, &options, gate, hook);
+    drop(graph);
+    Ok(marked)
 }
 
 /// Workers, objects in a buffer, buffers, and the first tag; the worker whose thread is refused; and the result.

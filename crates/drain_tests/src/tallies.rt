@@ -84,7 +84,9 @@ fn tells<T: Threads + Wait + Sync>(
     let options = Options::new(workers, 2, 1024, 0)?;
     let skip = Skip::none(alloc);
     let graph = graph_of(rt, alloc, dump, &skip)?;
-    Ok(graph_tells(rt, alloc, &graph, &options, rows, unresolved)?)
+    let right = graph_tells(rt, alloc, &graph, &options, rows, unresolved);
+    drop(graph);
+    Ok(right?)
 }
 
 /// Checks the result of 1, 2 and 4 workers against `rows` and `unresolved`.

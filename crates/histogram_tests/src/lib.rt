@@ -3,12 +3,14 @@
 //!
 //! `reading` has readers that end, fail or never end, `writing` the worked reports (`reports`) and writers that fail,
 //! `names` the names in a report, `error_texts` the texts of the errors, `memory` each allocation that fails, and
-//! `parts` what is counted in parts.
+//! `parts` what is counted in parts. `graphs` makes the graph of a dump.
 
 #![tactic(auto)]
 
 #[cfg(test)]
 mod error_texts;
+#[cfg(test)]
+mod graphs;
 #[cfg(test)]
 mod memory;
 #[cfg(test)]

@@ -4,11 +4,12 @@
 
 ghost use Rattle.drain.specs.Marks.{IsMarkingOf};
 
+use crate::graphs::graph_of;
 use crate::reports::{TWO_OBJECTS, two_objects, writes};
 use drain::{Marked, NoGate, Options, mark};
 use heap_graph::{Graph, Skip};
 use histogram::{Counted, OutOfMemory, ReaderRefusal, Report, WriteRefusal, rows, write_report};
-use hprof_grammar::{Team, read};
+use hprof_grammar::Team;
 use limited_heap::{LimitedHeap, requests_of};
 use std::alloc::Global;
 use std::sync::Wait;
@@ -68,14 +69,10 @@ fn rows_in_turn<T: Threads + Wait + Sync>(
 /// Like [`rows_in_turn`], for the graph of the dump `bytes`. Returns `None` also if the dump is not accepted.
 fn rows_of_dump<T: Threads + Wait + Sync>(rt: &T, alloc: Global, bytes: &[u8]) -> Option<u64> {
     let skip = Skip::none(alloc);
-    let team = Team::new(rt, 4);
-    let Ok(places) = read(&team, alloc, bytes) else {
-        return None;
-    };
-    match Graph::build(&team, alloc, bytes, places, &skip) {
-        Ok(graph) => rows_in_turn(rt, alloc, &graph),
-        Err(_) => None,
-    }
+    let graph = graph_of(rt, alloc, bytes, &skip)?;
+    let requests = rows_in_turn(rt, alloc, &graph);
+    drop(graph);
+    requests
 }
 
 /// Like [`rows_of_dump`], for the worked dump.

@@ -1,9 +1,10 @@
 //! The names of classes in a report.
 
+use crate::graphs::graph_of;
 use drain::{NoGate, Options, mark};
 use heap_graph::{Graph, Skip};
 use histogram::{Report, append_unnamed, rows};
-use hprof_grammar::{Team, read};
+use hprof_grammar::Team;
 use std::alloc::Global;
 use std::sync::Wait;
 use std::thread::Threads;
@@ -48,14 +49,12 @@ fn is_shown_in_rows<T: Threads + Wait + Sync>(
 /// Tests whether the row of the class in the dump `bytes` shows the name `want`.
 fn is_shown_of<T: Threads + Wait + Sync>(rt: &T, alloc: Global, bytes: &[u8], want: &str) -> bool {
     let skip = Skip::none(alloc);
-    let team = Team::new(rt, 4);
-    let Ok(places) = read(&team, alloc, bytes) else {
+    let Some(graph) = graph_of(rt, alloc, bytes, &skip) else {
         return false;
     };
-    match Graph::build(&team, alloc, bytes, places, &skip) {
-        Ok(graph) => is_shown_in_rows(rt, alloc, &graph, want),
-        Err(_) => false,
-    }
+    let is_shown = is_shown_in_rows(rt, alloc, &graph, want);
+    drop(graph);
+    is_shown
 }
 
 /// Tests whether the name `text` of a class is shown as `want`.

@@ -3,11 +3,12 @@
 
 ghost use Rattle.drain.specs.Marks.{IsMarkingOf};
 
+use crate::graphs::graph_of;
 use crate::reports::writes;
 use drain::{Marked, NoGate, Options, mark};
 use heap_graph::{Graph, Skip};
 use histogram::{OutOfMemory, rows};
-use hprof_grammar::{Team, read};
+use hprof_grammar::Team;
 use limited_heap::LimitedHeap;
 use std::alloc::{AllocError, Allocator, Global};
 use std::sync::Wait;
@@ -109,27 +110,39 @@ fn refused_to_team<T: Threads + Sync>(
 /// For each team, whether the rows are right, and how many of its allocations fail.
 type Answers = Vec<(bool, Option<u64>)>;
 
+/// Returns the answers of all `TEAMS` for `graph`.
+fn answers_of_marks<T: Threads + Wait + Sync>(
+    rt: &T,
+    alloc: Global,
+    graph: &Graph<'_, Global>,
+    marks: &Marked<Global>,
+) -> Result<Answers, AllocError>
+    requires { IsMarkingOf graph.now marks.now }
+{
+    let mut answers = Vec::new(alloc);
+    for (threads, fewest) in TEAMS {
+        let team = Team::sharing_from(rt, threads, fewest);
+        answers.push((
+            rows_of_team(&team, alloc, alloc, graph, marks),
+            refused_to_team(&team, alloc, graph, marks),
+        ))?;
+    }
+    Ok(answers)
+}
+
 /// Returns the answers of all `TEAMS` for `graph`, or no answer if `graph` is not marked.
 fn answers_of_graph<T: Threads + Wait + Sync>(
     rt: &T,
     alloc: Global,
     graph: &Graph<'_, Global>,
 ) -> Result<Answers, AllocError> {
-    let mut answers = Vec::new(alloc);
     let Ok(options) = Options::new(1, 2, 4, 0) else {
-        return Ok(answers);
+        return Ok(Vec::new(alloc));
     };
-    let Ok(marks) = mark(rt, alloc, graph, &options, &NoGate) else {
-        return Ok(answers);
-    };
-    for (threads, fewest) in TEAMS {
-        let team = Team::sharing_from(rt, threads, fewest);
-        answers.push((
-            rows_of_team(&team, alloc, alloc, graph, &marks),
-            refused_to_team(&team, alloc, graph, &marks),
-        ))?;
+    match mark(rt, alloc, graph, &options, &NoGate) {
+        Ok(marks) => answers_of_marks(rt, alloc, graph, &marks),
+        Err(_) => Ok(Vec::new(alloc)),
     }
-    Ok(answers)
 }
 
 /// Like [`answers_of_graph`], for the graph of the dump.
@@ -137,14 +150,12 @@ fn answers<T: Threads + Wait + Sync>(rt: &T, alloc: Global) -> Result<Answers, A
     let file = dump(alloc)?;
     let bytes = file.bytes.as_slice();
     let skip = Skip::none(alloc);
-    let team = Team::new(rt, 1);
-    let Ok(places) = read(&team, alloc, bytes) else {
+    let Some(graph) = graph_of(rt, alloc, bytes, &skip) else {
         return Ok(Vec::new(alloc));
     };
-    match Graph::build(&team, alloc, bytes, places, &skip) {
-        Ok(graph) => answers_of_graph(rt, alloc, &graph),
-        Err(_) => Ok(Vec::new(alloc)),
-    }
+    let answers = answers_of_graph(rt, alloc, &graph);
+    drop(graph);
+    answers
 }
 
 #[test]
