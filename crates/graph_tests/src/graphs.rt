@@ -1,6 +1,6 @@
 //! The graphs of worked dumps.
 
-use crate::worked::{ClassRow, Object, WORKED, Worked};
+use crate::worked::{ClassRow, Object, Worked};
 use heap_graph::{Graph, LinkRefusal, Skip, Successors, Visit};
 use hprof_grammar::{Team, read};
 use std::alloc::{AllocError, Allocator, Global};
@@ -61,10 +61,8 @@ pub fn count_objects<T: Threads + Sync, A: Allocator + Copy + Send + Sync>(
     objects
 }
 
-/// Tests whether `walk` yields exactly `objects`, and whether fewer identifiers remain after each object, and none at
-/// the end.
-pub fn gives<A: Allocator>(walk: Successors<'_, A>, objects: &[u32]) -> bool {
-    let mut walk = walk;
+/// Like [`gives`], for a borrowed walk.
+fn goes_through<A: Allocator>(walk: &mut Successors<'_, A>, objects: &[u32]) -> bool {
     for object in objects {
         let left = walk.left();
         if walk.next() != Some(*object) || walk.left() >= left {
@@ -72,6 +70,13 @@ pub fn gives<A: Allocator>(walk: Successors<'_, A>, objects: &[u32]) -> bool {
         }
     }
     walk.next().is_none() && walk.left() == 0 && walk.next().is_none()
+}
+
+/// Tests whether `walk` yields exactly `objects`, and whether fewer identifiers remain after each object, and none at
+/// the end.
+pub fn gives<A: Allocator>(walk: Successors<'_, A>, objects: &[u32]) -> bool {
+    let mut walk = walk;
+    goes_through(&mut walk, objects)
 }
 
 /// Tests whether `visit` yields exactly `objects`.

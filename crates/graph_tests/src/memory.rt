@@ -2,9 +2,9 @@
 //! later ones and once alone. The calls on a graph allocate nothing.
 
 use crate::graphs::{build, count_objects, graph_of, is_worked, tells};
-use crate::skipped::SKIPPED;
+use crate::skipped::{REFERENTS, SKIPPED};
 use crate::walks::{MANY, long_array};
-use crate::worked::{WORKED, Worked};
+use crate::worked::{CLASSES, REFERRING, ROOTED, Worked};
 use heap_graph::{Graph, LinkFault, LinkRefusal, RowKey, Skip};
 use hprof_grammar::Team;
 use limited_heap::{LimitedHeap, requests_of};
@@ -162,17 +162,40 @@ fn first_wrong<T: Threads + Sync>(
     Ok(None)
 }
 
-/// Like [`first_wrong`], for `WORKED`.
-fn first_wrong_worked<T: Threads + Sync>(
+/// Like [`first_wrong`], for `ROOTED`.
+fn first_wrong_rooted<T: Threads + Sync>(
     rt: &T,
     alloc: Global,
 ) -> Result<Option<&'static str>, AllocError> {
-    first_wrong(rt, alloc, &WORKED)
+    first_wrong(rt, alloc, &ROOTED)
+}
+
+/// Like [`first_wrong`], for `CLASSES`.
+fn first_wrong_class<T: Threads + Sync>(
+    rt: &T,
+    alloc: Global,
+) -> Result<Option<&'static str>, AllocError> {
+    first_wrong(rt, alloc, &CLASSES)
+}
+
+/// Like [`first_wrong`], for `REFERRING`.
+fn first_wrong_referring<T: Threads + Sync>(
+    rt: &T,
+    alloc: Global,
+) -> Result<Option<&'static str>, AllocError> {
+    first_wrong(rt, alloc, &REFERRING)
 }
 
 #[test]
 fn worked_graphs_or_want_of_memory(rt: HostRuntime) {
-    assert_eq!(rt; first_wrong_worked(&rt, rt.alloc()), Ok(None));
+    let alloc = rt.alloc();
+    for wrong in [
+        first_wrong_rooted(&rt, alloc),
+        first_wrong_class(&rt, alloc),
+        first_wrong_referring(&rt, alloc),
+    ] {
+        assert_eq!(rt; wrong, Ok(None));
+    }
 }
 
 /// Returns the name of the first dump of `table` of which [`is_right_without`] is false, or `None` if there is none.
@@ -189,6 +212,14 @@ fn first_wrong_without<T: Threads + Sync>(
     Ok(None)
 }
 
+/// Like [`first_wrong_without`], for `REFERENTS`.
+fn first_wrong_referent<T: Threads + Sync>(
+    rt: &T,
+    alloc: Global,
+) -> Result<Option<&'static str>, AllocError> {
+    first_wrong_without(rt, alloc, &REFERENTS)
+}
+
 /// Like [`first_wrong_without`], for `SKIPPED`.
 fn first_wrong_skipped<T: Threads + Sync>(
     rt: &T,
@@ -199,7 +230,13 @@ fn first_wrong_skipped<T: Threads + Sync>(
 
 #[test]
 fn graphs_without_fields_or_want_of_memory(rt: HostRuntime) {
-    assert_eq!(rt; first_wrong_skipped(&rt, rt.alloc()), Ok(None));
+    let alloc = rt.alloc();
+    for wrong in [
+        first_wrong_referent(&rt, alloc),
+        first_wrong_skipped(&rt, alloc),
+    ] {
+        assert_eq!(rt; wrong, Ok(None));
+    }
 }
 
 /// An instance without the fields of its superclass.

@@ -70,8 +70,8 @@ const NAMES_LACKING: Worked = Worked {
     unresolved: 0,
 };
 
-/// Lists of fields, each with a dump and with its graph if the fields of the list are not followed.
-pub static SKIPPED: [(&str, Worked); 9] = [
+/// Lists of the fields of `REFERENCES`, each with the graph if the fields of the list are not followed.
+pub static REFERENTS: [(&str, Worked); 4] = [
     (
         "T.other",
         Worked {
@@ -132,6 +132,10 @@ pub static SKIPPED: [(&str, Worked); 9] = [
             ..REFERENCE
         },
     ),
+];
+
+/// Lists of fields, each with a dump and with its graph if the fields of the list are not followed.
+pub static SKIPPED: [(&str, Worked); 5] = [
     (
         "a.b.c",
         Worked {
