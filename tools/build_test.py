@@ -33,7 +33,7 @@ class BuildTest(unittest.TestCase):
         for folder in ("tools", "dev", "docs", "bin"):
             (self.top / folder).mkdir()
         shutil.copy(BUILD, self.top / "tools")
-        (self.top / "docs/GATE.md").write_text("| `left` | 40 | 0 |\n| `right` | 4 | 0 |\n| `low` | 9 | 0 |\n")
+        (self.top / "docs/GATE.md").write_text("    left 40 -\n    right 4 -\n    low 9 -\n")
         (self.top / "crates.txt").write_text(CRATES)
         for command, word in (("bin/rt", ""), ("dev/lib_of_statements", "statements ")):
             (self.top / command).write_text(RT.replace("WORD", word))
@@ -81,7 +81,7 @@ class BuildTest(unittest.TestCase):
         self.assertIn("begin heapmark run --jobs 4 -- data/two_objects.hprof", self.log())
 
     def test_urgent_crates_share_the_processes(self):
-        (self.top / "docs/GATE.md").write_text("| `left` | 40 | 0 |\n| `right` | 30 | 0 |\n| `low` | 9 | 0 |\n")
+        (self.top / "docs/GATE.md").write_text("    left 40 -\n    right 30 -\n    low 9 -\n")
         self.ended("--crates", "2", "--jobs", "4")
         self.assertIn("begin low statements --jobs 4", self.log())
         self.assertIn("begin left statements --jobs 3", self.log())
