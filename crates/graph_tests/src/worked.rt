@@ -155,7 +155,7 @@ pub static ROOTED: [Worked; 3] = [
     },
 ];
 
-/// Classes with superclasses, in different orders.
+/// Classes: their order, their superclasses, and the texts that name them.
 pub static CLASSES: [Worked; 4] = [
     Worked {
         name: "a class before its superclass: its own fields come first",
