@@ -1,3 +1,4 @@
+mod Answered
 pub mod Codes
 pub mod Faults
 pub mod OfFile

@@ -1,3 +1,4 @@
+pub mod Answered
 pub mod Hint
 pub mod Marking
 pub mod NoReport

@@ -23,6 +23,7 @@ ghost use Rattle.std.specs.Io.KnownBytes.{Keeps};
 ghost use Rattle.command_line.specs.Line.{AsksAboutProgram, texts_of};
 ghost use Rattle.heapmark.specs.OfFile.{PrintsReason, PrintsReasonFirst, WritesReportOfFile, bytes_of_file};
 ghost use Rattle.heapmark.specs.StatusOf.{IsStatusOf};
+ghost use Rattle.heapmark.specs.working.Answered.{IsAnswered};
 ghost use Rattle.heapmark.specs.working.StatusOfSome.{IsStatusOfSome};
 ghost use Rattle.histogram.specs.Counting.{failures_of, inner_of};
 
@@ -119,7 +120,6 @@ where
 }
 
 /// Passes the words of the command line to the program, and returns the exit status.
-#[tactic(auto, using(crate::proofs::OfFile::told_unread, crate::proofs::OfFile::told_first_unread))]
 fn start<T, L, W, E>(rt: &T, line: &L, out: &mut Counted<W>, err: &mut E, is_terminal: bool) -> u8
 where
     T: Dumps + AllocGlobal + Threads + Wait + Sync,
@@ -127,25 +127,8 @@ where
     W: Write,
     E: Write,
     requires { failures_of out.old < 2 ^ 64 - 1 }
-    ensures status { IsStatusOfSome result W.contents out.old out.new }
-
-    // If a contract can name the words, the status is theirs.
-    ensures known { IfSome (L.words line.now) (λ words. IsStatusOf words result W.contents out.old out.new) }
-
-    // If it can name the bytes of their file, too, the report of these bytes was written at 0. A fault that was printed
-    // at 1 is their first one.
-    ensures of_file { IfSome (L.words line.now) (λ words. result ≡ 0 → (AsksAboutProgram words → ⊥)
-        → WritesReportOfFile (T.bytes_at rt.now) words
-        (W.contents (inner_of out.old)) (W.contents (inner_of out.new))) }
-    ensures told { result ≡ 1 → IfSome (L.words line.now) (λ words.
-        PrintsReasonFirst (bytes_of_file (T.bytes_at rt.now) words)
-        (failures_of out.old) (failures_of out.new) (E.contents err.old) (E.contents err.new)) }
-    ensures told_only { result ≡ 1 → is_terminal ≡ false → IfSome (L.words line.now) (λ words.
-        PrintsReason (bytes_of_file (T.bytes_at rt.now) words)
-        (failures_of out.old) (failures_of out.new) (E.contents err.old) (E.contents err.new)) }
-
-    // At 0 no refusal was printed.
-    ensures silent { result ≡ 0 → Keeps (E.contents err.old) (E.contents err.new) }
+    ensures { IsAnswered (L.words line.now) (T.bytes_at rt.now) is_terminal result W.contents out.old out.new
+        (E.contents err.old) (E.contents err.new) }
 {
     let texts = match line.texts(rt.alloc()) {
         Ok(texts) => texts,
