@@ -12,7 +12,6 @@ use super::texts::{
 };
 use crate::{Counted, Dumps, program};
 use std::env::Env;
-use std::process::Abort;
 use std::rt::Files;
 use std::sync::Wait;
 use std::thread::Threads;
@@ -161,28 +160,28 @@ static LINES: [(&str, Sample, &str, &[Line]); 6] = [
     ),
 ];
 
-/// Checks that the program has the status of `line` on a file of `sample`, also if standard error fails. Checks that it
+/// Tests whether the program has the status of `line` on a file of `sample`, also if standard error fails, and whether it
 /// prints just the text of `line` on standard error, and on the output `report` at status 0, otherwise nothing.
-fn check_line<T: Abort + AllocGlobal + Dumps<Dump = T::File> + Env + Files + Threads + Wait + Sync>(
+fn line_is_answered<T: AllocGlobal + Dumps<Dump = T::File> + Env + Files + Threads + Wait + Sync>(
     rt: &T,
     name: &str,
     sample: Sample,
     report: &str,
     line: &Line,
-) {
+) -> bool {
     let (words, want, told) = *line;
     let report = if want == 0 { report } else { "" };
-    let answer = answered_on(rt, name, sample, words, Asked::Both(report, told));
-    assert_eq!(rt; answer, Some((want, true, true)), "{words}: {told}");
-    let unheard = answered_on(rt, name, sample, words, Asked::Unheard);
-    assert_eq!(rt; unheard, Some((want, true, true)), "{words}: {told}");
+    let right = Some((want, true, true));
+    answered_on(rt, name, sample, words, Asked::Both(report, told)) == right
+        && answered_on(rt, name, sample, words, Asked::Unheard) == right
 }
 
 #[test]
 fn lines_are_answered(rt: HostRuntime) {
     for (name, sample, report, lines) in LINES {
         for line in lines {
-            check_line(&rt, name, sample, report, line);
+            let right = line_is_answered(&rt, name, sample, report, line);
+            assert!(rt; right, "{}: {}", line.0, line.2);
         }
     }
 }
@@ -209,11 +208,19 @@ fn asked_in_vain<T: AllocGlobal + Dumps + Threads + Wait + Sync>(rt: &T, word: &
     (status, out.failures())
 }
 
+/// Tests whether `word` alone prints just `text`, on the output, at status 0, which it has also if both streams fail.
+fn is_printed<T: AllocGlobal + Dumps + Threads + Wait + Sync>(
+    rt: &T,
+    word: &str,
+    text: &str,
+) -> bool {
+    answered(rt, &["heapmark", word], text, "") == (0, true, true)
+        && asked_in_vain(rt, word) == (0, 1)
+}
+
 #[test]
 fn help_and_version_are_printed_on_the_output(rt: HostRuntime) {
     for (word, text) in TEXTS {
-        let told = answered(&rt, &["heapmark", word], text, "");
-        assert_eq!(rt; told, (0, true, true), "{word}");
-        assert_eq!(rt; asked_in_vain(&rt, word), (0, 1), "{word}");
+        assert!(rt; is_printed(&rt, word, text), "{word}");
     }
 }

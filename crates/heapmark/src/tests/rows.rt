@@ -10,7 +10,7 @@ use super::{is_answered, least, refused, runs_are_answered, usual_options};
 use crate::{Refusal, Skip};
 use classes::CLASSES;
 use refused::REFUSED;
-use reported::REPORTED;
+use reported::{NAMES, OBJECTS};
 use std::alloc::{AllocError, Global};
 use std::process::Abort;
 use std::sync::Wait;
@@ -142,20 +142,39 @@ fn all_are_reported<T: Abort + Threads + Wait + Sync>(
     }
 }
 
-/// Checks that the runs on each dump that has a report write it.
-pub fn reports_are_written<T: Abort + Threads + Wait + Sync>(
-    rt: &T,
-    alloc: Global,
-    reading: Reading,
-) {
-    all_are_reported(rt, alloc, reading, &REPORTED);
+// A function for each table: a function that names a static is checked together with all of it.
+
+fn objects_are_reported<T: Abort + Threads + Wait + Sync>(rt: &T, alloc: Global, reading: Reading) {
+    all_are_reported(rt, alloc, reading, &OBJECTS);
+}
+
+fn names_are_reported<T: Abort + Threads + Wait + Sync>(rt: &T, alloc: Global, reading: Reading) {
+    all_are_reported(rt, alloc, reading, &NAMES);
+}
+
+fn classes_are_reported<T: Abort + Threads + Wait + Sync>(rt: &T, alloc: Global, reading: Reading) {
     all_are_reported(rt, alloc, reading, &CLASSES);
+}
+
+fn samples_are_reported<T: Abort + Threads + Wait + Sync>(rt: &T, alloc: Global, reading: Reading) {
     for (sample, report) in SAMPLES {
         assert!(rt;
             sample_is_reported(rt, alloc, reading, sample, report),
             "a sample: {report}"
         );
     }
+}
+
+/// Checks that the runs on each dump that has a report write it.
+pub fn reports_are_written<T: Abort + Threads + Wait + Sync>(
+    rt: &T,
+    alloc: Global,
+    reading: Reading,
+) {
+    objects_are_reported(rt, alloc, reading);
+    names_are_reported(rt, alloc, reading);
+    classes_are_reported(rt, alloc, reading);
+    samples_are_reported(rt, alloc, reading);
 }
 
 /// Checks that the runs on each dump with a fault are refused as its row says.

@@ -4,7 +4,8 @@ use super::Reported;
 use crate::tests::dumps::Record::{Heap, Load, Other, Segment, Text};
 use crate::tests::dumps::Sub::{Class, Instance, Objects, Raw, Root, Static, Values};
 
-pub static REPORTED: [Reported; 10] = [
+/// Objects and roots.
+pub static OBJECTS: [Reported; 5] = [
     (
         "two more that no root reaches",
         4,
@@ -137,6 +138,10 @@ pub static REPORTED: [Reported; 10] = [
             (1, 0, "(unresolved)"),
         ],
     ),
+];
+
+/// Names, and records beside the snapshot.
+pub static NAMES: [Reported; 5] = [
     (
         "names in their order, and bytes that are shown as numbers",
         4,
