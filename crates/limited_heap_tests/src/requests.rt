@@ -1,7 +1,7 @@
 //! Tests which requests a `LimitedHeap` grants, since no clause of it says which.
 
 use limited_heap::LimitedHeap;
-use std::alloc::{AllocError, Allocator};
+use std::alloc::{AllocError, Allocator, Global};
 use std::test::Fail;
 use std::thread::{Threads, join};
 
@@ -14,19 +14,22 @@ fn without_a_grant_all_is_refused(rt: HostRuntime) -> Result<(), Fail> {
     Ok(())
 }
 
+/// Makes a list with room for two on `heap`, which grants one request, and pushes three items. Returns whether the third
+/// item alone was refused, and the list has the other two.
+fn third_is_refused(heap: &LimitedHeap<Global>) -> Result<bool, AllocError> {
+    let mut list = Vec::with_capacity(heap, 2)?;
+    list.push(3u64)?;
+    list.push(5)?;
+    let before = (heap.requests_left(), heap.refusals());
+    Ok(before == (0, 0) && list.push(8).is_err() && &list[..] == &[3, 5][..])
+}
+
 #[test]
 fn a_growth_is_a_request(rt: HostRuntime) -> Result<(), Fail> {
     let heap = LimitedHeap::new(rt.alloc(), 1);
     assert_eq!(rt; (heap.requests_left(), heap.refusals()), (1, 0));
-    let mut list = Vec::with_capacity(&heap, 2)?;
-    assert_eq!(rt; (heap.requests_left(), heap.refusals()), (0, 0));
-    for item in [3u64, 5] {
-        list.push(item)?;
-    }
-    assert_eq!(rt; heap.refusals(), 0);
-    assert!(rt; list.push(8).is_err());
-    assert_eq!(rt; heap.refusals(), 1);
-    assert_eq!(rt; &list[..], &[3, 5][..]);
+    assert!(rt; third_is_refused(&heap)?);
+    assert_eq!(rt; (heap.requests_left(), heap.refusals()), (0, 1));
     Ok(())
 }
 
@@ -102,14 +105,30 @@ fn copied_twice<'a, R: Threads, A: Allocator + Sync>(
     )
 }
 
+/// Tests whether the request for a copy of `text` was granted, and the copy is right.
+fn is_copy<A: Allocator>(copy: &Result<Vec<u8, &A>, AllocError>, text: &[u8]) -> bool {
+    match copy {
+        Ok(bytes) => &bytes[..] == text,
+        Err(_) => false,
+    }
+}
+
+/// Tests whether both copies of `text` are granted and right.
+fn are_copied<R: Threads, A: Allocator + Sync>(rt: &R, heap: &A, text: &[u8]) -> bool {
+    let (one, other) = copied_twice(rt, heap, text);
+    is_copy(&one, text) && is_copy(&other, text)
+}
+
+/// Tests whether both copies of `text` are refused.
+fn are_refused<R: Threads, A: Allocator + Sync>(rt: &R, heap: &A, text: &[u8]) -> bool {
+    let (one, other) = copied_twice(rt, heap, text);
+    one.is_err() && other.is_err()
+}
+
 #[test]
-fn a_block_goes_from_thread_to_thread(rt: HostRuntime) -> Result<(), Fail> {
+fn a_block_goes_from_thread_to_thread(rt: HostRuntime) {
     let heap = LimitedHeap::new(rt.alloc(), 2);
-    let (one, other) = copied_twice(&rt, &heap, b"heap");
-    assert_eq!(rt; &one?[..], b"heap".as_slice());
-    assert_eq!(rt; &other?[..], b"heap".as_slice());
-    let (one, other) = copied_twice(&rt, &heap, b"heap");
-    assert!(rt; one.is_err() && other.is_err());
+    assert!(rt; are_copied(&rt, &heap, b"heap"));
+    assert!(rt; are_refused(&rt, &heap, b"heap"));
     assert_eq!(rt; heap.refusals(), 2);
-    Ok(())
 }
