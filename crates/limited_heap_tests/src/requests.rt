@@ -14,22 +14,22 @@ fn without_a_grant_all_is_refused(rt: HostRuntime) -> Result<(), Fail> {
     Ok(())
 }
 
-/// Makes a list with room for two on `heap`, which grants one request, and pushes three items. Returns whether the third
-/// item alone was refused, and the list has the other two.
-fn third_is_refused(heap: &LimitedHeap<Global>) -> Result<bool, AllocError> {
-    let mut list = Vec::with_capacity(heap, 2)?;
-    list.push(3u64)?;
+/// Pushes three items on `list`, which has room for two. Returns whether the third item alone was refused, and the list
+/// has the other two.
+fn third_is_refused(list: &mut Vec<u64, &LimitedHeap<Global>>) -> Result<bool, AllocError> {
+    list.push(3)?;
     list.push(5)?;
-    let before = (heap.requests_left(), heap.refusals());
-    Ok(before == (0, 0) && list.push(8).is_err() && &list[..] == &[3, 5][..])
+    Ok(list.push(8).is_err() && &list[..] == &[3, 5][..])
 }
 
 #[test]
 fn a_growth_is_a_request(rt: HostRuntime) -> Result<(), Fail> {
     let heap = LimitedHeap::new(rt.alloc(), 1);
     assert_eq!(rt; (heap.requests_left(), heap.refusals()), (1, 0));
-    assert!(rt; third_is_refused(&heap)?);
-    assert_eq!(rt; (heap.requests_left(), heap.refusals()), (0, 1));
+    let mut list = Vec::with_capacity(&heap, 2)?;
+    assert_eq!(rt; (heap.requests_left(), heap.refusals()), (0, 0));
+    assert!(rt; third_is_refused(&mut list)?);
+    assert_eq!(rt; heap.refusals(), 1);
     Ok(())
 }
 
