@@ -13,7 +13,8 @@ import sys
 
 sys.path.insert(0, str(pathlib.Path(__file__).resolve().parent.parent / "tools"))
 sys.dont_write_bytecode = True
-from heap_tools.hprof import FRAME, HEADER_SIZE, LOAD_CLASS, RECORD_HEAD_SIZE, STRING, Dump
+from heap_tools.heap_dump import HeapDump
+from heap_tools.hprof_format import FRAME, HEADER_SIZE, LOAD_CLASS, RECORD_HEAD_SIZE, STRING
 
 
 def used_names(dump):
@@ -31,7 +32,7 @@ def used_names(dump):
 def main():
     omitted, kept = 0, 0
     with open(sys.argv[1], "rb") as file, open(sys.argv[2], "wb") as copy:
-        dump = Dump(file, nameless=True)
+        dump = HeapDump(file, nameless=True)
         used = used_names(dump)
         copy.write(dump.bytes[:HEADER_SIZE])
         for tag, at, end in dump.records():

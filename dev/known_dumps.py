@@ -6,7 +6,7 @@ Nothing here walks over references: what writes objects says which of them are r
 import os
 import struct
 
-from heap_tools import dump_writer
+from tests.support import dump_writer
 
 #: The most bytes and the most objects that a dump may have.
 MOST_BYTES = 1 << 30

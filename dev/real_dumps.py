@@ -11,7 +11,7 @@ except ImportError:  # a Python that was built without it
 
 TOP = pathlib.Path(__file__).resolve().parent.parent
 sys.path.insert(0, str(TOP / "tools"))
-from heap_tools.names import CLASSES
+from heap_tools.class_names import CLASSES
 from heap_tools.reports import read_text
 
 ROOM = TOP / "bench/real"

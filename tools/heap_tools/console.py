@@ -4,16 +4,17 @@ import os
 import re
 import shutil
 import sys
+from typing import IO, Optional
 
 from heap_tools.faults import UNWRITABLE, Fault
 
 
-def in_one_line(text):
+def in_one_line(text: str) -> str:
     """Spells control characters, which a terminal would obey, as heapmark does: each of their bytes as `\\x..`."""
     return re.sub("[\0-\x1f\x7f-\x9f]", lambda it: "".join(f"\\x{byte:02x}" for byte in it[0].encode()), text)
 
 
-def say(text):
+def say(text: str) -> None:
     """Writes a line on standard error. If it cannot be written, nobody would read it."""
     try:
         if sys.stderr:
@@ -22,7 +23,7 @@ def say(text):
         pass
 
 
-def write(text):
+def write(text: str) -> None:
     """Writes on standard output. Raises `Fault`, without a message if a reader such as `head` has ended."""
     rest = memoryview(text.encode(errors="surrogateescape"))
     try:
@@ -35,7 +36,7 @@ def write(text):
         raise Fault(UNWRITABLE, "the output cannot be written") from None
 
 
-def is_terminal(stream):
+def is_terminal(stream: Optional[IO[str]]) -> bool:
     """Tests whether `stream`, which is None if it was closed, is a terminal."""
     return stream is not None and stream.isatty()
 
@@ -43,19 +44,19 @@ def is_terminal(stream):
 class Progress:
     """A line that says how far a tool is, on standard error if that is a terminal."""
 
-    def __init__(self, tool):
+    def __init__(self, tool: str) -> None:
         self.tool, self.width, self.is_shown = tool, 0, is_terminal(sys.stderr)
 
-    def show(self, text):
+    def show(self, text: str) -> None:
         """Shows `text` in place of the line before, cut to the width of the terminal."""
         if self.is_shown:
             self._replace(in_one_line(f"{self.tool}: {text}")[: shutil.get_terminal_size().columns - 1])
 
-    def clear(self):
+    def clear(self) -> None:
         """Removes the line."""
         if self.width:
             self._replace("")
 
-    def _replace(self, text):
+    def _replace(self, text: str) -> None:
         print(text.ljust(self.width), end="\r", file=sys.stderr, flush=True)
         self.width = len(text)

@@ -4,7 +4,7 @@
 class Fault(Exception):
     """Ends a tool with the exit status `status`, and with a message unless `text` is empty."""
 
-    def __init__(self, status, text=""):
+    def __init__(self, status: int, text: str = "") -> None:
         super().__init__(text)
         self.status = status
 

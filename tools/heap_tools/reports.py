@@ -1,11 +1,12 @@
 """Reports of heapmark and histograms of jcmd: their rows and totals."""
 
+import enum
 import re
 from dataclasses import dataclass, field
 from itertools import islice
-from typing import List, NamedTuple
+from typing import BinaryIO, Callable, Dict, Iterable, Iterator, List, NamedTuple, Optional, Tuple
 
-from heap_tools import names
+from heap_tools import class_names
 from heap_tools.faults import UNREADABLE, Fault
 
 #: The names of the last three rows of a report.
@@ -19,13 +20,34 @@ class Amount(NamedTuple):
     objects: int = 0
     bytes: int = 0
 
-    def minus(self, other):
+    def minus(self, other: "Amount") -> "Amount":
         """Returns this amount without `other`."""
         return Amount(self.objects - other.objects, self.bytes - other.bytes)
 
-    def plus(self, other):
+    def plus(self, other: "Amount") -> "Amount":
         """Returns this amount and `other`."""
         return Amount(self.objects + other.objects, self.bytes + other.bytes)
+
+
+class Unit(enum.Enum):
+    """What a share is of: objects, or their bytes. The value is its noun."""
+
+    OBJECTS = "objects"
+    BYTES = "bytes"
+
+    def of(self, amount: Amount) -> int:
+        """Returns the figure of an amount in this unit."""
+        return amount.objects if self is Unit.OBJECTS else amount.bytes
+
+    @property
+    def other(self) -> "Unit":
+        """The other unit."""
+        return Unit.BYTES if self is Unit.OBJECTS else Unit.OBJECTS
+
+    @property
+    def noun(self) -> str:
+        """The noun of one of them."""
+        return self.value[:-1]
 
 
 class Row(NamedTuple):
@@ -44,37 +66,37 @@ class Report:
     unreachable: Amount = Amount()
     unresolved: int = 0
 
-    def __post_init__(self):
-        self.families = {}
+    def __post_init__(self) -> None:
+        self.families: Dict[str, Amount] = {}
         for name, amount in self.rows:
-            of_family = names.family(name)
+            of_family = class_names.family(name)
             self.families[of_family] = self.families.get(of_family, Amount()).plus(amount)
 
-    def amount(self, family):
+    def amount(self, family: str) -> Amount:
         """Returns the objects and bytes of a class, and of all hidden classes of its name."""
         return self.families.get(family, Amount())
 
-    def total(self, families):
+    def total(self, families: Optional[Iterable[str]]) -> Amount:
         """Returns the objects and bytes of all these families, or of all that is reachable if `families` is None."""
         if families is None:
             return self.reachable
         amounts = [self.amount(family) for family in families]
         return Amount(sum(each.objects for each in amounts), sum(each.bytes for each in amounts))
 
-    def has_nameless(self):
+    def has_nameless(self) -> bool:
         """Tests whether it shows a class by its identifier."""
         return any(name.startswith("?0x") for name, _ in self.rows)
 
 
-def lines_of(file):
+def lines_of(file: BinaryIO) -> Iterator[bytes]:
     """Yields the lines of `file` without their ends. A line longer than `LONGEST_LINE` comes in parts."""
     return (line.rstrip(b"\r\n") for line in iter(lambda: file.readline(LONGEST_LINE), b""))
 
 
-def read_report(lines, path):
+def read_report(lines: Iterable[bytes], path: str) -> Optional[Report]:
     """Reads a report of heapmark. Returns None if `lines` are no whole report, raises `Fault` if they are two."""
     row = re.compile(rb" *([0-9]{1,19}) +([0-9]{1,19})  ([!-~]+)")
-    rows = []
+    rows: List[Row] = []
     for line in lines:
         found = row.fullmatch(line)
         if not found:
@@ -82,25 +104,26 @@ def read_report(lines, path):
         if [each.name for each in rows[-3:]] == TOTALS:
             raise Fault(UNREADABLE, f"{path}: two reports in one file")
         rows.append(Row(found[3].decode(), Amount(int(found[1]), int(found[2]))))
-    *rows, reachable, unreachable, unresolved = [*[Row("", Amount())] * 3, *rows]
-    if [reachable.name, unreachable.name, unresolved.name] != TOTALS:
+    if [each.name for each in rows[-3:]] != TOTALS:
         return None
-    return Report(rows[3:], reachable.amount, unreachable.amount, unresolved.amount.objects)
+    reachable, unreachable, unresolved = (each.amount for each in rows[-3:])
+    return Report(rows[:-3], reachable, unreachable, unresolved.objects)
 
 
-def read_histogram(lines, path):
+def read_histogram(lines: Iterator[bytes], path: str) -> Optional[Report]:
     """Reads a histogram of jcmd. Returns None if `lines` are no whole histogram, raises `Fault` if they are two."""
     row = re.compile(rb" *[0-9]+: +([0-9]{1,19}) +([0-9]{1,19})  (\S.*)")
     if not any(re.match(rb" *num +#instances +#bytes  class name", line) for line in islice(lines, 3)):
         return None
     next(lines, None)  # the rule below the heads
-    rows, is_whole = [], False
+    rows: List[Row] = []
+    is_whole = False
     for line in lines:
         found = row.fullmatch(line)
         if is_whole and line.strip():
             raise Fault(UNREADABLE, f"{path}: two histograms in one file, or other lines after the first")
         if found:
-            rows.append(Row(names.of_histogram(found[3]), Amount(int(found[1]), int(found[2]))))
+            rows.append(Row(class_names.of_histogram(found[3]), Amount(int(found[1]), int(found[2]))))
         elif re.fullmatch(rb"Total +[0-9]+ +[0-9]+", line):
             is_whole = True
         elif not is_whole:
@@ -108,11 +131,13 @@ def read_histogram(lines, path):
     return Report(rows) if is_whole else None
 
 
-def read_text(file, path):
-    """Returns what the open file `path` is, report or histogram, and what it says, or None twice if it is neither."""
-    for kind, read in ("report", read_report), ("histogram", read_histogram):
+def read_text(file: BinaryIO, path: str) -> Optional[Tuple[str, Report]]:
+    """Returns what the open file `path` is, report or histogram, and what it says, or None if it is neither."""
+    readers: Dict[str, Callable[[Iterator[bytes], str], Optional[Report]]]
+    readers = {"report": read_report, "histogram": read_histogram}
+    for kind, read in readers.items():
         file.seek(0)
         found = read(lines_of(file), path)
         if found:
             return kind, found
-    return None, None
+    return None

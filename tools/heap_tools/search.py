@@ -1,180 +1,48 @@
 """The search for what holds many objects: by halves of a group, since a group holds at least what each of it does."""
 
-import operator
-from typing import Dict, List, NamedTuple
+from typing import Any, Callable, List, Optional, Sequence, Tuple
 
-from heap_tools.holding import Holder
-from heap_tools.reports import Amount
-
+from heap_tools.candidates import Candidate
+from heap_tools.probe import GroupShare, Probe, Retained
+from heap_tools.search_progress import SearchProgress
 
 #: How many fields are tried first after one is found: those that come next have as many holders, or some more.
 NEXT = 8
 
 
-class Held(NamedTuple):
-    """What `holders` hold: how much of what is asked for, how much of the heap, and how much of each family."""
-
-    holders: List[Holder]
-    amount: Amount
-    heap: Amount
-    lost: Dict[str, Amount]
-
-    def count(self):
-        """Returns how many holders there are in all."""
-        return sum(holder.count for holder in self.holders)
-
-    def is_own(self):
-        """Tests whether one of them is of an own class."""
-        return any(holder.is_own for holder in self.holders)
-
-
-class Share(NamedTuple):
-    """The share of a group in percent, and a bound that the share of no part of it exceeds."""
-
-    percent: float
-    bound: float
-
-    def minus(self, part):
-        """Returns the share of the rest of a group, if nothing is held by both only together."""
-        return Share(self.percent - part.percent, self.bound - part.bound)
-
-
-class Probe:
-    """Asks a dump what holders hold of `families`, or of all that is reachable if that is None. `column` is the one by
-    which shares are taken: objects or bytes."""
-
-    def __init__(self, runs, holders, families, column):
-        self.runs, self.holders, self.families, self.column = runs, holders, families, column
-        self.base = runs.without({}) if runs.cut or runs.roots else runs.report
-        self.whole = self.base.total(families)
-        self._known, self.watch = {}, lambda: None
-
-    def held(self, holders):
-        """Returns what `holders` hold: the difference that they make to the report. Each group is asked for once."""
-        key = frozenset(holder.key for holder in holders)
-        if key not in self._known:
-            self._known[key] = self._difference(holders)
-        return self._known[key]
-
-    def _difference(self, holders):
-        changes = {}
-        for holder in holders:
-            changes.update(self.changes(holder))
-        if not changes:
-            return Held(holders, Amount(), Amount(), {})
-        self.watch()
-        report = self.runs.without(changes)
-        lost = {name: amount.minus(report.amount(name)) for name, amount in self.base.families.items()}
-        lost = {name: amount for name, amount in lost.items() if amount.objects > 0}
-        amount = self.whole.minus(report.total(self.families))
-        return Held(holders, amount, self.base.reachable.minus(report.reachable), lost)
-
-    def changes(self, holder):
-        """Returns the changes by which `holder` leads nowhere in this dump."""
-        return holder.changes
-
-    def percent(self, amount):
-        """Returns the share of an amount in percent."""
-        return 100 * getattr(amount, self.column) / max(1, getattr(self.whole, self.column))
-
-    def exact(self, group):
-        """Returns the share of a group in percent."""
-        return self.percent(self.held(group).amount)
-
-    def share(self, group):
-        """Returns the share of a group."""
-        percent = self.exact(group)
-        return Share(percent, percent)
-
-    def part(self, group, _whole):
-        """Returns the share of a part of a group whose share is known."""
-        return self.share(group)
-
-
-class Earlier(Probe):
-    """Asks an earlier dump what holders of a later one hold: those that have the same name in it."""
-
-    def changes(self, holder):
-        """Returns the changes by which what has the name of `holder` leads nowhere in this dump."""
-        return self.holders.changes(holder.key)
-
-    def bounds(self, group):
-        """Returns the most and the least that `group` can hold, by the groups that were asked for: it holds at most
-        what a group does of which it is a part, and at least what each part of it does."""
-        key = frozenset(holder.key for holder in group)
-        above = [held.amount for known, held in self._known.items() if key <= known]
-        below = [held.amount for known, held in self._known.items() if known <= key]
-        column = operator.attrgetter(self.column)
-        return min([self.whole, *above], key=column), max([Amount(), *below], key=column)
-
-
-class Gains(Probe):
-    """Asks a later dump what holders hold, and `earlier` how much of it they held before. Shares are of the growth.
-    What holders hold now bounds what they gained. So `earlier` is asked only about what holds `at_least` percent."""
-
-    def __init__(self, earlier, at_least, runs, holders, families, column):
-        super().__init__(runs, holders, families, column)
-        self.earlier, self.at_least = earlier, at_least
-        self.growth = self.whole.minus(earlier.whole)
-
-    def percent(self, amount):
-        """Returns the share of an amount in the growth, in percent."""
-        return 100 * getattr(amount, self.column) / max(1, getattr(self.growth, self.column))
-
-    def gain(self, group):
-        """Returns what a group holds more than before."""
-        return self.held(group).amount.minus(self.earlier.held(group).amount)
-
-    def exact(self, group):
-        """Returns the share of a group in the growth, or a bound of it if that is too little."""
-        bound = self.percent(self.held(group).amount)
-        return bound if bound < self.at_least else self.percent(self.gain(group))
-
-    def share(self, group):
-        """Returns the share of a group in the growth, or a bound of it if that says whether it is enough."""
-        bound = self.percent(self.held(group).amount)
-        if bound < self.at_least:
-            return Share(bound, bound)
-        least, most = (bound - self.percent(before) for before in self.earlier.bounds(group))
-        if least >= self.at_least:
-            return Share(least, bound)
-        if most < self.at_least:
-            return Share(most, bound)
-        return Share(self.exact(group), bound)
-
-    def part(self, group, whole):
-        """Returns the likely share of a part of a group whose share is `whole`: if the rest of the group holds too
-        little, the part has gained what the group has."""
-        bound = self.percent(self.held(group).amount)
-        if bound >= self.at_least > whole.bound - bound:
-            return Share(whole.percent, bound)
-        return self.share(group)
-
-
 class Search:
     """A search for the `top` first holders of `at_least` percent. `order` says how lines are sorted: a key for what
-    was found. `progress` shows how far it is. Fields with at most `few` holders are tried before the others."""
+    was found. `progress` is noted how far it is. Fields with at most `few` holders are tried before the others."""
 
-    def __init__(self, probe, at_least, top, order, progress, few=0):
+    def __init__(
+        self,
+        probe: Probe,
+        at_least: int,
+        top: int,
+        order: Callable[[Retained], Any],
+        progress: SearchProgress,
+        few: int = 0,
+    ) -> None:
         self.probe, self.at_least, self.top, self.order, self.progress = probe, at_least, top, order, progress
         self.few = few
-        self.found, self.statics, self.is_cut = [], None, False
+        self.found: List[Retained] = []
+        self.statics: Optional[Retained] = None
+        self.is_cut = False
         self.all = self.left = 0
-        probe.watch = self.show
 
-    def first(self):
+    def first(self) -> List[Retained]:
         """Returns the `top` first of what was found."""
         return self.found[: self.top]
 
-    def show(self):
-        """Shows how many holders are still to be tried, and what was found last."""
-        text = f"run {self.probe.runs.heapmark.runs + 1}, {self.left} of {self.all} fields left"
+    def note(self) -> None:
+        """Notes how many candidates are still to be tried, and what was found last."""
+        found = ""
         if self.found:
-            holders = self.found[-1].holders
-            text += f"; found {holders[0]}, {self.percent(holders):.0f}%"
-        self.progress.show(text)
+            candidates = self.found[-1].candidates
+            found = f"{candidates[0]}, {self.percent(candidates):.0f}%"
+        self.progress.note(self.left, self.all, found)
 
-    def find(self, fields):
+    def find(self, fields: Sequence[Candidate]) -> None:
         """Finds static fields, local variables and threads, then `fields`."""
         self.all = self.left = len(fields)
         self.find_roots()
@@ -182,33 +50,33 @@ class Search:
         self.found.sort(key=self.order)
         self.is_cut |= len(self.found) > self.top
 
-    def find_roots(self):
+    def find_roots(self) -> None:
         """Finds static fields, local variables and threads."""
-        holders, statics = self.probe.holders, self.probe.holders.statics()
+        candidates, statics = self.probe.candidates, self.probe.candidates.statics()
         self.expect(statics)
-        self.statics = self.probe.held(statics)
+        self.statics = self.probe.retained(statics)
         if self.is_enough(self.probe.share(statics)):
             self.look_in_own_first(statics)
             self.look_together(statics)
-        if self.is_enough(self.probe.share([holders.all_threads()])):
-            for group in holders.locals(), holders.threads():
+        if self.is_enough(self.probe.share([candidates.all_threads()])):
+            for group in candidates.locals(), candidates.threads():
                 self.expect(group)
                 self.look_in_own_first(group)
 
-    def expect(self, group):
+    def expect(self, group: Sequence[Candidate]) -> None:
         """Adds a group to what is to be tried."""
         self.all, self.left = self.all + len(group), self.left + len(group)
 
-    def is_enough(self, share):
+    def is_enough(self, share: GroupShare) -> bool:
         """Tests whether a share is one to be shown."""
         return share.percent >= self.at_least
 
-    def look_in_own_first(self, group):
+    def look_in_own_first(self, group: Sequence[Candidate]) -> None:
         """Finds those of `group` that hold enough, of own classes first."""
         self.look_in([each for each in group if each.is_own])
         self.look_in([each for each in group if not each.is_own])
 
-    def look_in_likely(self, fields):
+    def look_in_likely(self, fields: Sequence[Candidate]) -> None:
         """Finds instance fields. Between a found holder and the objects it holds are instances that are unreachable
         without it. So fields of their classes come first, then those of own classes, then the rest: among the fields
         with few holders, then among all. What has few holders, such as a thread's map, also has it from few holders: so
@@ -223,7 +91,7 @@ class Search:
             done = set(group)
             fields = self.wanted([field for field in fields if field not in done])
 
-    def look_in(self, group, first=0):
+    def look_in(self, group: Sequence[Candidate], first: int = 0) -> None:
         """Finds the holders of `group` each of which holds enough. After one is found, the `first` next ones of a large
         rest are tried before the others."""
         share = None
@@ -236,20 +104,24 @@ class Search:
                 self.look_in(group[:first])
                 group = self.wanted(group[first:])
 
-    def wanted(self, group):
+    def wanted(self, group: Sequence[Candidate]) -> List[Candidate]:
         """Returns those of `group` that may still be among the first `top`. The others have too many holders."""
-        most = sorted(held.count() for held in self.found)[self.top - 1 : self.top]
+        most = sorted(held.holders for held in self.found)[self.top - 1 : self.top]
         wanted = [each for each in group if not most or each.count <= most[0]]
         self.is_cut |= len(wanted) < len(group)
         self.left -= len(group) - len(wanted)
         return wanted
 
-    def find_one(self, group, share):
+    def find_one(
+        self, group: Sequence[Candidate], share: Optional[GroupShare]
+    ) -> Tuple[List[Candidate], Optional[GroupShare]]:
         """Finds one holder of `group` that holds enough, by halves. `share` is the likely share of the group, None if
         it is unknown. Returns those that are still to be tried, and their likely share."""
         share = whole = self.asked(group, share)
-        later = []
+        later: List[Candidate] = []
+        group = list(group)
         while self.is_enough(share) and len(group) > 1:
+            self.note()
             left, right = group[: len(group) // 2], group[len(group) // 2 :]
             of_left = self.probe.part(left, share)
             if self.is_enough(of_left):
@@ -258,35 +130,37 @@ class Search:
                 group, share = right, self.asked(right, share.minus(of_left))
         if not self.is_enough(share) or self.percent(group) < self.at_least:
             return later, None
-        self.found.append(self.probe.held(group))
-        return later, whole.minus(Share(self.percent(group), share.bound))
+        self.found.append(self.probe.retained(group))
+        return later, whole.minus(GroupShare(self.percent(group), share.bound))
 
-    def asked(self, group, share):
+    def asked(self, group: Sequence[Candidate], share: Optional[GroupShare]) -> GroupShare:
         """Returns the share of `group`. A group of several whose likely share is enough is not tried: its parts will
         be."""
         if share is not None and self.is_enough(share) and len(group) > 1:
             return share
+        self.note()
         return self.probe.share(group)
 
-    def percent(self, holders):
-        """Returns the share of `holders` in percent."""
-        return self.probe.exact(holders) if holders else 0
+    def percent(self, candidates: Sequence[Candidate]) -> float:
+        """Returns the share of `candidates` in percent."""
+        return self.probe.exact(candidates) if candidates else 0
 
-    def find_statics(self, statics):
+    def find_statics(self, statics: Sequence[Candidate]) -> List[Candidate]:
         """Finds a few of `statics`, of own classes if these are enough, that hold enough alone or together. Returns
         them."""
-        own, found = [each for each in statics if each.is_own], []
+        own = [each for each in statics if each.is_own]
+        found: List[Candidate] = []
         if self.percent(statics) >= self.at_least:
-            found = self.needed(own if self.percent(own) >= self.at_least else statics, [], 0, self.at_least)
+            found = self.needed(own if self.percent(own) >= self.at_least else list(statics), [], 0, self.at_least)
         if found:
-            self.found.append(self.probe.held(found))
+            self.found.append(self.probe.retained(found))
         return found
 
-    def look_together(self, statics):
+    def look_together(self, statics: Sequence[Candidate]) -> None:
         """Finds static fields that hold enough only together, those of own classes first."""
         whole = self.percent(statics)
-        alone = [holder for held in self.found for holder in held.holders]
-        if whole - max((self.percent(held.holders) for held in self.found), default=0) < self.at_least:
+        alone = [holder for held in self.found for holder in held.candidates]
+        if whole - max((self.percent(held.candidates) for held in self.found), default=0) < self.at_least:
             return
         base = self.percent(alone)
         least = (base + whole) / 2
@@ -299,9 +173,9 @@ class Search:
         needed = self.needed(rest, alone, base, least)
         if needed:
             together = needed if self.percent(needed) >= self.at_least else alone + needed
-            self.found.append(self.probe.held(together))
+            self.found.append(self.probe.retained(together))
 
-    def needed(self, group, others, base, least):
+    def needed(self, group: List[Candidate], others: List[Candidate], base: float, least: float) -> List[Candidate]:
         """Returns a small part of `group` that together with `others` holds `least` percent. Without `group`, `others`
         hold `base` percent. Returns nothing if many of `group` hold a little each."""
         if len(group) == 1:

@@ -1,6 +1,6 @@
 """The page of `leaks --html`: one HTML file that fetches nothing and runs no script.
 
-`leak.py` has what `leaks` fills, `top.py` and `sections.py` the parts of the page, `pictures.py` and `treemap.py` the
+`model.py` has what `leaks` fills, `top.py` and `sections.py` the parts of the page, `pictures.py` and `treemap.py` the
 pictures; `words.py` escapes and spells; `page.html` has all templates, `page.css` the style.
 """
 
@@ -8,11 +8,30 @@ import contextlib
 import os
 import secrets
 import stat
+from typing import Callable
 
-from heap_tools.page.leak import FIELD, LOCAL, STATIC, THREAD, TOGETHER  # noqa: F401 (what leaks fills)
-from heap_tools.page.leak import Dump, GrownClass, Holder, Leak, Limits, Making, Share  # noqa: F401
-from heap_tools.page.sections import page_of
-from heap_tools.reports import Amount  # noqa: F401
+from heap_tools.page.model import FIELD, LOCAL, STATIC, THREAD, TOGETHER
+from heap_tools.page.model import DumpEntry, GrownClass, HeldShare, HolderEntry, Leak, Limits, Making
+from heap_tools.page.sections import whole_page
+from heap_tools.reports import Amount
+
+__all__ = [
+    "Amount",
+    "DumpEntry",
+    "FIELD",
+    "GrownClass",
+    "HeldShare",
+    "HolderEntry",
+    "LOCAL",
+    "Leak",
+    "Limits",
+    "Making",
+    "STATIC",
+    "THREAD",
+    "TOGETHER",
+    "html_of",
+    "write",
+]
 
 #: The most bytes of a page.
 MOST_BYTES = 300_000
@@ -24,16 +43,16 @@ LIMITS = [
 ]
 
 
-def html_of(leak):
+def html_of(leak: Leak) -> str:
     """Returns the page, at most `MOST_BYTES` in UTF-8."""
     for limits in LIMITS:
-        text = page_of(leak, limits)
+        text = whole_page(leak, limits)
         if len(text.encode()) <= MOST_BYTES:
             break
     return str(text)
 
 
-def write(leak, file):
+def write(leak: Leak, file: str) -> None:
     """Writes the page into the file at the path `file`. Raises `OSError` if it cannot be written. A plain file then is
     as it was before, and never has a part of the page."""
     content = html_of(leak).encode()
@@ -51,7 +70,7 @@ def write(leak, file):
         raise
 
 
-def write_into(descriptor, content, finish=lambda descriptor: None):
+def write_into(descriptor: int, content: bytes, finish: Callable[[int], None] = lambda descriptor: None) -> None:
     """Writes all of `content`, calls `finish`, and closes the descriptor."""
     with open(descriptor, "wb", buffering=0) as file:
         rest = memoryview(content)

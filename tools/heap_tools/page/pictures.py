@@ -4,7 +4,7 @@ import math
 from dataclasses import dataclass
 from typing import List, Tuple
 
-from heap_tools import figures
+from heap_tools import humanize
 from heap_tools.page.treemap import Box, boxes_of, short_name
 from heap_tools.page.words import Html, clock, fill, joined, percent, plain, size
 
@@ -228,7 +228,7 @@ def cell(part, box, total):
     lines = lines[: int((box.height - 4) / LINE)]
     texts = [fill("cell_line", y=LINE * at + 12, text=line) for at, line in enumerate(lines)]
     amount = part.amount
-    words = f"{size(amount.bytes)}, {percent(100 * amount.bytes / total)}, {figures.counted(amount.objects, 'object')}"
+    words = f"{size(amount.bytes)}, {percent(100 * amount.bytes / total)}, {humanize.counted(amount.objects, 'object')}"
     return fill("cell", description=f"{plain(name, 120)}: {words}", texts=joined(texts), **place_of(box))
 
 

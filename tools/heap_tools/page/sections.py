@@ -1,24 +1,17 @@
 """The sections of the page, each a function of the leak and of how much of it is shown."""
 
-from heap_tools import figures
+from heap_tools import humanize
+from heap_tools.omissions import NEVER_SHOWN, unreachable_on_page
 from heap_tools.page.pictures import COLOURS, bar, chart, small_line, spell_of, treemap
 from heap_tools.page.top import KINDS, from_to, headline, holder_name, lead, path_to, tiles, title
 from heap_tools.page.treemap import groups_of, total_of
 from heap_tools.page.words import FOLDER, Html, breakable, escaped, figure, fill, joined, moment, name_of, percent
 from heap_tools.page.words import plain, signed, when
 
-#: What no dump shows, of whatever program.
-NEVER_SHOWN = [
-    "Memory outside of the heap: direct buffers, class metadata, compiled code, and the memory of stacks.",
-    "Headers and padding of objects. Bytes are those of fields and elements as the dump writes them, and a reference "
-    "of a 64-bit machine counts 8 bytes, so sizes differ from those that the virtual machine reports. Numbers of "
-    "objects can be compared.",
-]
-
 
 def left_out(number, what):
     """Returns a line that says how many rows are not shown."""
-    return fill("paragraph", text=f"Not shown: {figures.counted(number, what)} more.") if number > 0 else Html()
+    return fill("paragraph", text=f"Not shown: {humanize.counted(number, what)} more.") if number > 0 else Html()
 
 
 def legend(kinds, leak, limits):
@@ -174,11 +167,7 @@ def omitted(leak, limits):
     unreachable = leak.dumps[-1].unreachable
     sentences = [plain(sentence, 3 * limits.name) for sentence in leak.omitted[: limits.sentences]]
     if unreachable.objects > 0 and not any("unreachable" in each for each in sentences):
-        sentences.append(
-            f"What holds unreachable objects, of which the last dump has {unreachable.objects:,}. They are garbage in "
-            "a dump of all objects. In a live dump, only what dumps omit holds them: the virtual machine, some fields "
-            "of class objects, and stacks of waiting virtual threads."
-        )
+        sentences.append(unreachable_on_page(unreachable.objects))
     return joined((fill("item", text=sentence) for sentence in sentences + NEVER_SHOWN), "\n")
 
 
@@ -189,7 +178,7 @@ def making(leak, limits):
     rows = [dump_row(dump, limits) for number, dump in enumerate(leak.dumps) if number not in gap]
     if gap:
         rows.insert(gap[0], fill("dump_gap", text=f"{len(gap):,} dumps more"))
-    runs = f"heapmark ran {figures.counted(made.runs, 'time')}, within {figures.duration(1000 * made.seconds)} in all."
+    runs = f"heapmark ran {humanize.counted(made.runs, 'time')}, within {humanize.duration(1000 * made.seconds)} in all."
     versions = [[plain(text, limits.name) for text in version] for version in made.versions[: limits.sentences]]
     heads = {"File": "name", "Taken (UTC)": "time", "Size": "number"}
     for of in "Reachable", "Unreachable":
@@ -219,7 +208,7 @@ def dump_row(dump, limits):
     )
 
 
-def page_of(leak, limits):
+def whole_page(leak, limits):
     """Returns the whole page."""
     return fill(
         "page",

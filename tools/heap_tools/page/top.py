@@ -2,8 +2,8 @@
 
 from dataclasses import dataclass
 
-from heap_tools import figures
-from heap_tools.page import leak as model
+from heap_tools import humanize
+from heap_tools.page import model
 from heap_tools.page.pictures import spell_of
 from heap_tools.page.words import Html, breakable, escaped, figure, fill, joined, moment, name_of, percent
 from heap_tools.page.words import plain, signed, solid
@@ -97,7 +97,7 @@ def lead(leak):
     first, last = (figure(getattr(leak.dumps[at].reachable, leak.by), leak.by) for at in (0, -1))
     between, change = span(leak), rise(leak)
     words = {
-        "period": f"In {solid(figures.duration(between))}" if between else "From the first dump to the last",
+        "period": f"In {solid(humanize.duration(between))}" if between else "From the first dump to the last",
         "noun": " objects" if leak.by == "objects" else "",
         "last": last,
     }
@@ -112,7 +112,7 @@ def tiles(leak):
     between = span(leak)
     if between:
         speed = f"{signed(round(rise(leak) * HOUR / between), spell_of(leak.by))} an hour" if between >= 60_000 else ""
-        parts.append(fill("tile", name="Time between", value=solid(figures.duration(between)), note=speed))
+        parts.append(fill("tile", name="Time between", value=solid(humanize.duration(between)), note=speed))
     if leak.holders:
         first = leak.holders[0]
         ends = from_to(*(percent(share.percent) for share in (first.before, first.after)))

@@ -6,7 +6,7 @@ from collections import defaultdict
 from dataclasses import dataclass
 from typing import List, Optional
 
-from heap_tools import names
+from heap_tools import class_names
 from heap_tools.reports import Amount
 
 #: How many parts of a package's name make a group.
@@ -59,17 +59,17 @@ def total_of(amounts):
 
 def package_of(name):
     """Returns the group of a class: the first parts of its package, or what stands for one."""
-    package = names.package(name)
+    package = class_names.package(name)
     if package:
         return "/".join(package.split("/")[:DEPTH])
-    if names.is_array(names.element(name)):
+    if class_names.is_array(class_names.element(name)):
         return "arrays of numbers"
-    return "classes" if name == names.CLASSES else "no package"
+    return "classes" if name == class_names.CLASSES else "no package"
 
 
 def short_name(name):
     """Returns the name of a class without its package, and of an array as Java writes it."""
-    element = names.element(name)
+    element = class_names.element(name)
     return element.rpartition("/")[2] + ("" if element == name else "[]" * re.match(r"\[*", name).end())
 
 

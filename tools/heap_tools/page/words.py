@@ -7,7 +7,7 @@ import re
 import string
 import unicodedata
 
-from heap_tools import figures
+from heap_tools import humanize
 
 FOLDER = pathlib.Path(__file__).resolve().parent
 #: Categories of characters that are shown by their number: controls, marks of direction, halves of a pair, and so on.
@@ -91,7 +91,7 @@ def solid(text):
 
 def size(number):
     """Returns a number of bytes in words, such as 41.2 MB."""
-    return solid(figures.size(number))
+    return solid(humanize.size(number))
 
 
 def percent(share):
@@ -134,5 +134,5 @@ def clock(times):
 def figure(number, unit, sign=False):
     """Returns a number of `unit`, such as bytes, with the exact one beside it. `sign`: it is a difference."""
     spell = size if unit == "bytes" else "{:,}".format
-    exact = solid(figures.counted(number, unit[:-1]))
+    exact = solid(humanize.counted(number, unit[:-1]))
     return fill("figure", value=number, exact=exact, shown=signed(number, spell) if sign else spell(number))

@@ -1,0 +1,170 @@
+"""What can hold objects in a dump: fields, static fields, local variables and threads, by name."""
+
+from collections import defaultdict
+from dataclasses import dataclass, field
+from typing import Callable, Dict, FrozenSet, Iterable, List, NamedTuple, Optional, Sequence, Set, Tuple
+
+from heap_tools.changed_copy import Changes, number_code
+from heap_tools.class_names import family, is_own, printable
+from heap_tools.dump_runs import DumpRuns
+from heap_tools.heap_dump import HeapDump, Root
+from heap_tools.heap_objects import HeapObjects
+from heap_tools.hprof_format import OBJECT
+from heap_tools.reports import Report
+
+STATIC, FIELD, LOCAL, THREAD, THREADS = "static", "field", "local", "thread", "threads"
+WEAK = "java/lang/ref/Reference.referent"
+#: The list of the threads of a group, up to JDK 18, and that of the classes of a loader.
+GROUP, LOADED_CLASSES = "java/lang/ThreadGroup.threads", "java/lang/ClassLoader.classes"
+
+#: A kind and a name: what a candidate is called in another dump of the program, too.
+Key = Tuple[str, str]
+
+
+@dataclass(frozen=True, eq=False)
+class Candidate:
+    """A field of all classes of one name, a local variable of all methods of one name, or all threads of one name.
+    `count` is the number of its holders: of the instances that have the field, or of the threads. `changes` are those
+    of the dump that make it lead nowhere. `classes` are the families of the instances."""
+
+    kind: str
+    name: str
+    count: int
+    changes: Changes = field(repr=False)
+    classes: FrozenSet[str] = frozenset()
+
+    @property
+    def key(self) -> Key:
+        """What it is called in another dump of the program, too."""
+        return self.kind, self.name
+
+    @property
+    def is_own(self) -> bool:
+        """Tests whether its class is not of the JDK."""
+        return self.kind == THREAD or is_own(self.name)
+
+    def __str__(self) -> str:
+        if self.kind == THREAD:
+            return f'thread "{self.name}"'
+        return self.name if self.kind == FIELD else f"{self.kind} {self.name}".strip()
+
+
+def joint_name(candidates: Sequence[Candidate]) -> str:
+    """Returns the names of candidates that hold something together, in one line."""
+    return ("together " if len(candidates) > 1 else "") + ", ".join(sorted(map(str, candidates)))
+
+
+class DumpedField(NamedTuple):
+    """A field of one class dump."""
+
+    class_id: int
+    place: int
+    is_null: bool
+
+
+class Candidates:
+    """All that can hold objects in the dump `dump`. `follows_weak`: weak references count, too."""
+
+    def __init__(self, dump: HeapDump, follows_weak: bool = False) -> None:
+        self.dump, self._follows_weak = dump, follows_weak
+        self._fields: Dict[Key, List[DumpedField]] = defaultdict(list)
+        for class_id, dumped in dump.classes.items():
+            owner = family(dump.names[class_id])
+            for each in dumped.fields:
+                if each.kind == OBJECT:
+                    key = STATIC if each.is_static else FIELD, f"{owner}.{each.name}"
+                    self._fields[key].append(DumpedField(class_id, each.place, each.is_null))
+        self._threads: Optional[List[Candidate]] = None
+        self._locals: Optional[List[Candidate]] = None
+        self._of_kind: Dict[str, Dict[Key, Changes]] = {}
+
+    def changes(self, key: Key) -> Changes:
+        """Returns the changes by which what is called `key` leads nowhere: none if the dump does not have it."""
+        kind = key[0]
+        if kind in (STATIC, FIELD):
+            return self._field_changes(self._fields.get(key, ()))
+        if kind not in self._of_kind:
+            listed: Dict[str, Callable[[], List[Candidate]]]
+            listed = {LOCAL: self.locals, THREAD: self.threads, THREADS: lambda: [self.all_threads()]}
+            self._of_kind[kind] = {each.key: each.changes for each in listed[kind]()}
+        return self._of_kind[kind].get(key, {})
+
+    def _field_changes(self, fields: Iterable[DumpedField]) -> Changes:
+        code = number_code(self.dump)
+        return {each.place: code for each in fields}
+
+    def prepared(self, runs: DumpRuns) -> DumpRuns:
+        """Returns `runs` on copies that follow weak references only if that is asked for. Two lists hold what is held
+        anyway, and do not count: that of a group's threads, since each thread is a root, and that of a loader's
+        classes. So classes that are never unloaded become roots, too."""
+        cut = dict(self.changes((FIELD, GROUP)))
+        if not self._follows_weak:
+            cut.update(self.changes((FIELD, WEAK)))
+        return runs.with_cut(cut, self.dump.lasting_classes())
+
+    def statics(self) -> List[Candidate]:
+        """Returns the static fields that are not null. Those that the virtual machine keeps with a class, such as
+        `<init_lock>`, come last."""
+        found = []
+        for (kind, name), fields in self._fields.items():
+            led = [each for each in fields if not each.is_null]
+            if kind == STATIC and led:
+                found.append(Candidate(kind, name, len(led), self._field_changes(led)))
+        return sorted(found, key=lambda each: (".<" in each.name, each.count, each.name))
+
+    def fields(self, report: Report) -> List[Candidate]:
+        """Returns the fields of classes with reachable instances. Those with few holders come first."""
+        heirs, found = self._heirs(), []
+        for (kind, name), fields in self._fields.items():
+            if kind != FIELD or name in (LOADED_CLASSES, GROUP) or name == WEAK and not self._follows_weak:
+                continue
+            classes: FrozenSet[str] = frozenset().union(*(heirs[each.class_id] for each in fields))
+            count = sum(report.amount(each).objects for each in classes)
+            if count > 0:
+                found.append(Candidate(kind, name, count, self._field_changes(fields), classes))
+        return sorted(found, key=lambda each: (each.count, each.name))
+
+    def _heirs(self) -> Dict[int, Set[str]]:
+        """Returns for each class the families of the classes whose instances have its fields."""
+        heirs: Dict[int, Set[str]] = defaultdict(set)
+        classes = self.dump.classes
+        for class_id, name in self.dump.names.items():
+            while class_id in classes:
+                heirs[class_id].add(family(name))
+                class_id = classes[class_id].superclass
+        return heirs
+
+    def all_threads(self) -> Candidate:
+        """Returns all threads as one candidate."""
+        return self._of_roots(THREADS, "", self.dump.roots)
+
+    def locals(self) -> List[Candidate]:
+        """Returns the local variables, by method. The number of their holders is that of the threads in the method."""
+        if self._locals is None:
+            roots: Dict[str, List[Root]] = defaultdict(list)
+            for root in self.dump.roots:
+                frame = self.dump.frame(root.thread, root.frame)
+                if frame:
+                    roots[f"{family(frame.class_name)}.{frame.method}"].append(root)
+            self._locals = self._by_name(LOCAL, roots)
+        return self._locals
+
+    def threads(self) -> List[Candidate]:
+        """Returns the threads, by name."""
+        if self._threads is None:
+            names = HeapObjects(self.dump).thread_names()
+            roots: Dict[str, List[Root]] = defaultdict(list)
+            for root in self.dump.roots:
+                roots[printable(names.get(root.thread, ""))].append(root)
+            self._threads = self._by_name(THREAD, roots)
+        return self._threads
+
+    def _by_name(self, kind: str, roots: Dict[str, List[Root]]) -> List[Candidate]:
+        """Returns the candidates of a kind that the roots of each name are. Those with few holders come first."""
+        found = [self._of_roots(kind, name, of_name) for name, of_name in roots.items()]
+        return sorted(found, key=lambda each: (each.count, each.name))
+
+    def _of_roots(self, kind: str, name: str, roots: Sequence[Root]) -> Candidate:
+        """Returns the candidate that these roots are."""
+        nowhere = bytes(self.dump.id_size)
+        return Candidate(kind, name, len({root.thread for root in roots}), {root.place: nowhere for root in roots})

@@ -1,0 +1,110 @@
+"""Names of classes and fields, as reports, histograms and dumps have them and as users write them."""
+
+import os
+import re
+from typing import Iterable, List
+
+#: The types of primitive elements by their letter in the name of an array.
+PRIMITIVES = dict(B="byte", C="char", D="double", F="float", I="int", J="long", S="short", Z="boolean")
+#: The packages of the JDK.
+JDK = ("java/", "javax/", "jdk/", "sun/", "com/sun/", "netscape/", "org/ietf/jgss/", "org/w3c/dom/", "org/xml/sax/")
+#: The row of a report for the classes themselves. A class may have a name that begins with `<`, too.
+CLASSES = "<class>"
+
+
+def shown(raw: bytes) -> str:
+    """Spells the bytes of a name as the report does."""
+    return "".join(chr(byte) if 0x21 <= byte <= 0x7E and byte != 0x5C else f"\\x{byte:02x}" for byte in raw)
+
+
+def printable(text: str) -> str:
+    """Spells a text of a dump in one line: of what does not print, of quotes and of backslashes each byte of their
+    UTF-8 as `\\x` and two digits, so that no two texts are spelled alike."""
+    return "".join(each if each.isprintable() and each not in '"\\' else _escaped(each) for each in text)
+
+
+def _escaped(char: str) -> str:
+    """Returns the bytes of a character as escapes."""
+    return "".join(f"\\x{byte:02x}" for byte in char.encode(errors="surrogatepass"))
+
+
+def family(name: str) -> str:
+    """Returns the name of a hidden class without its counter and address, and any other name as it is."""
+    return re.sub(r"(\$[0-9]+)?\+0x[0-9a-f]+", "", name, count=1)
+
+
+def element(name: str) -> str:
+    """Returns the class of the elements of an array class, and any other name as it is."""
+    found = re.fullmatch(r"\[+L(.*);", name)
+    return found[1] if found else name
+
+
+def is_array(name: str) -> bool:
+    """Tests whether `name` is that of an array class."""
+    return name.startswith("[") or name.endswith("[]")
+
+
+def is_own(name: str) -> bool:
+    """Tests whether a class is the user's or a library's: neither the JDK's nor an array of primitive values."""
+    inner = element(name)
+    return not (inner.startswith(JDK) or is_array(inner) or inner == CLASSES)
+
+
+def package(name: str) -> str:
+    """Returns the package of a class, empty if it has none."""
+    return element(name).rpartition("/")[0]
+
+
+def of_dump(raw: bytes) -> str:
+    """Returns the name of a class in a dump, in bytes, as the report spells it."""
+    return _array(shown(raw))
+
+
+def of_histogram(text: bytes) -> str:
+    """Returns the name of a class in a histogram, in bytes, as the report spells it."""
+    return _array(_slashed(shown(re.sub(rb" \([^()]*\)$", b"", text))))
+
+
+def spellings(text: str) -> List[str]:
+    """Returns the names in a report that `text` may mean, the likeliest first. A user may write a name as the report
+    shows it, with its letters as they are, with dots for slashes, as the JDK's tools print it, or as Java spells an
+    array."""
+    found: List[str] = []
+    for one in (text, _without_module(text)):
+        for spelt in (one, shown(os.fsencode(one))):
+            found += [spelt, _array(spelt), _slashed(spelt), _array(_slashed(spelt))]
+    return list(dict.fromkeys(found))
+
+
+def families(text: str) -> List[str]:
+    """Returns the families that `text` may mean, the likeliest first. The number of a lambda may come without its
+    address."""
+    return list(dict.fromkeys(re.sub(r"(\$\$Lambda)\$[0-9]+", r"\1", family(one)) for one in spellings(text)))
+
+
+def alike(text: str, known: Iterable[str]) -> List[str]:
+    """Returns those of the names `known` that have the simple name which the last of `text` is."""
+    simple = re.split(r"[./]", _array(text).strip("[;"))[-1]
+    ends = tuple(f"{before}{simple}" for before in "/$")
+    return sorted(name for name in known if name.endswith(ends))
+
+
+def _without_module(text: str) -> str:
+    return re.sub(r" \([^()]*\)$", "", text)
+
+
+def _slashed(name: str) -> str:
+    """Returns a name with slashes for dots, and with `+` before the address of a hidden class."""
+    return re.sub(r"/(0x[0-9a-f]+)", r"+\1", name).replace(".", "/")
+
+
+def _array(name: str) -> str:
+    """Returns the name of an array class, such as `A[]`, `byte[][]` or `[B`, as the report spells it."""
+    letters = {word: letter for letter, word in PRIMITIVES.items()}
+    found = re.fullmatch(r"([^\[\]]+)((?:\[\])+)", name)
+    if found and found[1] in letters:
+        depth = len(found[2]) // 2
+        return name if depth == 1 else "[" * depth + letters[found[1]]
+    if found:
+        return "[" * (len(found[2]) // 2) + f"L{found[1]};"
+    return f"{PRIMITIVES[name[1]]}[]" if re.fullmatch(r"\[[BCDFIJSZ]", name) else name

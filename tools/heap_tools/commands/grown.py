@@ -1,0 +1,117 @@
+"""grown: which classes grew between dumps, reports or histograms of one program."""
+
+from typing import NoReturn, Sequence
+
+from heap_tools import command_line
+from heap_tools.class_growth import growths, lines_to_print
+from heap_tools.class_names import is_own
+from heap_tools.command_line import Parser, number
+from heap_tools.console import say, write
+from heap_tools.faults import MORE
+from heap_tools.omissions import more_unreachable
+from heap_tools.reports import Report, Unit
+from heap_tools.same_program import Taken, other_program, wrong_order
+from heap_tools.snapshots import Snapshot, hours_between, read_snapshots
+
+ABOUT = """
+Shows which classes grew between heap dumps of one program: for each class with
+more objects or more bytes in the last dump than in the first, a line with the
+growth in objects, the growth in bytes, and the class, the largest growth first.
+"""
+NOTES = """
+With several files AFTER, each line also shows the growth at each step, before
+the class. Classes that grew at every step come first: a cache that fills and
+then stops is no leak. The steps and the growth an hour are in objects, with
+--bytes in bytes. On a terminal, a bar compares each growth with the largest.
+
+Classes of the same name are added together. So are hidden classes, such as
+those of lambdas, whose names differ only in a counter and an address:
+`$14+0x..` is cut off. A line on standard error says if more objects are
+unreachable in the last file, which --more-than does not count, if a dump is
+older than the one before it, or if the files seem to be of two programs.
+
+The bytes of a histogram include headers and padding, those of a dump or a
+report do not, so histograms are not mixed with these. A file that is not plain,
+such as a pipe, must be a dump. Put a name that begins with a hyphen after `--`.
+
+heapmark is taken from the variable HEAPMARK, else from beside this tool, else
+from the build in this repository, else from PATH. It runs with
+GLIBC_TUNABLES=glibc.malloc.hugetlb=1, which makes it faster, unless that
+variable is set.
+
+Which field holds what grew: see leaks.
+
+Exit status:
+  0  done: what grew, if anything, was printed
+  1  a file cannot be read, was refused, or does not go with the others; nothing
+     was printed
+  2  the command line is wrong
+  3  with --more-than: a class has more than N objects more
+  4  the output cannot be written
+  5  heapmark cannot be run, or was ended by a signal
+
+Example:
+  $ grown --top 20 monday.hprof friday.hprof
+"""
+
+
+def parser() -> Parser:
+    """Returns the options and operands."""
+    it = Parser("grown", "[OPTIONS] <BEFORE> <AFTER>...", ABOUT, NOTES)
+    kinds = "A heap dump, or a file with a report of heapmark or the output of `jcmd PID GC.class_histogram`"
+    it.operand("before", kinds)
+    it.operand("after", "One or more later ones of the same program, the earliest first", nargs="+")
+    it.flag("--bytes", "Sort by the growth in bytes, not in objects")
+    text = "Show only classes with more than N objects more; if there are any, the exit status is 3"
+    it.option("--more-than", "N", text, type=number())
+    text = "Show the growth an hour, too; the first and the last file must be dumps, since only a dump has its time"
+    it.flag("--per-hour", text)
+    it.flag("--own", "Show only classes that are not of the JDK")
+    it.option("--top", "N", "Show at most N lines", type=number(1))
+    it.option("--skip", "LIST", "Fields that are not followed in dumps, as heapmark takes them")
+    return it
+
+
+def say_order(snapshots: Sequence[Snapshot]) -> None:
+    """Says which dump was made earlier than the one before it on the command line."""
+    why = wrong_order([Taken(each.path, each.time) for each in snapshots])
+    if why:
+        say(f"grown: {why}")
+
+
+def say_unreachable(first: Report, last: Report) -> None:
+    """Says so if more objects or bytes are unreachable in the last file than in the first."""
+    more = last.unreachable.minus(first.unreachable)
+    if max(more) > 0:
+        say(f"grown: {more_unreachable(more)}: compare outputs of jmap -histo:live, which count it")
+
+
+def say_programs(first: Snapshot, last: Snapshot) -> None:
+    """Says so if the two files seem to be of two programs."""
+    few = other_program(first.report.families, last.report.families)
+    if few:
+        say(f"grown: {last.path}: another program? it has {few} of {first.path}")
+
+
+def main(words: Sequence[str]) -> int:
+    """Does what the words of the command line ask for, and returns the exit status."""
+    options = parser().read(words)
+    snapshots = read_snapshots([options.before, *options.after], options.skip)
+    first, last = snapshots[0], snapshots[-1]
+    hours = hours_between(first, last) if options.per_hour else None
+    unit = Unit.BYTES if options.bytes else Unit.OBJECTS
+    found = growths([each.report for each in snapshots], unit, options.more_than)
+    if options.own:
+        found = [each for each in found if is_own(each.name)]
+    try:
+        write(lines_to_print(found[: options.top], unit, hours))
+    finally:
+        say_order(snapshots)
+        say_unreachable(first.report, last.report)
+        say_programs(first, last)
+    return MORE if found and options.more_than is not None else 0
+
+
+def run() -> NoReturn:
+    """Runs the command with the words of the command line."""
+    command_line.run("grown", main)

@@ -1,0 +1,114 @@
+"""held: what hangs by some fields of a dump."""
+
+from typing import NamedTuple, NoReturn, Optional, Sequence
+
+from heap_tools import command_line
+from heap_tools.changed_copy import Changes
+from heap_tools.class_growth import growths, lines_to_print
+from heap_tools.command_line import Parser, number
+from heap_tools.console import say, write
+from heap_tools.dump_runs import DumpRuns
+from heap_tools.faults import MORE, NO_SUCH_NAME, UNREADABLE, Fault
+from heap_tools.field_list import changes_of, entries_of, root_of
+from heap_tools.heapmark import Heapmark, LaterFault
+from heap_tools.reports import Report, Unit
+
+ABOUT = """
+Shows what hangs by some fields of a heap dump: for each class, how many objects
+and how many bytes are reachable through these fields alone.
+"""
+NOTES = """
+A field belongs to the class that declares it. The class is spelt as heapmark,
+grown or jmap shows it, in quotes if it has a `$`; letters beyond ASCII may
+stand as they are, and dots in place of slashes. Without `$14+0x..` a hidden
+class means all of that name. A line of holders or leaks may be pasted, or what
+it ends with: `static A.x` and `together static A.x, static B.y` mean these
+fields, `A.x > B.y` means B.y, `local A.f` the local variables of a method, and
+`thread "NAME"` all that a thread of this name holds.
+
+It runs heapmark on DUMP, and on DUMP with these fields declared as numbers, so
+that they lead nowhere, and shows where the reports differ, as grown does
+between two dumps; grown --help says how names are shown and which heapmark
+runs. The roots of local variables and threads are null in their place. A line
+on standard error says if an entry of FIELDS names no field, or nothing hangs by
+FIELDS alone. A name that begins with a hyphen goes after `--`.
+
+Exit status:
+  0  done: what hangs by FIELDS, if anything, was printed
+  1  DUMP cannot be read or was refused; nothing was printed
+  2  the command line is wrong, or FIELDS is no list of fields
+  3  with --more-than: a class has more than N such objects
+  4  the output cannot be written
+  5  heapmark cannot be run, or was ended by a signal
+  6  an entry of FIELDS names no field of DUMP that holds references; what hangs
+     by the others was printed
+
+Example:
+  $ held app.hprof 'java/lang/ThreadLocal$ThreadLocalMap$Entry.value'
+"""
+def parser() -> Parser:
+    """Returns the options and operands."""
+    it = Parser("held", "[OPTIONS] <DUMP> <FIELDS>", ABOUT, NOTES)
+    it.operand("dump", "A heap dump, in a plain file: it is read twice")
+    it.operand("fields", "The fields, 1 to 64 of the form Class.field with commas between; static fields, too")
+    it.flag("--bytes", "Sort by bytes, not by objects")
+    text = "Show only classes with more than N such objects; if there are any, the exit status is 3"
+    it.option("--more-than", "N", text, type=number())
+    return it
+
+
+class Difference(NamedTuple):
+    """The whole report of a dump, and the one without some fields, None if the dump has none of them. `all_found`: each
+    entry of the list names a field."""
+
+    without: Optional[Report]
+    whole: Report
+    all_found: bool
+
+
+def difference(path: str, text: str) -> Difference:
+    """Runs heapmark on the dump `path` as it is and without what `text` names. Says which entries name nothing."""
+    heapmark, entries = Heapmark(), [text] if root_of(text) else entries_of(text)
+    if not root_of(text):
+        heapmark.check_fields(",".join(entries))
+    runs = DumpRuns.of(heapmark, path, "held")
+    changes: Changes = {}
+    all_found = True
+    for entry in entries:
+        found, why = changes_of(entry, runs.dump)
+        changes.update(found)
+        if why:
+            say(f"held: {entry.strip()}: {why}")
+            all_found = False
+    if not changes:
+        return Difference(None, runs.report, False)
+    try:
+        return Difference(runs.without(changes), runs.report, all_found)
+    except LaterFault:
+        raise Fault(UNREADABLE, f"{path}: not read a second time") from None
+
+
+def main(words: Sequence[str]) -> int:
+    """Does what the words of the command line ask for, and returns the exit status."""
+    options = parser().read(words)
+    without, whole, all_found = difference(options.dump, options.fields)
+    if not without:
+        return NO_SUCH_NAME
+    unit = Unit.BYTES if options.bytes else Unit.OBJECTS
+    found = growths([without, whole], unit, options.more_than)
+    try:
+        write(lines_to_print(found, unit))
+    finally:
+        if without == whole:
+            say(
+                f"held: nothing hangs by {options.fields} alone: what it leads to, if anything, is reachable another "
+                "way too"
+            )
+    if found and options.more_than is not None:
+        return MORE
+    return 0 if all_found else NO_SUCH_NAME
+
+
+def run() -> NoReturn:
+    """Runs the command with the words of the command line."""
+    command_line.run("held", main)

@@ -1,0 +1,183 @@
+"""holders: which fields, static fields, local variables and threads hold the objects of a class in a dump."""
+
+import sys
+from argparse import Namespace
+from typing import NoReturn, Optional, Sequence, Tuple
+
+from heap_tools import command_line
+from heap_tools.candidates import Candidates, joint_name
+from heap_tools.class_lookup import family_of
+from heap_tools.class_names import family, is_array
+from heap_tools.command_line import Parser, number
+from heap_tools.console import Progress, is_terminal, say, write
+from heap_tools.dump_runs import DumpRuns, is_dump
+from heap_tools.faults import NOTHING, WEAKLY_HELD, WRONG_USE, Fault
+from heap_tools.heap_objects import HeapObjects
+from heap_tools.heapmark import Heapmark
+from heap_tools.humanize import counted
+from heap_tools.omissions import HIDDEN_HOLDERS, WHY_UNREACHABLE
+from heap_tools.probe import Probe, Retained
+from heap_tools.reports import Report, Unit
+from heap_tools.search import Search
+from heap_tools.search_progress import SearchProgress
+
+ABOUT = """
+Shows what holds the objects of a class in a heap dump: for each field, static
+field, local variable or thread without which many of them are unreachable, a
+line with the number of these objects, their bytes, their share, the number of
+holders, and the field.
+"""
+NOTES = """
+The holders of a field are the instances that have it; a static field has one
+holder; those of a local variable are the threads in its method. Fields with few
+holders come first: your own cache or queue, then the fields of the containers
+in it; at the same number of holders, those of the JDK come last. Classes with
+the same name are added together, and so are hidden classes, such as those of
+lambdas, whose names differ only in a number and an address (`$1+0x..`). Then a
+static field has one holder for each of these classes. A line `together` names
+static fields that hold the objects only together. The share is one of objects,
+that of an array class and of the whole heap one of bytes. A line on standard
+error says how much threads or the virtual machine hold without any static
+field.
+
+Each line is the difference of two reports of heapmark: of the dump, and of the
+dump in which the field is a number, so that it leads nowhere; of a local
+variable or a thread the roots are null. Two lists hold only what is held
+anyway, and do not count: the classes of a loader, and the threads of a group.
+heapmark gets the dump from a pipe; no file is written. The heapmark that runs
+is what the variable HEAPMARK names, else the one beside this tool, else the one
+built in this repository, else that of PATH. If SIGINT, SIGTERM or SIGHUP ends
+this tool, the exit status is 130.
+
+With two dumps, see leaks: it shows what holds that which grew.
+
+Exit status:
+  0  done: the fields, if any, were printed
+  1  DUMP cannot be read or was refused; nothing was printed
+  2  the command line is wrong
+  3  no object of CLASS is reachable; nothing was printed
+  4  the output cannot be written
+  5  heapmark cannot be run, or a later run failed; nothing was printed
+  6  no class of DUMP has the name CLASS; nothing was printed
+  7  only soft, weak, final or phantom references hold the objects of CLASS;
+     nothing was printed
+
+Example:
+  $ holders friday.hprof 'com/acme/Cache$Order'
+"""
+#: The share of unreachable bytes, in percent of the reachable ones, that a line says if no class is given.
+MUCH = 10
+
+
+def parser() -> Parser:
+    """Returns the options and operands."""
+    it = Parser("holders", "[OPTIONS] <DUMP> [<CLASS>]", ABOUT, NOTES)
+    it.operand("dump", "A heap dump, in a plain file: it is read many times")
+    text = "A class as heapmark, grown or jmap shows it; without it, the bytes of the whole heap count"
+    it.operand("class", text, nargs="?")
+    text = "Show what holds P percent or more, 1 to 100 [default: 10, and 20 without CLASS]"
+    it.option("--at-least", "P", text, type=number(1, 100))
+    it.option("--top", "N", "Show at most N lines [default: 10]", type=number(1), default=10)
+    it.flag("--bytes", "Take shares of bytes, not of objects")
+    it.flag("--weak", "Follow soft, weak, final and phantom references, too")
+    return it
+
+
+def require_objects(name: str, runs: DumpRuns, base: Report) -> None:
+    """Raises `Fault` if no object of the class `name` is reachable, in the report `base`, or not without weak
+    references."""
+    if runs.report.amount(name).objects == 0:
+        of_family = {each for each in runs.dump.names.values() if family(each) == name} | {name}
+        count = HeapObjects(runs.dump).count(of_family)
+        inner = any(each.startswith(f"{name}$") for each in runs.dump.names.values())
+        why = "the dump has no object of it" + ": did the shell take a $ away? quote the name" * inner
+        if count:
+            why = f"no object of it is reachable, but {count:,} are in the dump: {HIDDEN_HOLDERS}"
+        raise Fault(NOTHING, f"{name}: {why}")
+    if base.amount(name).objects == 0:
+        raise Fault(WEAKLY_HELD, f"{name}: only soft, weak, final or phantom references hold its objects: see --weak")
+
+
+def searched(options: Namespace, name: Optional[str]) -> Search:
+    """Searches the dump, and returns the search."""
+    if name and is_dump(name):
+        text = f"{name}: a file: leaks {options.dump} {name} shows what holds that which grew"
+        raise Fault(WRONG_USE, text)
+    heapmark, progress = Heapmark(), Progress("holders")
+    progress.show("reading the dump")
+    try:
+        runs = DumpRuns.of(heapmark, options.dump, "holders")
+        candidates = Candidates(runs.dump, options.weak)
+        families = [family_of(name, runs.dump, runs.report)] if name else None
+        in_bytes = options.bytes or not families or is_array(families[0])
+        shown = SearchProgress(progress, heapmark)
+        unit = Unit.BYTES if in_bytes else Unit.OBJECTS
+        probe = Probe(candidates.prepared(runs), candidates, families, unit, shown.show)
+        if families:
+            require_objects(families[0], runs, probe.base)
+        search = Search(probe, options.at_least or (10 if name else 20), options.top, by_amount, shown)
+        search.find(candidates.fields(probe.base))
+    finally:
+        progress.clear()
+    return search
+
+
+def by_amount(held: Retained) -> Tuple[int, bool, int, int]:
+    """Returns what lines are sorted by: few holders, own classes, a large amount, much of the heap."""
+    return held.holders, not held.is_own, -held.amount.objects, -held.heap.bytes
+
+
+def print_found(search: Search) -> None:
+    """Prints a line for each holder that was found, on a terminal below the heads of the columns."""
+    lines = []
+    if is_terminal(sys.stdout) and search.found:
+        lines.append(f"{'objects':>10} {'bytes':>14} share   holders  field\n")
+    for held in search.first():
+        share, amount = search.probe.percent(held.amount), held.amount
+        line = f"{amount.objects:10} {amount.bytes:14} {share:4.0f}% {held.holders:9}  {joint_name(held.candidates)}\n"
+        lines.append(line)
+    write("".join(lines))
+
+
+def why_none(search: Search) -> str:
+    """Returns why nothing was found, if that is known, or which option may help."""
+    candidates, probe = search.probe.candidates, search.probe
+    every = [*candidates.statics(), candidates.all_threads(), *candidates.fields(probe.base)]
+    if probe.whole.objects and probe.retained(every).amount.objects == 0:
+        return ": they are roots themselves, or a root of the virtual machine leads to them without a field"
+    return ": see --at-least" if search.at_least > 1 else ""
+
+
+def say_remainder(search: Search) -> None:
+    """Says what the lines do not: how much is left, and whether there is more, or nothing."""
+    probe, at_least = search.probe, search.at_least
+    whole = probe.unit.of(probe.whole)
+    what = counted(whole, probe.unit.noun)
+    what = f"{what} of {probe.families[0]}" if probe.families else what
+    rest = whole - (probe.unit.of(search.statics.amount) if search.statics else 0)
+    if search.is_cut:
+        say("holders: fields with more holders may hold as much: see --top")
+    if not search.found:
+        say(f"holders: no field, local variable or thread alone holds {at_least}% of {what}{why_none(search)}")
+    unreachable = probe.runs.report.unreachable.bytes
+    if not probe.families and 100 * unreachable >= MUCH * probe.whole.bytes and unreachable:
+        say(f"holders: {counted(unreachable, 'byte')} more are unreachable: {WHY_UNREACHABLE}")
+    cost = f"{counted(search.all, 'field')}, {counted(probe.runs.heapmark.runs, 'run')} of heapmark"
+    say(f"holders: threads or the virtual machine hold {rest:,} of {what} without any static field; {cost}")
+
+
+def main(words: Sequence[str]) -> int:
+    """Does what the words of the command line ask for, and returns the exit status."""
+    options = parser().read(words)
+    name = getattr(options, "class")
+    if sys.stdout is None:
+        write("")
+    search = searched(options, name)
+    print_found(search)
+    say_remainder(search)
+    return 0
+
+
+def run() -> NoReturn:
+    """Runs the command with the words of the command line."""
+    command_line.run("holders", main)

@@ -1,0 +1,140 @@
+"""leaks: which fields, static fields, local variables and threads hold what grew between dumps of one program."""
+
+import sys
+import time
+from argparse import Namespace
+from typing import NoReturn, Sequence, Tuple
+
+from heap_tools import command_line
+from heap_tools.command_line import Parser, number
+from heap_tools.comparison import Comparison
+from heap_tools.console import Progress, is_terminal, say, write
+from heap_tools.faults import WRONG_USE, Fault
+from heap_tools.humanize import counted, duration, size
+from heap_tools.leak_lines import Answer, Line, answer_of
+from heap_tools.page_content import content_of, require_place, write_page
+from heap_tools.probe import GrowthProbe
+from heap_tools.reports import Unit
+
+ABOUT = """
+Shows what holds the objects that grew between heap dumps of one program: for
+each field, static field, local variable or thread that holds much of the
+growth, a line. The first line is the answer: the one with the fewest holders.
+"""
+NOTES = """
+The columns are the objects and the bytes that are held in the last dump and
+were not in the first, their share of the growth, the bytes that were held in
+the first dump and are in the last (with --objects, objects), the number of
+holders, and the field. The holders of a field are the instances that have it; a
+static field has one holder; those of a local variable are the threads in its
+method. At the same number of holders, fields of the JDK come last, and of those
+that gained as much the one that holds least comes first. Fields above a field,
+from a static field, a local variable or a thread down, stand before it: `A > B`
+means that only A leads to B.
+
+The growth is that of the reachable bytes, or of the objects and bytes of CLASS.
+If no more bytes are reachable than before, it is that of the objects of all
+classes that grew. A share is above 100% if what the field does not hold shrank.
+
+Names of the last dump are looked up in the first one: hidden classes, such as
+those of lambdas, by what is common to them. Of further dumps only the reports
+are used. For what is held in one dump, see holders, which also says how it is
+found; for which classes grew, see grown.
+
+Exit status:
+  0  done: what holds the growth, if anything, was printed
+  1  a dump cannot be read, was refused, or does not go with the others; nothing
+     was printed
+  2  the command line is wrong
+  3  nothing grew; nothing was printed
+  4  the output or FILE cannot be written
+  5  heapmark cannot be run, or a later run failed; nothing was printed
+  6  no class of the last dump has the name CLASS; nothing was printed
+
+Example:
+  $ leaks monday.hprof friday.hprof
+"""
+#: The most files on a command line: each is read, and each has a place in the page's charts.
+MOST_FILES = 100
+
+
+def parser() -> Parser:
+    """Returns the options and operands."""
+    it = Parser("leaks", "[OPTIONS] <BEFORE> <AFTER>...", ABOUT, NOTES)
+    it.operand("before", "A heap dump, in a plain file: it is read many times")
+    it.operand("after", "One or more later ones of the same program, the earliest first", nargs="*")
+    text = "Show what holds the growth of a class, as heapmark, grown or jmap shows it, not of the whole heap"
+    it.option("--class", "CLASS", text, dest="of_class")
+    it.flag("--objects", "Take shares of objects, not of bytes")
+    text = "Show what holds P percent or more of the growth, 1 to 100 [default: 30]"
+    it.option("--at-least", "P", text, type=number(1, 100), default=30)
+    it.option("--top", "N", "Show at most N lines [default: 4]", type=number(1), default=4)
+    it.option("--html", "FILE", "Also write a page for a browser, with charts, to FILE")
+    it.flag("--weak", "Follow soft, weak, final and phantom references, too")
+    return it
+
+
+def printed(lines: Sequence[Line], unit: Unit) -> str:
+    """Returns the lines as they are printed."""
+    texts = []
+    for line in lines:
+        gain, was, now = line.held.amount.minus(line.before), unit.of(line.before), unit.of(line.held.amount)
+        text = f"{gain.objects:10} {gain.bytes:14} {line.share:4.0f}% {was:14} {now:14}"
+        texts.append(f"{text} {line.held.holders:9}  {line.path()}\n")
+    return "".join(texts)
+
+
+def heads(comparison: Comparison, probe: GrowthProbe) -> str:
+    """Returns what stands above the lines on a terminal: how much the heap grew, and the heads of the columns."""
+    was, now = (size(each.runs.report.total(probe.families).bytes) for each in (probe.earlier, probe))
+    what = probe.families[0] if probe.families and len(probe.families) == 1 else "reachable"
+    took = comparison.last.dump.time - comparison.first.dump.time
+    head = f"{what} {was} to {now}" + f" in {duration(took)}" * (took > 0)
+    return f"{head}\n{'objects':>10} {'bytes':>14} share {'before':>14} {'after':>14} {'holders':>9}  field\n"
+
+
+def say_remainder(answer: Answer, comparison: Comparison) -> None:
+    """Says what the lines do not."""
+    search, probe = answer.search, answer.probe
+    if search.is_cut:
+        say("leaks: fields with more holders may hold as much: see --top")
+    if not answer.lines:
+        more = ": see --at-least" * (search.at_least > 1)
+        say(f"leaks: no field, local variable or thread alone holds {search.at_least}% of the growth{more}")
+    if probe.unit.of(comparison.more_unreachable()) > probe.unit.of(probe.growth):
+        say(f"leaks: {comparison.why_missing()}")
+
+
+def compared(options: Namespace, words: Sequence[str]) -> Tuple[Comparison, Answer]:
+    """Compares the dumps. Returns the comparison and its answer."""
+    progress = Progress("leaks")
+    try:
+        comparison = Comparison(options, words, progress)
+        return comparison, answer_of(comparison.probe(), options.at_least, options.top, comparison.progress)
+    finally:
+        progress.clear()
+
+
+def main(words: Sequence[str]) -> int:
+    """Does what the words of the command line ask for, and returns the exit status."""
+    options = parser().read(words)
+    if not options.after:
+        raise Fault(WRONG_USE, f"one dump: holders {options.before} shows what holds its objects")
+    if 1 + len(options.after) > MOST_FILES:
+        raise Fault(WRONG_USE, f"{1 + len(options.after)} dumps: at most {MOST_FILES}")
+    if options.html is not None:
+        require_place(options.html)
+    comparison, answer = compared(options, words)
+    top = heads(comparison, answer.probe) if is_terminal(sys.stdout) and answer.lines else ""
+    write(top + printed(answer.lines, answer.probe.unit))
+    if options.html is not None:
+        write_page(options.html, content_of(comparison, answer))
+    say_remainder(answer, comparison)
+    cost = f"{counted(answer.search.all, 'field')}, {counted(comparison.heapmark.runs, 'run')} of heapmark"
+    say(f"leaks: {cost}, {time.time() - comparison.began:.1f} s")
+    return 0
+
+
+def run() -> NoReturn:
+    """Runs the command with the words of the command line."""
+    command_line.run("leaks", main)

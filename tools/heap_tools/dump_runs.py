@@ -1,0 +1,76 @@
+"""A dump in a plain file, and runs of heapmark on it as it is and on copies with changes."""
+
+import os
+import struct
+from typing import Dict, Sequence
+
+from heap_tools.changed_copy import Changes, write_copy
+from heap_tools.faults import UNREADABLE, Fault
+from heap_tools.heap_dump import HeapDump, UnknownTag
+from heap_tools.heapmark import Heapmark, opened
+from heap_tools.hprof_format import MAGIC
+from heap_tools.reports import Report, read_text
+
+
+def is_dump(path: str) -> bool:
+    """Tests whether a plain file begins as a dump does."""
+    if not os.path.isfile(path):
+        return False
+    with opened(path) as file:
+        return file.read(len(MAGIC)) == MAGIC
+
+
+def require_plain_dump(path: str, tool: str) -> None:
+    """Raises `Fault` if `path` is no plain file, which the tool has to read again, or is a report or a histogram."""
+    if os.path.exists(path) and not os.path.isfile(path):
+        raise Fault(UNREADABLE, f"{path}: no plain file, and {tool} reads it more than once")
+    if is_dump(path) or not os.path.exists(path):
+        return
+    with opened(path) as file:
+        found = read_text(file, path)
+    if found:
+        raise Fault(UNREADABLE, f"{path}: a {found[0]}: {tool} needs a dump")
+
+
+class DumpRuns:
+    """A dump in a plain file, and the runs of heapmark on it. `report` is that of the dump as it is. Later runs are on
+    copies in which `cut` is changed, too, and the objects `roots` are roots."""
+
+    def __init__(
+        self,
+        heapmark: Heapmark,
+        path: str,
+        report: Report,
+        dump: HeapDump,
+        cut: Changes,
+        roots: Sequence[int],
+    ) -> None:
+        self.heapmark, self.path, self.report, self.dump = heapmark, path, report, dump
+        self.cut, self.roots = cut, roots
+
+    @classmethod
+    def of(cls, heapmark: Heapmark, path: str, tool: str) -> "DumpRuns":
+        """Reads the dump `path` for `tool`. Raises `Fault` if that cannot be done."""
+        require_plain_dump(path, tool)
+        report = heapmark.first_report(path)
+        try:
+            dump = HeapDump(opened(path), report.has_nameless())
+        except UnknownTag as unknown:
+            raise Fault(UNREADABLE, f"{path}: {unknown}") from None
+        except (IndexError, KeyError, ValueError, struct.error):
+            raise Fault(UNREADABLE, f"{path}: it changed while it was read") from None
+        return cls(heapmark, path, report, dump, {}, ())
+
+    def with_cut(self, changes: Changes, roots: Sequence[int] = ()) -> "DumpRuns":
+        """Returns the same dump, in whose copies `changes` are made and `roots` are roots, too."""
+        cut: Dict[int, bytes] = {**self.cut, **changes}
+        return DumpRuns(self.heapmark, self.path, self.report, self.dump, cut, [*self.roots, *roots])
+
+    def without(self, changes: Changes) -> Report:
+        """Returns the report of the dump with these changes."""
+        every = {**self.cut, **changes}
+        return self.heapmark.later_report(self.path, lambda pipe: write_copy(self.dump, pipe, every, self.roots))
+
+    def base(self) -> Report:
+        """Returns the report with which those of copies compare."""
+        return self.without({}) if self.cut or self.roots else self.report

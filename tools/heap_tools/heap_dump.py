@@ -1,0 +1,252 @@
+"""Reads the records of a heap dump: strings, classes with their fields, threads, frames and the roots of threads.
+
+heapmark has accepted the dump, so its form is not tested here. Records that heapmark does not read, those of frames and
+traces, are.
+"""
+
+import mmap
+import struct
+from collections import deque
+from typing import BinaryIO, Deque, Dict, Iterable, Iterator, List, NamedTuple, Optional, Set, Tuple
+
+from heap_tools import hprof_format as hprof
+from heap_tools.class_names import of_dump, shown
+
+#: The static fields that hold the loaders of the JDK and of the class path.
+LASTING_LOADERS = frozenset(
+    f"{owner}.{field}"
+    for owner, fields in (
+        ("java/lang/ClassLoader", ["scl"]),
+        ("jdk/internal/loader/ClassLoaders", ["BOOT_LOADER", "PLATFORM_LOADER", "APP_LOADER"]),
+    )
+    for field in fields
+)
+
+#: Where a part of the file begins and ends.
+Span = Tuple[int, int]
+
+
+class UnknownTag(ValueError):
+    """A sub-record has a tag that this version of the tools does not know."""
+
+    def __init__(self, tag: int, at: int) -> None:
+        super().__init__(f"the sub-record at {at} has the tag 0x{tag:02x}, which these tools do not know")
+
+
+class Field(NamedTuple):
+    """A field of a class dump: its name, its type's code, whether it is static, whether it is a static field that is
+    null, and where in the file its type's code is."""
+
+    name: str
+    kind: int
+    is_static: bool
+    is_null: bool
+    place: int
+
+
+class Class(NamedTuple):
+    """A class dump: its superclass, its loader, 0 if that is the virtual machine's own, and its fields."""
+
+    superclass: int
+    loader: int
+    fields: List[Field]
+
+
+class Root(NamedTuple):
+    """A root of a thread: its kind, where in the file its identifier is, the thread's serial number, and the number of
+    the frame, or None if it is in none."""
+
+    kind: int
+    place: int
+    thread: int
+    frame: Optional[int]
+
+
+class Frame(NamedTuple):
+    """A method in a stack trace: its class and its name."""
+
+    class_name: str
+    method: str
+
+
+class HeapDump:
+    """The records of the dump in the plain file `file`. `nameless`: it has classes that no LOAD CLASS names, so that
+    all segments are read. `field_names` are the names of fields by the identifiers of their strings. Raises
+    `UnknownTag` for a sub-record that is not known."""
+
+    def __init__(self, file: BinaryIO, nameless: bool = False) -> None:
+        self.file = file
+        self.bytes = mmap.mmap(file.fileno(), 0, access=mmap.ACCESS_READ)
+        self.size = len(self.bytes)
+        self.id_size = self.number(hprof.ID_SIZE_AT, 4)
+        self.time = self.number(hprof.TIME_AT, 8)
+        self.unpack_id = struct.Struct(">Q" if self.id_size == 8 else ">I").unpack_from
+        self.value_sizes: Dict[int, int] = {hprof.OBJECT: self.id_size, **hprof.PRIMITIVE_SIZES}
+        self._texts: Dict[int, Span] = {}
+        self._loaded: Dict[int, int] = {}
+        self._serials: Dict[int, int] = {}
+        self._frames: Dict[int, Tuple[int, int]] = {}
+        self._traces: Dict[int, Tuple[int, int]] = {}
+        self.segments: List[Span] = []
+        self.classes: Dict[int, Class] = {}
+        self.roots: List[Root] = []
+        self.field_names: Dict[int, str] = {}
+        self._read_records()
+        self._read_heap(nameless)
+        self.names = {class_id: self._class_name(class_id) for class_id in self.classes}
+
+    def number(self, at: int, size: int) -> int:
+        """Reads the number in the `size` bytes at the offset `at`."""
+        return int.from_bytes(self.bytes[at : at + size], "big")
+
+    def id(self, at: int) -> int:
+        """Reads the identifier at the offset `at`."""
+        identifier: int = self.unpack_id(self.bytes, at)[0]
+        return identifier
+
+    def text(self, text_id: int) -> str:
+        """Returns a string of the dump as a report spells it."""
+        return shown(self.bytes[slice(*self._texts.get(text_id, (0, 0)))])
+
+    def _class_name(self, class_id: int) -> str:
+        text_id = self._loaded.get(class_id)
+        return of_dump(self.bytes[slice(*self._texts[text_id])]) if text_id in self._texts else f"?0x{class_id:x}"
+
+    # Records
+
+    def records(self) -> Iterator[Tuple[int, int, int]]:
+        """Yields the tag of each record, where its body begins and where it ends."""
+        at = hprof.HEADER_SIZE
+        while at < self.size:
+            tag, body = self.bytes[at], at + hprof.RECORD_HEAD_SIZE
+            at = body + self.number(body - 4, 4)
+            yield tag, body, at
+
+    def _read_records(self) -> None:
+        """Keeps where strings and heap records are, how classes are called, and frames and traces."""
+        size = self.id_size
+        for tag, body, at in self.records():
+            if tag == hprof.STRING:
+                self._texts.setdefault(self.id(body), (body + size, at))
+            elif tag == hprof.LOAD_CLASS:
+                class_id = self.id(body + 4)
+                self._loaded.setdefault(class_id, self.id(body + 8 + size))
+                self._serials[self.number(body, 4)] = class_id
+            elif tag == hprof.FRAME and at - body >= 4 * size + 8:
+                self._frames[self.id(body)] = self.id(body + size), self.number(body + 4 * size, 4)
+            elif tag == hprof.TRACE and at - body >= 12:
+                count = min(self.number(body + 8, 4), (at - body - 12) // size)
+                self._traces[self.number(body + 4, 4)] = body + 12, count
+            elif tag in (hprof.HEAP_DUMP, hprof.SEGMENT):
+                self.segments.append((body, at))
+
+    def frame(self, thread: int, number: Optional[int]) -> Optional[Frame]:
+        """Returns a frame of a thread, the innermost at 0, or None if the dump does not have it."""
+        begin, count = self._traces.get(thread, (0, 0))
+        if number is None or number >= count:
+            return None
+        text_id, serial = self._frames.get(self.id(begin + number * self.id_size), (0, 0))
+        if text_id not in self._texts or serial not in self._serials:
+            return None
+        return Frame(self._class_name(self._serials[serial]), self.text(text_id))
+
+    def stack(self, thread: int) -> List[Frame]:
+        """Returns the frames of a thread that the dump has, the innermost first."""
+        _, count = self._traces.get(thread, (0, 0))
+        frames = (self.frame(thread, number) for number in range(count))
+        return [each for each in frames if each]
+
+    # Classes and roots
+
+    def _read_heap(self, nameless: bool) -> None:
+        """Reads class dumps and the roots of threads. Virtual machines write the dumps of all loaded classes first, and
+        the roots of all threads that have a trace right after them or last. So this reads the first segments up to an
+        object, then the last ones down to an object, and the others only if it has not met all classes and threads, or
+        cannot know that."""
+        classes, threads = set(self._loaded), set(self._traces) - {0}
+        rest: Deque[Span] = deque(self.segments)
+        knows_all = bool(not nameless and threads)
+        ends_with_object = begins_with_object = False
+        while rest and not (knows_all and not classes and ends_with_object):
+            _, ends_with_object = self._read_segment(rest.popleft(), classes, threads)
+        while rest and (threads or not begins_with_object):
+            begins_with_object, _ = self._read_segment(rest.pop(), classes, threads)
+
+    def _read_segment(self, segment: Span, classes: Set[int], threads: Set[int]) -> Tuple[bool, bool]:
+        """Reads the class dumps and roots in a segment, and takes them from the `classes` and `threads` to be met.
+        Returns whether it begins with an object, and whether it ends with one."""
+        first = last = 0
+        for at, tag in self.sub_records([segment]):
+            if tag == hprof.CLASS_DUMP:
+                classes.discard(self.id(at + 1))
+            elif tag in hprof.THREAD_ROOTS:
+                self._note_root(at, tag)
+                if tag == hprof.THREAD_OBJECT:
+                    threads.discard(self.roots[-1].thread)
+            first, last = first or tag, tag
+        return first in hprof.OBJECTS, last in hprof.OBJECTS
+
+    def sub_records(self, segments: Iterable[Span]) -> Iterator[Tuple[int, int]]:
+        """Yields the place and the tag of each sub-record of `segments`. Reads class dumps on the way."""
+        data, size, sizes, count = self.bytes, self.id_size, self.value_sizes, hprof.COUNT.unpack_from
+        instance, array, primitive, class_dump = (
+            hprof.INSTANCE,
+            hprof.OBJECT_ARRAY,
+            hprof.PRIMITIVE_ARRAY,
+            hprof.CLASS_DUMP,
+        )
+        root_sizes = {**hprof.ROOT_SIZES, hprof.JNI_GLOBAL: size}
+        head = 9 + 2 * size
+        for at, end in segments:
+            while at < end:
+                begin, tag = at, data[at]
+                if tag == instance:
+                    at += head + count(data, at + head - 4)[0]
+                elif tag == primitive:
+                    at += 10 + size + count(data, at + 5 + size)[0] * sizes[data[at + 9 + size]]
+                elif tag == array:
+                    at += head + count(data, at + 5 + size)[0] * size
+                elif tag == class_dump:
+                    at = self._read_class(at)
+                elif tag in root_sizes:
+                    at += 1 + size + root_sizes[tag]
+                else:
+                    raise UnknownTag(tag, at)
+                yield begin, tag
+
+    def _note_root(self, at: int, tag: int) -> None:
+        after = at + 1 + self.id_size
+        frame = self.number(after + 4, 4) if tag in hprof.FRAME_ROOTS else None
+        self.roots.append(Root(tag, at + 1, self.number(after, 4), frame))
+
+    def _read_class(self, begin: int) -> int:
+        """Reads the class dump at `begin` and returns where it ends."""
+        data, size, sizes = self.bytes, self.id_size, self.value_sizes
+        fields, at = [], begin + 9 + 7 * size
+        for part in ("constants", "statics", "instances"):
+            count, at = self.number(at, 2), at + 2
+            for _ in range(count):
+                place = at + (2 if part == "constants" else size)
+                kind, name = data[place], at
+                at = place + 1 + (0 if part == "instances" else sizes[kind])
+                if part != "constants":
+                    is_static, text = part == "statics", self._field_name(self.id(name))
+                    is_null = is_static and kind == hprof.OBJECT and self.id(place + 1) == 0
+                    fields.append(Field(text, kind, is_static, is_null, place))
+        self.classes[self.id(begin + 1)] = Class(self.id(begin + 5 + size), self.id(begin + 5 + 2 * size), fields)
+        return at
+
+    def _field_name(self, text_id: int) -> str:
+        if text_id not in self.field_names:
+            self.field_names[text_id] = self.text(text_id)
+        return self.field_names[text_id]
+
+    def lasting_classes(self) -> List[int]:
+        """Returns the identifiers of the classes that are never unloaded: those of loaders that the JDK itself keeps in
+        static fields."""
+        loaders = {0}
+        for class_id, name in self.names.items():
+            for field in self.classes[class_id].fields:
+                if field.is_static and f"{name}.{field.name}" in LASTING_LOADERS:
+                    loaders.add(self.id(field.place + 1))
+        return [class_id for class_id, each in self.classes.items() if each.loader in loaders]

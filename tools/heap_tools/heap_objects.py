@@ -1,0 +1,102 @@
+"""Walks over the objects of a heap dump: how many there are of a class, where they are, and what their fields hold."""
+
+from typing import Dict, Iterable, List, Optional, Set
+
+from heap_tools import hprof_format as hprof
+from heap_tools.class_names import PRIMITIVES
+from heap_tools.heap_dump import HeapDump, Span
+from heap_tools.parallel import shared
+
+#: The fewest segments for which a process of its own pays. Those of a virtual machine have a million bytes each.
+FEWEST_SEGMENTS = 64
+
+
+class HeapObjects:
+    """The objects of `dump`. Each walk reads all heap records, in as many processes as pay."""
+
+    def __init__(self, dump: HeapDump) -> None:
+        self.dump = dump
+
+    def thread_names(self) -> Dict[int, str]:
+        """Returns the names of the threads by their serial numbers. Walks over all objects up to three times."""
+        dump = self.dump
+        threads = {root.thread: dump.id(root.place) for root in dump.roots if root.kind == hprof.THREAD_OBJECT}
+        objects = self.places_of(threads.values())
+        strings = {key: self.reference(at, "java/lang/Thread", "name") for key, at in objects.items()}
+        texts = self.texts(strings.values())
+        return {thread: texts.get(strings.get(key, 0), "") for thread, key in threads.items()}
+
+    def texts(self, strings: Iterable[int]) -> Dict[int, str]:
+        """Returns the texts of the Strings with these identifiers. Walks over all objects up to twice."""
+        places = self.places_of(strings)
+        values = {key: self.reference(at, "java/lang/String", "value") for key, at in places.items()}
+        arrays = self.places_of(values.values())
+        return {key: self._string(at, arrays.get(values[key])) for key, at in places.items()}
+
+    def places_of(self, identifiers: Iterable[int]) -> Dict[int, int]:
+        """Returns where the objects with these identifiers are. Walks over all objects."""
+        wanted = {each for each in identifiers if each}
+
+        def found_in(segments: List[Span]) -> Dict[int, int]:
+            found: Dict[int, int] = {}
+            id_at, data, objects = self.dump.unpack_id, self.dump.bytes, hprof.OBJECTS
+            for at, tag in self.dump.sub_records(segments):
+                if id_at(data, at + 1)[0] in wanted and tag in objects:
+                    found[id_at(data, at + 1)[0]] = at
+                    if len(found) == len(wanted):
+                        break
+            return found
+
+        parts = shared(found_in, self.dump.segments, FEWEST_SEGMENTS) if wanted else []
+        return {key: at for part in parts for key, at in part.items()}
+
+    def count(self, names: Set[str]) -> int:
+        """Returns how many objects of the classes with these names, as reports have them, the dump has."""
+        dump = self.dump
+        classes = {class_id for class_id, name in dump.names.items() if name in names}
+        codes = {code for code, letter in hprof.LETTERS.items() if f"{PRIMITIVES[letter]}[]" in names}
+        places = {hprof.INSTANCE: 5 + dump.id_size, hprof.OBJECT_ARRAY: 9 + dump.id_size}
+
+        def count_in(segments: List[Span]) -> int:
+            found = 0
+            for at, tag in dump.sub_records(segments):
+                if tag in places:
+                    found += dump.id(at + places[tag]) in classes
+                elif tag == hprof.PRIMITIVE_ARRAY:
+                    found += dump.bytes[at + 9 + dump.id_size] in codes
+            return found
+
+        return sum(shared(count_in, dump.segments, FEWEST_SEGMENTS))
+
+    def place_of_value(self, at: int, class_name: str, field: str) -> Optional[int]:
+        """Returns where the value of an instance's field is that the class `class_name` declares, or None."""
+        dump = self.dump
+        if dump.bytes[at] != hprof.INSTANCE:
+            return None
+        class_id, place = dump.id(at + 5 + dump.id_size), at + 9 + 2 * dump.id_size
+        while class_id in dump.classes:
+            for each in dump.classes[class_id].fields:
+                if each.is_static:
+                    continue
+                if each.name == field and dump.names[class_id] == class_name:
+                    return place
+                place += dump.value_sizes[each.kind]
+            class_id = dump.classes[class_id].superclass
+        return None
+
+    def reference(self, at: int, class_name: str, field: str) -> int:
+        """Returns the identifier in a field of the instance at `at`, 0 if it has no such field."""
+        place = self.place_of_value(at, class_name, field)
+        return 0 if place is None else self.dump.id(place)
+
+    def _string(self, at: int, array: Optional[int]) -> str:
+        """Returns the text of the String at `at`, whose array is at `array`, empty if that is missing."""
+        dump = self.dump
+        if array is None or dump.bytes[array] != hprof.PRIMITIVE_ARRAY:
+            return ""
+        kind, begin = dump.bytes[array + 9 + dump.id_size], array + 10 + dump.id_size
+        raw = dump.bytes[begin : begin + dump.value_sizes[kind] * dump.number(array + 5 + dump.id_size, 4)]
+        coder = self.place_of_value(at, "java/lang/String", "coder")
+        if kind == hprof.CHAR:
+            return raw.decode("utf-16-be", "replace")
+        return raw.decode("utf-16-le" if coder is not None and dump.bytes[coder] else "latin-1", "replace")

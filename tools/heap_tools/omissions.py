@@ -1,0 +1,44 @@
+"""What heap dumps do not have, for each version of the JDK, in the words of all tools and of the page."""
+
+from typing import List
+
+from heap_tools.humanize import counted
+from heap_tools.reports import Amount
+
+#: What dumps omit of virtual threads that wait, by the version of the JDK.
+VIRTUAL_THREADS = (
+    "of virtual threads that wait, JDK 21 omits the stacks, and JDK 25 the values that compiled code keeps without an "
+    "object"
+)
+#: What holds objects that are unreachable in a live dump.
+HIDDEN_HOLDERS = (
+    "only class objects, the virtual machine or waiting virtual threads hold them, which dumps omit "
+    f"({VIRTUAL_THREADS})"
+)
+#: Why objects are unreachable, by the kind of dump.
+WHY_UNREACHABLE = f"garbage in dumps with -all; in live dumps {HIDDEN_HOLDERS}"
+#: What no dump shows, of whatever program.
+NEVER_SHOWN = [
+    "Memory outside of the heap: direct buffers, class metadata, compiled code, and the memory of stacks.",
+    "Headers and padding of objects. Bytes are those of fields and elements as the dump writes them, and a reference "
+    "of a 64-bit machine counts 8 bytes, so sizes differ from those that the virtual machine reports. Numbers of "
+    "objects can be compared.",
+]
+
+
+def more_unreachable(more: Amount) -> str:
+    """Returns how much more is unreachable in a later dump, and why. `more` is above 0 in one figure at least; the
+    other one is left out if it is not."""
+    figures = (more.objects, "object"), (more.bytes, "byte")
+    parts = [f"{counted(number, noun)} more" for number, noun in figures if number > 0]
+    return f"{', '.join(parts)} {'is' if parts[0].startswith('1 ') else 'are'} unreachable: {WHY_UNREACHABLE}"
+
+
+def on_page(more: Amount) -> List[str]:
+    """Returns in sentences what the dumps of a page do not show. `more` is what is unreachable in the last one only."""
+    return [f"In the last dump, {more_unreachable(more)}."] if max(more) > 0 else []
+
+
+def unreachable_on_page(objects: int) -> str:
+    """Returns a sentence on the `objects` that are unreachable in the last dump of a page."""
+    return f"What holds unreachable objects, of which the last dump has {objects:,}: {WHY_UNREACHABLE}."

@@ -1,0 +1,53 @@
+"""Work that is shared out to processes, one for each processor."""
+
+import os
+import pickle
+import signal
+from typing import BinaryIO, Callable, List, Tuple, TypeVar
+
+from heap_tools.faults import UNREADABLE, Fault
+
+Item = TypeVar("Item")
+Result = TypeVar("Result")
+
+
+def shared(function: Callable[[List[Item]], Result], items: List[Item], least: int) -> List[Result]:
+    """Calls `function` with parts of the list `items`, each in a process of its own, and returns the results. There are
+    as many parts as processors, but each has at least `least` items."""
+    count = max(1, min(len(os.sched_getaffinity(0)), len(items) // least))
+    if count == 1:
+        return [function(items)]
+    bounds = [len(items) * number // count for number in range(count + 1)]
+    children: List[Tuple[int, BinaryIO]] = []
+    try:
+        for begin, end in zip(bounds, bounds[1:]):
+            children.append(_started(function, items[begin:end]))
+        return [pickle.loads(_all_of(stream)) for _, stream in children]
+    finally:
+        for child, stream in children:
+            stream.close()
+            os.kill(child, signal.SIGKILL)
+            os.waitpid(child, 0)
+
+
+def _started(function: Callable[[List[Item]], Result], items: List[Item]) -> Tuple[int, BinaryIO]:
+    """Starts a process that calls `function`. Returns its number, and the stream that its result comes from."""
+    reads, writes = os.pipe()
+    child = os.fork()
+    if child == 0:
+        try:
+            with open(writes, "wb") as stream:
+                pickle.dump(function(items), stream)
+        finally:
+            os._exit(0)
+    os.close(writes)
+    return child, open(reads, "rb")
+
+
+def _all_of(stream: BinaryIO) -> bytes:
+    """Returns the whole result. Raises `Fault` if the process ended without one: it ran out of memory, or what it read
+    changed."""
+    content = stream.read()
+    if not content:
+        raise Fault(UNREADABLE, "a process that reads the dump ended early")
+    return content

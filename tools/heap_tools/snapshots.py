@@ -1,0 +1,73 @@
+"""The files that show a program at several moments: dumps, saved reports and histograms."""
+
+import os
+from typing import List, NamedTuple, Optional, Sequence
+
+from heap_tools.faults import UNREADABLE, WRONG_USE, Fault
+from heap_tools.heapmark import Heapmark
+from heap_tools.hprof_format import HEADER_SIZE, MAGIC, TIME_AT
+from heap_tools.reports import Report, read_text
+
+
+class Snapshot(NamedTuple):
+    """A file of the command line. `kind` is dump, report or histogram; `time` the time in a dump's header, in
+    milliseconds since 1970, or None."""
+
+    path: str
+    kind: str
+    report: Report
+    time: Optional[int] = None
+
+
+class SnapshotReader:
+    """Reads the files of a command line. `skip` is a list of fields for dumps, or None."""
+
+    def __init__(self, skip: Optional[str]) -> None:
+        self.heapmark = Heapmark()
+        self.options = [] if skip is None else ["--skip=" + skip]
+        if skip is not None:
+            self.heapmark.check_fields(skip)
+
+    def read(self, path: str) -> Snapshot:
+        """Reads a file of any of the three kinds."""
+        if not os.path.isfile(path):
+            return self._dump(path, ", and only dumps may come from what is no plain file")
+        try:
+            with open(path, "rb") as file:
+                header = file.read(HEADER_SIZE)
+                if not header.startswith(MAGIC):
+                    found = read_text(file, path)
+                    why = ", no whole report, and no whole histogram"
+                    return Snapshot(path, *found) if found else self._dump(path, why)
+        except PermissionError:
+            header = b""  # heapmark says so
+        time = int.from_bytes(header[TIME_AT:], "big") if len(header) == HEADER_SIZE else None
+        return self._dump(path, time=time)
+
+    def _dump(self, path: str, why: str = "", time: Optional[int] = None) -> Snapshot:
+        """Runs heapmark on a dump."""
+        return Snapshot(path, "dump", self.heapmark.first_report(path, self.options, why), time)
+
+
+def read_snapshots(paths: Sequence[str], skip: Optional[str]) -> List[Snapshot]:
+    """Reads the files. Raises `Fault` if they cannot be compared."""
+    reader = SnapshotReader(skip)
+    snapshots = [reader.read(path) for path in paths]
+    if skip is not None and all(each.kind != "dump" for each in snapshots):
+        raise Fault(WRONG_USE, "--skip: none of the files is a dump")
+    histogram = next((each for each in snapshots if each.kind == "histogram"), None)
+    other = next((each for each in snapshots if each.kind != "histogram"), None)
+    if histogram and other:
+        text = f"{histogram.path}: a histogram: its bytes are not those of {other.path}, a {other.kind}"
+        raise Fault(UNREADABLE, text)
+    return snapshots
+
+
+def hours_between(first: Snapshot, last: Snapshot) -> float:
+    """Returns the hours between two dumps. Raises `Fault` if a time is not known, or if none lies between them."""
+    if first.time is None or last.time is None:
+        path = first.path if first.time is None else last.path
+        raise Fault(UNREADABLE, f"{path}: --per-hour: no dump in a plain file, so its time is not known")
+    if last.time <= first.time:
+        raise Fault(UNREADABLE, f"{last.path}: --per-hour: not later than {first.path}")
+    return (last.time - first.time) / 3600000

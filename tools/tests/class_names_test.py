@@ -1,0 +1,103 @@
+"""Tests that grown, holders, held and leaks agree on names of classes, as reports show and as users write them."""
+
+import unittest
+
+from heap_tools import class_names
+from tests.support.dump_writer import DumpWriter
+from tests.support.tool_test import ToolTest
+
+#: Names in a dump, what the tools call them, and how a user may write them.
+ODD = [
+    ("a/L$$Lambda$14+0x00000008000c0a08", "a/L$$Lambda", ["a/L$$Lambda$15", "a.L$$Lambda$14/0x00000008000c0a08"]),
+    ("b/L$$Lambda+0x00007f85e0007680", "b/L$$Lambda", ["b.L$$Lambda/0x00007f85e0007680", "b/L$$Lambda+0x1"]),
+    ("c/L$$Lambda/0x000000002a001400", "c/L$$Lambda/0x000000002a001400", ["c/L$$Lambda/0x000000002a001400"]),
+    ("d/Hidden+0x0000000800c03000", "d/Hidden", ["d.Hidden/0x0000000800c03000", "d.Hidden"]),
+    ("java/lang/invoke/F$MH+0x0000000800c08400", "java/lang/invoke/F$MH", ["java.lang.invoke.F$MH/0x0000000800c08400"]),
+    ("e/F$DMH$3+0x0000000800c09000", "e/F$DMH", ["e.F$DMH$3/0x0000000800c09000"]),
+    ("de/Größe", r"de/Gr\xc3\xb6\xc3\x9fe", ["de.Größe", "de/Größe", r"de.Gr\xc3\xb6\xc3\x9fe"]),
+    ("店/订单", r"\xe5\xba\x97/\xe8\xae\xa2\xe5\x8d\x95", ["店.订单"]),
+    ("f/Cache$Order", "f/Cache$Order", ["f.Cache$Order"]),
+    ("g/Shop$", "g/Shop$", ["g.Shop$"]),
+    ("g/MainKt$main$1", "g/MainKt$main$1", ["g.MainKt$main$1"]),
+    ("jdk/proxy2/$Proxy12", "jdk/proxy2/$Proxy12", ["jdk.proxy2.$Proxy12"]),
+    ("$Proxy7", "$Proxy7", ["$Proxy7"]),
+    ("café au lait", r"caf\xc3\xa9\x20au\x20lait", ["café au lait"]),
+    ("a.b\\c", r"a.b\x5cc", ["a.b\\c"]),
+    ("h/Old (unused)", r"h/Old\x20(unused)", ["h.Old (unused)"]),
+    ("i/<script>", "i/<script>", ["i.<script>"]),
+    ("-dash/A", "-dash/A", ["-dash.A"]),
+    ("java/util/HashMap$Node", "java/util/HashMap$Node", ["java.util.HashMap$Node (java.base@17)"]),
+    (None, "?0x1e", ["?0x1e"]),
+]
+#: The same for arrays, which have no fields.
+ARRAYS = [
+    ("[Lcom/shop/Order;", "[Lcom/shop/Order;", ["[Lcom.shop.Order;", "com.shop.Order[]", "com/shop/Order[]"]),
+    ("[[Lcom/shop/Order;", "[[Lcom/shop/Order;", ["com.shop.Order[][]"]),
+    ("[[I", "[[I", ["int[][]"]),
+    ("[La/L$$Lambda$14+0x00000008000c0a08;", "[La/L$$Lambda;", ["[La.L$$Lambda$14/0x00000008000c0a08;"]),
+]
+
+
+def odd_names(count):
+    """Writes a dump with `count` objects of each odd class in a list of its own, and an array of bytes."""
+    dump, roots = DumpWriter(time=count), []
+    for number, (name, _, _) in enumerate([*ODD, *ARRAYS], 11):
+        dump.of_class(number, name, fields=["next"] if number < 11 + len(ODD) else [])
+        first = 1000 * number
+        for at in range(count):
+            follower = first + at + 1 if at + 1 < count else 0
+            write = dump.instance if number < 11 + len(ODD) else dump.array
+            write(first + at, number, follower)
+        roots.append(first)
+    dump.of_class(10, "[B")
+    dump.values(100, 8, bytes(count))
+    dump.root(*roots, 100)
+    return dump
+
+
+class NamesTest(ToolTest):
+    """The names of a dump with odd classes."""
+
+    tool = "grown"
+
+    def setUp(self):
+        super().setUp()
+        odd_names(2).write("before.hprof")
+        odd_names(5).write("after.hprof")
+
+    def test_grown(self):
+        """grown shows each class by the name that the others take."""
+        shown = [line.split()[-1] for line in self.ran("before.hprof", "after.hprof").out.splitlines()]
+        self.assertEqual(sorted(shown), sorted([*(name for _, name, _ in [*ODD, *ARRAYS]), "byte[]"]))
+
+    def test_spellings(self):
+        """Each spelling may mean the name."""
+        for _, name, spellings in [*ODD, *ARRAYS, ("[B", "byte[]", ["[B"])]:
+            for each in [name, *spellings]:
+                self.assertIn(name, class_names.families(each), each)
+
+    def test_printable(self):
+        """Names of threads have one line, without codes of a terminal and marks of direction."""
+        odd = ('a\n"b"\\\x1b[2J', r"a\x0a\x22b\x22\x5c\x1b[2J")
+        for text, spelt in (("http-ü 0", "http-ü 0"), odd, ("\u202e", r"\xe2\x80\xae"), ("\x85c", r"\xc2\x85c"), ("\u085c", r"\xe0\xa1\x9c")):
+            self.assertEqual(class_names.printable(text), spelt)
+
+    def test_others(self):
+        """holders, leaks and held take each name as a user may write it."""
+        for _, name, spellings in [*ODD, *ARRAYS, ("[B", "byte[]", ["[B"])]:
+            each = spellings[0]
+            with self.subTest(name=each):
+                ended = self.ran("--", "after.hprof", each, tool="holders")
+                self.assertEqual(ended.status, 0, ended.said)
+                self.assertIn(f" of {name} ", ended.said)
+                ended = self.ran(f"--class={each}", "before.hprof", "after.hprof", tool="leaks")
+                self.assertEqual(ended.status, 0, ended.said)
+                ended = self.ran("--", "after.hprof", f"{each}.next", tool="held")
+                if class_names.is_array(name):
+                    self.assertIn(" itself declares no such field", ended.said)
+                else:
+                    self.assertEqual(ended.out, f"{4:10} {32:14}  {name}\n", ended.said)
+
+
+if __name__ == "__main__":
+    unittest.main()

@@ -1,0 +1,66 @@
+"""Tests how a tool ends, and the lines that it writes on standard error."""
+
+import contextlib
+import os
+import subprocess
+import sys
+import unittest
+
+from heap_tools import console
+from tests.support.tool_test import TOOLS
+
+
+class EndTest(unittest.TestCase):
+    """A tool that ends early."""
+
+    def ended(self, body):
+        """Runs a tool whose `main` has this body. Returns its status and its messages."""
+        text = f"import errno, os, signal\nfrom heap_tools import command_line\ndef main(words):\n    {body}\n"
+        words = [sys.executable, "-c", f"{text}command_line.run('tool', main)"]
+        ended = subprocess.run(words, cwd=TOOLS, stdout=subprocess.PIPE, stderr=subprocess.PIPE, check=False)
+        return ended.returncode, ended.stderr.decode()
+
+    def test_faults(self):
+        """A fault of the system takes one line, with the file if there is one."""
+        for body, line in (
+            ("open('/no/file')", "tool: /no/file: No such file or directory"),
+            ("raise OSError(errno.EAGAIN, os.strerror(errno.EAGAIN))", "tool: Resource temporarily unavailable"),
+            ("raise OSError('why')", "tool: why"),
+        ):
+            self.assertEqual(self.ended(body), (1, f"{line}\n"))
+
+    def test_signals(self):
+        """Each signal ends the tool with one line, also if more of them come."""
+        for name in ("SIGINT", "SIGTERM", "SIGHUP"):
+            body = f"signal.signal(signal.SIGINT, signal.default_int_handler); os.kill(os.getpid(), signal.{name})"
+            self.assertEqual(self.ended(body), (130, "tool: interrupted\n"), name)
+
+    def test_early(self):
+        """An interrupt while the modules of a tool are read takes one line, too."""
+        for tool in ("grown", "held", "holders", "leaks"):
+            text = (TOOLS / tool).read_text(encoding="utf-8")
+            text = text.replace("from heap_tools", "raise KeyboardInterrupt\n    from x")
+            words = [sys.executable, "-c", f"__file__ = {str(TOOLS / tool)!r}\n{text}"]
+            ended = subprocess.run(words, stdout=subprocess.PIPE, stderr=subprocess.PIPE, check=False)
+            self.assertEqual((ended.returncode, ended.stderr.decode()), (130, f"{tool}: interrupted\n"))
+
+
+class LineTest(unittest.TestCase):
+    """What is said in one line."""
+
+    def test_controls(self):
+        """Control characters are spelled as heapmark spells them, all else stays."""
+        for text, spelled in (("a\nb", r"a\x0ab"), ("\x1b[1m", r"\x1b[1m"), ("\x85", r"\xc2\x85"), ("Größe", "Größe")):
+            self.assertEqual(console.in_one_line(text), spelled)
+
+    def test_surrogates(self):
+        """Bytes of a file's name that are no text stay as they are."""
+        reads, writes = os.pipe()
+        with open(reads, "rb") as read:
+            with open(writes, "w") as written, contextlib.redirect_stderr(written):
+                console.say(os.fsdecode(b"\xff"))
+            self.assertEqual(read.read(), b"\xff\n")
+
+
+if __name__ == "__main__":
+    unittest.main()

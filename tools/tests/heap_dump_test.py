@@ -1,0 +1,208 @@
+"""Reads small dumps, of which it is known what they have, and writes copies with changes."""
+
+import os
+import tempfile
+import unittest
+
+from heap_tools import heap_dump, hprof_format, parallel
+from heap_tools.changed_copy import NEAR, write_copy
+from heap_tools.faults import Fault
+from heap_tools.heap_objects import FEWEST_SEGMENTS, HeapObjects
+from tests.support.dump_writer import BYTE, DumpWriter, word
+
+
+class HprofTest(unittest.TestCase):
+    """A test that reads and copies dumps."""
+
+    def read(self, dump, nameless=False):
+        """Returns what is read of a dump."""
+        return heap_dump.HeapDump(self.file(dump.bytes()), nameless)
+
+    def file(self, content=b""):
+        """Returns a temporary file with this content."""
+        file = tempfile.TemporaryFile()
+        self.addCleanup(file.close)
+        file.write(content)
+        file.flush()
+        return file
+
+    def copied(self, found, *changes):
+        """Returns a copy of a dump that was read, with changes."""
+        with tempfile.TemporaryDirectory() as folder, open(f"{folder}/copy", "wb") as copy:
+            write_copy(found, copy, *changes)
+            with open(f"{folder}/copy", "rb") as file:
+                return file.read()
+
+
+class Service(DumpWriter):
+    """A dump with two threads, whose roots are written where the test says."""
+
+    def __init__(self, id_size=8):
+        super().__init__(id_size)
+        self.of_class(1, "java/lang/Thread", fields=["intPriority", "name"])
+        self.of_class(2, "java/lang/String", fields=["value", "coder"])
+        self.of_class(3, "shop/Order", {"FIRST": 300, "NONE": 0}, fields=["next"], superclass=0)
+
+    def objects(self, *numbers):
+        """Writes orders, and the threads with their names."""
+        for number in numbers:
+            self.instance(number, 3, 0)
+
+    def named(self, number, name):
+        """Writes a thread object with its name."""
+        self.instance(number, 1, word(5), number + 10)
+        self.instance(number + 10, 2, number + 20, b"\0")
+        self.values(number + 20, BYTE, name)
+
+
+class ReadingTest(HprofTest):
+    """Records, classes, roots and threads."""
+
+    def roots(self, *parts):
+        """Writes a dump of these parts, each in a segment of its own, and tests that all of its roots are read."""
+        dump = Service()
+        for part in parts:
+            dump.cut()
+            part(dump)
+        found = self.read(dump)
+        roots = [(root.thread, root.frame) for root in found.roots]
+        self.assertCountEqual(roots, [(1, 0), (1, None), (2, 0), (2, None)])
+        self.assertEqual(str(found.frame(1, 0)), str(heap_dump.Frame("shop/Order", "sell")))
+        self.assertIsNone(found.frame(1, 1))
+        self.assertIsNone(found.frame(1, None))
+
+    def test_places_of_roots(self):
+        """The roots of threads come before the objects, after them, or between them."""
+
+        def first(dump):
+            dump.thread(1, 200, [(3, "sell")])
+            dump.local(1, 0, 300)
+
+        def second(dump):
+            dump.thread(2, 201, [(3, "sell")])
+            dump.local(2, 0, 301)
+
+        def orders(dump):
+            dump.objects(300, 301)
+
+        self.roots(first, second, orders, orders)
+        self.roots(orders, orders, orders, first, second)
+        self.roots(orders, first, orders, second, orders)
+        self.roots(first, orders, orders, orders, second)
+
+    def test_classes(self):
+        """Classes with their fields, also if their dumps come last, and a class without a name."""
+        dump = Service()
+        dump.cut()
+        dump.objects(300)
+        dump.cut()
+        dump.of_class(4, "[B")
+        dump.of_class(5, None, {"MINE": 300})
+        found = self.read(dump)
+        named = {1: "java/lang/Thread", 2: "java/lang/String", 3: "shop/Order"}
+        self.assertEqual(found.names, {**named, 4: "byte[]", 5: "?0x5"})
+        fields = [(field.name, field.kind, field.is_static, field.is_null) for field in found.classes[3].fields]
+        reference = hprof_format.OBJECT
+        wanted = [("FIRST", reference, True, False), ("NONE", reference, True, True), ("next", reference, False, False)]
+        self.assertEqual(fields, wanted)
+
+    def test_records(self):
+        """The records one after the other, which are the whole dump but for its header; and the names of all fields."""
+        found = self.read(Service(), nameless=True)
+        ends = [hprof_format.HEADER_SIZE]
+        for tag, begin, end in found.records():
+            self.assertEqual((found.bytes[ends[-1]], begin), (tag, ends[-1] + hprof_format.RECORD_HEAD_SIZE))
+            ends.append(end)
+        self.assertEqual((ends[-1], len(ends) > 9), (found.size, True))
+        self.assertLessEqual({"coder", "FIRST", "next"}, set(found.field_names.values()))
+
+    def test_names_of_threads(self):
+        """Names of threads, in one process and in several; a thread without a name has an empty one."""
+        for id_size in (4, 8):
+            dump = Service(id_size)
+            for serial, name in ((1, b"main"), (2, b"http-\xe9")):
+                dump.thread(serial, 200 + serial)
+                dump.named(200 + serial, name)
+            dump.thread(3, 209)
+            dump.instance(209, 1, word(5), 0)
+            for _ in range(4 * FEWEST_SEGMENTS):
+                dump.cut()
+                dump.objects(300)
+            self.assertEqual(HeapObjects(self.read(dump)).thread_names(), {1: "main", 2: "http-\u00e9", 3: ""})
+
+    def test_count(self):
+        """Objects by class, whether or not they are reachable."""
+        dump = Service()
+        dump.objects(300, 301)
+        dump.values(400, BYTE, bytes(3))
+        self.assertEqual([HeapObjects(self.read(dump)).count({name}) for name in ("shop/Order", "byte[]", "int[]")], [2, 1, 0])
+
+    def test_lasting_classes(self):
+        """Classes of the loaders that the JDK keeps are never unloaded."""
+        dump = Service()
+        dump.of_class(4, "java/lang/ClassLoader", {"scl": 300})
+        dump.of_class(5, "shop/Shop", loader=300)
+        dump.of_class(6, "plugin/Driver", loader=301)
+        self.assertEqual(self.read(dump).lasting_classes(), [1, 2, 3, 4, 5])
+
+
+class CopyTest(HprofTest):
+    """Copies with changes."""
+
+    def test_changes(self):
+        """Changes near each other and far apart are written where they are."""
+        dump = Service()
+        dump.values(400, BYTE, bytes(3 * NEAR))
+        found, content = self.read(dump), dump.bytes()
+        self.assertEqual(self.copied(found, {}), content)
+        end = len(content)
+        changes = {100: b"ab", 103: b"c", 40: b"d", end - 2: b"ef", end - NEAR - 9: b"g"}
+        wanted = bytearray(content)
+        for place, new in changes.items():
+            wanted[place : place + len(new)] = new
+        self.assertEqual(self.copied(found, changes), bytes(wanted))
+
+    def test_roots(self):
+        """Further roots come first in the first record of the heap, whose length says so."""
+        for is_cut in (False, True):
+            dump, other = Service(), Service()
+            other.heap = b"\xff" + other.form.spell([300]) + other.heap
+            for each in (dump, other):
+                each.objects(300)
+                if is_cut:
+                    each.cut()
+                    each.objects(301)
+            self.assertEqual(self.copied(self.read(dump), {}, [300]), other.bytes())
+
+    def test_shorter(self):
+        """A file that became shorter is seen."""
+        found = self.read(Service())
+        os.truncate(found.file.fileno(), 200)
+        for changes in ({}, {150: b"a", 300: b"b"}):
+            with self.assertRaises(EOFError):
+                self.copied(found, changes)
+
+
+class ProcessesTest(unittest.TestCase):
+    """Work that is shared out."""
+
+    def test_shared(self):
+        """All parts are done, in order, and a process that fails is seen."""
+        items = list(range(100))
+        for least in (1, 30, 1000):
+            parts = parallel.shared(sum, items, least)
+            self.assertEqual(sum(parts), 4950)
+        self.assertEqual(len(parts), 1)
+        if len(os.sched_getaffinity(0)) > 1:
+            with self.assertRaises(Fault), open(os.devnull, "w") as nothing:
+                kept = os.dup(2)
+                os.dup2(nothing.fileno(), 2)
+                try:
+                    parallel.shared(lambda part: 1 // 0, items, 1)
+                finally:
+                    os.dup2(kept, 2)
+                    os.close(kept)
+
+
+if __name__ == "__main__":
+    unittest.main()

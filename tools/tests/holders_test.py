@@ -1,0 +1,281 @@
+"""Runs holders on small dumps, and compares what it prints."""
+
+import os
+import pathlib
+import subprocess
+import unittest
+
+from tests.support.dump_writer import BYTE, DumpWriter
+from tests.support.held_objects import DUMPS, shop
+from tests.support.tool_test import HEAPMARK, ToolTest, histogram
+
+def line(objects, size, share, holders, text):
+    """Returns a line of the output."""
+    return f"{objects:10} {size:14} {share:4}% {holders:9}  {text}\n"
+
+
+def without_statics(rest, whole, what, fields="*"):
+    """Returns a pattern for the last message."""
+    hold = f"threads or the virtual machine hold {rest} of {whole} {what} without any static field"
+    return f"holders: {hold}; {fields} of heapmark"
+
+
+class HoldersTest(ToolTest):
+    """holders on small dumps."""
+
+    tool = "holders"
+    ORDERS = line(20, 0, 80, 1, "static Shop.CACHE") + line(20, 0, 80, 1, "Cache.table")
+    WHOLE = line(23, 216, 70, 1, "static Shop.CACHE") + line(21, 200, 65, 1, "Cache.table")
+
+    def setUp(self):
+        super().setUp()
+        for name, dump in DUMPS.items():
+            dump.write(f"{name}.hprof")
+
+    def test_lines(self):
+        """Lines with CLASS and without, by both sizes of identifiers."""
+        of_bytes, none = without_statics(92, 308, "bytes"), "holders: no field, local variable or thread alone holds "
+        smaller = self.WHOLE + line(1, 40, 13, 1, "java/lang/Thread.orders")
+        first = self.WHOLE.split("\n")[0] + "\n"
+        half = line(23, 108, 69, 1, "static Shop.CACHE") + line(21, 100, 64, 1, "Cache.table")
+        both = line(9, 0, 90, 2, "together static Journal.EVENTS, static Screen.SHOWN")
+        late = line(2, 16, 100, 1, "static List.HEAD") + line(1, 8, 50, 2, "Node.next")
+        for words, out, said in (
+            (["shop.hprof", "Order"], self.ORDERS, without_statics(5, 25, "objects of Order")),
+            (["shop4.hprof", "Order"], self.ORDERS, without_statics(5, 25, "objects of Order")),
+            (["shop.hprof"], self.WHOLE, of_bytes),
+            (["shop4.hprof"], half, without_statics(48, 156, "bytes")),
+            (["shop.hprof", "--at-least", "10"], smaller, of_bytes),
+            (["--at-least", "70", "shop.hprof"], first, of_bytes),
+            (["shop.hprof", "--top=1"], first, f"holders: fields with more holders *: see --top\n{of_bytes}"),
+            (["shop.hprof", "--at-least=90"], "", f"{none}90% of 308 bytes: see --at-least\n{of_bytes}"),
+            (["journal.hprof", "Event"], both, without_statics(0, 10, "objects of Event")),
+            (["none.hprof"], "", f"{none}20% of 0 bytes*\n{without_statics(0, 0, 'bytes', '0 fields, *')}"),
+            (["late.hprof", "Node"], late, without_statics(0, 2, "objects of Node")),
+        ):
+            self.expect(words, out, said)
+
+    def test_roots(self):
+        """Objects that are roots themselves: no option helps."""
+        dump = DumpWriter()
+        dump.of_class(1, "Order")
+        dump.instance(200, 1)
+        dump.root(200)
+        dump.write("roots.hprof")
+        none = "holders: no field, local variable or thread alone holds 10% of 1 object of Order: they are roots *"
+        self.expect(["roots.hprof", "Order"], said=f"{none}\n{without_statics(1, 1, 'object of Order')}")
+
+    def test_threads(self):
+        """Local variables and threads hold objects, too."""
+        lines = line(5, 0, 62, 1, "local com/shop/Server.serve")
+        mine = line(6, 0, 75, 1, 'thread "http-0"') + lines
+        self.expect(["--at-least", "50", "threads.hprof", "Message"], mine, without_statics(8, 8, "objects of Message"))
+        worker = line(2, 0, 25, 2, "local com/shop/Worker.take") + line(1, 0, 12, 1, 'thread "http-ü"')
+        ended = self.ran("threads.hprof", "Message")
+        for each in (mine + worker).splitlines():
+            self.assertIn(each, ended.out.splitlines())
+
+    def test_arrays(self):
+        """Shares of arrays are those of bytes: by number, the catalog would hold 90 %."""
+        upload = line(10, 10000, 92, 1, "static Upload.CHUNKS")
+        said = without_statics(0, "10,900", "bytes of byte[[]]")
+        self.expect(["--at-least", "50", "arrays.hprof", "byte[]"], upload, said)
+        ended = self.ran("--at-least", "50", "--bytes", "arrays.hprof", "[[B")
+        self.assertEqual(ended.out.splitlines()[0], line(1, 720, 90, 1, "static Catalog.ALL").rstrip())
+
+    def test_weak(self):
+        """What weak references hold, by default and with --weak."""
+        weakly, followed = ["weak.hprof", "Order"], line(1, 0, 100, 2, "java/lang/ref/Reference.referent")
+        only = "holders: Order: only soft, weak, final or phantom references *"
+        self.expect(weakly, said=only, status=7)
+        self.expect(["--weak", *weakly], followed, without_statics(1, 1, "object of Order"))
+
+    def test_no_object(self):
+        """No object of a class is reachable, or in the dump."""
+        self.expect(["shop.hprof", "Ghost"], said="holders: Ghost: the dump has no object of it", status=3)
+        dump = shop()
+        dump.of_class(10, "Lost")
+        dump.of_class(11, "[LLost;")
+        dump.instance(600, 10)
+        dump.array(601, 11, 600)
+        dump.write("lost.hprof")
+        for name in ("Lost", "[LLost;"):
+            why = "no object of it is reachable, but 1 are in the dump: *waiting virtual threads*"
+            said = f"holders: {name.replace('[', '[[]')}: {why}"
+            self.expect(["lost.hprof", name], said=said, status=3)
+
+    def test_unreachable(self):
+        """Much is unreachable."""
+        dump = shop()
+        dump.values(700, BYTE, bytes(100))
+        dump.write("lost.hprof")
+        said = "holders: 100 bytes more are unreachable: *waiting virtual threads*"
+        self.expect(["lost.hprof"], self.WHOLE, f"{said}\n{without_statics(92, 308, 'bytes')}")
+
+    def test_no_class(self):
+        """No class has the name, and what may have been meant."""
+        odd, shop_dump = "odd.hprof", "shop.hprof"
+        for words, why in (
+            ([shop_dump, "Goat"], "spell it as the report does, and in quotes"),
+            ([odd, "Part"], "did you mean java/Part?"),
+            ([odd, "shop.Part"], "did you mean java/Part?"),
+        ):
+            said = f"holders: {words[1]}: no class of the dump has this name: {why}"
+            self.expect(words, said=said, status=6)
+        dump = DumpWriter()
+        dump.of_class(1, "com/shop/Cache$Order")
+        dump.write("inner.hprof")
+        why = "no class of the dump has this name: did the shell take a $ away? quote the name"
+        said = f"holders: com.shop.Cache: {why}"
+        self.expect(["inner.hprof", "com.shop.Cache"], said=said, status=6)
+
+    def test_names(self):
+        """Names as a user may write them, and the lines that they lead to."""
+        hidden = line(2, 16, 50, 1, "static Bus.f10") + line(2, 16, 50, 1, "static Bus.f11")
+        hidden += line(2, 16, 50, 4, "Bus$$Lambda.next")
+        twins = line(2, 16, 50, 1, "static Bus.f12") + line(2, 16, 50, 1, "static Bus.f13")
+        twins += line(2, 16, 50, 6, "Twin.next")
+        beyond = line(2, 16, 100, 1, "static Bus.f14") + line(1, 8, 50, 2, r"caf\xc3\xa9\x20au\x20lait.next")
+        backslash = line(2, 16, 100, 1, "static Bus.f15") + line(1, 8, 50, 2, r"a.b\x5cc.next")
+        for out, names in (
+            (hidden, ["Bus$$Lambda$1+0x0a", "Bus$$Lambda$2+0xff", "Bus$$Lambda", "Bus$$Lambda$1"]),
+            (twins, ["Twin"]),
+            (beyond, ["caf\u00e9 au lait", r"caf\xc3\xa9\x20au\x20lait"]),
+            (backslash, [r"a.b\c", r"a.b\x5cc"]),
+            (line(1, 0, 100, 1, "static ?0x3.MINE"), ["?0x3"]),
+            (line(2, 0, 100, 1, "static java/Other.PARTS"), ["java.Part", "java/Part"]),
+        ):
+            for name in names:
+                self.expect(["odd.hprof", name], out, "* without any static field; *")
+
+    def test_own_first(self):
+        """At the same number of holders, own classes come before those of the JDK."""
+        dump = DumpWriter()
+        dump.of_class(1, "java/util/Timer", {"QUEUE": 200})
+        dump.of_class(2, "shop/Queue", fields=["tasks"])
+        dump.of_class(3, "[LTask;")
+        dump.of_class(4, "Task")
+        dump.instance(200, 2, 201)
+        dump.array(201, 3, 300)
+        dump.instance(300, 4)
+        dump.root(1)
+        dump.write("own.hprof")
+        lines = line(1, 0, 100, 1, "shop/Queue.tasks") + line(1, 0, 100, 1, "static java/util/Timer.QUEUE")
+        self.expect(["own.hprof", "Task"], lines, "*")
+
+    def test_files(self):
+        """Names of files that a tool may take for something else, and files that cannot be read many times."""
+        dump, said = pathlib.Path("shop.hprof").read_bytes(), without_statics(5, 25, "objects of Order")
+        for name in ("two words", "*", "day=2", "line\nbreak", b"\xff.hprof"):
+            pathlib.Path(os.fsdecode(name)).write_bytes(dump)
+            self.expect([name, "Order"], self.ORDERS, said)
+        for name in ("--weak", "-dash.hprof"):
+            pathlib.Path(name).write_bytes(dump)
+            self.expect(["--", name, "Order"], self.ORDERS, said)
+        with open("shop.hprof", "rb") as file:
+            self.expect(["/dev/stdin", "Order"], self.ORDERS, said, stdin=file)
+        pathlib.Path("cut.hprof").write_bytes(dump[:-1])
+        pathlib.Path("empty.hprof").write_bytes(b"")
+        pathlib.Path("histogram").write_text(histogram((1, 16, "Order")))
+        os.mkfifo("pipe")
+        plain = "no plain file, and holders reads it more than once"
+        for name, why in (
+            ("cut.hprof", "holders: cut.hprof: ends too early: still being written, or cut (refused 3 Truncated at *)"),
+            ("empty.hprof", "holders: empty.hprof: empty: still being written, * (refused 1 BadHeader at 0)"),
+            ("nowhere", "holders: nowhere: no such file"),
+            ("histogram", "holders: histogram: a histogram: holders needs a dump"),
+            ("pipe", f"holders: pipe: {plain}"),
+            (".", f"holders: .: {plain}"),
+            ("/dev/null", f"holders: /dev/null: {plain}"),
+        ):
+            self.expect([name, "Order"], said=why, status=1)
+
+    def test_command_line(self):
+        """Options after operands, words that are wrong, and two dumps."""
+        said = without_statics(5, 25, "objects of Order")
+        for words in (
+            ["shop.hprof", "Order", "--at-least=10"],
+            ["shop.hprof", "--top", "5", "Order"],
+            ["--at-least", "010", "--", "shop.hprof", "Order"],
+        ):
+            self.expect(words, self.ORDERS, said)
+        self.check_wrong_words([], ["a", "b", "c"], ["--all", "shop.hprof"], ["--at-least"])
+        self.check_wrong_words(["--weak=yes", "shop.hprof"])
+        numbers = ("0", "101", "", "-1", "1_0", " 5", "ten", "\u0665")
+        self.check_wrong_words(*(["shop.hprof", "--at-least", wrong] for wrong in numbers))
+        self.check_wrong_words(["shop.hprof", "--top=0"], ["shop.hprof", "--top", "2.5"])
+        why = "holders: shop4.hprof: a file: leaks shop.hprof shop4.hprof shows what holds that which grew"
+        self.expect(["shop.hprof", "shop4.hprof"], said=why, status=2)
+        self.check_help("Shows what holds the objects of a class in a heap dump: ")
+
+    def test_heapmark(self):
+        """A heapmark that is missing, that ends early, or that is another program; and dumps that change."""
+        later = '[ "$(wc -l < runs)" -lt 3 ] || '
+        for text, ended in (
+            (f"{later}exit 0\nexec HEAPMARK $@", "run 3 on shop.hprof failed: no report"),
+            (f"{later}exit 1\nexec HEAPMARK $@", "run 3 on shop.hprof failed: status 1"),
+            (f"{later}kill -9 $$\nexec HEAPMARK $@", "run 3 on shop.hprof failed: signal 9"),
+            ("kill -15 $$", "run 1 on shop.hprof failed: signal 15"),
+            ("echo 1 2 3", "run 1 on shop.hprof failed: no report"),
+            ("printf '\\377\\n'", "run 1 on shop.hprof failed: no report"),
+        ):
+            self.expect(["shop.hprof"], said=f"holders: *: {ended}", status=5, heapmark=self.program(text))
+        self.expect(["shop.hprof"], said="holders: /nowhere cannot be run: No such *", status=5, heapmark="/nowhere")
+        no_program = os.path.abspath("shop.hprof")
+        self.expect(["shop.hprof"], said="holders: *shop.hprof cannot be run: *", status=5, heapmark=no_program)
+        long = shop()
+        long.record(0x77, bytes(3000000))  # more than a pipe has room for
+        long.write("short.hprof")
+        shorter = self.program(f"{later}truncate -s 100 short.hprof\nexec HEAPMARK $@")
+        self.expect(["short.hprof"], said="holders: *became shorter*", status=1, heapmark=shorter)
+        shop().write("short.hprof")
+        changed = self.program("HEAPMARK $@; truncate -s 1000 short.hprof")
+        self.expect(["short.hprof"], said="holders: *it changed while it was read", status=1, heapmark=changed)
+
+    def test_environment(self):
+        """Huge pages are set only if GLIBC_TUNABLES is not; and the folder for temporary files is missing."""
+        other, said = self.program("exec HEAPMARK $@"), "* without any static field; *"
+        for value in ("glibc.malloc.hugetlb=1", ""):
+            self.expect(["shop.hprof"], self.WHOLE, said, heapmark=other, variables={"GLIBC_TUNABLES": value})
+            self.assertEqual(pathlib.Path("runs").read_text().split("\n")[-2], f"{value} -- /dev/stdin")
+        self.expect(["shop.hprof"], self.WHOLE, said, variables={"TMPDIR": "/nowhere"})
+
+    def test_interrupt(self):
+        """A signal ends the tool and the heapmark that it runs."""
+        self.check_interrupt("shop.hprof")
+
+    def test_output(self):
+        """Output that cannot be written."""
+        self.check_output(["shop.hprof", "Order"], self.ORDERS)
+
+    def test_terminal(self):
+        """A terminal shows how far the search is and what was found, and at the end nothing of that; and heads."""
+        ended, seen = self.on_terminal("shop.hprof", "Order")
+        parts = seen.split("\r")
+        self.assertEqual((ended.status, ended.out, parts[0]), (0, self.ORDERS, "holders: reading the dump"))
+        self.assertTrue(any(" fields left; found static Shop.CACHE, 80%" in part for part in parts), seen)
+        self.assertTrue(parts[-2].isspace(), seen)
+        self.assertTrue(parts[-1].startswith("holders: threads or the virtual machine hold 5 of 25 objects of Order"))
+        _, seen = self.on_terminal("shop.hprof", "Order", stream="stdout")
+        self.assertEqual(seen, f"{'objects':>10} {'bytes':>14} share {'holders':>9}  field\n{self.ORDERS}")
+
+    def test_skip(self):
+        """The line of an instance field has the objects that `heapmark --skip` makes unreachable."""
+        for dump in ("shop.hprof", "odd.hprof", "late.hprof"):
+            whole = totals(dump)
+            for row in self.ran("--at-least=1", "--weak", dump).out.splitlines():
+                objects, size, _, _, field = row.split(None, 4)
+                if not field.startswith(("static ", "local ", "thread ")) and "\\" not in field and "$$" not in field:
+                    rest = totals(dump, "--skip", field)
+                    lost = [before - after for before, after in zip(whole, rest)]
+                    self.assertEqual(lost, [int(objects), int(size)], row)
+
+
+def totals(dump, *words):
+    """Returns the objects and bytes that heapmark says are reachable."""
+    ran = subprocess.run([HEAPMARK, *words, "--", dump], stdout=subprocess.PIPE, check=True)
+    return [int(number) for number in ran.stdout.decode().split("\n")[-4].split()[:2]]
+
+
+if __name__ == "__main__":
+    unittest.main()

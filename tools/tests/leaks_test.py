@@ -1,0 +1,256 @@
+"""Runs leaks on small dumps of services that leak beside a catalog, and compares what it prints."""
+
+import os
+import pathlib
+import re
+import resource
+import shutil
+import unittest
+
+from tests.support.dump_writer import BYTE, DumpWriter, word
+from tests.support.services import MINUTE, Service, cache, handler, journal, lambdas, moved, uploads, worker
+from tests.support.tool_test import ToolTest, histogram
+
+
+def line(objects, size, share, before, after, holders, path):
+    """Returns a line of the output."""
+    return f"{objects:10} {size:14} {share:4}% {before:14} {after:14} {holders:9}  {path}\n"
+
+
+class LeaksTest(ToolTest):
+    """leaks on services."""
+
+    tool = "leaks"
+    COST = "leaks: * fields, * runs of heapmark, * s"
+    CUT = "leaks: cut: ends too early: still being written, or cut (refused 3 Truncated at [0-9]*)"
+    PATH = "static shop/Service.CACHE > shop/Cache.table"
+
+    def setUp(self):
+        super().setUp()
+        cache(20).write("monday")
+        cache(80, minutes=12).write("friday")
+
+    def found(self, before, after, *words):
+        """Writes two dumps, and returns the columns of the lines that leaks prints for them."""
+        before.write("before")
+        after.write("after")
+        ended = self.ran("before", "after", *words)
+        self.assertEqual(ended.status, 0, ended.said)
+        return [each.split(None, 6) for each in ended.out.splitlines()]
+
+    def test_cache(self):
+        """The field that holds the growth, by identifiers of both sizes; not the catalog, which holds more."""
+        lines = line(120, 2160, 100, 720, 2880, 1, self.PATH)
+        lines += line(120, 2160, 100, 732, 2892, 1, "static shop/Service.CACHE")
+        lines += line(60, 1200, 56, 400, 1600, 80, f"{self.PATH} > shop/Order.text")
+        self.expect(["monday", "friday"], lines, self.COST)
+        self.assertNotIn("Catalog", lines)
+        rows = self.found(cache(20, id_size=4), cache(80, id_size=4))
+        self.assertEqual([rows[0][0], rows[0][1], rows[0][6]], ["120", "1680", self.PATH])
+        first = self.ran("--top=1", "monday", "friday")
+        self.assertEqual(first.out, lines.splitlines(True)[0])
+        self.assertIn("fields with more holders may hold as much: see --top", first.said)
+
+    def test_class(self):
+        """The growth of a class, and a class that did not grow."""
+        for name in ("shop/Order", "shop.Order"):
+            first = self.ran("--class", name, "monday", "friday").out.splitlines(True)[0]
+            self.assertEqual(first, line(60, 480, 100, 160, 640, 1, self.PATH))
+        said = "leaks: shop/Product: 800 bytes, then 800: no growth"
+        self.expect(["--class=shop/Product", "monday", "friday"], said=said, status=3)
+        for count, name in ((20, "before"), (80, "after")):
+            dump = Service()
+            dump.of_class(6, "shop/Job", {"ALL": 600})
+            dump.array(600, 4, *range(5000, 5000 + count))
+            for number in range(5000, 5000 + count):
+                dump.instance(number, 6)
+            dump.root(6)
+            dump.write(name)
+        said = f"leaks: shop/Job: 0 bytes, then 0: no growth; so the shares are of the objects of it\n{self.COST}"
+        self.expect(["--class=shop/Job", "before", "after"], line(60, 0, 100, 20, 80, 1, "static shop/Job.ALL"), said)
+        said = "leaks: Order: no class of the dump has this name: did you mean shop/Order?"
+        self.expect(["--class=Order", "monday", "friday"], said=said, status=6)
+
+    def test_objects(self):
+        """Shares of objects, in which small ones count as much as large ones."""
+        rows = self.found(cache(20), cache(80), "--objects")
+        self.assertEqual(rows[0], ["120", "2160", "100%", "41", "161", "1", self.PATH])
+
+    def test_arrays(self):
+        """By bytes, large arrays count more than many small ones of the catalog."""
+        for words in ([], ["--class", "byte[]"]):
+            rows = self.found(uploads(1), uploads(10), *words)
+            self.assertEqual(rows[0][-1], "static shop/Upload.UPLOAD > shop/Upload.chunks")
+
+    def test_hidden_classes(self):
+        """Names of hidden classes differ, and BEFORE may lack a class."""
+        for before in (lambdas(20, "00aa"), lambdas(0, "")):
+            rows = self.found(before, lambdas(80, "00bb"))
+            self.assertEqual(rows[0][-1], "static shop/Bus.LISTENER > shop/Bus$$Lambda.arg$1")
+        self.assertEqual(rows[0][3], "0")
+
+    def test_threads(self):
+        """A local variable of a thread, also if the thread of BEFORE is another one."""
+        path = 'thread "http-0" > local shop/Handler.handle'
+        rows = self.found(handler(20), handler(80))
+        self.assertEqual([row[-1] for row in rows[:2]], [path, 'thread "http-0"'])
+        self.assertEqual([row[3] for row in rows[:2]], ["720", "743"])
+        rows = self.found(handler(20, "http-7"), handler(80))
+        self.assertEqual([(row[3], row[-1]) for row in rows[:2]], [("0", 'thread "http-0"'), ("720", path)])
+
+    def test_together(self):
+        """Static fields that hold the growth only together."""
+        rows = self.found(journal(20), journal(80))
+        self.assertEqual(rows[0][-1], "together static shop/Journal.EVENTS, static shop/Screen.SHOWN")
+
+    def test_executor(self):
+        """Who owns the queue, of which a worker thread knows, too."""
+        rows = self.found(worker(20), worker(80))
+        path = "static shop/Service.TIMER > java/util/Executor.queue"
+        self.assertEqual([row[-1] for row in rows[:2]], [path, f"{path} > java/util/Queue.table"])
+        owned_twice = [worker(count) for count in (20, 80)]
+        for dump in owned_twice:
+            dump.of_class(10, "shop/Screen", {"SHOWN": 605}, fields=["task"])
+            dump.instance(605, 10, 600)
+            dump.root(10)
+        path = path.replace("static", "together static shop/Screen.SHOWN, static")
+        self.assertEqual(self.found(*owned_twice)[0][-1], path)
+
+    def test_no_growth(self):
+        """The whole did not grow, or nothing did."""
+        moved(10).write("before")
+        moved(60).write("after")
+        said = f"leaks: reachable: 816 bytes, then 816: no growth; so the shares are of the objects of *\n{self.COST}"
+        self.expect(["before", "after"], line(50, 0, 100, 10, 60, 1, "static shop/Catalog.SOLD"), said)
+        said = "leaks: reachable: 6508 bytes, then 6508: no growth"
+        self.expect(["friday", "friday"], said=said, status=3)
+        lost = cache(80, minutes=20)
+        lost.values(9000, BYTE, bytes(500))
+        lost.write("lost")
+        more = "1 object more, 500 bytes more are unreachable: *waiting virtual threads hold them*: see grown *"
+        self.expect(["friday", "lost"], said=f"{said}; {more}", status=3)
+
+    def test_share(self):
+        """A share is above 100% if what the field does not hold shrank, and the help says so. Those of the page are of
+        the whole heap, and are not."""
+        before, after = cache(20), cache(80)
+        before.of_class(8, "shop/Old", {"ALL": 8000})
+        before.values(8000, BYTE, bytes(1080))
+        after.of_class(8, "shop/Old", {"ALL": 0})
+        rows = self.found(before, after, "--html", "page.html")
+        self.assertEqual(rows[0], ["120", "2160", "200%", "720", "2880", "1", self.PATH])
+        self.assertIn("A share is above 100% if what the field does not hold shrank.", self.ran("--help").out)
+        page = pathlib.Path("page.html").read_text(encoding="utf-8")
+        shares = [float(share) for share in re.findall("([0-9.]+)\u00a0%", page)]
+        self.assertTrue(shares and max(shares) <= 100, shares)
+
+    def test_several(self):
+        """Further dumps, up to 30 and too many."""
+        cache(50, minutes=6).write("tuesday")
+        ended = self.ran("monday", "tuesday", "friday")
+        self.assertEqual(ended.out, self.ran("monday", "friday").out)
+        names = [f"day{number}" for number in range(30)]
+        for number, name in enumerate(names):
+            cache(20 + number, minutes=number).write(name)
+        ended = self.ran("--html", "page.html", *names)
+        self.assertEqual((ended.status, ended.out.split()[-1]), (0, "shop/Order.text"), ended.said)
+        self.assertTrue(os.path.getsize("page.html"))
+        self.expect(["monday", *["friday"] * 100], said="leaks: 101 dumps: at most 100", status=2)
+
+    def test_refused(self):
+        """Files that do not go together, or cannot be read."""
+        pathlib.Path("cut").write_bytes(pathlib.Path("friday").read_bytes()[:-1])
+        pathlib.Path("histogram").write_text(histogram((1, 16, "Order")))
+        pathlib.Path("other").write_bytes(pathlib.Path("friday").read_bytes().replace(b"shop/", b"bank/"))
+        os.mkfifo("pipe")
+        for words, said in (
+            (["friday", "monday"], "leaks: monday: wrong order? it was dumped earlier than friday"),
+            (["monday", "other"], "leaks: other: another program? it has 0 of the * own classes of monday"),
+            (["monday", "cut"], self.CUT),
+            (["cut", "friday"], self.CUT),
+            (["monday", "nowhere"], "leaks: nowhere: no such file"),
+            (["monday", "no\nwhere\x1b"], r"leaks: no\x0awhere\x1b: no such file"),
+            (["monday", "histogram"], "leaks: histogram: a histogram: leaks needs a dump"),
+            (["monday", "pipe"], "leaks: pipe: no plain file, and leaks reads it more than once"),
+            (["/dev/stdin", "friday"], "leaks: /dev/stdin: no plain file, and leaks reads it more than once"),
+        ):
+            self.expect(["--html", "page.html", *words], said=said, status=1)
+            self.assertEqual(sorted(name for name in os.listdir() if "page" in name), [])
+
+    def test_words(self):
+        """The help, wrong words, and one dump."""
+        self.check_help("Shows what holds the objects that grew between heap dumps of one program: ")
+        self.check_wrong_words([], ["--all", "monday", "friday"], ["monday", "friday", "--top", "0"], ["--class"])
+        said = "leaks: one dump: holders monday shows what holds its objects"
+        self.expect(["monday"], said=said, status=2)
+
+    def test_names_of_files(self):
+        """Names that a tool or a shell may take for something else."""
+        out = self.ran("monday", "friday").out
+        for name in ("day=2", "two words", "*", "line\nbreak", os.fsdecode(b"\xff")):
+            shutil.copy("friday", name)
+            self.assertEqual(self.ran("monday", name).out, out, name)
+        for name in ("--class", "-dash"):
+            shutil.copy("friday", name)
+            self.assertEqual(self.ran("--", "monday", name).out, out, name)
+
+    def test_page(self):
+        """The page has the figures of the lines. If it cannot be written, a line says so, and nothing is left of it."""
+        out = self.ran("monday", "friday").out
+        self.assertEqual(self.ran("--html", "page.html", "monday", "friday").out, out)
+        page = pathlib.Path("page.html").read_text(encoding="utf-8")
+        text = re.sub("<[^>]*>", "", page)
+        for part in ("shop/Cache.table", "shop/Service.CACHE", "leaks --html page.html monday friday"):
+            self.assertIn(part, text)
+        self.assertIn('"2880"', page)
+        said = "leaks: /dev/full: the page cannot be written: No space left on device"
+        self.expect(["--html", "/dev/full", "monday", "friday"], out, said, 4)
+        full = {"preexec_fn": lambda: resource.setrlimit(resource.RLIMIT_FSIZE, (5000, 5000))}
+        said = "leaks: page.html: the page cannot be written: File too large"
+        self.expect(["--html", "page.html", "monday", "friday"], out, said, 4, **full)
+        self.assertEqual(pathlib.Path("page.html").read_text(encoding="utf-8"), page)
+        os.remove("page.html")
+        self.expect(["--html", "page.html", "monday", "friday"], out, said, 4, **full)
+        self.assertEqual([name for name in os.listdir() if name not in ("monday", "friday")], [])
+        for path in ("no/page.html", ".", ""):
+            said = f"leaks: {path}: the page cannot be written"
+            self.expect(["--html", path, "monday", "friday"], said=said, status=4)
+        dump, said = pathlib.Path("monday").read_bytes(), "leaks: monday: a dump: --html wants the name of the page *"
+        self.expect(["--html", "monday", "monday", "friday"], said=said, status=2)
+        self.assertEqual(pathlib.Path("monday").read_bytes(), dump)
+
+    def test_output(self):
+        """Output that cannot be written, and an interrupt: neither leaves a page."""
+        self.check_output(["monday", "friday"], self.ran("monday", "friday").out)
+        with open("/dev/full", "wb") as full:
+            ended = self.ran("--html", "page.html", "monday", "friday", stdout=full)
+        self.assertEqual((ended.status, ended.said), (4, "leaks: the output cannot be written\n"))
+        self.assertFalse(os.path.exists("page.html"))
+        self.check_interrupt("--html", "page.html", "monday", "friday")
+        self.assertFalse(os.path.exists("page.html"))
+
+    def test_heapmark(self):
+        """A heapmark that fails later."""
+        later = self.program('[ "$(wc -l < runs)" -lt 6 ] || kill -9 $$\nexec HEAPMARK "$@"')
+        said = "leaks: *: run 6 on * failed: signal 9"
+        self.expect(["--html", "page.html", "monday", "friday"], said=said, status=5, heapmark=later)
+        self.assertFalse(os.path.exists("page.html"))
+        said = "leaks: /nowhere cannot be run: No such file or directory"
+        self.expect(["monday", "friday"], said=said, status=5, heapmark="/nowhere")
+
+    def test_terminal(self):
+        """A terminal shows the growth and the heads of the columns, and how far the search is."""
+        ended, seen = self.on_terminal("monday", "friday", stream="stdout")
+        top, heads, first = seen.splitlines()[:3]
+        self.assertEqual((ended.status, top), (0, "reachable 4.3 kB to 6.5 kB in 12 min"))
+        self.assertEqual(heads.split(), ["objects", "bytes", "share", "before", "after", "holders", "field"])
+        self.assertTrue(first.endswith("shop/Cache.table"), seen)
+        _, seen = self.on_terminal("monday", "friday")
+        parts = seen.split("\r")
+        self.assertEqual(parts[0], "leaks: reading dump 1 of 2")
+        self.assertTrue(any(" fields left; found static shop/Service.CACHE, 100%" in part for part in parts), seen)
+        self.assertTrue(parts[-1].startswith("leaks: "), seen)
+
+
+if __name__ == "__main__":
+    unittest.main()

@@ -1,0 +1,122 @@
+"""Small dumps of services that leak beside a catalog."""
+
+from tests.support.dump_writer import BYTE, DumpWriter, word
+
+MINUTE = 60000
+
+
+class Service(DumpWriter):
+    """A service with a static field that holds a catalog: an array of 100 products with 20 bytes each."""
+
+    def __init__(self, minutes=0, id_size=8):
+        super().__init__(id_size, MINUTE * minutes)
+        self.of_class(1, "shop/Catalog", {"ALL": 1000})
+        self.of_class(2, "[Lshop/Product;")
+        self.of_class(3, "shop/Product", fields=["picture"])
+        self.of_class(4, "[Ljava/lang/Object;")
+        self.array(1000, 2, *range(1001, 1101))
+        for number in range(1001, 1101):
+            self.instance(number, 3, number + 1000)
+            self.values(number + 1000, BYTE, bytes(20))
+        self.root(1)
+
+    def orders(self, count, array=5000, name="shop/Order"):
+        """Writes an array of `count` orders with 20 bytes each."""
+        self.of_class(5, name, fields=["text"])
+        self.array(array, 4, *range(array + 1, array + 1 + count))
+        for number in range(array + 1, array + 1 + count):
+            self.instance(number, 5, number + 1000)
+            self.values(number + 1000, BYTE, bytes(20))
+
+
+def cache(count, minutes=0, id_size=8):
+    """A static field holds a cache, which has an array of orders."""
+    dump = Service(minutes, id_size)
+    dump.of_class(6, "shop/Service", {"CACHE": 600})
+    dump.of_class(7, "shop/Cache", fields=["table", "intSize"])
+    dump.instance(600, 7, 5000, word(count))
+    dump.orders(count)
+    dump.root(6)
+    return dump
+
+
+def uploads(count):
+    """A field of the only upload has an array of `count` arrays of 200 bytes; a static field names the upload."""
+    dump = Service()
+    dump.of_class(6, "shop/Upload", {"UPLOAD": 600}, fields=["chunks"])
+    dump.array(601, 4, *range(5001, 5001 + count))
+    dump.instance(600, 6, 601)
+    for number in range(5001, 5001 + count):
+        dump.values(number, BYTE, bytes(200))
+    dump.root(6)
+    return dump
+
+
+def lambdas(count, address):
+    """A lambda, whose class has this address, holds the orders. With no orders, there is no lambda."""
+    dump = Service()
+    if count:
+        dump.of_class(6, f"shop/Bus$$Lambda$14+0x{address}", fields=["arg$1"])
+        dump.of_class(7, "shop/Bus", {"LISTENER": 600})
+        dump.instance(600, 6, 5000)
+        dump.orders(count)
+        dump.root(7)
+    return dump
+
+
+def worker(count):
+    """A static field and a worker thread have an executor, whose queue has an array of orders."""
+    dump = Service()
+    dump.of_class(6, "shop/Service", {"TIMER": 600})
+    dump.of_class(7, "java/util/Executor", fields=["queue"])
+    dump.of_class(8, "java/util/Queue", fields=["table"])
+    dump.of_class(9, "java/lang/Thread", fields=["name"])
+    dump.thread(1, 700, [(8, "take")])
+    dump.local(1, 0, 600)
+    dump.instance(600, 7, 601)
+    dump.instance(601, 8, 5000)
+    dump.instance(700, 9, 0)
+    dump.orders(count)
+    dump.root(6)
+    return dump
+
+
+def handler(count, name="http-0"):
+    """A local variable of a thread with this name holds the orders."""
+    dump = Service()
+    dump.of_class(6, "java/lang/Thread", fields=["name"])
+    dump.of_class(7, "java/lang/String", fields=["value", "coder"])
+    dump.of_class(8, "shop/Handler")
+    dump.thread(1, 700, [(8, "handle")])
+    dump.local(1, 0, 5000)
+    dump.instance(700, 6, 701)
+    dump.instance(701, 7, 702, b"\0")
+    dump.values(702, BYTE, name.encode())
+    dump.orders(count)
+    return dump
+
+
+def journal(count):
+    """Two static fields of different classes hold the orders, only together."""
+    dump = Service()
+    dump.of_class(6, "shop/Journal", {"EVENTS": 5000})
+    dump.of_class(7, "shop/Screen", {"SHOWN": 5000})
+    dump.orders(count)
+    dump.root(6, 7)
+    return dump
+
+
+def moved(count):
+    """The catalog has 100 products in all: those that are not sold; the sold ones are in another static field."""
+    dump = DumpWriter()
+    dump.of_class(1, "shop/Catalog", {"ALL": 1000, "SOLD": 1001})
+    dump.of_class(2, "shop/Product")
+    dump.of_class(3, "shop/Sold")
+    dump.of_class(4, "[Ljava/lang/Object;")
+    numbers = list(range(2000, 2100))
+    dump.array(1000, 4, *numbers[count:])
+    dump.array(1001, 4, *numbers[:count])
+    for at, number in enumerate(numbers):
+        dump.instance(number, 3 if at < count else 2)
+    dump.root(1)
+    return dump
