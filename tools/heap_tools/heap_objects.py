@@ -1,14 +1,21 @@
 """Walks over the objects of a heap dump: how many there are of a class, where they are, and what their fields hold."""
 
-from typing import Dict, Iterable, List, Optional, Set
+from typing import Dict, Iterable, Iterator, List, NamedTuple, Optional, Set, Tuple
 
 from heap_tools import hprof_format as hprof
-from heap_tools.class_names import PRIMITIVES
-from heap_tools.heap_dump import HeapDump, Span
+from heap_tools.class_names import PRIMITIVES, family
+from heap_tools.heap_dump import Field, HeapDump, Span
 from heap_tools.parallel import shared
 
 #: The fewest segments for which a process of its own pays. Those of a virtual machine have a million bytes each.
 FEWEST_SEGMENTS = 64
+
+
+class FieldValue(NamedTuple):
+    """The value of a field of an instance: where the instance is, and where the value is."""
+
+    instance: int
+    value: int
 
 
 class HeapObjects:
@@ -68,20 +75,56 @@ class HeapObjects:
 
         return sum(shared(count_in, dump.segments, FEWEST_SEGMENTS))
 
+    def class_of(self, at: int) -> int:
+        """Returns the identifier of the class of the instance at `at`, 0 if an array is there."""
+        return self.dump.id(at + 5 + self.dump.id_size) if self.dump.bytes[at] == hprof.INSTANCE else 0
+
+    def fields_of(self, class_id: int) -> Iterator[Tuple[int, int, Field]]:
+        """Yields the fields of an instance of a class, inherited ones too: the class that declares each, where its
+        value is, counted from the begin of the instance, and the field."""
+        place = 9 + 2 * self.dump.id_size
+        while class_id in self.dump.classes:
+            for each in self.dump.classes[class_id].fields:
+                if not each.is_static:
+                    yield class_id, place, each
+                    place += self.dump.value_sizes[each.kind]
+            class_id = self.dump.classes[class_id].superclass
+
+    def values_of(self, fields: Iterable[str], targets: Optional[Set[int]] = None) -> List[FieldValue]:
+        """Returns the values of all instances in `fields`, names such as `java/util/HashMap.table` whose class stands
+        for all hidden classes of its name. `targets`: only the values that are one of these identifiers. Walks over all
+        objects."""
+        dump, wanted = self.dump, set(fields)
+        declared = {
+            (class_id, each.name)
+            for class_id, name in dump.names.items()
+            for each in dump.classes[class_id].fields
+            if not each.is_static and f"{family(name)}.{each.name}" in wanted
+        }
+        places: Dict[int, List[int]] = {}
+        for class_id in dump.classes:
+            found = [place for owner, place, each in self.fields_of(class_id) if (owner, each.name) in declared]
+            if found:
+                places[class_id] = found
+
+        def values_in(segments: List[Span]) -> List[FieldValue]:
+            found: List[FieldValue] = []
+            id_at, data, class_at = dump.unpack_id, dump.bytes, 5 + dump.id_size
+            for at, tag in dump.sub_records(segments):
+                if tag == hprof.INSTANCE:
+                    for place in places.get(id_at(data, at + class_at)[0], ()):
+                        if targets is None or id_at(data, at + place)[0] in targets:
+                            found.append(FieldValue(at, at + place))
+            return found
+
+        parts = shared(values_in, dump.segments, FEWEST_SEGMENTS) if places else []
+        return [each for part in parts for each in part]
+
     def place_of_value(self, at: int, class_name: str, field: str) -> Optional[int]:
         """Returns where the value of an instance's field is that the class `class_name` declares, or None."""
-        dump = self.dump
-        if dump.bytes[at] != hprof.INSTANCE:
-            return None
-        class_id, place = dump.id(at + 5 + dump.id_size), at + 9 + 2 * dump.id_size
-        while class_id in dump.classes:
-            for each in dump.classes[class_id].fields:
-                if each.is_static:
-                    continue
-                if each.name == field and dump.names[class_id] == class_name:
-                    return place
-                place += dump.value_sizes[each.kind]
-            class_id = dump.classes[class_id].superclass
+        for owner, place, each in self.fields_of(self.class_of(at)):
+            if each.name == field and self.dump.names[owner] == class_name:
+                return at + place
         return None
 
     def reference(self, at: int, class_name: str, field: str) -> int:

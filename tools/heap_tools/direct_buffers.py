@@ -1,0 +1,51 @@
+"""The memory of direct buffers, which is outside the heap: a dump has their capacities."""
+
+from typing import NamedTuple
+
+from heap_tools.heap_dump import HeapDump
+from heap_tools.heap_objects import HeapObjects
+from heap_tools.humanize import counted
+
+#: The class of direct buffers. Views of the other types have no memory of their own.
+BUFFER = "java/nio/DirectByteBuffer"
+#: The number of bytes of a buffer, and what a view was made of: slices and duplicates name the buffer that has the memory.
+CAPACITY, ATTACHMENT = "java/nio/Buffer.capacity", "att"
+
+
+class DirectMemory(NamedTuple):
+    """How many direct buffers with memory of their own a dump has, and the bytes of that memory."""
+
+    buffers: int = 0
+    bytes: int = 0
+
+
+def direct_memory(dump: HeapDump) -> DirectMemory:
+    """Returns the direct memory of a dump, of unreachable buffers too. Walks over all objects if the dump has the class
+    of direct buffers."""
+    if BUFFER not in dump.names.values():
+        return DirectMemory()
+    objects, count, size = HeapObjects(dump), 0, 0
+    for instance, value in objects.values_of([CAPACITY]):
+        if _has_memory(objects, instance):
+            count, size = count + 1, size + dump.number(value, 4)
+    return DirectMemory(count, size)
+
+
+def _has_memory(objects: HeapObjects, instance: int) -> bool:
+    """Tests whether a buffer is a direct one, and no view of another."""
+    dump = objects.dump
+    lineage = [(dump.names[owner], place, field) for owner, place, field in objects.fields_of(objects.class_of(instance))]
+    attached = [place for owner, place, field in lineage if owner == BUFFER and field.name == ATTACHMENT]
+    return bool(attached) and not any(dump.id(instance + place) for place in attached)
+
+
+def more_direct_memory(before: DirectMemory, after: DirectMemory) -> str:
+    """Returns in words how the direct memory grew, empty if it did not."""
+    if after.bytes <= before.bytes:
+        return ""
+    more = after.buffers - before.buffers
+    buffers = f" ({counted(more, 'buffer')} more)" if more > 0 else ""
+    return (
+        f"direct buffers have {counted(after.bytes - before.bytes, 'byte')} more outside the heap{buffers}: "
+        f"{before.bytes:,}, then {after.bytes:,}"
+    )

@@ -1,0 +1,105 @@
+"""Which objects of many that have a field hold most of what the field holds, and what names them."""
+
+from typing import Dict, List, NamedTuple, Optional, Sequence, Tuple
+
+from heap_tools.candidates import FIELD, Candidate
+from heap_tools.changed_copy import Changes
+from heap_tools.class_names import family
+from heap_tools.heap_objects import FieldValue, HeapObjects
+from heap_tools.object_names import Name, ObjectNames
+from heap_tools.probe import Probe, Retained
+from heap_tools.reports import Amount
+
+#: Of how many holders it is asked which of them hold most.
+FEWEST, MOST = 2, 100_000
+#: The share of what all hold, in percent, that one must hold to be named, and that those named must hold together.
+OF_ONE, OF_ALL = 20, 50
+#: The most runs of heapmark for one field.
+MOST_RUNS = 60
+
+
+class HoldingObject(NamedTuple):
+    """An object that holds much of what a field holds: its class, what names it, what it holds, and the share of that
+    in percent."""
+
+    class_name: str
+    names: List[Name]
+    amount: Amount
+    percent: float
+
+    def __str__(self) -> str:
+        names = ", ".join(map(str, self.names))
+        return f"{self.class_name}{f' ({names})' if names else ''}: {self.percent:.0f}%"
+
+
+class ObjectSearch:
+    """Looks for the instances that hold most of what `held`, one field of instances, holds in the dump that `probe`
+    asks. A group holds at least what each of it does, so groups that hold too little are not looked into."""
+
+    def __init__(self, probe: Probe, held: Retained) -> None:
+        self.probe, self.held = probe, held
+        self.field: Candidate = held.candidates[0]
+        self.runs = 0
+        self._known: Dict[Tuple[int, ...], Amount] = {}
+
+    def find(self, shows_values: bool = True) -> List[HoldingObject]:
+        """Returns the objects that hold most, those that hold most of all first. Returns nothing if many hold a little
+        each, or if the line is not about 2 to 100,000 instances."""
+        is_field = len(self.held.candidates) == 1 and self.field.kind == FIELD
+        if not is_field or not FEWEST <= self.field.count <= MOST:
+            return []
+        objects = HeapObjects(self.probe.runs.dump)
+        values = [each for each in objects.values_of([self.field.name]) if objects.dump.id(each.value)]
+        found = self._heaviest(values)
+        if sum(self._percent(amount) for _, amount in found) < OF_ALL:
+            return []
+        names = ObjectNames(objects.dump, shows_values).names_of([value.instance for value, _ in found])
+        return [
+            HoldingObject(
+                family(objects.dump.names[objects.class_of(value.instance)]),
+                names[value.instance],
+                amount,
+                self._percent(amount),
+            )
+            for value, amount in found
+        ]
+
+    def _percent(self, amount: Amount) -> float:
+        """Returns the share of an amount in what the field holds, in percent."""
+        return 100 * self.probe.unit.of(amount) / max(1, self.probe.unit.of(self.held.amount))
+
+    def _heaviest(self, values: Sequence[FieldValue]) -> List[Tuple[FieldValue, Amount]]:
+        """Returns the instances that hold `OF_ONE` percent or more, the heaviest first, by halves."""
+        found: List[Tuple[FieldValue, Amount]] = []
+        groups: List[Tuple[float, Sequence[FieldValue]]] = [(100.0, values)]
+        while groups and self.runs < MOST_RUNS:
+            groups.sort(key=lambda group: -group[0])
+            bound, group = groups.pop(0)
+            if len(group) == 1:
+                amount = self._amount(group)
+                if self._percent(amount) >= OF_ONE:
+                    found.append((group[0], amount))
+                continue
+            left, right = group[: len(group) // 2], group[len(group) // 2 :]
+            of_left = self._percent(self._amount(left))
+            # Both halves together hold at most what the group does.
+            groups += [(of, half) for of, half in ((of_left, left), (bound - of_left, right)) if of >= OF_ONE]
+        return sorted(found, key=lambda each: -self.probe.unit.of(each[1]))
+
+    def _amount(self, group: Sequence[FieldValue]) -> Amount:
+        """Returns what a group of instances holds by the field: the difference that null in its place makes."""
+        key = tuple(each.value for each in group)
+        if key not in self._known:
+            nowhere = bytes(self.probe.runs.dump.id_size)
+            changes: Changes = {each.value: nowhere for each in group}
+            self.probe.before_run()
+            self.runs += 1
+            report = self.probe.runs.without(changes)
+            self._known[key] = self.probe.whole.minus(report.total(self.probe.families))
+        return self._known[key]
+
+
+def objects_that_hold(probe: Probe, held: Retained, shows_values: bool) -> Optional[List[HoldingObject]]:
+    """Returns the objects that hold most of what `held` holds, or None if that is no question about instances."""
+    found = ObjectSearch(probe, held).find(shows_values)
+    return found or None
