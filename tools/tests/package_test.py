@@ -11,7 +11,7 @@ import subprocess
 import sys
 import tempfile
 import unittest
-from typing import Any, Counter
+from typing import Counter
 
 TOP = pathlib.Path(__file__).resolve().parents[2]
 DATA = TOP / "crates/heapmark/data"
@@ -30,10 +30,21 @@ echo "${COMPREPLY[*]}"
 """
 
 
-def ran(*words: str | pathlib.Path, **more: Any) -> subprocess.CompletedProcess[str]:
+def ran(
+    *words: str | pathlib.Path, env: dict[str, str] | None = None, cwd: pathlib.Path | None = None
+) -> subprocess.CompletedProcess[str]:
     """Runs a program, and returns how it ended."""
-    kept = {"stdin": subprocess.DEVNULL, "stdout": subprocess.PIPE, "stderr": subprocess.PIPE, "timeout": 100, **more}
-    return subprocess.run([str(word) for word in words], check=False, universal_newlines=True, **kept)
+    return subprocess.run(
+        [str(word) for word in words],
+        stdin=subprocess.DEVNULL,
+        stdout=subprocess.PIPE,
+        stderr=subprocess.PIPE,
+        universal_newlines=True,
+        timeout=100,
+        env=env,
+        cwd=cwd,
+        check=False,
+    )
 
 
 def words_of(text: str) -> Counter[str]:
@@ -83,13 +94,13 @@ class PackageTest(unittest.TestCase):
         """A program that is not built, and what is none, have a line; a folder that exists is left alone."""
         self.assertEqual((self.ended.returncode, self.ended.stderr), (0, ""))
         other = pathlib.Path(self.room.name, "other")
-        for binary, why in ((f"{other}/nowhere", "* does not exist: build it first"), (TOP / "README.md", "")):
+        for binary, why in ((other / "nowhere", "* does not exist: build it first"), (TOP / "README.md", "")):
             ended = self.packed(other, binary)
             self.assertEqual((ended.returncode, ended.stderr.count("\n"), other.exists()), (1, 1, False))
             self.assertTrue(ended.stderr.startswith("package: ") and why.strip("*") in ended.stderr, ended.stderr)
         self.assertEqual(self.packed(self.made, BINARY).stderr, f"package: {self.made} exists already\n")
-        for words in ([], [other, BINARY, "more"], ["--other"]):
-            self.assertEqual((self.packed(*words).returncode, other.exists()), (2, False))
+        for wrong in ([], [str(other), BINARY, "more"], ["--other"]):
+            self.assertEqual((self.packed(*wrong).returncode, other.exists()), (2, False))
 
     def test_programs(self) -> None:
         """Each program runs where it is installed, and the tools find heapmark beside them."""
