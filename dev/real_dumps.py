@@ -24,6 +24,11 @@ class Miscounted(Exception):
     """What a report and the histogram of the same moment count differently."""
 
 
+def can_unpack() -> bool:
+    """Tests whether this Python can unpack the dumps."""
+    return lzma is not None
+
+
 def names() -> list[str]:
     """Returns the names of the dumps, such as `jdk21`."""
     return sorted(path.stem for path in ROOM.glob("*.report"))

@@ -99,8 +99,9 @@ class PackageTest(unittest.TestCase):
             self.assertEqual((ended.returncode, ended.stderr.count("\n"), other.exists()), (1, 1, False))
             self.assertTrue(ended.stderr.startswith("package: ") and why.strip("*") in ended.stderr, ended.stderr)
         self.assertEqual(self.packed(self.made, BINARY).stderr, f"package: {self.made} exists already\n")
-        for wrong in ([], [str(other), BINARY, "more"], ["--other"]):
-            self.assertEqual((self.packed(*wrong).returncode, other.exists()), (2, False))
+        wrong: list[list[str]] = [[], [str(other), BINARY, "more"], ["--other"]]
+        for words in wrong:
+            self.assertEqual((self.packed(*words).returncode, other.exists()), (2, False))
 
     def test_programs(self) -> None:
         """Each program runs where it is installed, and the tools find heapmark beside them."""
