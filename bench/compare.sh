@@ -1,18 +1,23 @@
 #!/usr/bin/env bash
 # Compares a live dump with the class histogram that the virtual machine printed at the same moment.
 #
-# usage: bench/compare.sh DUMP HISTOGRAM REPORTER..
+# usage: bench/compare.sh DUMP HISTOGRAM COMMAND..
 #
-# REPORTER..: a command, such as crates/heapmark/out/heapmark, that is run with DUMP as its last argument and prints the
-# report. To count all objects of the dump, the plain marker is run: what the variable PLAIN names, else it is built.
+# COMMAND..: prints the report, such as crates/heapmark/out/heapmark. It is run with DUMP as its last argument. To count
+# all objects of the dump, the plain marker is run: what the variable PLAIN names, else it is built.
 #
 # For each class whose counts differ, prints the number of its objects in the histogram, in the dump and in the report.
 # After these lines come the totals, the number of classes with equal counts, and the report's last line. The report
-# counts class objects in the row `<class>`, the histogram as instances of java.lang.Class.
+# counts class objects in the row `<class>`, the histogram as instances of java.lang.Class. Exit status 1 if a marker
+# prints no report, or HISTOGRAM has no class.
 set -euo pipefail
 
-[ $# -ge 3 ] || { sed -n 's/^# usage: /usage: /p' "$0" >&2; exit 2; }
 top=$(cd "$(dirname "$0")/.." && pwd)
+# shellcheck source=bench/usage.sh
+. "$top/bench/usage.sh"
+# shellcheck source=bench/markers.sh
+. "$top/bench/markers.sh"
+require_files "$1" "$2"
 dump=$1 histogram=$2
 shift 2
 room=$(mktemp -d)
@@ -46,11 +51,19 @@ of_report() {
     $3 !~ /^\((reachable|unreachable|unresolved)\)$/ { print $1, $3 in code ? code[$3] : $3 }' "$1"
 }
 
-"$@" "$dump" > "$room/report"
-"$plain" "$dump" --count all > "$room/all" 2> "$room/told" || { cat "$room/told" >&2; exit 1; }
+# require_report NAME: ends the script with status 1 if the run NAME gave no report.
+require_report() {
+    [ "$(end_of "$1")" = report ] || { echo "compare.sh: $1: $(end_of "$1")" >&2; exit 1; }
+}
+
+ran reporter "$@" "$dump"
+require_report reporter
+ran plain "$plain" "$dump" --count all
+require_report plain
 of_histogram "$histogram" > "$room/1"
-of_report "$room/all" > "$room/2"
-of_report "$room/report" > "$room/3"
+[ -s "$room/1" ] || { echo "compare.sh: $histogram has no class" >&2; exit 1; }
+of_report "$room/plain.report" > "$room/2"
+of_report "$room/reporter.report" > "$room/3"
 
 awk '
     { count[FILENAME, $2] += $1; total[FILENAME] += $1; names[$2] }
@@ -66,4 +79,4 @@ awk '
         printf "%10d %10d %10d  (all)\n", total[room "/1"], total[room "/2"], total[room "/3"]
         printf "%d classes have the same count in all three.\n", same
     }' room="$room" "$room/1" "$room/2" "$room/3"
-tail -n 1 "$room/report"
+tail -n 1 "$room/reporter.report"

@@ -10,7 +10,9 @@
 # folder of those libraries over this system's, for itself alone, and then becomes the program. That wants root.
 set -euo pipefail
 
-[ $# -ge 1 ] || { sed -n 's/^# usage: /usage: /p' "$0" >&2; exit 2; }
+# shellcheck source=bench/usage.sh
+. "$(dirname "$0")/usage.sh"
+require_number VERSION "$1"
 version=$1 suite=${2:-trixie}
 kept=${XDG_CACHE_HOME:-$HOME/.cache}/heapmark-bench/$suite
 root=$kept/root-$version home=$kept/jdk-$version

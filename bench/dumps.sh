@@ -25,10 +25,17 @@
 set -euo pipefail
 
 top=$(cd "$(dirname "$0")/.." && pwd)
-room=${1:-/tmp/heapmark-bench}
-[ $# -eq 0 ] || shift
 # shellcheck source=bench/machine.sh
 . "$top/bench/machine.sh"
+room=${1:-/tmp/heapmark-bench}
+[ $# -eq 0 ] || shift
+[ $# -gt 0 ] || set -- small medium large big garbage tools scattered random list map ids odd refused
+for group; do
+    case $group in
+        small | medium | large | big | garbage | tools | scattered | random | list | map | ids | odd | refused | newer) ;;
+        *) wrong_words "no such group: $group" ;;
+    esac
+done
 
 # moment PID NAME [-all]: makes a histogram and a dump by one request to the virtual machine, so that little happens
 # between the two. Without -all, garbage is collected twice before, since objects that wait to be finalized or cleaned
@@ -232,11 +239,4 @@ tools() {
 
 mkdir -p "$room"
 "${java}javac" -d "$room/classes" "$top"/bench/java/*.java
-[ $# -gt 0 ] || set -- small medium large big garbage tools scattered random list map ids odd refused
-for group; do
-    case $group in
-        small | medium | large | big | garbage | tools | scattered | random | list | map | ids | odd | refused | newer)
-            "$group" ;;
-        *) echo "no such group: $group" >&2; exit 2 ;;
-    esac
-done
+for group; do "$group"; done

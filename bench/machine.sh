@@ -1,10 +1,13 @@
-# Starts programs on a Java virtual machine and ends them. To be sourced by the scripts that dump programs.
+# Starts programs on a Java virtual machine and ends them. To be sourced by the scripts that dump programs, before they
+# do anything: it reads their words by usage.sh.
 #
 # Sets `java`, the prefix of the commands `java`, `javac`, `jcmd` and `jshell`: the folder of programs in JAVA_HOME, or
 # nothing if JAVA_HOME is not set, so that the commands of PATH are taken. Sets the locale, too: names of classes, of
 # which some are names of files, have letters beyond ASCII.
 # shellcheck shell=bash disable=SC2034 # what is set here is used there
 
+# shellcheck source=bench/usage.sh
+. "$(dirname "${BASH_SOURCE[0]}")/usage.sh"
 java=${JAVA_HOME:+$JAVA_HOME/bin/}
 export LC_ALL=C.UTF-8
 

@@ -9,7 +9,10 @@
 # command, if any, starts each run: on a busy machine 'nice -n -20', as root, keeps other work off the processors.
 set -eu
 top=$(cd "$(dirname "$0")/.." && pwd)
+# shellcheck source=bench/usage.sh
+. "$top/bench/usage.sh"
 runs=${1:-10}
+require_number RUNS "$runs"
 test $# -eq 0 || shift
 starter=$*
 objects=16777216
@@ -22,6 +25,12 @@ trap 'rm -rf "$room"' EXIT
 rustc -O -o "$room/std" "$top/bench/std_baseline.rs"
 pool=$top/crates/pool_bench/out/pool_bench
 
+# ended_badly PROGRAM: ends the script, after a run of PROGRAM that failed.
+ended_badly() {
+    echo "a run of $1 failed: $(tail -n 1 "$room/$1.times")" >&2
+    exit 1
+}
+
 # both COUNT WORD..: runs both programs in turn, COUNT times. Tests that they did the same work, and keeps their times.
 both() {
     count=$1
@@ -29,8 +38,8 @@ both() {
     : > "$room/pool.times"
     : > "$room/std.times"
     for _ in $(seq "$count"); do
-        $starter "$pool" "$@" > "$room/pool.out" 2>> "$room/pool.times"
-        $starter "$room/std" "$@" > "$room/std.out" 2>> "$room/std.times"
+        $starter "$pool" "$@" > "$room/pool.out" 2>> "$room/pool.times" || ended_badly pool
+        $starter "$room/std" "$@" > "$room/std.out" 2>> "$room/std.times" || ended_badly std
         cmp -s "$room/pool.out" "$room/std.out" || { echo "the two did not do the same work: $*" >&2; exit 1; }
     done
 }

@@ -8,19 +8,22 @@
 # whole programs first, then the dumps, then the phases of the plain marker. heapmark is the binary that `rt run` in
 # crates/heapmark made, or what the variable HEAPMARK names. The words of the variable STARTER start each run: on a busy
 # machine STARTER='chrt -f 10', as root, keeps other work off the processors. The words of the variable OPTIONS go to
-# heapmark, as in OPTIONS='--buffer 4096'.
+# heapmark, as in OPTIONS='--buffer 4096'. A dump that all refuse alike has no row. Exit status 1 if a report differs, or
+# a run ends without a report and without a refusal.
 runs=5
 # shellcheck source=bench/head.sh
 . "$(dirname "$0")/head.sh"
+# shellcheck source=bench/markers.sh
+. "$top/bench/markers.sh"
+[ -x "$heapmark" ] || { echo "run.sh: $heapmark is not built" >&2; exit 1; }
+different=0
 read -r -a options <<< "${OPTIONS:-}"
 
 rustc --edition 2024 -O -o "$room/plain" "$top/bench/plain/main.rs"
 
 # The ways in which each program runs: a word for each, from which `command_of` makes the command.
 ways() {
-    if [ -x "$heapmark" ]; then
-        if "$heapmark" --help > /dev/null 2>&1; then echo heapmark-1 heapmark-2 heapmark-4; else echo heapmark; fi
-    fi
+    if "$heapmark" --help > /dev/null 2>&1; then echo heapmark-1 heapmark-2 heapmark-4; else echo heapmark; fi
     echo plain plain-2 plain-4 plain-bytes plain-bytes-atomic plain-bytes-2 plain-bytes-4
 }
 
@@ -37,21 +40,22 @@ command_of() {
 }
 
 # timed WAY DUMP: runs once. Adds "MICROSECONDS KILOBYTES" to the times of WAY, and what the program wrote on standard
-# error to the messages of WAY.
+# error to the messages of WAY. Notes a run that does not end as the expected one.
 timed() {
-    local start end
     command_of "$1" "$2"
-    start=${EPOCHREALTIME/./}
     # shellcheck disable=SC2086 # the starter may be several words
-    $starter /usr/bin/time -q -f %M -o "$room/peak" "${command[@]}" > "$room/$1.report" 2>> "$room/$1.told" || true
-    end=${EPOCHREALTIME/./}
-    echo "$((end - start)) $(tail -n 1 "$room/peak")" >> "$room/$1.times"
+    ran "$1" $starter /usr/bin/time -q -f %M -o "$room/peak" "${command[@]}"
+    echo "$spent $(tail -n 1 "$room/peak")" >> "$room/$1.times"
+    cat "$room/$1.told" >> "$room/$1.messages"
+    alike expected "$1" || echo "with $(end_of "$1")" > "$room/$1.different"
 }
 
-# measure DUMP: all ways in turn, so that a busy moment hurts each of them alike.
+# measure DUMP: runs the plain marker for what is expected, then all ways in turn, so that a busy moment hurts each of
+# them alike.
 measure() {
     local way
-    rm -f "$room"/*.times "$room"/*.told
+    rm -f "$room"/*.times "$room"/*.messages "$room"/*.different
+    ran expected "$room/plain" "$1"
     for _ in $(seq "$runs"); do
         for way in $(ways); do timed "$way" "$1"; done
     done
@@ -59,14 +63,14 @@ measure() {
 
 # told WAY NAME: prints the least number that the runs of WAY reported for NAME.
 told() {
-    sed -n "s/^$2 \([0-9][0-9]*\).*/\1/p" "$room/$1.told" | sort -n | head -n 1
+    sed -n "s/^$2 \([0-9][0-9]*\).*/\1/p" "$room/$1.messages" | sort -n | head -n 1
 }
 
 # row DUMP WAY: prints time and memory of the whole program, and their ratios to those of the plain marker with one
 # thread.
 row() {
     local same=same
-    cmp -s "$room/plain.report" "$room/$2.report" || same=DIFFERENT
+    [ ! -e "$room/$2.different" ] || same="DIFFERENT $(cat "$room/$2.different")"
     awk -v dump="$1" -v way="$2" -v bytes="$(told plain file)" -v objects="$(told plain objects)" -v same="$same" '
         FNR == 1 { file++ }
         { if (!(file in best) || $1 < best[file]) best[file] = $1; if ($2 > peak[file]) peak[file] = $2 }
@@ -99,10 +103,13 @@ echo "Measured on $(date -u +'%-d %B %Y') on $(nproc) processors ($processor), l
     "$(rustc --version | cut -d ' ' -f 1,2), the best of $runs runs."
 printf '\n| Dump | Program | Wall, s | MB/s | Mobjects/s | Peak, MiB | To plain: wall | peak | Report |\n'
 echo '|---|---|---|---|---|---|---|---|---|'
+: > "$room/phases"
+: > "$room/sizes"
 for dump in "${dumps[@]}"; do
     name=$(basename "$dump" .hprof)
     measure "$dump"
-    [ -n "$(told plain objects)" ] || { echo "$name: $(tail -n 1 "$room/plain.told")" >&2; continue; }
+    ! compgen -G "$room/*.different" > /dev/null || different=1
+    [ "$(end_of expected)" = report ] || { echo "$name: plain: $(end_of expected)" >&2; continue; }
     for way in $(ways); do row "$name" "$way"; done
     phases "$name" >> "$room/phases"
     sizes "$name" "$(told plain file)" "$(told plain objects)" "$(told plain references)" >> "$room/sizes"
@@ -112,3 +119,4 @@ cat "$room/sizes"
 printf '\n| Dump | Program, ms by phase | read | parse | index | link | references | mark | report |\n'
 echo '|---|---|---|---|---|---|---|---|---|'
 cat "$room/phases"
+exit $different

@@ -7,7 +7,8 @@
 # /tmp/heapmark-bench if none is given. Prints a Markdown table with a row for each dump and each word of the variable
 # COUNTED, `all` and `reachable` if it is not set. `all` counts all objects of the dump, which is less work than
 # heapmark's. `reachable` counts those that heapmark counts with `--skip java/lang/ref/Reference.referent`. Neither
-# counts class objects. bench/java/visualvm/VisualVmHistogram.java says more. A run is stopped after ten minutes.
+# counts class objects. bench/java/visualvm/VisualVmHistogram.java says more. A run is stopped after ten minutes. Exit
+# status 1 if a run failed.
 #
 # The time includes the start of the virtual machine. The peak includes the mapped pages of the dump and of the
 # library's own files, and the machine's garbage. So it depends on the limit of the heap, the variable HEAP (3g).
@@ -23,7 +24,7 @@ runs=3
 # shellcheck source=bench/head.sh
 . "$(dirname "$0")/head.sh"
 java=${JAVA_HOME:+$JAVA_HOME/bin/}
-heap=${HEAP:-3g}
+heap=${HEAP:-3g} failed=0
 read -r -a counted <<< "${COUNTED:-all reachable}"
 
 # unpacked: sets `jar` and `version` to those of the package, and downloads the package if it was not kept.
@@ -86,4 +87,6 @@ printf '\n| Dump | Counted | Objects | Wall, s | Peak, MiB |\n|---|---|---|---|-
 for dump in "${dumps[@]}"; do
     measure "$dump"
     for way in "${counted[@]}"; do row "$(basename "$dump" .hprof)" "$way"; done
+    ! compgen -G "$room/*.failed" > /dev/null || failed=1
 done
+exit $failed

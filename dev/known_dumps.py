@@ -3,8 +3,11 @@
 Nothing here walks over references: what writes objects says which of them are reachable, and counts them.
 """
 
+from __future__ import annotations
+
 import os
 import struct
+from collections.abc import Iterator
 
 from tests.support import dump_writer
 
@@ -28,19 +31,19 @@ class Mixed:
     NAMES = "java/lang/Object check/Node check/Branch check/Leaf [Lcheck/Leaf; check/Registry check/Garbage".split()
     ROOT, NODE, BRANCH, LEAF, LEAVES_CLASS, REGISTRY, GARBAGE_CLASS = range(7)
 
-    def __init__(self, form):
+    def __init__(self, form: dump_writer.Format) -> None:
         self.form, self.expected = form, dump_writer.Expected()
         counts = [len(self.NAMES), self.CHAIN, self.TREE, self.LEAVES, self.ARRAYS, self.BUFFERS]
         self.first = [sum(counts[:at]) for at in range(len(counts) + 1)]
         self.garbage = MIXED_OBJECTS - self.first[-1]
         _, self.chain_at, self.tree_at, self.leaves_at, self.arrays_at, self.buffers_at, self.garbage_at = self.first
 
-    def unresolved(self, references):
+    def unresolved(self, references: list[int]) -> list[int]:
         """Counts those of `references` that name no object, and returns all."""
         self.expected.unresolved += sum(reference % 8 == 4 for reference in references)
         return references
 
-    def classes(self):
+    def classes(self) -> bytes:
         """Returns the class dumps; only instances of garbage refer to the last class."""
         form, width = self.form, self.form.width
         root, node = form.id(self.ROOT), form.id(self.NODE)
@@ -60,7 +63,7 @@ class Mixed:
         self.expected.add("<class>", 1, 0, reachable=False)
         return b"".join(dumps)
 
-    def roots(self):
+    def roots(self) -> bytes:
         """Returns the roots: list, tree, each array but the first, `Registry`, and three that name no object."""
         form, arrays = self.form, range(self.arrays_at + 1, self.arrays_at + self.ARRAYS)
         named = map(form.id, [self.chain_at, self.tree_at, *arrays])
@@ -68,19 +71,19 @@ class Mixed:
         frames = [form.root(dump_writer.ROOT_JAVA_FRAME, identifier) + bytes(8) for identifier in identifiers]
         return form.root(dump_writer.ROOT_STICKY_CLASS, form.id(self.REGISTRY)) + b"".join(frames)
 
-    def chain(self):
+    def chain(self) -> dump_writer.Block:
         """Returns the list: each node refers to the next one, the last to nothing."""
         after = [*map(self.form.id, range(self.chain_at + 1, self.chain_at + self.CHAIN)), 0]
         size = self.form.width + 4
         self.expected.add("check/Node", self.CHAIN, size)
         return self.form.instances(self.chain_at, self.CHAIN, self.NODE, [after], size)
 
-    def tree(self):
+    def tree(self) -> dump_writer.Block:
         """Returns the tree: branch n refers to the branches 2n + 1 and 2n + 2. Where such a branch does not exist, n
         has null, or in every fifth case an identifier that names no object."""
         form, end = self.form, self.TREE
 
-        def child(number):
+        def child(number: int) -> int:
             if number < end:
                 return form.id(self.tree_at + number)
             return 0 if number % 5 else form.missing(number)
@@ -90,7 +93,7 @@ class Mixed:
         self.expected.add("check/Branch", end, size)
         return form.instances(self.tree_at, end, self.BRANCH, sides, size)
 
-    def leaves(self):
+    def leaves(self) -> dump_writer.Block:
         """Returns the leaves. The first ones have a buffer each; every seventh of the others names no object."""
         form, count = self.form, self.LEAVES
         buffers = [form.id(self.buffers_at + number) for number in range(self.BUFFERS)]
@@ -99,7 +102,7 @@ class Mixed:
         self.expected.add("check/Leaf", count, size)
         return form.instances(self.leaves_at, count, self.LEAF, [self.unresolved(buffers + others)], size)
 
-    def arrays(self):
+    def arrays(self) -> dump_writer.Block:
         """Returns the arrays: each leaf is an element of one."""
         form, length = self.form, self.ELEMENTS
         elements = form.spell(map(form.id, range(self.leaves_at, self.leaves_at + self.LEAVES)))
@@ -110,12 +113,12 @@ class Mixed:
         self.expected.add("[Lcheck/Leaf;", self.ARRAYS, size)
         return dump_writer.Block(dumps, len(heads[0]) + size)
 
-    def buffers(self):
+    def buffers(self) -> dump_writer.Block:
         """Returns the arrays of bytes."""
         self.expected.add("byte[]", self.BUFFERS, self.BUFFER)
         return self.form.primitive_arrays(self.buffers_at, self.BUFFERS, dump_writer.BYTE, self.BUFFER)
 
-    def garbage_list(self):
+    def garbage_list(self) -> dump_writer.Block:
         """Returns the unreachable list. Each object refers to the next one and to a node; the last names no object."""
         form, count, size = self.form, self.garbage, 2 * self.form.width
         after = [*map(form.id, range(self.garbage_at + 1, self.garbage_at + count)), form.missing(0)]
@@ -123,7 +126,7 @@ class Mixed:
         self.expected.add("check/Garbage", count, size, reachable=False)
         return form.instances(self.garbage_at, count, self.GARBAGE_CLASS, [self.unresolved(after), nodes], size)
 
-    def blocks(self):
+    def blocks(self) -> Iterator[bytes]:
         """Yields the dumps of all objects but classes: a piece of each kind in turn, in parts of a segment's size."""
         kinds = [self.chain(), self.tree(), self.leaves(), self.arrays(), self.buffers(), self.garbage_list()]
         pieces = [[*kind.cut(-(-len(kind.dumps) // PIECES))] for kind in kinds]
@@ -133,7 +136,7 @@ class Mixed:
                     yield from dump_writer.Block(of_kind[turn], kind.size).cut(SEGMENT_SIZE)
 
 
-def write_mixed(path, width, scattered, segments):
+def write_mixed(path: str, width: int, scattered: bool, segments: bool) -> bytes:
     """Writes a dump of two million objects, in one heap dump or in `segments`, and returns its report."""
     form = dump_writer.Format(width, scattered)
     mixed = Mixed(form)
@@ -158,35 +161,35 @@ class Rooted:
     NAME = "[Ljava/lang/Object;"
     CLASS, ARRAY, FIRST = range(3)
 
-    def __init__(self, width, count):
+    def __init__(self, width: int, count: int) -> None:
         self.form, self.count, self.expected = dump_writer.Format(width), count, dump_writer.Expected()
         self.expected.add("<class>", 1, 0)
         self.expected.add(self.NAME, 1, count * width)
 
-    def beginning(self):
+    def beginning(self) -> bytes:
         """Returns what precedes the record of the heap dump."""
         return self.form.header() + self.form.loaded(2, self.CLASS, self.NAME)
 
-    def record(self, length):
+    def record(self, length: int) -> bytes:
         """Returns the tag of the heap dump, its time and its length."""
         return struct.pack(">BII", dump_writer.HEAP_DUMP, 0, length)
 
-    def top(self):
+    def top(self) -> bytes:
         """Returns the first sub-records, up to the elements of the array."""
         root = self.form.root(dump_writer.ROOT_UNKNOWN, self.form.id(self.ARRAY))
         return self.form.class_dump(self.CLASS) + root + self.form.object_array_head(self.ARRAY, self.CLASS, self.count)
 
-    def elements(self, first, count):
+    def elements(self, first: int, count: int) -> bytes:
         """Returns the identifiers of `count` elements."""
         return self.form.spell(map(self.form.id, range(self.FIRST + first, self.FIRST + first + count)))
 
-    def head(self, element, code, length):
+    def head(self, element: int, code: int, length: int) -> bytes:
         """Returns the dump of an element that is an array of the type `code`, up to its own elements."""
         self.expected.add(f"{dump_writer.TYPE_NAME[code]}[]", 1, length * dump_writer.VALUE_SIZE[code])
         return self.form.primitive_head(self.form.id(self.FIRST + element), code, length)
 
 
-def write_largest(path, size=MOST_BYTES):
+def write_largest(path: str, size: int = MOST_BYTES) -> bytes:
     """Writes a dump of `size` bytes, all but a few of them zeroes of two arrays, and returns its report."""
     heap, count = Rooted(8, 3), size // 16
     beginning, top = heap.beginning(), heap.top() + heap.elements(0, 3)
@@ -202,7 +205,7 @@ def write_largest(path, size=MOST_BYTES):
     return heap.expected.report()
 
 
-def write_most_objects(path):
+def write_most_objects(path: str) -> bytes:
     """Writes a dump of as many objects as one may have, nearly all of them empty arrays, and returns its report."""
     heap, most = Rooted(4, MOST_OBJECTS - Rooted.FIRST), 1 << 20
     top, size = heap.top(), len(heap.form.primitive_head(0, dump_writer.BYTE, 0))
@@ -216,7 +219,7 @@ def write_most_objects(path):
     return heap.expected.report()
 
 
-def add_an_object(path):
+def add_an_object(path: str) -> int:
     """Adds an empty array to a dump of `write_most_objects`, and returns its place."""
     heap = Rooted(4, MOST_OBJECTS - Rooted.FIRST)
     at = len(heap.beginning())

@@ -1,11 +1,15 @@
 """A named pipe that finds out whether a program opens it more than once, for tools/check."""
 
+from __future__ import annotations
+
 import ctypes
 import os
 import pathlib
 import struct
+import subprocess
 import threading
 import time
+from typing import Any
 
 #: The event of inotify for a file that was open for reading and was closed.
 IN_CLOSE_NOWRITE = 0x10
@@ -19,19 +23,19 @@ class WatchedPipe:
     Raises `OSError` if the system cannot watch the pipe.
     """
 
-    def __init__(self, path, content):
+    def __init__(self, path: str, content: bytes) -> None:
         self.path, self.content = path, content
         os.mkfifo(path)
         libc = ctypes.CDLL(None, use_errno=True)
-        self.events = libc.inotify_init1(os.O_NONBLOCK | os.O_CLOEXEC)
+        self.events: int = libc.inotify_init1(os.O_NONBLOCK | os.O_CLOEXEC)
         if libc.inotify_add_watch(self.events, path.encode(), IN_CLOSE_NOWRITE) < 0:
             raise OSError(ctypes.get_errno(), "inotify cannot watch a pipe")
 
-    def close(self):
+    def close(self) -> None:
         """Ends the watch."""
         os.close(self.events)
 
-    def feed(self, process, limit):
+    def feed(self, process: subprocess.Popen[Any], limit: float) -> bool:
         """Waits until the process opens the pipe, and starts a thread that writes the content.
 
         Returns `True` if the process has opened the pipe once in the `SECONDS_EMPTY` before the first byte: it then
@@ -46,7 +50,7 @@ class WatchedPipe:
         threading.Thread(target=self.write, args=[opened], daemon=True).start()
         return is_opened_once
 
-    def open_to_write(self, process, limit):
+    def open_to_write(self, process: subprocess.Popen[Any], limit: float) -> int | None:
         """Opens the pipe for writing as soon as the process has opened it for reading.
 
         Returns `None` if the process ends first, or does not open it in `limit` seconds.
@@ -59,7 +63,7 @@ class WatchedPipe:
                 time.sleep(0.001)
         return None
 
-    def write(self, opened):
+    def write(self, opened: int) -> None:
         """Writes the content until the process stops reading, and closes the pipe."""
         os.set_blocking(opened, True)
         try:
@@ -68,14 +72,14 @@ class WatchedPipe:
         except BrokenPipeError:
             pass
 
-    def times_held(self, process):
+    def times_held(self, process: subprocess.Popen[Any]) -> int:
         """Returns how many of the process's open files are the pipe."""
         try:
             return sum(os.path.realpath(it) == self.path for it in pathlib.Path(f"/proc/{process.pid}/fd").iterdir())
         except FileNotFoundError:
             return 0
 
-    def was_closed(self):
+    def was_closed(self) -> bool:
         """Tests whether a reader has closed the pipe."""
         try:
             events = os.read(self.events, 4096)

@@ -1,5 +1,7 @@
 """Tests of tools/package: the folder that it makes, the manual pages, the completions, and links of installed pages."""
 
+from __future__ import annotations
+
 import collections
 import os
 import pathlib
@@ -9,8 +11,9 @@ import subprocess
 import sys
 import tempfile
 import unittest
+from typing import Counter
 
-TOP = pathlib.Path(__file__).resolve().parent.parent
+TOP = pathlib.Path(__file__).resolve().parents[2]
 DATA = TOP / "crates/heapmark/data"
 DUMP = str(DATA / "two_objects.hprof")
 BINARY = os.path.realpath(os.environ.get("HEAPMARK") or TOP / "crates/heapmark/out/heapmark")
@@ -27,26 +30,37 @@ echo "${COMPREPLY[*]}"
 """
 
 
-def ran(*words, **more):
+def ran(
+    *words: str | pathlib.Path, env: dict[str, str] | None = None, cwd: pathlib.Path | None = None
+) -> subprocess.CompletedProcess[str]:
     """Runs a program, and returns how it ended."""
-    kept = {"stdin": subprocess.DEVNULL, "stdout": subprocess.PIPE, "stderr": subprocess.PIPE, "timeout": 100, **more}
-    return subprocess.run([str(word) for word in words], check=False, universal_newlines=True, **kept)
+    return subprocess.run(
+        [str(word) for word in words],
+        stdin=subprocess.DEVNULL,
+        stdout=subprocess.PIPE,
+        stderr=subprocess.PIPE,
+        universal_newlines=True,
+        timeout=100,
+        env=env,
+        cwd=cwd,
+        check=False,
+    )
 
 
-def words_of(text):
+def words_of(text: str) -> Counter[str]:
     """Returns how often each word is in a text, without back-ticks."""
     return collections.Counter(text.replace("`", "").split())
 
 
-def refusals():
+def refusals() -> list[list[str]]:
     """Returns the rows of the README's table of refusals, without links: the codes with their names, and what to do."""
     text = (TOP / "README.md").read_text(encoding="utf-8")
-    table = re.search(r"^\| Refusal .*\n\|[-|]+\n((?:\|.*\n)+)", text, re.M)[1]
+    (table,) = re.findall(r"^\| Refusal .*\n\|[-|]+\n((?:\|.*\n)+)", text, re.M)
     rows = [line.strip("|").split("|") for line in re.sub(r"\[([^]]*)\]\([^)]*\)", r"\1", table).splitlines()]
     return [[cell.strip() for cell in row] for row in rows]
 
 
-def anchors(page):
+def anchors(page: pathlib.Path) -> set[str]:
     """Returns the headings of a page as links name them."""
     heads = re.findall(r"^#+ (.*)$", page.read_text(encoding="utf-8"), re.M)
     return {re.sub(r"[^\w -]", "", head.lower()).replace(" ", "-") for head in heads}
@@ -55,33 +69,41 @@ def anchors(page):
 class PackageTest(unittest.TestCase):
     """The folder that tools/package makes. It is made once."""
 
+    room: tempfile.TemporaryDirectory[str]
+    made: pathlib.Path
+    environment: dict[str, str]
+    ended: subprocess.CompletedProcess[str]
+
     @classmethod
-    def setUpClass(cls):
+    def setUpClass(cls) -> None:
         cls.room = tempfile.TemporaryDirectory()
         cls.made = pathlib.Path(cls.room.name, "made")
         cls.environment = {key: value for key, value in os.environ.items() if key != "HEAPMARK"}
         cls.ended = cls.packed(cls.made, BINARY)
 
     @classmethod
-    def tearDownClass(cls):
+    def tearDownClass(cls) -> None:
         cls.room.cleanup()
 
     @classmethod
-    def packed(cls, *words):
+    def packed(cls, *words: str | pathlib.Path) -> subprocess.CompletedProcess[str]:
         """Runs tools/package."""
         return ran(TOP / "tools/package", *words, env=cls.environment)
 
-    def test_refused(self):
+    def test_refused(self) -> None:
         """A program that is not built, and what is none, have a line; a folder that exists is left alone."""
         self.assertEqual((self.ended.returncode, self.ended.stderr), (0, ""))
         other = pathlib.Path(self.room.name, "other")
-        for binary, why in ((f"{other}/nowhere", "* does not exist: build it first"), (TOP / "README.md", "")):
+        for binary, why in ((other / "nowhere", "* does not exist: build it first"), (TOP / "README.md", "")):
             ended = self.packed(other, binary)
             self.assertEqual((ended.returncode, ended.stderr.count("\n"), other.exists()), (1, 1, False))
             self.assertTrue(ended.stderr.startswith("package: ") and why.strip("*") in ended.stderr, ended.stderr)
         self.assertEqual(self.packed(self.made, BINARY).stderr, f"package: {self.made} exists already\n")
+        wrong: list[list[str]] = [[], [str(other), BINARY, "more"], ["--other"]]
+        for words in wrong:
+            self.assertEqual((self.packed(*words).returncode, other.exists()), (2, False))
 
-    def test_programs(self):
+    def test_programs(self) -> None:
         """Each program runs where it is installed, and the tools find heapmark beside them."""
         programs = self.made / "bin"
         report = (TOP / "crates/heapmark/stdout").read_text(encoding="utf-8")
@@ -100,7 +122,7 @@ class PackageTest(unittest.TestCase):
             ended = ran(programs / words[0], *words[1:], env={**self.environment, "PATH": path})
             self.assertTrue(ended.stderr.startswith(said) and ended.returncode != 5, ended.stderr)
 
-    def test_files(self):
+    def test_files(self) -> None:
         """Nothing else is in the folder: of the library all that is not for tests."""
         found = {str(path.relative_to(self.made)) for path in self.made.rglob("*") if path.is_file()}
         library = {name for name in found if name.startswith("lib/heapmark/heap_tools/")}
@@ -111,7 +133,7 @@ class PackageTest(unittest.TestCase):
         self.assertEqual((ended.returncode, ended.stderr), (0, ""))
 
     @unittest.skipUnless(shutil.which("man"), "man is not here")
-    def test_manual_pages(self):
+    def test_manual_pages(self) -> None:
         """`man` sets each page without a warning. It has all words of the help, and says where to read on."""
         version = ran(BINARY, "--version").stdout.split("\n")[0]
         for name in ("heapmark", *TOOLS):
@@ -130,7 +152,7 @@ class PackageTest(unittest.TestCase):
             for part in ("\nSEE ALSO", "\nENVIRONMENT", "GLIBC_TUNABLES"):
                 self.assertIn(part, plain)
 
-    def test_refusals(self):
+    def test_refusals(self) -> None:
         """The README's refusals are those of FORMAT."""
         of_format = (TOP / "docs/FORMAT.md").read_text(encoding="utf-8")
         found = [pair for cell, _ in refusals() for pair in re.findall(r"([0-9]+) `([A-Za-z]+)`", cell)]
@@ -138,7 +160,7 @@ class PackageTest(unittest.TestCase):
         for code, name in found:
             self.assertIn(f"| {code} | {name} |", of_format)
 
-    def test_links(self):
+    def test_links(self) -> None:
         """No link of an installed page is dead, and what is not installed is named by words."""
         docs = self.made / "share/doc/heapmark"
         for name in DOCUMENTS:
@@ -156,7 +178,7 @@ class PackageTest(unittest.TestCase):
         self.assertEqual(wrong, [])
 
     @unittest.skipUnless(shutil.which("bash"), "bash is not here")
-    def test_bash(self):
+    def test_bash(self) -> None:
         """bash completes options, and files where a file may stand."""
         two, dump = "two", "two_objects.hprof"
         for words, wanted in (
@@ -183,7 +205,7 @@ class PackageTest(unittest.TestCase):
             ended = ran("bash", "-c", COMPLETE, "bash", place, *words, cwd=DATA)
             self.assertEqual(ended.stdout.strip(), wanted, words)
 
-    def test_zsh_and_fish(self):
+    def test_zsh_and_fish(self) -> None:
         """zsh takes a value after =, too, and completes files, but no fields and classes. Both read their files."""
         folder = self.made / "share/zsh/site-functions"
         options = re.findall(r"^    '--[\w-]+=\[[^]]+\]:number: ' ", (folder / "_heapmark").read_text(), re.M)
@@ -196,7 +218,3 @@ class PackageTest(unittest.TestCase):
             for path in (self.made / "share" / shell).rglob("*"):
                 if path.is_file():
                     self.assertEqual(ran(shell, "-n", path).returncode, 0, path)
-
-
-if __name__ == "__main__":
-    unittest.main()

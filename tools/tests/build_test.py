@@ -1,15 +1,18 @@
 """Tests of tools/build, on a repository of four crates and a stand-in for rt."""
 
+from __future__ import annotations
+
 import os
 import pathlib
 import shutil
 import signal
 import subprocess
+import sys
 import tempfile
 import time
 import unittest
 
-BUILD = pathlib.Path(__file__).resolve().parent / "build"
+TOP = pathlib.Path(__file__).resolve().parents[2]
 #: The crates, in no order: `low` below `left` and `right`, and `heapmark` on top; `apart` is of no use to it.
 CRATES = "heapmark: left right\napart: low\nleft: low  # a comment: with a colon\nright tests_may=Threads: low clap\nlow:\n"
 #: Notes when it begins and ends in the file `log`, and fails for the crate `bad` names.
@@ -25,44 +28,49 @@ echo "end $name" >> ../../log
 
 
 class BuildTest(unittest.TestCase):
-    def setUp(self):
+    def setUp(self) -> None:
         self.room = tempfile.TemporaryDirectory()
         self.top = pathlib.Path(self.room.name)
         for name in ("heapmark", "apart", "left", "right", "low"):
             (self.top / "crates" / name / "src").mkdir(parents=True)
         for folder in ("tools", "dev", "docs", "bin"):
             (self.top / folder).mkdir()
-        shutil.copy(BUILD, self.top / "tools")
-        (self.top / "docs/GATE.md").write_text("    left 40 -\n    right 4 -\n    low 9 -\n")
+        for name in ("tools/build", "dev/crate_list.py", "dev/gate_table.py"):
+            shutil.copy(TOP / name, self.top / name)
+        (self.top / "docs/GATE.md").write_text("    left 40 - 50\n    right 4 - 5\n    low 9 - 9\n")
         (self.top / "crates.txt").write_text(CRATES)
         for command, word in (("bin/rt", ""), ("dev/lib_of_statements", "statements ")):
             (self.top / command).write_text(RT.replace("WORD", word))
             (self.top / command).chmod(0o755)
         self.set(seconds="0", bad="none")
 
-    def tearDown(self):
+    def tearDown(self) -> None:
         self.room.cleanup()
 
-    def set(self, **texts):
+    def set(self, **texts: str) -> None:
         for name, text in texts.items():
             (self.top / name).write_text(text)
 
-    def start(self, *words, path=None):
-        environment = {**os.environ, "PATH": path or f"{self.top}/bin:{os.environ['PATH']}"}
-        how = {"stdout": subprocess.PIPE, "stderr": subprocess.PIPE, "universal_newlines": True, "env": environment}
-        # A background job of a script ignores interrupts, and what it starts would, too.
-        how["preexec_fn"] = lambda: signal.signal(signal.SIGINT, signal.SIG_DFL)
-        return subprocess.Popen([str(self.top / "tools/build"), *words], **how)
+    def start(self, *words: str, path: str | None = None) -> subprocess.Popen[str]:
+        return subprocess.Popen(
+            [str(self.top / "tools/build"), *words],
+            stdout=subprocess.PIPE,
+            stderr=subprocess.PIPE,
+            universal_newlines=True,
+            env={**os.environ, "PATH": path or f"{self.top}/bin:{os.environ['PATH']}"},
+            # A background job of a script ignores interrupts, and what it starts would, too.
+            preexec_fn=lambda: signal.signal(signal.SIGINT, signal.SIG_DFL),
+        )
 
-    def ended(self, *words, **how):
-        build = self.start(*words, **how)
+    def ended(self, *words: str, path: str | None = None) -> tuple[int, str, str]:
+        build = self.start(*words, path=path)
         out, err = build.communicate(timeout=30)
         return build.returncode, out, err
 
-    def log(self):
+    def log(self) -> list[str]:
         return (self.top / "log").read_text().splitlines()
 
-    def test_crates_after_those_below(self):
+    def test_crates_after_those_below(self) -> None:
         status, out, _ = self.ended("--crates", "2", "--jobs", "4")
         self.assertEqual(status, 0)
         self.assertIn("a report\n", out)
@@ -73,21 +81,21 @@ class BuildTest(unittest.TestCase):
         for name, used in (("left", "low"), ("right", "low"), ("heapmark", "left"), ("heapmark", "right")):
             self.assertLess(ends[used], at[name], log)
 
-    def test_the_longest_chain_gets_the_most_processes(self):
+    def test_the_longest_chain_gets_the_most_processes(self) -> None:
         self.ended("--crates", "2", "--jobs", "4")
         self.assertIn("begin low statements --jobs 4", self.log())
         self.assertIn("begin left statements --jobs 4", self.log())
         self.assertIn("begin right statements --jobs 1", self.log())
         self.assertIn("begin heapmark run --jobs 4 -- data/two_objects.hprof", self.log())
 
-    def test_urgent_crates_share_the_processes(self):
-        (self.top / "docs/GATE.md").write_text("    left 40 -\n    right 30 -\n    low 9 -\n")
+    def test_urgent_crates_share_the_processes(self) -> None:
+        (self.top / "docs/GATE.md").write_text("    left 40 - 50\n    right 30 - 50\n    low 9 - 9\n")
         self.ended("--crates", "2", "--jobs", "4")
         self.assertIn("begin low statements --jobs 4", self.log())
         self.assertIn("begin left statements --jobs 3", self.log())
         self.assertIn("begin right statements --jobs 2", self.log())
 
-    def test_only_work_that_was_kept_before_is_kept(self):
+    def test_only_work_that_was_kept_before_is_kept(self) -> None:
         (self.top / "crates/left/out/incremental").mkdir(parents=True)
         self.ended("--crates", "2", "--jobs", "4")
         log = self.log()
@@ -96,7 +104,7 @@ class BuildTest(unittest.TestCase):
         self.assertEqual([it for it in log if it.startswith("keeps nothing")], ["keeps nothing heapmark"])
         self.assertEqual([it.parent.parent.name for it in self.top.glob("crates/*/out/incremental")], ["left"])
 
-    def test_a_crate_that_is_not_proved(self):
+    def test_a_crate_that_is_not_proved(self) -> None:
         self.set(bad="left")
         status, out, _ = self.ended()
         self.assertEqual(status, 1)
@@ -104,7 +112,7 @@ class BuildTest(unittest.TestCase):
         self.assertEqual((self.top / "crates/left/out/build.log").read_text(), "the proof fails\n")
         self.assertFalse([it for it in self.log() if it.startswith("begin heapmark")])
 
-    def test_a_signal_ends_what_runs(self):
+    def test_a_signal_ends_what_runs(self) -> None:
         self.set(seconds="30")
         for number in (signal.SIGINT, signal.SIGTERM, signal.SIGHUP):
             build = self.start()
@@ -116,14 +124,10 @@ class BuildTest(unittest.TestCase):
             self.assertEqual(list(self.top.glob("crates/*/out/incremental")), [])
             (self.top / "log").unlink()
 
-    def test_wrong_words_and_no_rt(self):
+    def test_wrong_words_and_no_rt(self) -> None:
         self.assertEqual(self.ended("--jobs", "0")[0], 2)
         self.assertEqual(self.ended("--job")[0], 2)
-        python = os.path.dirname(shutil.which("python3"))
+        python = os.path.dirname(sys.executable)
         status, _, err = self.ended(path=f"{python}:/usr/bin:/bin")
         self.assertEqual((status, err), (1, "tools/build: rt is not on the PATH: add the toolchain's folder bin\n"))
         self.assertEqual(list(self.top.glob("crates/*/out/incremental")), [])
-
-
-if __name__ == "__main__":
-    unittest.main()

@@ -1,0 +1,45 @@
+# Runs heapmark and the plain marker, and says how a run ended. To be sourced by the scripts that compare the two.
+#
+# The script sets `room`, a folder for what the runs print.
+# shellcheck shell=bash disable=SC2034 disable=SC2154 # what is set here is used there, and the other way round
+
+# ran NAME COMMAND..: runs a marker. Keeps its report in NAME.report and what else it prints in NAME.told. Sets `status`,
+# and `spent` to its microseconds.
+ran() {
+    local name=$1 start
+    shift
+    status=0
+    start=${EPOCHREALTIME/./}
+    "$@" > "$room/$name.report" 2> "$room/$name.told" || status=$?
+    spent=$((${EPOCHREALTIME/./} - start))
+    how_ended "$name" > "$room/$name.end"
+}
+
+# how_ended NAME: prints how the run that `ran` kept as NAME ended: `report`, `refused 3 Truncated at 70`, or `failed ..`
+# if it was neither, as after a signal or a status without a refusal.
+how_ended() {
+    local refusal
+    refusal=$(sed -n 's/^[a-z]*: \(refused [0-9].*\)/\1/p' "$room/$1.told")
+    if [ "$status" -eq 0 ] && [[ $(tail -n 1 "$room/$1.report") == *'(unresolved)' ]]; then
+        echo report
+    elif [ "$status" -eq 1 ] && [ ! -s "$room/$1.report" ] && [ -n "$refusal" ]; then
+        echo "$refusal"
+    else
+        echo "failed with status $status: $(tail -n 1 "$room/$1.told")"
+    fi
+}
+
+# end_of NAME: prints how the run NAME ended, as `how_ended` does.
+end_of() {
+    cat "$room/$1.end"
+}
+
+# failed NAME: tests whether the run NAME ended without a report and without a refusal.
+failed() {
+    [[ $(end_of "$1") == failed* ]]
+}
+
+# alike NAME OTHER: tests whether two runs gave the same report, or the same refusal.
+alike() {
+    ! failed "$1" && cmp -s "$room/$1.end" "$room/$2.end" && cmp -s "$room/$1.report" "$room/$2.report"
+}
