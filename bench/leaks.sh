@@ -1,22 +1,33 @@
 #!/usr/bin/env bash
-# Tests whether the first line of tools/leaks names what holds a leak, on services that leak beside a steady catalog.
+# Tests whether the first line of tools/leaks names what holds a leak, on programs that leak beside a steady catalog.
 #
-# usage: bench/leaks.sh [SERVICE..]
+# usage: bench/leaks.sh [-h] [NAME..]
 #
-# SERVICE..: all of the table below if none is given. Each is a program of bench/java/leaks/shop that dumps itself
-# before and after its leak grew. The catalog is three times as large as the leak in the second dump. Java is that of
-# JAVA_HOME, else that of PATH; a service that needs a later version is left out.
+# NAME..: programs of the table below, or folders of bench/java/leaks, whose programs are all meant; all if none is
+# given. Each dumps itself before and after its leak grew. The catalog is about three times as large as the leak in the
+# last dump, or larger. The folders:
 #
-# Prints a Markdown table: for each service the megabytes of its dumps, how many megabytes grew, how many the catalog
+#   shop  services that leak while nothing else happens
+#   load  services of real libraries, with requests inside the library while a dump is made
+#   hard  leaks in plain Java that are hard to name
+#
+# Java is that of JAVA_HOME, else that of PATH. A program is left out if it needs a later version, or a library that
+# /usr/share/java does not have; the row then says the Debian package.
+#
+# Prints a Markdown table: for each program the megabytes of its dumps, how many megabytes grew, how many the catalog
 # has, the seconds that tools/leaks took without a class, and its first line. A line is right if its field is the holder
-# of the table below, and the catalog is not in it; after a wrong line comes the whole output. The last line is
-# `N right, M wrong, K left out`. Exit status 1 if a line was wrong.
+# of the table below, and the catalog is not in it. It is partly right if the output lacks the words of the table, which
+# say which of many objects it is. After a line that is not right comes the whole output. The last line is `N right, M
+# wrong, K left out`, with `P partly` between if there are any. Exit status 1 if a line was wrong or partly right, 2 if
+# there is no such program.
 #
 # heapmark is the binary of crates/heapmark/out, or what the variable HEAPMARK names. LEAKS: a command in place of
-# tools/leaks. KEPT: a folder in which the dumps stay, NAME-before.hprof and NAME-after.hprof. SCALE: how many times as
-# large as usual catalog and leak are (1); with 26, the second dump has some 600 MB.
+# tools/leaks. KEPT: a folder in which the dumps stay, NAME-before.hprof, NAME-after.hprof, and NAME-middle.hprof of
+# three. DUMPED: such a folder, whose dumps are searched again: Java is not run, and a program without dumps is left
+# out. SCALE: how many times as large as usual catalog and leak are (1); with 26, the last dump has some 600 MB.
 set -euo pipefail
 
+case ${1:-} in -h | --help) sed -n '2,/^set /{s/^# \{0,1\}//p}' "$0" && exit ;; esac
 top=$(cd "$(dirname "$0")/.." && pwd)
 # shellcheck source=bench/machine.sh
 . "$top/bench/machine.sh"
@@ -25,35 +36,138 @@ read -r -a leaks <<< "${LEAKS:-$top/tools/leaks}"
 scale=${SCALE:-1}
 room=$(mktemp -d)
 trap 'rm -rf "$room"' EXIT
-dumps=${KEPT:-$room}
-right=0 wrong=0 omitted=0
+dumps=${DUMPED:-${KEPT:-$room}}
+right=0 partly=0 wrong=0 omitted=0
 
-# services: prints a line for each service: its name, the version of Java that it needs, and its holder. Between holders
-# of which any is right stands ` | `.
+# services: prints three lines for each program, of which the last may be missing:
+#
+# - its folder and name, the version of Java that it needs, and the number of its dumps; then, if it needs libraries,
+#   the Debian packages that have them and the names of their jars, with commas between them;
+# - the holder. Between holders of which any is right stands ` | `; `*` stands for any letters. Fields that only together
+#   hold the leak are right, too, if each of them is;
+# - after `says`, the words that the output must have, too.
 services() {
     cat << 'SERVICES'
-MetricsService 17 shop/MetricsService$Metrics.meters
-QuoteService 17 shop/QuoteService$Bus.listeners
-TracingService 17 shop/TracingService$Trace.spans
-DriverService 17 static shop/DriverService$Registry.DRIVERS
-RedeployService 17 static java/lang/ApplicationShutdownHooks.hooks
-PaymentService 17 static shop/PaymentService.PENDING
-PriceService 17 static shop/PriceService.RECENT
-TagService 17 static vendor/text/Interner.POOL
-TimeoutService 17 java/util/concurrent/ScheduledThreadPoolExecutor$DelayedWorkQueue.queue
-UploadService 17 shop/UploadService.chunks
-SizeService 17 static shop/SizeService$Gr\xc3\xb6\xc3\x9fentabelle.NACH_L\xc3\x84NGE
-AuditService 17 local shop/AuditService.collect | thread "audit"
-MailService 17 shop/MailService$Mailer.waiting
-JournalService 17 together static shop/JournalService$Journal.events, static shop/JournalService$Screen.shown
-AckService 21 static shop/AckService.DELIVERIES | local shop/AckService.deliver
-ScopeService 25 shop/ScopeService$Context.answered
+shop/MetricsService 17 2
+    shop/MetricsService$Metrics.meters
+shop/QuoteService 17 2
+    shop/QuoteService$Bus.listeners
+shop/TracingService 17 2
+    shop/TracingService$Trace.spans
+shop/DriverService 17 2
+    static shop/DriverService$Registry.DRIVERS
+shop/RedeployService 17 2
+    static java/lang/ApplicationShutdownHooks.hooks
+shop/PaymentService 17 2
+    static shop/PaymentService.PENDING
+shop/PriceService 17 2
+    static shop/PriceService.RECENT
+shop/TagService 17 2
+    static vendor/text/Interner.POOL
+shop/TimeoutService 17 2
+    java/util/concurrent/ScheduledThreadPoolExecutor$DelayedWorkQueue.queue
+shop/UploadService 17 2
+    shop/UploadService.chunks
+shop/SizeService 17 2
+    static shop/SizeService$Gr\xc3\xb6\xc3\x9fentabelle.NACH_L\xc3\x84NGE
+shop/AuditService 17 2
+    local shop/AuditService.collect | thread "audit"
+shop/MailService 17 2
+    shop/MailService$Mailer.waiting
+shop/JournalService 17 2
+    together static shop/JournalService$Journal.events, static shop/JournalService$Screen.shown
+shop/AckService 21 2
+    static shop/AckService.DELIVERIES | local shop/AckService.deliver
+shop/ScopeService 25 2
+    shop/ScopeService$Context.answered
+load/LogbackService 17 2 liblogback-java,libslf4j-java logback-classic,logback-core,slf4j-api
+    ch/qos/logback/classic/LoggerContext.loggerCache | ch/qos/logback/classic/Logger.childrenList
+load/Log4jService 17 2 liblog4j2-java log4j-api,log4j-core
+    org/apache/logging/log4j/core/config/LoggerConfig.appenders
+        | org/apache/logging/log4j/core/config/AppenderControlArraySet.appenderArray
+load/EventBusService 17 2 libguava-java guava
+    com/google/common/eventbus/SubscriberRegistry.subscribers | com/google/common/eventbus/EventBus.subscribers
+        | static load/EventBusService.BUS
+load/CaffeineService 17 2 libcaffeine-java caffeine
+    static load/CaffeineService.TOKENS | com/github/benmanes/caffeine/cache/UnboundedLocalCache.data
+        | com/github/benmanes/caffeine/cache/UnboundedLocalCache$UnboundedLocalManualCache.cache
+load/PoolService 17 2 libcommons-pool2-java commons-pool2
+    org/apache/commons/pool2/impl/GenericObjectPool.allObjects
+load/HttpClientService 17 2 libhttpclient-java httpclient,httpcore,commons-logging,commons-codec
+    org/apache/http/pool/AbstractConnPool.leased | org/apache/http/pool/RouteSpecificPool.leased
+        | org/apache/http/impl/conn/PoolingHttpClientConnectionManager.pool
+load/TimerService 17 2 libnetty-java netty-common
+    io/netty/util/HashedWheelTimer.wheel
+load/GaugeService 17 2 libdropwizard-metrics-java,libslf4j-java metrics-core,slf4j-api
+    com/codahale/metrics/MetricRegistry.metrics
+load/QuartzService 17 2 libquartz2-java,libslf4j-java quartz2,slf4j-api
+    org/quartz/simpl/RAMJobStore.* | org/quartz/core/QuartzSchedulerResources.jobStore
+load/SessionService 17 2 libtomcat9-java tomcat9-*
+    org/apache/catalina/session/ManagerBase.sessions
+hard/ExpiryService 17 2
+    static hard/ExpiryService.ORDERS
+hard/FinalizerService 17 2
+    static java/lang/ref/Finalizer.unfinalized | static java/lang/ref/Finalizer.queue
+        | java/lang/ref/Reference.referent
+hard/BufferService 17 2
+    static hard/BufferService.RECEIVED
+hard/CachesService 17 2
+    static hard/CachesService$Caches.CACHE_*
+hard/PollService 17 2
+    static hard/PollService.EVENTS | local hard/PollService.poll | thread "poll"
+hard/ReportService 17 2
+    thread "report-*" | threads "report-*" | threads report-*
+hard/NoiseService 17 3
+    static hard/NoiseService.VISITORS
+hard/BasketService 17 2
+    hard/BasketService$Basket.items
+    says basket-4711
+hard/TopicService 17 2
+    static hard/TopicService.QUEUES
+    says invoices
+hard/WorkerService 17 2
+    java/lang/ThreadLocal$ThreadLocalMap$Entry.value | java/lang/ThreadLocal$ThreadLocalMap.table
+        | java/lang/Thread.threadLocals
+hard/SelectorService 17 2
+    sun/nio/ch/SelectorImpl.keys | sun/nio/ch/SelectorImpl.publicKeys | sun/nio/ch/EPollSelectorImpl.fdToKey
+        | local hard/SelectorService.serve | thread "selector"
+hard/BeanService 17 2
+    hard/BeanService$InvoiceService.drafts
+hard/SwapService 17 2
+    static hard/SwapService.VISITS
+hard/DeskService 17 2
+    hard/DeskService$Desk.movements
+hard/UndeployService 17 2
+    thread "cleaner-*" | threads "cleaner-*" | threads cleaner-* | local hard/UndeployService$Application.run
+hard/ReminderService 17 2
+    java/util/TaskQueue.queue | java/util/Timer.queue | java/util/TimerThread.queue
+hard/ClearanceService 17 2
+    static hard/ClearanceService.VISITS
+hard/ImportService 17 2
+    local hard/ImportService.importRows | thread "import"
+hard/TenantService 17 2
+    com/sun/jmx/mbeanserver/Repository.domainTb
+hard/ImageService 17 2
+    static hard/ImageService.IMAGES
+    says weak
 SERVICES
 }
 
-# megabytes FILE: prints the size of FILE.
+# rows: prints a line for each program: its folder, name, version, number of dumps, packages, jars, holder and words,
+# with tabs between them.
+rows() {
+    services | awk '
+        function printed() { if (row != "") print row "\t" holder "\t" words }
+        /^ +says / { words = substr($0, index($0, "says ") + 5); next }
+        /^ / { sub(/^ +/, ""); holder = holder (holder == "" ? "" : " ") $0; next }
+        { printed(); holder = words = ""; sub("/", "\t", $1)
+          row = $1 "\t" $2 "\t" $3 "\t" ($4 == "" ? "-" : $4) "\t" ($5 == "" ? "-" : $5) }
+        END { printed() }'
+}
+
+# megabytes FILE..: prints the sizes of the files, with commas between them.
 megabytes() {
-    awk '{ printf "%.1f", $1 / 1e6 }' <<< "$(stat -c %s "$1")"
+    stat -c %s "$@" | awk '{ printf "%s%.1f", (NR == 1 ? "" : ", "), $1 / 1e6 }'
 }
 
 # reachable DUMP: prints the reachable bytes of DUMP.
@@ -61,71 +175,139 @@ reachable() {
     "$HEAPMARK" "$1" | awk '$3 == "(reachable)" { print $2 }'
 }
 
-# catalog DUMP: prints how many bytes the catalog holds in DUMP.
+# catalog DUMP FOLDER: prints how many bytes the catalog of the programs of FOLDER holds in DUMP.
 catalog() {
-    "$top/tools/held" "$1" shop/Catalog.PRODUCTS | awk '{ bytes += $2 } END { print bytes }'
+    { "$top/tools/held" "$1" "$2/Catalog.PRODUCTS" 2> /dev/null || true; } | awk '{ bytes += $2 } END { print bytes }'
 }
 
-# dumped_twice SERVICE: compiles the service and runs it, which dumps itself to NAME-before.hprof and NAME-after.hprof.
-dumped_twice() {
-    "${java}javac" -encoding UTF-8 -sourcepath "$top/bench/java/leaks" -d "$room/classes" \
-        "$top/bench/java/leaks/shop/$1.java"
-    rm -f "$dumps/$1-before.hprof" "$dumps/$1-after.hprof"
-    "${java}java" -cp "$room/classes" "-Xmx$((64 + 64 * scale))m" "-Dscale=$scale" "shop.$1" \
-        "$dumps/$1-before.hprof" "$dumps/$1-after.hprof" > "$room/told" 2>&1 || { cat "$room/told" >&2; exit 1; }
+# class_path JARS: sets `path` to the class path of the jars. Returns 1 if one is missing.
+class_path() {
+    local jar jars
+    path=$room/classes
+    [ "$1" != - ] || return 0
+    IFS=, read -r -a jars <<< "$1"
+    for jar in "${jars[@]}"; do
+        # shellcheck disable=SC2206 # a name may be a pattern
+        jar=(/usr/share/java/$jar.jar)
+        [ -e "${jar[0]}" ] || return 1
+        path+=$(printf ':%s' "${jar[@]}")
+    done
 }
 
-# named LINE HOLDERS: tests whether the last field of LINE, to which fields above it may lead, is one of HOLDERS, and
-# whether LINE says nothing of the catalog.
-named() {
-    local found=${1##*  } holders=$2 holder
-    found=${found##* > }
-    [[ $1 != *shop/Catalog* ]] || return 1
+# dumped FOLDER NAME: compiles the program and runs it, which dumps itself to `files`.
+dumped() {
+    "${java}javac" -encoding UTF-8 -sourcepath "$top/bench/java/leaks" -cp "$path" -d "$room/classes" \
+        "$top/bench/java/leaks/$1/$2.java"
+    rm -f "${files[@]}"
+    "${java}java" -cp "$path" "-Xmx$((64 + 64 * scale))m" "-Dscale=$scale" "$1.$2" "${files[@]}" > "$room/told" 2>&1 ||
+        { cat "$room/told" >&2; exit 1; }
+}
+
+# is FIELD HOLDERS: tests whether FIELD is one of HOLDERS. More words may come after the field.
+is() {
+    local holders=$2 holder
     until [ -z "$holders" ]; do
         holder=${holders%% | *}
-        [ "$found" != "$holder" ] || return 0
         holders=${holders#"$holder"}
         holders=${holders# | }
+        holder=${holder//[\\]/\\\\}
+        holder=${holder//\[/\\[}
+        # shellcheck disable=SC2053 # a holder is a pattern
+        [[ $1 != $holder && $1 != $holder' '* ]] || return 0
     done
     return 1
 }
 
-# try SERVICE HOLDERS: dumps the service twice, runs tools/leaks on the dumps, and prints the row of the table.
+# named LINE HOLDERS: tests whether the last field of LINE, to which fields above it may lead, is one of HOLDERS, or is
+# some of them together, and whether LINE says nothing of the catalog.
+named() {
+    local found=${1##*  } part
+    found=${found##* > }
+    [[ -n $found && $1 != */Catalog* ]] || return 1
+    ! is "$found" "$2" || return 0
+    [[ $found == 'together '* ]] || return 1
+    found=${found#together }
+    while [ -n "$found" ]; do
+        part=${found%%, *}
+        is "$part" "$2" || return 1
+        found=${found#"$part"}
+        found=${found#, }
+    done
+}
+
+# judged HOLDERS WORDS: counts and prints what the output is worth.
+judged() {
+    if ! named "$line" "$1"; then
+        wrong=$((wrong + 1))
+        printf 'WRONG: line 1 does not name %s:\n' "$1"
+    elif [ -n "$2" ] && ! grep -qF "$2" "$room/lines" "$room/told"; then
+        partly=$((partly + 1))
+        printf 'PARTLY: line 1 names the holder, but nothing says %s:\n' "$2"
+    else
+        right=$((right + 1))
+        return
+    fi
+    cat "$room/lines" "$room/told"
+}
+
+# try FOLDER NAME HOLDERS WORDS: runs tools/leaks on the dumps, `files`, and prints the row of the table.
 try() {
-    local before=$dumps/$1-before.hprof after=$dumps/$1-after.hprof start line
-    dumped_twice "$1"
+    local start first=${files[0]} last=${files[-1]}
     start=${EPOCHREALTIME/./}
-    "${leaks[@]}" "$before" "$after" > "$room/lines" 2> "$room/told" < /dev/null || true
+    "${leaks[@]}" "${files[@]}" > "$room/lines" 2> "$room/told" < /dev/null || true
     start=$((${EPOCHREALTIME/./} - start))
     line=$(head -n 1 "$room/lines")
-    awk -v service="$1" -v sizes="$(megabytes "$before"), $(megabytes "$after")" -v before="$(reachable "$before")" \
-        -v after="$(reachable "$after")" -v catalog="$(catalog "$after")" -v seconds=$start '{
+    awk -v service="$2" -v sizes="$(megabytes "${files[@]}")" -v before="$(reachable "$first")" \
+        -v after="$(reachable "$last")" -v catalog="$(catalog "$last" "$1")" -v seconds=$start '{
             printf "| %s | %s | %.1f | %.1f | %.1f | `%s` |\n", service, sizes, (after - before) / 1e6, catalog / 1e6,
                 seconds / 1e6, $0
         }' <<< "$line"
-    if named "$line" "$2"; then
-        right=$((right + 1))
-    else
-        wrong=$((wrong + 1))
-        printf 'WRONG: line 1 does not name %s:\n' "$2"
-        cat "$room/lines" "$room/told"
-    fi
-    [ -n "${KEPT:-}" ] || rm "$before" "$after"
+    judged "$3" "$4"
 }
 
-[ $# -gt 0 ] || mapfile -t all < <(services | cut -d ' ' -f 1)
-[ $# -gt 0 ] || set -- "${all[@]}"
-mkdir -p "$dumps"
-echo "| Service | Dumps, MB | Grew, MB | Catalog, MB | Seconds | First line, on Java $(version) |"
-echo '|---|---|---|---|---|---|'
-for service; do
-    read -r _ needed holders < <(services | grep "^$service ") || { echo "no such service: $service" >&2; exit 2; }
-    if [ "$needed" -gt "$(version)" ]; then
-        omitted=$((omitted + 1))
-        echo "| $service | | | | | left out: it needs Java $needed |"
+# missing VERSION PACKAGES JARS: prints what the program needs that is not here, if there is such a thing.
+missing() {
+    if [ -n "${DUMPED:-}" ]; then
+        [ -e "${files[0]}" ] || echo "a dump, $(basename "${files[0]}")"
+    elif [ "$1" -gt "$(version)" ]; then
+        echo "Java $1"
     else
-        try "$service" "$holders"
+        class_path "$3" || echo "${2//,/ }"
     fi
+}
+
+mapfile -t all < <(rows)
+chosen=()
+for word in "${@:-*}"; do
+    count=${#chosen[@]}
+    for row in "${all[@]}"; do
+        IFS=$'\t' read -r folder name _ <<< "$row"
+        # shellcheck disable=SC2053 # no word stands for all
+        [[ $name != $word && $folder != $word ]] || chosen+=("$row")
+    done
+    [ "${#chosen[@]}" -gt "$count" ] || { echo "no such program: $word" >&2; exit 2; }
 done
-echo "$right right, $wrong wrong, $omitted left out"
-[ "$wrong" -eq 0 ]
+mkdir -p "$dumps"
+on=${DUMPED:+, searched again}
+echo "| Service | Dumps, MB | Grew, MB | Catalog, MB | Seconds | First line${on:-, on Java $(version)} |"
+echo '|---|---|---|---|---|---|'
+for row in "${chosen[@]}"; do
+    IFS=$'\t' read -r folder name needed number packages jars holders words <<< "$row"
+    files=("$dumps/$name-before.hprof" "$dumps/$name-after.hprof")
+    [ "$number" = 2 ] || files=("${files[0]}" "$dumps/$name-middle.hprof" "${files[1]}")
+    lacking=$(missing "$needed" "$packages" "$jars")
+    if [ -n "$lacking" ]; then
+        omitted=$((omitted + 1))
+        echo "| $name | | | | | left out: it needs $lacking |"
+        continue
+    fi
+    if [ -z "${DUMPED:-}" ]; then
+        class_path "$jars"
+        dumped "$folder" "$name"
+    fi
+    try "$folder" "$name" "$holders" "$words"
+    [ -n "${DUMPED:-}${KEPT:-}" ] || rm "${files[@]}"
+done
+[ "$partly" = 0 ] || between="$partly partly, "
+echo "$right right, ${between:-}$wrong wrong, $omitted left out"
+[ "$((wrong + partly))" -eq 0 ]

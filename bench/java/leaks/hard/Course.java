@@ -1,0 +1,33 @@
+package hard;
+
+import com.sun.management.HotSpotDiagnosticMXBean;
+import java.lang.management.ManagementFactory;
+
+/**
+ * The course of every program: it works for a day and dumps its live objects; before each further dump it works for
+ * three days.
+ *
+ * <p>Usage: {@code java hard.NAME DUMP..}: the files of the dumps, which must not exist.
+ */
+final class Course {
+    /** How many times as large as usual catalog and leaks are. */
+    static final int SCALE = Integer.getInteger("scale", 1);
+
+    /** What a program does on a day. The days before the second dump are 1, 2 and 3. */
+    interface Day {
+        void work(int day) throws Exception;
+    }
+
+    /** Ends the program, too: some have threads that would not end. */
+    static void run(String[] words, Day work) throws Exception {
+        HotSpotDiagnosticMXBean machine = ManagementFactory.getPlatformMXBean(HotSpotDiagnosticMXBean.class);
+        int day = 0;
+        for (String file : words) {
+            do {
+                work.work(day++);
+            } while (day % 3 != 1);
+            machine.dumpHeap(file, true);
+        }
+        Runtime.getRuntime().halt(0);
+    }
+}
