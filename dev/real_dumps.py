@@ -44,7 +44,10 @@ def unpack(name: str, path: str) -> bytes:
 def read(file: str) -> Report:
     """Returns what the report or the histogram `file` of `ROOM` says."""
     with open(ROOM / file, "rb") as opened:
-        return read_text(opened, file)[1]
+        found = read_text(opened, file)
+    if not found:
+        raise Miscounted(f"{file}: no report and no histogram")
+    return found[1]
 
 
 def counts(report: Report) -> Counter[str]:
