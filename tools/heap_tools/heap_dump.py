@@ -7,7 +7,7 @@ traces, are.
 import mmap
 import struct
 from collections import deque
-from typing import BinaryIO, Deque, Dict, Iterable, Iterator, List, NamedTuple, Optional, Set, Tuple
+from typing import IO, Deque, Dict, Iterable, Iterator, List, NamedTuple, Optional, Set, Tuple
 
 from heap_tools import hprof_format as hprof
 from heap_tools.class_names import of_dump, shown
@@ -74,7 +74,7 @@ class HeapDump:
     all segments are read. `field_names` are the names of fields by the identifiers of their strings. Raises
     `UnknownTag` for a sub-record that is not known."""
 
-    def __init__(self, file: BinaryIO, nameless: bool = False) -> None:
+    def __init__(self, file: IO[bytes], nameless: bool = False) -> None:
         self.file = file
         self.bytes = mmap.mmap(file.fileno(), 0, access=mmap.ACCESS_READ)
         self.size = len(self.bytes)

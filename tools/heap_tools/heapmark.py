@@ -74,7 +74,9 @@ class Heapmark:
                     with child.stdin as pipe, contextlib.suppress(BrokenPipeError):  # then its status says why
                         _widen(pipe)
                         feed(pipe)
-                out, said = _contents(child.stdout, messages)
+                assert child.stdout
+                with child.stdout as output:
+                    out, said = _contents(output, messages)
         except BaseException:
             self._end()
             raise
@@ -166,9 +168,9 @@ def _terminal() -> Tuple[int, int]:
         return os.pipe()
 
 
-def _contents(*streams: Optional[IO[bytes]]) -> List[bytes]:
+def _contents(*streams: IO[bytes]) -> List[bytes]:
     """Reads several streams to their ends at once. Returns what came from each."""
-    found: Dict[Any, bytes] = {stream: b"" for stream in streams if stream}
+    found: Dict[Any, bytes] = {stream: b"" for stream in streams}
     with selectors.DefaultSelector() as waiting:
         for stream in found:
             waiting.register(stream, selectors.EVENT_READ)

@@ -19,8 +19,9 @@ MAP_NODES = (
     ("java/util/WeakHashMap$Entry.value", "java/lang/ref/Reference", "referent"),
     ("java/util/concurrent/ConcurrentSkipListMap$Node.val", "java/util/concurrent/ConcurrentSkipListMap$Node", "key"),
 )
-#: The field of a thread's map of thread-locals for the value; the thread-local itself is its referent.
-THREAD_LOCAL = "java/lang/ThreadLocal$ThreadLocalMap$Entry.value"
+#: The entries of a thread's map of thread-locals: the field of the value. The thread-local itself is the referent.
+ENTRY = "java/lang/ThreadLocal$ThreadLocalMap$Entry"
+THREAD_LOCAL = f"{ENTRY}.value"
 #: The classes of boxed numbers, whose value a key may be.
 BOXES = {"java/lang/Integer": 4, "java/lang/Long": 8, "java/lang/Short": 2, "java/lang/Byte": 1}
 #: How many characters of a text are shown.
@@ -34,7 +35,7 @@ class Name(NamedTuple):
     text: str
 
     def __str__(self) -> str:
-        return f"{self.how} {self.text}"
+        return f"{self.how} {self.text}".rstrip()
 
 
 def shown_text(text: str) -> str:
@@ -108,12 +109,15 @@ class ObjectNames:
         return int.from_bytes(self.dump.bytes[place : place + size], "big", signed=True)
 
     def _by_thread_local(self, places: Sequence[int]) -> Iterable[Tuple[int, Name]]:
-        """Yields the objects that are values of a thread-local which a static field names, with the field."""
+        """Yields the objects that are entries or values of a thread-local which a static field names, with the field."""
         wanted = {self.dump.id(at + 1): at for at in places}
+        entries = [(at, at) for at in places if self.dump.names.get(self.objects.class_of(at)) == ENTRY]
         for entry, place in self.objects.values_of([THREAD_LOCAL], set(wanted)):
+            entries.append((wanted[self.dump.id(place)], entry))
+        for at, entry in entries:
             field = self._static_field(self.objects.reference(entry, "java/lang/ref/Reference", "referent"))
             if field:
-                yield wanted[self.dump.id(place)], Name("the thread-local", f"static {field}")
+                yield at, Name("the thread-local", f"static {field}")
 
     def _static_field(self, target: int) -> Optional[str]:
         """Returns the name of a static field that names the object `target`, or None."""

@@ -1,6 +1,7 @@
 """Tests that grown, holders, held and leaks agree on names of classes, as reports show and as users write them."""
 
 import unittest
+from typing import List
 
 from heap_tools import class_names
 from tests.support.dump_writer import DumpWriter
@@ -38,9 +39,10 @@ ARRAYS = [
 ]
 
 
-def odd_names(count):
+def odd_names(count: int) -> DumpWriter:
     """Writes a dump with `count` objects of each odd class in a list of its own, and an array of bytes."""
-    dump, roots = DumpWriter(time=count), []
+    dump = DumpWriter(time=count)
+    roots: List[int] = []
     for number, (name, _, _) in enumerate([*ODD, *ARRAYS], 11):
         dump.of_class(number, name, fields=["next"] if number < 11 + len(ODD) else [])
         first = 1000 * number
@@ -60,29 +62,29 @@ class NamesTest(ToolTest):
 
     tool = "grown"
 
-    def setUp(self):
+    def setUp(self) -> None:
         super().setUp()
         odd_names(2).write("before.hprof")
         odd_names(5).write("after.hprof")
 
-    def test_grown(self):
+    def test_grown(self) -> None:
         """grown shows each class by the name that the others take."""
         shown = [line.split()[-1] for line in self.ran("before.hprof", "after.hprof").out.splitlines()]
         self.assertEqual(sorted(shown), sorted([*(name for _, name, _ in [*ODD, *ARRAYS]), "byte[]"]))
 
-    def test_spellings(self):
+    def test_spellings(self) -> None:
         """Each spelling may mean the name."""
         for _, name, spellings in [*ODD, *ARRAYS, ("[B", "byte[]", ["[B"])]:
             for each in [name, *spellings]:
                 self.assertIn(name, class_names.families(each), each)
 
-    def test_printable(self):
+    def test_printable(self) -> None:
         """Names of threads have one line, without codes of a terminal and marks of direction."""
         odd = ('a\n"b"\\\x1b[2J', r"a\x0a\x22b\x22\x5c\x1b[2J")
         for text, spelt in (("http-ü 0", "http-ü 0"), odd, ("\u202e", r"\xe2\x80\xae"), ("\x85c", r"\xc2\x85c"), ("\u085c", r"\xe0\xa1\x9c")):
             self.assertEqual(class_names.printable(text), spelt)
 
-    def test_others(self):
+    def test_others(self) -> None:
         """holders, leaks and held take each name as a user may write it."""
         for _, name, spellings in [*ODD, *ARRAYS, ("[B", "byte[]", ["[B"])]:
             each = spellings[0]

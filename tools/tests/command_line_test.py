@@ -5,6 +5,7 @@ import os
 import subprocess
 import sys
 import unittest
+from typing import Tuple
 
 from heap_tools import console
 from tests.support.tool_test import TOOLS
@@ -13,14 +14,14 @@ from tests.support.tool_test import TOOLS
 class EndTest(unittest.TestCase):
     """A tool that ends early."""
 
-    def ended(self, body):
+    def ended(self, body: str) -> Tuple[int, str]:
         """Runs a tool whose `main` has this body. Returns its status and its messages."""
         text = f"import errno, os, signal\nfrom heap_tools import command_line\ndef main(words):\n    {body}\n"
         words = [sys.executable, "-c", f"{text}command_line.run('tool', main)"]
         ended = subprocess.run(words, cwd=TOOLS, stdout=subprocess.PIPE, stderr=subprocess.PIPE, check=False)
         return ended.returncode, ended.stderr.decode()
 
-    def test_faults(self):
+    def test_faults(self) -> None:
         """A fault of the system takes one line, with the file if there is one."""
         for body, line in (
             ("open('/no/file')", "tool: /no/file: No such file or directory"),
@@ -29,13 +30,13 @@ class EndTest(unittest.TestCase):
         ):
             self.assertEqual(self.ended(body), (1, f"{line}\n"))
 
-    def test_signals(self):
+    def test_signals(self) -> None:
         """Each signal ends the tool with one line, also if more of them come."""
         for name in ("SIGINT", "SIGTERM", "SIGHUP"):
             body = f"signal.signal(signal.SIGINT, signal.default_int_handler); os.kill(os.getpid(), signal.{name})"
             self.assertEqual(self.ended(body), (130, "tool: interrupted\n"), name)
 
-    def test_early(self):
+    def test_early(self) -> None:
         """An interrupt while the modules of a tool are read takes one line, too."""
         for tool in ("grown", "held", "holders", "leaks"):
             text = (TOOLS / tool).read_text(encoding="utf-8")
@@ -48,12 +49,12 @@ class EndTest(unittest.TestCase):
 class LineTest(unittest.TestCase):
     """What is said in one line."""
 
-    def test_controls(self):
+    def test_controls(self) -> None:
         """Control characters are spelled as heapmark spells them, all else stays."""
         for text, spelled in (("a\nb", r"a\x0ab"), ("\x1b[1m", r"\x1b[1m"), ("\x85", r"\xc2\x85"), ("Größe", "Größe")):
             self.assertEqual(console.in_one_line(text), spelled)
 
-    def test_surrogates(self):
+    def test_surrogates(self) -> None:
         """Bytes of a file's name that are no text stay as they are."""
         reads, writes = os.pipe()
         with open(reads, "rb") as read:

@@ -3,6 +3,7 @@
 import os
 import tempfile
 import unittest
+from typing import IO, Any, Callable
 
 from heap_tools import heap_dump, hprof_format, parallel
 from heap_tools.changed_copy import NEAR, write_copy
@@ -14,11 +15,11 @@ from tests.support.dump_writer import BYTE, DumpWriter, word
 class HprofTest(unittest.TestCase):
     """A test that reads and copies dumps."""
 
-    def read(self, dump, nameless=False):
+    def read(self, dump: DumpWriter, nameless: bool = False) -> heap_dump.HeapDump:
         """Returns what is read of a dump."""
         return heap_dump.HeapDump(self.file(dump.bytes()), nameless)
 
-    def file(self, content=b""):
+    def file(self, content: bytes = b"") -> IO[bytes]:
         """Returns a temporary file with this content."""
         file = tempfile.TemporaryFile()
         self.addCleanup(file.close)
@@ -26,7 +27,7 @@ class HprofTest(unittest.TestCase):
         file.flush()
         return file
 
-    def copied(self, found, *changes):
+    def copied(self, found: heap_dump.HeapDump, *changes: Any) -> bytes:
         """Returns a copy of a dump that was read, with changes."""
         with tempfile.TemporaryDirectory() as folder, open(f"{folder}/copy", "wb") as copy:
             write_copy(found, copy, *changes)
@@ -37,18 +38,18 @@ class HprofTest(unittest.TestCase):
 class Service(DumpWriter):
     """A dump with two threads, whose roots are written where the test says."""
 
-    def __init__(self, id_size=8):
+    def __init__(self, id_size: int = 8) -> None:
         super().__init__(id_size)
         self.of_class(1, "java/lang/Thread", fields=["intPriority", "name"])
         self.of_class(2, "java/lang/String", fields=["value", "coder"])
         self.of_class(3, "shop/Order", {"FIRST": 300, "NONE": 0}, fields=["next"], superclass=0)
 
-    def objects(self, *numbers):
+    def objects(self, *numbers: int) -> None:
         """Writes orders, and the threads with their names."""
         for number in numbers:
             self.instance(number, 3, 0)
 
-    def named(self, number, name):
+    def named(self, number: int, name: bytes) -> None:
         """Writes a thread object with its name."""
         self.instance(number, 1, word(5), number + 10)
         self.instance(number + 10, 2, number + 20, b"\0")
@@ -58,7 +59,7 @@ class Service(DumpWriter):
 class ReadingTest(HprofTest):
     """Records, classes, roots and threads."""
 
-    def roots(self, *parts):
+    def roots(self, *parts: Callable[[Service], None]) -> None:
         """Writes a dump of these parts, each in a segment of its own, and tests that all of its roots are read."""
         dump = Service()
         for part in parts:
@@ -71,18 +72,18 @@ class ReadingTest(HprofTest):
         self.assertIsNone(found.frame(1, 1))
         self.assertIsNone(found.frame(1, None))
 
-    def test_places_of_roots(self):
+    def test_places_of_roots(self) -> None:
         """The roots of threads come before the objects, after them, or between them."""
 
-        def first(dump):
+        def first(dump: Service) -> None:
             dump.thread(1, 200, [(3, "sell")])
             dump.local(1, 0, 300)
 
-        def second(dump):
+        def second(dump: Service) -> None:
             dump.thread(2, 201, [(3, "sell")])
             dump.local(2, 0, 301)
 
-        def orders(dump):
+        def orders(dump: Service) -> None:
             dump.objects(300, 301)
 
         self.roots(first, second, orders, orders)
@@ -90,7 +91,7 @@ class ReadingTest(HprofTest):
         self.roots(orders, first, orders, second, orders)
         self.roots(first, orders, orders, orders, second)
 
-    def test_classes(self):
+    def test_classes(self) -> None:
         """Classes with their fields, also if their dumps come last, and a class without a name."""
         dump = Service()
         dump.cut()
@@ -106,7 +107,7 @@ class ReadingTest(HprofTest):
         wanted = [("FIRST", reference, True, False), ("NONE", reference, True, True), ("next", reference, False, False)]
         self.assertEqual(fields, wanted)
 
-    def test_records(self):
+    def test_records(self) -> None:
         """The records one after the other, which are the whole dump but for its header; and the names of all fields."""
         found = self.read(Service(), nameless=True)
         ends = [hprof_format.HEADER_SIZE]
@@ -116,7 +117,7 @@ class ReadingTest(HprofTest):
         self.assertEqual((ends[-1], len(ends) > 9), (found.size, True))
         self.assertLessEqual({"coder", "FIRST", "next"}, set(found.field_names.values()))
 
-    def test_names_of_threads(self):
+    def test_names_of_threads(self) -> None:
         """Names of threads, in one process and in several; a thread without a name has an empty one."""
         for id_size in (4, 8):
             dump = Service(id_size)
@@ -130,14 +131,14 @@ class ReadingTest(HprofTest):
                 dump.objects(300)
             self.assertEqual(HeapObjects(self.read(dump)).thread_names(), {1: "main", 2: "http-\u00e9", 3: ""})
 
-    def test_count(self):
+    def test_count(self) -> None:
         """Objects by class, whether or not they are reachable."""
         dump = Service()
         dump.objects(300, 301)
         dump.values(400, BYTE, bytes(3))
         self.assertEqual([HeapObjects(self.read(dump)).count({name}) for name in ("shop/Order", "byte[]", "int[]")], [2, 1, 0])
 
-    def test_lasting_classes(self):
+    def test_lasting_classes(self) -> None:
         """Classes of the loaders that the JDK keeps are never unloaded."""
         dump = Service()
         dump.of_class(4, "java/lang/ClassLoader", {"scl": 300})
@@ -149,7 +150,7 @@ class ReadingTest(HprofTest):
 class CopyTest(HprofTest):
     """Copies with changes."""
 
-    def test_changes(self):
+    def test_changes(self) -> None:
         """Changes near each other and far apart are written where they are."""
         dump = Service()
         dump.values(400, BYTE, bytes(3 * NEAR))
@@ -162,7 +163,7 @@ class CopyTest(HprofTest):
             wanted[place : place + len(new)] = new
         self.assertEqual(self.copied(found, changes), bytes(wanted))
 
-    def test_roots(self):
+    def test_roots(self) -> None:
         """Further roots come first in the first record of the heap, whose length says so."""
         for is_cut in (False, True):
             dump, other = Service(), Service()
@@ -174,7 +175,7 @@ class CopyTest(HprofTest):
                     each.objects(301)
             self.assertEqual(self.copied(self.read(dump), {}, [300]), other.bytes())
 
-    def test_shorter(self):
+    def test_shorter(self) -> None:
         """A file that became shorter is seen."""
         found = self.read(Service())
         os.truncate(found.file.fileno(), 200)
@@ -186,11 +187,11 @@ class CopyTest(HprofTest):
 class ProcessesTest(unittest.TestCase):
     """Work that is shared out."""
 
-    def test_shared(self):
+    def test_shared(self) -> None:
         """All parts are done, in order, and a process that fails is seen."""
         items = list(range(100))
         for least in (1, 30, 1000):
-            parts = parallel.shared(sum, items, least)
+            parts = parallel.shared(lambda part: sum(part), items, least)
             self.assertEqual(sum(parts), 4950)
         self.assertEqual(len(parts), 1)
         if len(os.sched_getaffinity(0)) > 1:

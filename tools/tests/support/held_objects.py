@@ -3,7 +3,7 @@
 from tests.support.dump_writer import BYTE, DumpWriter, word
 
 
-def shop(id_size=8):
+def shop(id_size: int = 8) -> DumpWriter:
     """A static field holds a cache, whose array holds 25 orders; a thread holds 5 of these too. Of two more orders,
     only a weak reference holds one, and nothing holds the other."""
     dump = DumpWriter(id_size)
@@ -30,7 +30,7 @@ def shop(id_size=8):
     return dump
 
 
-def weak():
+def weak() -> DumpWriter:
     """Only a weak reference holds an order; another weak reference names no object."""
     dump = DumpWriter()
     dump.of_class(1, "java/lang/ref/Reference", fields=["referent"])
@@ -43,7 +43,7 @@ def weak():
     return dump
 
 
-def journal():
+def journal() -> DumpWriter:
     """Two static fields name one array of 10 events; a third names one of these events; the others name no event."""
     dump = DumpWriter()
     dump.of_class(1, "Journal", {"EVENTS": 200, "LAST": 300}, loader=250)
@@ -61,7 +61,7 @@ def journal():
     return dump
 
 
-def odd_names():
+def odd_names() -> DumpWriter:
     """Hidden classes of one origin, two classes of one name, and names that a report spells otherwise."""
     dump = DumpWriter()
     numbers = list(range(10, 16))
@@ -87,7 +87,7 @@ def odd_names():
     return dump
 
 
-def late_classes():
+def late_classes() -> DumpWriter:
     """Objects, arrays of every kind, roots of every kind, and only then the class dumps. An unloaded class has none."""
     dump = DumpWriter()
     dump.loaded(99, "Unloaded")
@@ -104,7 +104,7 @@ def late_classes():
     return dump
 
 
-def threads():
+def threads() -> DumpWriter:
     """Two threads of the same method have a message each in a local variable; the thread "http-0", whose name is in a
     byte array, has five more in a method of its own, and "http-ü" is in UTF-16. Another message is a root."""
     dump = DumpWriter()
@@ -131,7 +131,7 @@ def threads():
     return dump
 
 
-def arrays():
+def arrays() -> DumpWriter:
     """A catalog of 90 arrays of 10 bytes, and an upload of 10 arrays of 1,000 bytes."""
     dump = DumpWriter()
     dump.of_class(1, "Catalog", {"ALL": 200})

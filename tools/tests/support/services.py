@@ -8,7 +8,7 @@ MINUTE = 60000
 class Service(DumpWriter):
     """A service with a static field that holds a catalog: an array of 100 products with 20 bytes each."""
 
-    def __init__(self, minutes=0, id_size=8):
+    def __init__(self, minutes: int = 0, id_size: int = 8) -> None:
         super().__init__(id_size, MINUTE * minutes)
         self.of_class(1, "shop/Catalog", {"ALL": 1000})
         self.of_class(2, "[Lshop/Product;")
@@ -20,7 +20,7 @@ class Service(DumpWriter):
             self.values(number + 1000, BYTE, bytes(20))
         self.root(1)
 
-    def orders(self, count, array=5000, name="shop/Order"):
+    def orders(self, count: int, array: int = 5000, name: str = "shop/Order") -> None:
         """Writes an array of `count` orders with 20 bytes each."""
         self.of_class(5, name, fields=["text"])
         self.array(array, 4, *range(array + 1, array + 1 + count))
@@ -29,7 +29,7 @@ class Service(DumpWriter):
             self.values(number + 1000, BYTE, bytes(20))
 
 
-def cache(count, minutes=0, id_size=8):
+def cache(count: int, minutes: int = 0, id_size: int = 8) -> Service:
     """A static field holds a cache, which has an array of orders."""
     dump = Service(minutes, id_size)
     dump.of_class(6, "shop/Service", {"CACHE": 600})
@@ -40,7 +40,7 @@ def cache(count, minutes=0, id_size=8):
     return dump
 
 
-def uploads(count):
+def uploads(count: int) -> Service:
     """A field of the only upload has an array of `count` arrays of 200 bytes; a static field names the upload."""
     dump = Service()
     dump.of_class(6, "shop/Upload", {"UPLOAD": 600}, fields=["chunks"])
@@ -52,7 +52,7 @@ def uploads(count):
     return dump
 
 
-def lambdas(count, address):
+def lambdas(count: int, address: str) -> Service:
     """A lambda, whose class has this address, holds the orders. With no orders, there is no lambda."""
     dump = Service()
     if count:
@@ -64,7 +64,7 @@ def lambdas(count, address):
     return dump
 
 
-def worker(count):
+def worker(count: int) -> Service:
     """A static field and a worker thread have an executor, whose queue has an array of orders."""
     dump = Service()
     dump.of_class(6, "shop/Service", {"TIMER": 600})
@@ -81,7 +81,7 @@ def worker(count):
     return dump
 
 
-def handler(count, name="http-0"):
+def handler(count: int, name: str = "http-0") -> Service:
     """A local variable of a thread with this name holds the orders."""
     dump = Service()
     dump.of_class(6, "java/lang/Thread", fields=["name"])
@@ -96,7 +96,7 @@ def handler(count, name="http-0"):
     return dump
 
 
-def journal(count):
+def journal(count: int) -> Service:
     """Two static fields of different classes hold the orders, only together."""
     dump = Service()
     dump.of_class(6, "shop/Journal", {"EVENTS": 5000})
@@ -106,7 +106,7 @@ def journal(count):
     return dump
 
 
-def moved(count):
+def moved(count: int) -> DumpWriter:
     """The catalog has 100 products in all: those that are not sold; the sold ones are in another static field."""
     dump = DumpWriter()
     dump.of_class(1, "shop/Catalog", {"ALL": 1000, "SOLD": 1001})

@@ -10,7 +10,7 @@ import subprocess
 import tempfile
 import time
 import unittest
-from typing import NamedTuple
+from typing import Any, Dict, NamedTuple, Optional, Sequence, Tuple
 
 from tests.support.dump_writer import row
 
@@ -19,6 +19,10 @@ TOP = TOOLS.parent
 HEAPMARK = os.path.realpath(os.environ.get("HEAPMARK") or TOP / "crates/heapmark/out/heapmark")
 #: The signals that end a tool.
 ENDING = (signal.SIGINT, signal.SIGTERM, signal.SIGHUP)
+
+
+#: The objects, the bytes and the class of a row.
+Row = Tuple[int, int, str]
 
 
 class Ended(NamedTuple):
@@ -35,22 +39,29 @@ class ToolTest(unittest.TestCase):
     tool = ""
     maxDiff = None
 
-    def setUp(self):
+    def setUp(self) -> None:
         folder = tempfile.TemporaryDirectory()
         self.addCleanup(folder.cleanup)
         self.addCleanup(os.chdir, os.getcwd())
         os.chdir(folder.name)
 
-    def ran(self, *words, heapmark=HEAPMARK, variables=None, tool=None, **more):
+    def ran(
+        self,
+        *words: str,
+        heapmark: str = HEAPMARK,
+        variables: Optional[Dict[str, str]] = None,
+        tool: Optional[str] = None,
+        **more: Any,
+    ) -> Ended:
         """Runs the tool with these words, and returns how it ended."""
         environment = {**os.environ, "HEAPMARK": heapmark, **(variables or {})}
-        kept = {"stdin": subprocess.DEVNULL, "stdout": subprocess.PIPE, "stderr": subprocess.PIPE, **more}
+        kept: Dict[str, Any] = {"stdin": subprocess.DEVNULL, "stdout": subprocess.PIPE, "stderr": subprocess.PIPE, **more}
         command = [str(TOOLS / (tool or self.tool)), *words]
         ended = subprocess.run(command, env=environment, timeout=100, check=False, **kept)
         texts = ((each or b"").decode(errors="backslashreplace") for each in (ended.stdout, ended.stderr))
         return Ended(ended.returncode, *texts)
 
-    def expect(self, words, out="", said="", status=0, **more):
+    def expect(self, words: Sequence[str], out: str = "", said: str = "", status: int = 0, **more: Any) -> None:
         """Compares how the tool ends. `said` is a pattern for the whole of its messages, without the last line end."""
         with self.subTest(words=words):
             ended = self.ran(*words, **more)
@@ -58,7 +69,7 @@ class ToolTest(unittest.TestCase):
             self.assertTrue(fnmatch.fnmatchcase(ended.said.rstrip("\n"), said), f"{ended.said!r} is not {said!r}")
             self.assertNotIn("Traceback", ended.said)
 
-    def program(self, text):
+    def program(self, text: str) -> str:
         """Makes a program to run in place of heapmark, and returns its path. It notes each run in the file `runs`."""
         path = pathlib.Path("other")
         note = 'echo "${GLIBC_TUNABLES-unset} $*" >> runs'
@@ -68,7 +79,7 @@ class ToolTest(unittest.TestCase):
             os.remove("runs")
         return str(path.resolve())
 
-    def check_help(self, begins):
+    def check_help(self, begins: str) -> None:
         """Tests the help, which has at most 80 columns, and the version, which is that of heapmark."""
         ended = self.ran("--help")
         self.assertEqual((ended.status, ended.said, self.ran("-h").out), (0, "", ended.out))
@@ -79,12 +90,12 @@ class ToolTest(unittest.TestCase):
         for word in ("--version", "-V"):
             self.assertEqual(self.ran(word), (0, version, ""))
 
-    def check_wrong_words(self, *lists):
+    def check_wrong_words(self, *lists: Sequence[str]) -> None:
         """Tests that each of these command lines is wrong, and that one line says so."""
         for words in lists:
             self.expect(words, said=f"{self.tool}: *: {self.tool} --help says more", status=2)
 
-    def check_output(self, words, out):
+    def check_output(self, words: Sequence[str], out: str) -> None:
         """Tests that the tool says why its output cannot be written, and that it needs no messages."""
         why = f"{self.tool}: the output cannot be written"
         with open("/dev/full", "wb") as full:
@@ -103,11 +114,11 @@ class ToolTest(unittest.TestCase):
         self.assertNotIn("cannot be written", ended.said)
         self.expect(words, out, stderr=None, preexec_fn=lambda: os.close(2))
 
-    def check_interrupt(self, *words):
+    def check_interrupt(self, *words: str) -> None:
         """Tests that a signal ends the tool and the heapmark that it runs, and that it then prints only that."""
         for number in ENDING:
             environment = {**os.environ, "HEAPMARK": self.program("echo $$ > pid\nexec sleep 50")}
-            kept = {"stdout": subprocess.PIPE, "stderr": subprocess.PIPE, "env": environment}
+            kept: Dict[str, Any] = {"stdout": subprocess.PIPE, "stderr": subprocess.PIPE, "env": environment}
             kept["preexec_fn"] = heed_signals
             with subprocess.Popen([str(TOOLS / self.tool), *words], **kept) as child:
                 pid = when_written("pid")
@@ -119,10 +130,11 @@ class ToolTest(unittest.TestCase):
             self.assertEqual((child.returncode, out, said), expected, number.name)
             self.assertFalse(os.path.exists(f"/proc/{pid}"), number.name)
 
-    def on_terminal(self, *words, stream="stderr"):
+    def on_terminal(self, *words: str, stream: str = "stderr") -> Tuple[Ended, str]:
         """Runs the tool with a terminal as `stream`. Returns how it ended, and what the terminal got."""
         terminal, end = pty.openpty()
-        ended = self.ran(*words, **{stream: end})
+        streams: Dict[str, Any] = {stream: end}
+        ended = self.ran(*words, **streams)
         os.close(end)
         seen = b""
         with contextlib.suppress(OSError):  # how Linux says that the other end is closed
@@ -132,14 +144,14 @@ class ToolTest(unittest.TestCase):
         return ended, seen.decode().replace("\r\n", "\n")
 
 
-def heed_signals():
+def heed_signals() -> None:
     """Makes a program heed the signals in ENDING, which it would ignore if this test was started in the background or
     by nohup."""
     for number in ENDING:
         signal.signal(number, signal.SIG_DFL)
 
 
-def when_written(path):
+def when_written(path: str) -> int:
     """Returns the number in the file `path` once a program has written it."""
     while True:
         with contextlib.suppress(FileNotFoundError, ValueError):
@@ -147,13 +159,13 @@ def when_written(path):
         time.sleep(0.05)
 
 
-def report(*rows, unreachable=(0, 0)):
+def report(*rows: Row, unreachable: Tuple[int, int] = (0, 0)) -> str:
     """Returns a report with these rows, each of objects, bytes and a class."""
     totals = [(9, 9, "(reachable)"), (*unreachable, "(unreachable)"), (0, 0, "(unresolved)")]
     return "".join(row(*each) for each in [*rows, *totals])
 
 
-def histogram(*rows):
+def histogram(*rows: Row) -> str:
     """Returns a histogram of jcmd with these rows, each of objects, bytes, a class and perhaps its module."""
     lines = ["4711:", " num     #instances         #bytes  class name (module)", "-" * 55]
     for number, (objects, size, name) in enumerate(rows, 1):

@@ -1,0 +1,51 @@
+"""Tests how much memory of direct buffers a dump is said to have."""
+
+import tempfile
+import unittest
+
+from heap_tools.direct_buffers import DirectMemory, direct_memory, more_direct_memory
+from heap_tools.heap_dump import HeapDump
+from tests.support.dump_writer import DumpWriter, word
+
+
+class DirectBuffersTest(unittest.TestCase):
+    """Dumps with buffers."""
+
+    def test_capacities(self) -> None:
+        """The capacities of buffers that have memory of their own are added up: not those of views, nor of heap
+        buffers."""
+        for id_size in (4, 8):
+            dump = DumpWriter(id_size)
+            dump.of_class(1, "java/nio/Buffer", fields=["intMark", "int_____"])
+            dump.of_class(2, "java/nio/DirectByteBuffer", fields=["att", "cleaner"], superclass=1)
+            dump.of_class(3, "java/nio/DirectByteBufferR", superclass=2)
+            dump.of_class(4, "java/nio/HeapByteBuffer", superclass=1)
+            dump.instance(200, 2, 0, 0, word(9), word(5000))
+            dump.instance(201, 2, 0, 0, word(9), word(700))
+            dump.instance(202, 2, 200, 0, word(9), word(4000))
+            dump.instance(203, 3, 201, 0, word(9), word(700))
+            dump.instance(204, 4, word(9), word(30))
+            with tempfile.TemporaryFile() as file:
+                file.write(dump.bytes().replace(b"int_____", b"capacity"))
+                file.flush()
+                self.assertEqual(direct_memory(HeapDump(file)), DirectMemory(2, 5700))
+
+    def test_none(self) -> None:
+        """A dump without the class of direct buffers has none."""
+        with tempfile.TemporaryFile() as file:
+            file.write(DumpWriter().bytes())
+            file.flush()
+            self.assertEqual(direct_memory(HeapDump(file)), DirectMemory())
+
+    def test_words(self) -> None:
+        """Growth has a sentence, all else none."""
+        few, more = DirectMemory(1, 1000), DirectMemory(3, 2_500_000)
+        sentence = "direct buffers have 2,499,000 bytes more outside the heap (2 buffers more): 1,000, then 2,500,000"
+        self.assertEqual(more_direct_memory(few, more), sentence)
+        self.assertIn("heap: 1,000, then 1,001", more_direct_memory(few, DirectMemory(1, 1001)))
+        for after in (few, DirectMemory(2, 999)):
+            self.assertEqual(more_direct_memory(few, after), "")
+
+
+if __name__ == "__main__":
+    unittest.main()

@@ -1,0 +1,62 @@
+"""Tests how threads are counted by their names."""
+
+import tempfile
+import unittest
+from typing import List
+
+from heap_tools.heap_dump import HeapDump
+from heap_tools.thread_counts import grown_thread_counts, pattern_of
+from tests.support.dump_writer import BYTE, DumpWriter
+
+
+def threads(names: List[str]) -> DumpWriter:
+    """Returns a dump with threads of these names. Those whose names begin with `r` wait in `take`, called by `run`."""
+    dump = DumpWriter()
+    dump.of_class(1, "java/lang/Thread", fields=["name"])
+    dump.of_class(2, "java/lang/String", fields=["value", "coder"])
+    dump.of_class(3, "shop/Queue")
+    for number, name in enumerate(names, 1):
+        at = 1000 + 10 * number
+        dump.thread(number, at, [(3, "take"), (3, "run")] if name.startswith("r") else [])
+        dump.instance(at, 1, at + 1)
+        dump.instance(at + 1, 2, at + 2, b"\0")
+        dump.values(at + 2, BYTE, name.encode())
+    return dump
+
+
+class ThreadCountsTest(unittest.TestCase):
+    """Threads of two dumps."""
+
+    def grown(self, before: List[str], after: List[str]) -> List[str]:
+        """Returns the patterns of which there are more threads, as they are said."""
+        dumps = []
+        for names in (before, after):
+            file = tempfile.TemporaryFile()
+            self.addCleanup(file.close)
+            file.write(threads(names).bytes())
+            file.flush()
+            dumps.append(HeapDump(file))
+        return [str(each) for each in grown_thread_counts(*dumps)]
+
+    def test_patterns(self) -> None:
+        """Numbers in names are one, however long they are."""
+        for name, pattern in (("report-17", "report-*"), ("pool-2-thread-31", "pool-*-thread-*"), ("main", "main")):
+            self.assertEqual(pattern_of(name), pattern)
+
+    def test_growth(self) -> None:
+        """What grew most comes first, with the stack that most have, the innermost frame first."""
+        after = ["main", *(f"report-{number}" for number in range(5)), "http-1", "http-2", "http-3"]
+        wanted = [
+            'threads "report-*": 1, then 5; most are in shop/Queue.take, shop/Queue.run',
+            'threads "http-*": 1, then 3',
+        ]
+        self.assertEqual(self.grown(["main", "report-7", "http-1"], after), wanted)
+
+    def test_none(self) -> None:
+        """With as many threads as before, nothing is said."""
+        self.assertEqual(self.grown(["a", "b"], ["a", "c"]), [])
+        self.assertEqual(self.grown(["a"], []), [])
+
+
+if __name__ == "__main__":
+    unittest.main()

@@ -1,0 +1,148 @@
+"""Tests which objects of many are said to hold most of what a field holds, and what names them."""
+
+import os
+import pathlib
+import unittest
+from typing import List
+from unittest import mock
+
+from heap_tools.candidates import Candidates
+from heap_tools.dump_runs import DumpRuns
+from heap_tools.heap_dump import HeapDump
+from heap_tools.heapmark import Heapmark
+from heap_tools.object_names import ObjectNames, shown_text
+from heap_tools.probe import Probe
+from heap_tools.reports import Unit
+from heap_tools.which_object import MOST_RUNS, ObjectSearch
+from tests.support.dump_writer import BYTE, DumpWriter, word
+from tests.support.tool_test import HEAPMARK, ToolTest
+
+
+class Queues(DumpWriter):
+    """A static field names an array of queues. Queue `n` has the identifier 1000 + n, a name, and an array of bytes."""
+
+    def __init__(self, sizes: List[int], id_size: int = 8) -> None:
+        super().__init__(id_size)
+        self.of_class(1, "shop/Queues", {"ALL": 200, "LOCAL": 210})
+        self.of_class(2, "[Lshop/Queue;")
+        self.of_class(3, "java/lang/String", fields=["value", "coder"])
+        self.of_class(4, "shop/Queue", fields=["intSize", "name", "content"])
+        self.of_class(5, "java/util/HashMap$Node", fields=["key", "value"])
+        self.of_class(6, "java/lang/ref/Reference", fields=["referent"])
+        self.of_class(7, "java/lang/ThreadLocal$ThreadLocalMap$Entry", fields=["value"], superclass=6)
+        self.of_class(8, "java/lang/Integer", fields=["int__"])
+        self.of_class(9, "java/lang/ThreadLocal")
+        self.array(200, 2, *range(1000, 1000 + len(sizes)))
+        self.instance(210, 9)
+        for number, size in enumerate(sizes):
+            self.instance(1000 + number, 4, word(size), 20_000 + number, 30_000 + number)
+            self.string(20_000 + number, f"queue {number}")
+            self.values(30_000 + number, BYTE, bytes(size))
+        self.root(1)
+
+    def string(self, number: int, text: str) -> None:
+        """Writes a String."""
+        self.instance(number, 3, number + 100_000, b"\0")
+        self.values(number + 100_000, BYTE, text.encode("latin-1"))
+
+
+class WhichObjectTest(ToolTest):
+    """A search among the instances that have a field."""
+
+    def search(self, dump: DumpWriter, field: str = "shop/Queue.content") -> ObjectSearch:
+        """Writes the dump, and returns a search for the instances that hold what the field holds."""
+        dump.write("dump")
+        with mock.patch.dict(os.environ, HEAPMARK=HEAPMARK):
+            runs = DumpRuns.of(Heapmark(), "dump", "test")
+        self.addCleanup(runs.dump.file.close)
+        candidates = Candidates(runs.dump)
+        probe = Probe(candidates.prepared(runs), candidates, None, Unit.BYTES)
+        (candidate,) = (each for each in candidates.fields(probe.base) if each.name == field)
+        return ObjectSearch(probe, probe.retained([candidate]))
+
+    def test_one(self) -> None:
+        """One of many is found by its size, in few runs, and is named by its text."""
+        for id_size in (4, 8):
+            search = self.search(Queues([5] * 300 + [90_000] + [5] * 200, id_size))
+            (found,) = search.find()
+            names = [str(each) for each in found.names]
+            self.assertEqual((found.class_name, names), ("shop/Queue", ['its field name "queue 300"']))
+            self.assertEqual((found.amount, round(found.percent)), ((1, 90_000), 97))
+            self.assertLessEqual(search.runs, 2 * 9 + 1)
+
+    def test_few(self) -> None:
+        """Several that hold much are found, the heaviest first; without values, only the field is said."""
+        found = self.search(Queues([3] * 20 + [1000, 3, 9000, 3, 7000])).find(shows_values=False)
+        self.assertEqual([each.amount.bytes for each in found], [9000, 7000])
+        self.assertEqual([str(name) for each in found for name in each.names], ["its field name"] * 2)
+
+    def test_spread(self) -> None:
+        """Where many hold a little each, none is named, and few runs say so."""
+        search = self.search(Queues([100] * 64))
+        self.assertEqual(search.find(), [])
+        self.assertLessEqual(search.runs, 14)
+        self.assertLess(search.runs, MOST_RUNS)
+
+    def test_no_question(self) -> None:
+        """One instance is no question."""
+        search = self.search(Queues([100]))
+        self.assertEqual((search.find(), search.runs), ([], 0))
+
+
+class NamesTest(ToolTest):
+    """What names an object."""
+
+    def names(self, dump: DumpWriter, *numbers: int, shows_values: bool = True) -> List[List[str]]:
+        """Returns the names of the objects with these identifiers."""
+        pathlib.Path("dump").write_bytes(dump.bytes().replace(b"int__", b"value"))
+        file = open("dump", "rb")
+        self.addCleanup(file.close)
+        names = ObjectNames(HeapDump(file), shows_values)
+        places = names.objects.places_of(numbers)
+        found = names.names_of([places[number] for number in numbers])
+        return [[str(each) for each in found[places[number]]] for number in numbers]
+
+    def test_keys(self) -> None:
+        """An object has the names of the keys under which maps have it: texts and numbers."""
+        dump = Queues([1, 1, 1])
+        dump.string(60_000, "orders.eu")
+        dump.instance(60_001, 8, word(2**32 - 7))
+        for node, key, value in ((61_000, 60_000, 1000), (61_001, 60_001, 1001), (61_002, 210, 1002)):
+            dump.instance(node, 5, key, value)
+        wanted = [
+            ['its field name "queue 0"', 'the map\'s key "orders.eu"'],
+            ['its field name "queue 1"', "the map's key -7"],
+            ['its field name "queue 2"'],
+        ]
+        self.assertEqual(self.names(dump, 1000, 1001, 1002), wanted)
+        self.assertEqual(self.names(dump, 1000, shows_values=False), [["its field name", "the map's key"]])
+
+    def test_thread_local(self) -> None:
+        """The value and the entry of a thread-local have the name of the static field that names the thread-local."""
+        dump = Queues([1])
+        dump.instance(62_000, 7, 1000, 210)
+        local = "the thread-local static shop/Queues.LOCAL"
+        self.assertEqual(self.names(dump, 1000, 62_000), [['its field name "queue 0"', local], [local]])
+
+    def test_one_text(self) -> None:
+        """The only text of an object names it, whatever its field is called; of several, a likely one."""
+        dump = Queues([])
+        dump.of_class(20, "shop/Order", fields=["code", "next"])
+        dump.of_class(21, "shop/Customer", fields=["code", "id", "note"])
+        dump.of_class(22, "shop/Other", fields=["code", "note"])
+        dump.string(60_000, "a")
+        dump.string(60_001, "b")
+        dump.instance(300, 20, 60_000, 301)
+        dump.instance(301, 21, 60_000, 60_001, 60_000)
+        dump.instance(302, 22, 60_000, 60_001)
+        self.assertEqual(self.names(dump, 300, 301, 302), [['its field code "a"'], ['its field id "b"'], []])
+
+    def test_shown(self) -> None:
+        """Texts are shown in one line, at most 60 characters long."""
+        self.assertEqual(shown_text('a"b\n'), r'"a\x22b\x0a"')
+        self.assertEqual(shown_text("x" * 60), f'"{"x" * 60}"')
+        self.assertEqual(shown_text("x" * 61), f'"{"x" * 58}.."')
+
+
+if __name__ == "__main__":
+    unittest.main()
