@@ -21,6 +21,10 @@ magic = codes "JAVA PROFILE 1.0.2" ++ 0 ∷ []
 abbrev pub header : ℕ → ℕ → List ℕ
 header s time = magic ++ (big_bytes 4 s ++ big_bytes 8 time)
 
+-- the length in bytes of the header, which is the place of the first record
+abbrev pub header_length : ℕ
+header_length = 31
+
 abbrev pub spellings : ℕ → List Record → List ℕ
 spellings s records = flat_map (record_spelling s) records
 
@@ -48,7 +52,7 @@ heap_of records = flat_map subs_of records
 
 -- all sub-records of the heap records, in order, with their places
 abbrev pub heap_list : ℕ → List Record → List (ℕ × SubRecord)
-heap_list s records = flat_map (λ p. placed_subs s (p.0 + 9) (subs_of p.1)) (placed s 31 records)
+heap_list s records = flat_map (λ p. placed_subs s (p.0 + 9) (subs_of p.1)) (placed s header_length records)
 
 abbrev pub is_root : SubRecord → Bool
 is_root (root r) = true

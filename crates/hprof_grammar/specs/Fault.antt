@@ -5,7 +5,7 @@ use Rattle.byteorder.specs.Endian.{big_bytes}
 use Rattle.hprof_grammar.specs.Record.{IsRecord, Record, framed, is_heap_tag, is_length_of, tag_of}
 use Rattle.hprof_grammar.specs.Snapshot.{CanGoOn, IsOrderly}
 use Rattle.hprof_grammar.specs.TagsAndTypes.{is_id_size, is_sub_tag}
-use Rattle.hprof_grammar.specs.Dump.{header, limit, magic, spellings}
+use Rattle.hprof_grammar.specs.Dump.{header, header_length, limit, magic, spellings}
 use Rattle.hprof_grammar.specs.SubRecord.{IsFormed, IsSubRecord, SubRecord, fields_of, spelling_of}
 use Rattle.hprof_grammar.specs.SubRecord as sub
 use Rattle.hprof_grammar.specs.Spelling.{EndsShort, HasWrongType}
@@ -69,15 +69,16 @@ abbrev pub HasMagic : List ℕ → Type 0
 HasMagic text = (rest : List ℕ) × (text ≡ magic ++ rest)
 
 -- The first fault of a text: its code and its place. The code is 14 for too many bytes; 1 if the first 19 bytes are not
--- the header's text; 3 for fewer than 31 bytes; 2 for a size of identifiers that is not allowed; else the first fault
--- of its records.
+-- the header's text; 3 for fewer bytes than a header; 2 for a size of identifiers that is not allowed; else the first
+-- fault of its records.
 pub data FirstFault (text : List ℕ) : ℕ → ℕ → Type 0 where
   too_large : limit < length text → FirstFault text 14 limit
   bad_header : length text ≤ limit → (HasMagic text → ⊥) → FirstFault text 1 0
-  short_header : HasMagic text → length text < 31 → FirstFault text 3 0
-  bad_id_size : (s : ℕ) (rest : List ℕ) → length text ≤ limit → 31 ≤ length text → s < 256 ^ 4
+  short_header : HasMagic text → length text < header_length → FirstFault text 3 0
+  bad_id_size : (s : ℕ) (rest : List ℕ) → length text ≤ limit → header_length ≤ length text → s < 256 ^ 4
       → text ≡ magic ++ (big_bytes 4 s ++ rest) → is_id_size s ≡ false → FirstFault text 2 19
   in_records : (s time : ℕ) (body : List ℕ) (records : List Record) (rest : List ℕ) (code place : ℕ)
       → length text ≤ limit → is_id_size s ≡ true → text ≡ header s time ++ body
-      → LongestRecords s body records rest → RecordFault s records (31 + length (spellings s records)) rest code place
+      → LongestRecords s body records rest
+      → RecordFault s records (header_length + length (spellings s records)) rest code place
       → FirstFault text code place

@@ -3,7 +3,7 @@ use Rattle.std.specs.Prelude.{Bool, List, false, map, true, ℕ, ◌≡◌}
 use Rattle.hprof_grammar.specs.Record.{Record, tag_of}
 use Rattle.hprof_grammar.specs.Snapshot.{IsOrderly}
 use Rattle.hprof_grammar.specs.Record.Record.{load_class, string}
-use Rattle.hprof_grammar.specs.Dump.{Spells, heap_list, is_object, is_root, placed, places_where}
+use Rattle.hprof_grammar.specs.Dump.{Spells, header_length, heap_list, is_object, is_root, placed, places_where}
 
 abbrev pub is_string : Record → Bool
 is_string (string time id text) = true
@@ -25,8 +25,8 @@ pub record Places : Type 0 where
 abbrev pub places_of : ℕ → List Record → Places
 places_of s records = record {
   id_size = s;
-  strings = places_where is_string (placed s 31 records);
-  loaded = places_where is_load (placed s 31 records);
+  strings = places_where is_string (placed s header_length records);
+  loaded = places_where is_load (placed s header_length records);
   roots = places_where is_root (heap_list s records);
   objects = places_where is_object (heap_list s records);
 }

@@ -1,6 +1,7 @@
 //! The places at which the records of a dump are cut into parts.
 
 ghost use Rattle.std.specs.Prelude.{IfSome, ◌+◌, ◌<◌, ◌^◌, length};
+ghost use Rattle.hprof_grammar.specs.Dump.{header_length};
 ghost use Rattle.hprof_grammar.specs.working.Cuts.{AreCuts};
 
 use crate::frame::next_frame;
@@ -49,8 +50,8 @@ fn behind_record(bytes: &[u8]) -> Option<(u8, &[u8])>
 /// bytes after the header. Reads only the tag and the length of each record. Returns `None` if a record runs past the
 /// end or breaks the order of the snapshot, or if an allocation fails.
 pub fn cut_records<A: Allocator>(alloc: A, bytes: &[u8], size: usize) -> Option<Vec<Cut, A>>
-    requires { 31 + length bytes.now < 2 ^ 32 }
-    ensures { IfSome result (λ cuts. AreCuts size 31 cuts.items (31 + length bytes.now)) }
+    requires { header_length + length bytes.now < 2 ^ 32 }
+    ensures { IfSome result (λ cuts. AreCuts size header_length cuts.items (header_length + length bytes.now)) }
 {
     let mut cuts = Vec::new(alloc);
     let mut from = FIRST_SEAM;

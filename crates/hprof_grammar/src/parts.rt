@@ -3,6 +3,7 @@
 //! with one thread.
 
 ghost use Rattle.std.specs.Prelude.{All, IfSome, drop, ◌+◌, ◌<◌, ◌≡◌, ◌≤◌, ◌^◌, length};
+ghost use Rattle.hprof_grammar.specs.Dump.{header_length};
 ghost use Rattle.hprof_grammar.specs.working.Joining.{AddsAll, HasHeader, nothing_of};
 ghost use Rattle.hprof_grammar.specs.working.Parts.{IsReadPart, MayBePart};
 
@@ -57,7 +58,7 @@ fn join_parts<A: Allocator + Copy>(
 ) -> Option<Dump<A>>
     requires room { length bytes.now < 2 ^ 32 }
     requires parts { All (MayBePart bytes.now id_size) parts.items }
-    ensures { IfSome result (λ dump. AddsAll (drop 31 bytes.now) (nothing_of id_size) dump) }
+    ensures { IfSome result (λ dump. AddsAll (drop header_length bytes.now) (nothing_of id_size) dump) }
 {
     let mut dump = Dump::new(alloc, id_size);
     let mut reached = FIRST_SEAM;
@@ -87,7 +88,7 @@ pub fn read_in_parts<T: Threads + Sync, A: Allocator + Copy + Send + Sync>(
     id_size: u8,
 ) -> Option<Dump<A>>
     requires header { HasHeader id_size bytes.now }
-    ensures { IfSome result (λ dump. AddsAll (drop 31 bytes.now) (nothing_of id_size) dump) }
+    ensures { IfSome result (λ dump. AddsAll (drop header_length bytes.now) (nothing_of id_size) dump) }
 {
     if !team.splits(bytes.len() / BYTES_OF_AN_OBJECT) {
         return None;

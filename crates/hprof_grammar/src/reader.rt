@@ -45,7 +45,7 @@ impl<'a> Reader<'a> {
     }
 
     /// Skips a number of `width` bytes.
-    pub fn pass(&mut self, width: u8) -> Result<(), Flaw>
+    pub fn skip(&mut self, width: u8) -> Result<(), Flaw>
         ensures { Passes result self.new.rest.now (number_at width self.old.rest.now) }
     {
         self.raw(u64::from(width))?;
@@ -54,7 +54,7 @@ impl<'a> Reader<'a> {
 
     /// Skips `count` numbers of `width` bytes each.
     #[tactic(auto, using(crate::proofs::Counts::numbers_are_bytes))]
-    pub fn pass_all(&mut self, count: u32, width: u8) -> Result<(), Flaw>
+    pub fn skip_all(&mut self, count: u32, width: u8) -> Result<(), Flaw>
         ensures { Passes result self.new.rest.now (list_at (number_at width) count self.old.rest.now) }
     {
         self.raw(u64::from(count) * u64::from(width))?;

@@ -1,6 +1,7 @@
 //! Notes the places of a dump's records and sub-records.
 
 ghost use Rattle.std.specs.Prelude.{[], ◌≡◌, ◌+◌, ◌<◌, ◌≤◌, ◌^◌, IfOk, OnOk, ℕ, length};
+ghost use Rattle.hprof_grammar.specs.Dump.{header_length};
 ghost use Rattle.hprof_grammar.specs.working.Joining.{AddsAll, AddsRecord, AddsRecordsFrom, FrameFault};
 ghost use Rattle.hprof_grammar.specs.working.Joining.{HasRecordFault};
 ghost use Rattle.hprof_grammar.specs.Refusal.{IfFault};
@@ -65,7 +66,7 @@ pub fn note_records<A: Allocator>(
     requires high { dump.old.id_size ≤ 8 }
     requires room { at + length bytes.now < 2 ^ 32 }
     ensures adds { IfOk result (λ reached. AddsRecordsFrom at order bytes.now [] reached dump.old dump.new) }
-    ensures fault { IfFault result (λ fault. at ≡ 31 → order ≡ SnapshotState.Before
+    ensures fault { IfFault result (λ fault. at ≡ header_length → order ≡ SnapshotState.Before
         → HasRecordFault dump.old.id_size bytes.now fault) }
 {
     let mut order = order;
@@ -84,7 +85,7 @@ pub fn note_records<A: Allocator>(
 pub fn note_all<A: Allocator>(dump: &mut Dump<A>, bytes: &[u8]) -> Result<(), ReadRefusal>
     requires low { 1 ≤ dump.old.id_size }
     requires high { dump.old.id_size ≤ 8 }
-    requires room { 31 + length bytes.now < 2 ^ 32 }
+    requires room { header_length + length bytes.now < 2 ^ 32 }
     ensures adds { OnOk result (AddsAll bytes.now dump.old dump.new) }
     ensures fault { IfFault result (HasRecordFault dump.old.id_size bytes.now) }
 {

@@ -30,7 +30,7 @@ fn typed_value(reader: &mut Reader<'_>, id_size: u8, place: TypePlace) -> Result
 fn constant(reader: &mut Reader<'_>, id_size: u8) -> Result<(), Flaw>
     ensures { Passes result reader.new.rest.now (constant_at id_size reader.old.rest.now) }
 {
-    reader.pass(2)?;
+    reader.skip(2)?;
     typed_value(reader, id_size, TypePlace::InConstant)
 }
 
@@ -40,17 +40,17 @@ fn static_field(reader: &mut Reader<'_>, id_size: u8) -> Result<(), Flaw>
     requires high { id_size ≤ 8 }
     ensures { Passes result reader.new.rest.now (static_at id_size reader.old.rest.now) }
 {
-    reader.pass(id_size)?;
+    reader.skip(id_size)?;
     typed_value(reader, id_size, TypePlace::InStatic)
 }
 
 /// Reads an instance field that a class declares: the identifier of its name and its type code.
-fn member(reader: &mut Reader<'_>, id_size: u8) -> Result<(), Flaw>
+fn instance_field(reader: &mut Reader<'_>, id_size: u8) -> Result<(), Flaw>
     requires low { 1 ≤ id_size }
     requires high { id_size ≤ 8 }
     ensures { Passes result reader.new.rest.now (member_at id_size reader.old.rest.now) }
 {
-    reader.pass(id_size)?;
+    reader.skip(id_size)?;
     reader.type_code(TypePlace::InMember)?;
     Ok(())
 }
@@ -85,7 +85,7 @@ fn statics(reader: &mut Reader<'_>, id_size: u8) -> Result<(), Flaw>
 
 /// Reads a count of two bytes and that many instance fields.
 #[tactic(auto, using(crate::proofs::Counts::turns))]
-fn members(reader: &mut Reader<'_>, id_size: u8) -> Result<(), Flaw>
+fn instance_fields(reader: &mut Reader<'_>, id_size: u8) -> Result<(), Flaw>
     requires low { 1 ≤ id_size }
     requires high { id_size ≤ 8 }
     ensures { Passes result reader.new.rest.now
@@ -93,7 +93,7 @@ fn members(reader: &mut Reader<'_>, id_size: u8) -> Result<(), Flaw>
 {
     let count = reader.u16()?;
     for _i in 0..count {
-        member(reader, id_size)?;
+        instance_field(reader, id_size)?;
     }
     Ok(())
 }
@@ -105,18 +105,18 @@ fn class(reader: &mut Reader<'_>, id_size: u8) -> Result<(), Flaw>
     requires high { id_size ≤ 8 }
     ensures { Passes result reader.new.rest.now (class_dump_at id_size reader.old.rest.now) }
 {
-    reader.pass(id_size)?; // the object
-    reader.pass(4)?; // the stack trace
-    reader.pass(id_size)?; // the superclass
-    reader.pass(id_size)?; // the class loader
-    reader.pass(id_size)?; // the signers
-    reader.pass(id_size)?; // the protection domain
-    reader.pass(id_size)?; // reserved
-    reader.pass(id_size)?; // reserved
-    reader.pass(4)?; // the instance size
+    reader.skip(id_size)?; // the object
+    reader.skip(4)?; // the stack trace
+    reader.skip(id_size)?; // the superclass
+    reader.skip(id_size)?; // the class loader
+    reader.skip(id_size)?; // the signers
+    reader.skip(id_size)?; // the protection domain
+    reader.skip(id_size)?; // reserved
+    reader.skip(id_size)?; // reserved
+    reader.skip(4)?; // the instance size
     constants(reader, id_size)?;
     statics(reader, id_size)?;
-    members(reader, id_size)
+    instance_fields(reader, id_size)
 }
 
 /// Reads the fields of an INSTANCE DUMP after its tag.
@@ -126,9 +126,9 @@ fn instance(reader: &mut Reader<'_>, id_size: u8) -> Result<(), Flaw>
     requires high { id_size ≤ 8 }
     ensures { Passes result reader.new.rest.now (instance_at id_size reader.old.rest.now) }
 {
-    reader.pass(id_size)?; // the object
-    reader.pass(4)?; // the stack trace
-    reader.pass(id_size)?; // the class
+    reader.skip(id_size)?; // the object
+    reader.skip(4)?; // the stack trace
+    reader.skip(id_size)?; // the class
     let size = reader.u32()?;
     reader.raw(u64::from(size))?;
     Ok(())
@@ -141,11 +141,11 @@ fn object_array(reader: &mut Reader<'_>, id_size: u8) -> Result<(), Flaw>
     requires high { id_size ≤ 8 }
     ensures { Passes result reader.new.rest.now (object_array_at id_size reader.old.rest.now) }
 {
-    reader.pass(id_size)?; // the object
-    reader.pass(4)?; // the stack trace
+    reader.skip(id_size)?; // the object
+    reader.skip(4)?; // the stack trace
     let count = reader.u32()?;
-    reader.pass(id_size)?; // the class
-    reader.pass_all(count, id_size)
+    reader.skip(id_size)?; // the class
+    reader.skip_all(count, id_size)
 }
 
 /// Reads the fields of a PRIMITIVE ARRAY DUMP after its tag.
@@ -155,8 +155,8 @@ fn primitive_array(reader: &mut Reader<'_>, id_size: u8) -> Result<(), Flaw>
     requires high { id_size ≤ 8 }
     ensures { Passes result reader.new.rest.now (primitive_array_at id_size reader.old.rest.now) }
 {
-    reader.pass(id_size)?; // the object
-    reader.pass(4)?; // the stack trace
+    reader.skip(id_size)?; // the object
+    reader.skip(4)?; // the stack trace
     let count = reader.u32()?;
     let code = reader.type_code(TypePlace::InArray)?;
     reader.raw(u64::from(count) * u64::from(size_of(id_size, code)))?;
@@ -169,18 +169,18 @@ fn root(reader: &mut Reader<'_>, id_size: u8, kind: RootKind) -> Result<(), Flaw
     requires high { id_size ≤ 8 }
     ensures { Passes result reader.new.rest.now (root_at id_size kind reader.old.rest.now) }
 {
-    reader.pass(id_size)?; // the object
+    reader.skip(id_size)?; // the object
     match kind {
         RootKind::Unknown | RootKind::StickyClass | RootKind::MonitorUsed => {}
         RootKind::JniGlobal => {
-            reader.pass(id_size)?; // the reference
+            reader.skip(id_size)?; // the reference
         }
         RootKind::NativeStack | RootKind::ThreadBlock => {
-            reader.pass(4)?; // the thread
+            reader.skip(4)?; // the thread
         }
         RootKind::JniLocal | RootKind::JavaFrame | RootKind::ThreadObject => {
-            reader.pass(4)?; // the thread
-            reader.pass(4)?; // the frame, or the stack trace
+            reader.skip(4)?; // the thread
+            reader.skip(4)?; // the frame, or the stack trace
         }
     }
     Ok(())

@@ -6,8 +6,8 @@ use Rattle.hprof_grammar.specs.Record.{HasParts, IsRecord, Record, body_of, is_h
 use Rattle.hprof_grammar.specs.Record.{tag_of, time_of}
 use Rattle.hprof_grammar.specs.Snapshot.{CanGoOn}
 use Rattle.hprof_grammar.specs.TagsAndTypes.{is_id_size}
-use Rattle.hprof_grammar.specs.Dump.{header, is_object, is_root, limit, placed, placed_subs, places_where}
-use Rattle.hprof_grammar.specs.Dump.{spellings}
+use Rattle.hprof_grammar.specs.Dump.{header, header_length, is_object, is_root, limit, placed, placed_subs}
+use Rattle.hprof_grammar.specs.Dump.{places_where, spellings}
 use Rattle.hprof_grammar.specs.Places.{Places, is_load, is_string}
 use Rattle.hprof_grammar.specs.Fault.{LongestRecords, LongestSubs, RecordFault, SubFault}
 use Rattle.hprof_grammar.specs.SubRecord.{IsSubRecord, SubRecord, spelling_of}
@@ -89,7 +89,8 @@ pub data FrameFault (s at tag : ℕ) (body : List ℕ) (before : SnapshotState) 
       → ((tags : List ℕ) → IsAt before tags → CanGoOn (tags ++ tag ∷ []))
       → HasSubFault s (at + 9) body fault → FrameFault s at tag body before fault
 
--- all sub-records of `records` with their places, if the first record is at `at`; if `at` is 31, this is the heap list
+-- all sub-records of `records` with their places, if the first record is at `at`; if `at` is `header_length`, this is
+-- the heap list
 abbrev pub heap_from : ℕ → ℕ → List Record → List (ℕ × SubRecord)
 heap_from s at records = flat_map (λ p. placed_subs s (p.0 + 9) (subs_of p.1)) (placed s at records)
 
@@ -125,14 +126,14 @@ pub record AddsRecordsFrom (at : ℕ) (before : SnapshotState) (bytes rest : Lis
 
 -- `AddsRecordsFrom` for the bytes after the header
 abbrev pub AddsRecords : List ℕ → List ℕ → SnapshotState → Places → Places → Type 0
-AddsRecords = AddsRecordsFrom 31 Before
+AddsRecords = AddsRecordsFrom header_length Before
 
 -- `fault` is the first fault in `bytes`, which are the bytes after the header
 pub record HasRecordFault (s : ℕ) (bytes : List ℕ) (fault : FormatFault) : Type 0 where
   pub records : List Record
   pub rest : List ℕ
   pub longest : LongestRecords s bytes records rest
-  pub wrong : RecordFault s records (31 + length (spellings s records)) rest fault.code fault.offset
+  pub wrong : RecordFault s records (header_length + length (spellings s records)) rest fault.code fault.offset
 
 -- `bytes`, those after the header, are records with one whole snapshot, and `new` is `old` with the places of the
 -- records
@@ -145,4 +146,4 @@ pub record HasHeader (s : ℕ) (text : List ℕ) : Type 0 where
   pub id_size : is_id_size s ≡ true
   pub time : ℕ
   pub time_fits : time < 256 ^ 8
-  pub whole : text ≡ header s time ++ drop 31 text
+  pub whole : text ≡ header s time ++ drop header_length text
