@@ -3,6 +3,7 @@
 ghost use Rattle.std.specs.Prelude.{◌≡◌, ◌+◌, ◌<◌, ◌≤◌, ◌^◌, ℕ, Some, None};
 ghost use Rattle.limited_heap.specs.Limit.{request_limit, refused_request};
 
+use crate::bytes::Usage;
 use crate::quota::Quota;
 use std::alloc::{AllocError, Allocator, Global};
 
@@ -54,13 +55,21 @@ impl<A: Allocator> LimitedHeap<A> {
     {
         self.quota.refused()
     }
+
+    /// Returns the bytes that the heap's blocks take now, and the most that they took at the same time. A block that
+    /// grows or shrinks counts twice while it moves. A block that `inner` refuses stays counted.
+    pub fn usage(&self) -> Usage
+        ensures { result.in_use ≤ result.peak }
+    {
+        self.quota.usage()
+    }
 }
 
 unsafe impl<A: Allocator> Allocator for LimitedHeap<A> {
     ghost dealloc_token = { λ heap ty ptr. A.dealloc_token heap.inner ty ptr };
 
     fn allocate(&self, size: usize, align: usize) -> Result<*mut u8, AllocError> {
-        if self.quota.take() {
+        if self.quota.take(size) {
             self.inner.allocate(size, align)
         } else {
             Err(AllocError)
@@ -69,5 +78,6 @@ unsafe impl<A: Allocator> Allocator for LimitedHeap<A> {
 
     unsafe fn deallocate(&self, ptr: *mut u8, size: usize, align: usize) {
         self.inner.deallocate(ptr, size, align);
+        self.quota.give_back(size);
     }
 }

@@ -1,5 +1,6 @@
 //! A heap for tests that run out of memory. It passes requests to an inner allocator, and refuses only the request of a
-//! given number, or that one and all later ones. Threads may use it together.
+//! given number, or that one and all later ones. It also counts the bytes of its blocks, so that a test can bound the
+//! memory that a call takes. Threads may use it together.
 //!
 //! From `crates/limited_heap_tests/src/requests.rt`, which is proved and run with the tests:
 //!
@@ -14,9 +15,11 @@
 
 #![tactic(auto)]
 
+mod bytes;
 mod heap;
 mod in_turn;
 mod quota;
 
+pub use bytes::Usage;
 pub use heap::LimitedHeap;
 pub use in_turn::requests_of;

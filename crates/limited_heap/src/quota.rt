@@ -1,16 +1,18 @@
-//! Which requests are granted.
+//! Which requests are granted, and how many bytes the granted blocks take.
 
 ghost use Rattle.std.specs.Prelude.{◌≡◌, ◌+◌, ◌<◌, ◌≤◌, ◌^◌, false, true};
 
+use crate::bytes::{Bytes, Usage};
 use std::sync::atomic::{AtomicU64, Ordering};
 
 /// A count of the requests made, and the number of requests granted before the first refusal. All later requests are
-/// refused too, unless `alone`.
+/// refused too, unless `alone`. Also counts the bytes of the granted blocks.
 #[derive(Drop)]
 pub(crate) struct Quota {
     granted: u64,
     alone: bool,
     made: AtomicU64,
+    bytes: Bytes,
 }
 
 impl Quota {
@@ -24,14 +26,31 @@ impl Quota {
             granted,
             alone,
             made: AtomicU64::new(0),
+            bytes: Bytes::new(),
         }
     }
 
-    /// Counts a request and tests whether it is granted. Each call takes a number of its own from the count, so the
-    /// requests granted are exactly those whose numbers `grants` accepts, whichever threads make them. The count would
-    /// wrap after 2^64 requests, which no run makes.
-    pub(crate) fn take(&self) -> bool {
-        self.grants(self.made.fetch_add(1, Ordering::SeqCst))
+    /// Counts a request for `size` bytes and tests whether it is granted. If so, counts the bytes as in use. Each call
+    /// takes a number of its own from the count, so the requests granted are exactly those whose numbers `grants`
+    /// accepts, whichever threads make them. The count would wrap after 2^64 requests, which no run makes.
+    pub(crate) fn take(&self, size: usize) -> bool {
+        let is_granted = self.grants(self.made.fetch_add(1, Ordering::SeqCst));
+        if is_granted {
+            self.bytes.add(size);
+        }
+        is_granted
+    }
+
+    /// Counts the `size` bytes of a granted block as no longer in use.
+    pub(crate) fn give_back(&self, size: usize) {
+        self.bytes.subtract(size);
+    }
+
+    /// Returns the bytes in use and the most that ever were.
+    pub(crate) fn usage(&self) -> Usage
+        ensures { result.in_use ≤ result.peak }
+    {
+        self.bytes.usage()
     }
 
     /// Tests whether request number `number` is granted.

@@ -9,3 +9,5 @@ mod in_turn;
 mod limits;
 #[cfg(test)]
 mod requests;
+#[cfg(test)]
+mod usage;

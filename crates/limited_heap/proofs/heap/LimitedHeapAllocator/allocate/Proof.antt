@@ -121,7 +121,7 @@ module _ (Z : Al) {M : Type 1} {𝓤 : Ura M} (𝓛 : Logic 𝓤) (at_mem : Memo
         let h : Z.row.Denot = r.now.inner in
         let p : ℕ × ℕ = (r.ref_ptr.0, r.ref_ptr.1 + up (align (α Z)) 0) in
         let c : ℕ × ℕ = (r.ref_ptr.0, r.ref_ptr.1 + up 8 (up (align (α Z)) 0 + size (α Z))) in
-        let x : (Asks 𝓛 at_mem run).Ghost = at_asks 𝓛 at_mem run κ₁ q₁ c r.now.quota in
+        let x : (Asks 𝓛 at_mem run).Ghost = at_asks 𝓛 at_mem run κ₁ q₁ c r.now.quota n in
         let y : (Takes Z 𝓛 at_mem run).Ghost = at_takes Z 𝓛 at_mem run κ₁ q₁ p h n a τ in
         let Said : Type 0 = (capped (size τ) ≡ n) × (capped (align τ) ≡ a) in
         let typed : (y : Bool) (b o : ℕ) (v : Val) → v ≡ answer_val y b o → T (has_ty (layout Answer) v) × WT v =
@@ -139,10 +139,11 @@ module _ (Z : Al) {M : Type 1} {𝓤 : Ura M} (𝓛 : Logic 𝓤) (at_mem : Memo
         ((tt, tt), ((tt, record { fits = fn }), ((tt, record { fits = fa }), tt))) $
         let En : Env 𝓤 H = env (here Z).locals l in
         sets ! (addr ! (through ! refl (fld ! refl (stop !)))) refl (tt, tt) $
-        use2 𝓛 (raw ((Asks 𝓛 at_mem run).pre x)) (Asks-goes 𝓛 at_mem run κ₁ q₁ c r.now.quota) $
-        calls_at ! (fm_of 𝓤 H 𝓛.laws 𝓣) (Asks 𝓛 at_mem run) kn x (and_then ! (get ! refl) (no_more !)) (λ u.
+        use2 𝓛 (raw ((Asks 𝓛 at_mem run).pre x)) (Asks-goes 𝓛 at_mem run κ₁ q₁ c r.now.quota n fn) $
+        calls_at ! (fm_of 𝓤 H 𝓛.laws 𝓣) (Asks 𝓛 at_mem run) kn x
+        (and_then ! (get ! refl) (and_then ! (get ! refl) (no_more !))) (λ u.
         use1 𝓛 (later (some (λ (t : Bool). given (u ≡ vbool t) (‵ (flft κ₁ q₁)))))
-        (Asks-gives 𝓛 at_mem run κ₁ q₁ c r.now.quota u) $ await ! tt $
+        (Asks-gives 𝓛 at_mem run κ₁ q₁ c r.now.quota n u) $ await ! tt $
         pick ! (λ t. learn ! (λ eu. lands_as ! eu refl (tt, tt) $
         first ! $ branches ! (get ! refl)
         (λ granted. move ! (1 ∷ []) $
