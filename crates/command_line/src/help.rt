@@ -5,7 +5,7 @@
 /// `rt --version` prints: `dev/statuses` compares the two. The kit, which `rt --version` prints first, is omitted,
 /// since machines may have different kits with the same logic.
 pub(crate) const VERSION: &str = "\
-0.1.0
+0.2.0
 rattle logic dac8208d650f15bf";
 
 /// The first paragraph of the help.
@@ -55,8 +55,9 @@ Bytes are those in the dump: no headers and no padding, and 8 for each reference
 of a 64-bit machine. Dumps of all objects are those of jcmd with -all, of jmap
 without live, and some at an OutOfMemoryError: there, most unreachable objects
 are garbage. In other dumps, only what the dump omits keeps unreachable objects
-alive: the virtual machine, some fields of class objects, and local variables of
-virtual threads that wait (JDK 21 and later).
+alive: the virtual machine, some fields of class objects, and virtual threads
+that wait: JDK 21 omits their stacks, JDK 25 the values that compiled code keeps
+without an object.
 
 Exit status:
   0  the report was written, or the help or the version was requested

@@ -37,8 +37,9 @@ Bytes are those in the dump: no headers and no padding, and 8 for each reference
 of a 64-bit machine. Dumps of all objects are those of jcmd with -all, of jmap
 without live, and some at an OutOfMemoryError: there, most unreachable objects
 are garbage. In other dumps, only what the dump omits keeps unreachable objects
-alive: the virtual machine, some fields of class objects, and local variables of
-virtual threads that wait (JDK 21 and later).
+alive: the virtual machine, some fields of class objects, and virtual threads
+that wait: JDK 21 omits their stacks, JDK 25 the values that compiled code keeps
+without an object.
 
 Exit status:
   0  the report was written, or the help or the version was requested
@@ -57,7 +58,7 @@ Example:
 ";
 
 /// The version, and the logic with which it is proved.
-pub const VERSION: &str = "heapmark 0.1.0
+pub const VERSION: &str = "heapmark 0.2.0
 rattle logic dac8208d650f15bf
 ";
 
