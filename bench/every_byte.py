@@ -1,9 +1,6 @@
 #!/usr/bin/env python3
 """Prints what the plain marker reports if one byte of a small dump is changed: at each offset, to each other value.
 
-usage: bench/every_byte.py [--jobs N] PLAIN [DUMP]
-
-PLAIN is the plain marker of bench/plain, built; DUMP the dump of two objects, crates/heapmark/data/two_objects.hprof.
 Prints crates/heapmark/src/tests/damage/answers.rt: a row for each range of values of one place with the same result,
 
     (place, first value, last value, code, at, mix)
@@ -13,6 +10,8 @@ report, and `mix` a number mixed from the bytes of all in the order of the value
 dump's own value, which is not tried. Prints on standard error, for each code, the number of files and the sum of `at`.
 """
 
+from __future__ import annotations
+
 import argparse
 import collections
 import multiprocessing
@@ -21,36 +20,61 @@ import re
 import subprocess
 import sys
 import tempfile
+from typing import NamedTuple, Optional, Tuple
 
 TOP = os.path.dirname(os.path.dirname(os.path.abspath(__file__)))
 DUMP = f"{TOP}/crates/heapmark/data/two_objects.hprof"
 NAMES = f"{TOP}/bench/plain/main.rs"
 
-Answer = collections.namedtuple("Answer", "code at report")
+
+class Answer(NamedTuple):
+    """The result for one file: 0, the report's length and the report; or code and place of the refusal, and no report."""
+
+    code: int
+    at: int
+    report: bytes
 
 
-def mixed(mix, report):
-    """The number `mix` with the bytes of a report mixed in."""
+#: The results for the 256 values of one place; None for the value that the dump has there.
+Answers = Tuple[Optional[Answer], ...]
+
+
+class Row(NamedTuple):
+    """A range of values of one place with the same code and place of the result, and the mix of their reports."""
+
+    first: int
+    last: int
+    code: int
+    at: int
+    mix: int
+
+
+class Failed(Exception):
+    """A run of the plain marker that ended without a report and without a refusal."""
+
+
+def mixed(mix: int, report: bytes) -> int:
+    """Returns the number `mix` with the bytes of a report mixed in."""
     for byte in report:
         mix = (mix * 31 + byte) % (1 << 32)
     return mix
 
 
-def answer(plain, path):
-    """Returns the result of the plain marker for the file at `path`."""
+def answer(plain: str, path: str) -> Answer:
+    """Returns the result of the plain marker for the file at `path`. Raises `Failed`."""
     ran = subprocess.run([plain, path], capture_output=True, timeout=60)
-    if ran.returncode == 0:
+    if ran.returncode == 0 and ran.stdout:
         return Answer(0, len(ran.stdout), ran.stdout)
     refusal = re.search(rb"^plain: refused (\d+) \w+ at (\d+)$", ran.stderr, re.M)
-    if not refusal or ran.stdout:
-        sys.exit(f"changed: {ran.stderr.decode(errors='replace')}")
+    if ran.returncode != 1 or not refusal or ran.stdout:
+        raise Failed(f"{plain}: status {ran.returncode}: {ran.stderr.decode(errors='replace')}")
     return Answer(int(refusal[1]), int(refusal[2]), b"")
 
 
-def answers_at(task):
-    """Returns the result for each value at the place of `task`, and `None` for the value that the dump has there."""
+def answers_at(task: tuple[str, bytes, int]) -> Answers:
+    """Returns the result for each value at the place of `task`, which is a plain marker, a dump and a place."""
     plain, dump, place = task
-    answers = []
+    answers: list[Answer | None] = []
     with tempfile.NamedTemporaryFile(dir="/dev/shm" if os.path.isdir("/dev/shm") else None) as file:
         for value in range(256):
             if value == dump[place]:
@@ -60,38 +84,42 @@ def answers_at(task):
             file.write(dump[:place] + bytes([value]) + dump[place + 1 :])
             file.flush()
             answers.append(answer(plain, file.name))
-    return answers
+    return tuple(answers)
 
 
-def ranges(answers):
+def ranges(answers: Answers) -> list[Row]:
     """Returns the ranges of values with the same code and place, each with the mix of its reports."""
-    rows = []
+    rows: list[Row] = []
     for value, told in enumerate(answers):
         if told is None:
             if rows:
-                rows[-1][1] = value
-            continue
-        if rows and rows[-1][2] in (None, told[:2]):
-            rows[-1][1:3] = [value, told[:2]]
+                rows[-1] = rows[-1]._replace(last=value)
+        elif rows and (rows[-1].code, rows[-1].at) == (told.code, told.at):
+            rows[-1] = rows[-1]._replace(last=value, mix=mixed(rows[-1].mix, told.report))
         else:
-            rows.append([value, value, told[:2], 0])
-        rows[-1][3] = mixed(rows[-1][3], told.report)
+            rows.append(Row(value, value, told.code, told.at, mixed(0, told.report)))
     return rows
 
 
-def main():
-    words = argparse.ArgumentParser(usage="every_byte.py [--jobs N] PLAIN [DUMP]")
-    words.add_argument("--jobs", type=int, default=2)
-    words.add_argument("plain")
-    words.add_argument("dump", nargs="?", default=DUMP)
-    told = words.parse_args()
-    with open(told.dump, "rb") as file:
+def main() -> int:
+    parser = argparse.ArgumentParser(description=__doc__, formatter_class=argparse.RawDescriptionHelpFormatter)
+    parser.add_argument("--jobs", type=int, default=2, metavar="N", help="processes (2)")
+    parser.add_argument("plain", metavar="PLAIN", help="the plain marker of bench/plain, built")
+    help_of_dump = "a small dump (that of two objects, crates/heapmark/data/two_objects.hprof)"
+    parser.add_argument("dump", metavar="DUMP", nargs="?", default=DUMP, help=help_of_dump)
+    words = parser.parse_args()
+    plain = os.path.abspath(words.plain)
+    if not os.access(plain, os.X_OK) or not os.path.isfile(words.dump):
+        parser.error("PLAIN is a program, and DUMP a file")
+    with open(words.dump, "rb") as file:
         dump = file.read()
-    plain = os.path.abspath(told.plain)
-    with multiprocessing.Pool(told.jobs) as pool:
-        all_answers = pool.map(answers_at, [(plain, dump, place) for place in range(len(dump))], chunksize=1)
-    rows = [(place, *row) for place, answers in enumerate(all_answers) for row in ranges(answers)]
-    sums = collections.defaultdict(lambda: [0, 0])
+    with multiprocessing.Pool(words.jobs) as pool:
+        try:
+            all_answers = pool.map(answers_at, [(plain, dump, place) for place in range(len(dump))], chunksize=1)
+        except Failed as fault:
+            sys.exit(f"every_byte: {fault}")
+    rows = [(place, row) for place, answers in enumerate(all_answers) for row in ranges(answers)]
+    sums: dict[int, list[int]] = collections.defaultdict(lambda: [0, 0])
     for told in (told for answers in all_answers for told in answers if told):
         sums[told.code][0] += 1
         sums[told.code][1] += told.at
@@ -101,12 +129,13 @@ def main():
     print("\n/// The columns: place, first and last value, code of a refusal or 0, its place or the length of a "
           "report, mix.")
     print(f"pub static ANSWERS: [Answer; {len(rows)}] = [")
-    for place, first, last, (code, at), mix in rows:
-        print(f"    ({place}, {first}, {last}, {code}, {at}, {mix}),")
+    for place, row in rows:
+        print(f"    ({place}, {row.first}, {row.last}, {row.code}, {row.at}, {row.mix}),")
     print("];")
     for code in sorted(sums):
         print(f"{code}: {sums[code][0]} files, sum {sums[code][1]}", file=sys.stderr)
+    return 0
 
 
 if __name__ == "__main__":
-    main()
+    sys.exit(main())

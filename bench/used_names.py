@@ -1,13 +1,14 @@
 #!/usr/bin/env python3
 """Copies a heap dump without the strings that no other record refers to: most of a small dump.
 
-usage: bench/used_names.py DUMP COPY
-
 A virtual machine writes all symbols that it has, such as the names and signatures of all methods of loaded classes. The
 copy keeps those that are the name of a class, of a field, or of what a stack frame names. All its other bytes are those
 of DUMP. Prints how many strings were left out, and how many were kept.
 """
 
+from __future__ import annotations
+
+import argparse
 import pathlib
 import sys
 
@@ -17,10 +18,11 @@ from heap_tools.heap_dump import HeapDump
 from heap_tools.hprof_format import FRAME, HEADER_SIZE, LOAD_CLASS, RECORD_HEAD_SIZE, STRING
 
 
-def used_names(dump):
+def used_names(dump: HeapDump) -> set[int]:
     """Returns the identifiers of the strings that the records of a dump refer to. A frame names a method, its signature
     and its source file."""
-    used, size = set(dump.field_names), dump.id_size
+    used: set[int] = set(dump.field_names)
+    size = dump.id_size
     for tag, at, _ in dump.records():
         if tag == LOAD_CLASS:
             used.add(dump.id(at + 8 + size))
@@ -29,9 +31,15 @@ def used_names(dump):
     return used
 
 
-def main():
+def main() -> int:
+    parser = argparse.ArgumentParser(description=__doc__, formatter_class=argparse.RawDescriptionHelpFormatter)
+    parser.add_argument("dump", metavar="DUMP", type=pathlib.Path)
+    parser.add_argument("copy", metavar="COPY", type=pathlib.Path)
+    words = parser.parse_args()
+    if not words.dump.is_file() or words.copy.exists() and words.copy.samefile(words.dump):
+        parser.error("DUMP is a file, and COPY another one")
     omitted, kept = 0, 0
-    with open(sys.argv[1], "rb") as file, open(sys.argv[2], "wb") as copy:
+    with open(words.dump, "rb") as file, open(words.copy, "wb") as copy:
         dump = HeapDump(file, nameless=True)
         used = used_names(dump)
         copy.write(dump.bytes[:HEADER_SIZE])
@@ -42,7 +50,8 @@ def main():
                 kept += tag == STRING
                 copy.write(dump.bytes[at - RECORD_HEAD_SIZE : end])
     print(f"{omitted} strings left out, {kept} kept")
+    return 0
 
 
 if __name__ == "__main__":
-    main()
+    sys.exit(main())
