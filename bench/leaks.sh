@@ -104,6 +104,40 @@ load/QuartzService 17 2 libquartz2-java,libslf4j-java quartz2,slf4j-api
     org/quartz/simpl/RAMJobStore.* | org/quartz/core/QuartzSchedulerResources.jobStore
 load/SessionService 17 2 libtomcat9-java tomcat9-*
     org/apache/catalina/session/ManagerBase.sessions
+load/SpringService 17 2 libspring-context-java,libspring-core-java spring3-context,spring3-*,commons-logging
+    org/springframework/context/event/AbstractApplicationEventMulticaster$ListenerRetriever.applicationListeners
+load/JettyService 17 2 libjetty9-java,libservlet-api-java jetty9-server,jetty9-util,jetty9-http,jetty9-io,servlet-api
+    org/eclipse/jetty/server/handler/HandlerCollection._handlers
+        | org/eclipse/jetty/util/component/ContainerLifeCycle._beans | static load/JettyService.VERSIONS
+load/HsqldbService 17 2 libhsqldb-java hsqldb
+    org/hsqldb/SessionManager.sessionMap
+load/DerbyService 17 2 libderby-java derby
+    org/apache/derby/iapi/services/context/ContextService.allContexts
+load/StatementService 17 2 libcommons-dbcp2-java,libh2-java commons-dbcp2,commons-pool2,commons-logging,h2
+    org/apache/commons/pool2/impl/GenericKeyedObjectPool.poolMap
+        | org/apache/commons/dbcp2/PoolingConnection.pstmtPool
+load/TemplateService 17 2 libfreemarker-java freemarker
+    freemarker/cache/StringTemplateLoader.templates | static load/TemplateService.TEMPLATES
+load/SearchService 17 2 liblucene4.10-java lucene-core-4.10.4,lucene-analyzers-common-4.10.4
+    org/apache/lucene/search/SearcherLifetimeManager.searchers | static load/SearchService.SEARCHERS
+load/BrokerService 17 2 libactivemq-java activemq-broker,activemq-client,geronimo-j*,hawtbuf,slf4j-api
+    org/apache/activemq/broker/region/cursors/OrderedPendingList.*
+        | org/apache/activemq/broker/region/cursors/VMPendingMessageCursor.list
+        | org/apache/activemq/broker/region/cursors/StoreQueueCursor.nonPersistent
+        | org/apache/activemq/broker/region/Queue.messages
+    says invoices
+load/TreeService 17 2 libzookeeper-java zookeeper,zookeeper-jute,netty-all,slf4j-api
+    org/apache/zookeeper/server/NodeHashMapImpl.nodes | org/apache/zookeeper/server/DataTree.nodes
+load/ScriptService 17 2 librhino-java js
+    org/mozilla/javascript/NativeArray.dense
+load/AtomService 17 2 libclojure-java clojure
+    clojure/lang/Atom.state
+    says sessions
+load/BundleService 17 2 libfelix-framework-java org.apache.felix.framework
+    org/apache/felix/framework/util/EventDispatcher.m_svcListeners
+load/EternalService 17 2 libehcache-java ehcache,slf4j-api
+    net/sf/ehcache/store/MemoryStore.map | static load/EternalService.tokens
+    says tokens
 hard/ExpiryService 17 2
     static hard/ExpiryService.ORDERS
 hard/FinalizerService 17 2
