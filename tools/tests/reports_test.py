@@ -1,0 +1,50 @@
+"""Tests the reading of reports and histograms."""
+
+import io
+import unittest
+
+from heap_tools.faults import Fault
+from heap_tools.reports import Amount, Report, read_text
+from tests.support.tool_test import histogram, report
+
+#: More bytes than a number of 32 bits has, and more than a file of heapmark can hold objects.
+HUGE = 12_345_678_901
+
+
+class ReportsTest(unittest.TestCase):
+    """Texts that are reports or histograms, or nearly."""
+
+    def read(self, text: str) -> Report:
+        """Reads a text, which is a report or a histogram."""
+        found = read_text(io.BytesIO(text.encode()), "file")
+        assert found
+        return found[1]
+
+    def test_large_numbers(self) -> None:
+        """A row may have more than a gigabyte, in a report and in a histogram."""
+        for text in (report((HUGE, HUGE, "byte[]")), histogram((HUGE, HUGE, "[B (java.base@17)"))):
+            self.assertEqual(self.read(text).amount("byte[]"), Amount(HUGE, HUGE))
+
+    def test_families(self) -> None:
+        """Classes of one name are added together, and so are hidden classes but for their numbers."""
+        found = self.read(report((1, 10, "A"), (2, 20, "A"), (3, 30, "B$$Lambda$1+0x0a"), (4, 40, "B$$Lambda$2+0x0b")))
+        self.assertEqual(found.families, {"A": Amount(3, 30), "B$$Lambda": Amount(7, 70)})
+        self.assertEqual(found.total(["A", "C"]), Amount(3, 30))
+        self.assertEqual(found.total(None), found.reachable)
+
+    def test_cut(self) -> None:
+        """A text that was cut is neither, wherever it was cut between two lines."""
+        for text in (report((1, 10, "A"), (2, 20, "B")), histogram((1, 10, "A"), (2, 20, "B"))):
+            lines = text.splitlines(keepends=True)
+            for count in range(len(lines)):
+                self.assertIsNone(read_text(io.BytesIO("".join(lines[:count]).encode()), "file"))
+
+    def test_two(self) -> None:
+        """Two reports or two histograms in one file are refused."""
+        for text in (report((1, 10, "A")), histogram((1, 10, "A"))):
+            with self.assertRaises(Fault):
+                read_text(io.BytesIO(text.encode() * 2), "file")
+
+
+if __name__ == "__main__":
+    unittest.main()
