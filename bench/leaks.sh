@@ -43,8 +43,8 @@ right=0 partly=0 wrong=0 omitted=0
 #
 # - its folder and name, the version of Java that it needs, and the number of its dumps; then, if it needs libraries,
 #   the Debian packages that have them and the names of their jars, with commas between them;
-# - the holder. Between holders of which any is right stands ` | `; `*` stands for any letters. Fields that only together
-#   hold the leak are right, too, if each of them is;
+# - the holder. Between holders of which any is right stands ` | `; `*` stands for any letters. Fields that only
+#   together hold the leak are right, too, if each of them is;
 # - after `says`, the words that the output must have, too.
 services() {
     cat << 'SERVICES'
@@ -104,7 +104,7 @@ load/QuartzService 17 2 libquartz2-java,libslf4j-java quartz2,slf4j-api
     org/quartz/simpl/RAMJobStore.* | org/quartz/core/QuartzSchedulerResources.jobStore
 load/SessionService 17 2 libtomcat9-java tomcat9-*
     org/apache/catalina/session/ManagerBase.sessions
-load/SpringService 17 2 libspring-context-java,libspring-core-java spring3-context,spring3-*,commons-logging
+load/SpringService 17 2 libspring-context-java spring3-*,commons-logging
     org/springframework/context/event/AbstractApplicationEventMulticaster$ListenerRetriever.applicationListeners
 load/JettyService 17 2 libjetty9-java,libservlet-api-java jetty9-server,jetty9-util,jetty9-http,jetty9-io,servlet-api
     org/eclipse/jetty/server/handler/HandlerCollection._handlers
@@ -233,8 +233,8 @@ dumped() {
     "${java}javac" -encoding UTF-8 -sourcepath "$top/bench/java/leaks" -cp "$path" -d "$room/classes" \
         "$top/bench/java/leaks/$1/$2.java"
     rm -f "${files[@]}"
-    "${java}java" -cp "$path" "-Xmx$((64 + 64 * scale))m" "-Dscale=$scale" "$1.$2" "${files[@]}" > "$room/told" 2>&1 ||
-        { cat "$room/told" >&2; exit 1; }
+    "${java}java" -cp "$path" "-Xmx$((64 + 64 * scale))m" "-Dscale=$scale" "-Djava.io.tmpdir=$room" "$1.$2" \
+        "${files[@]}" > "$room/told" 2>&1 || { cat "$room/told" >&2; exit 1; }
 }
 
 # is FIELD HOLDERS: tests whether FIELD is one of HOLDERS. More words may come after the field.

@@ -36,7 +36,8 @@ final class BundleService {
     }
 
     public static void main(String[] words) throws Exception {
-        Felix framework = new Felix(Map.of("org.osgi.framework.storage", Files.createTempDirectory("felix").toString()));
+        String folder = Files.createTempDirectory("felix").toString();
+        Felix framework = new Felix(Map.of("org.osgi.framework.storage", folder));
         framework.start();
         context = framework.getBundleContext();
         Catalog.fill();

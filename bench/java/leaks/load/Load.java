@@ -40,8 +40,8 @@ final class Load {
     private final AtomicInteger served = new AtomicInteger();
 
     private Load() {
-        AtomicInteger number = new AtomicInteger();
-        threads = Executors.newFixedThreadPool(THREADS, work -> new Thread(work, "request-" + number.incrementAndGet()));
+        AtomicInteger last = new AtomicInteger();
+        threads = Executors.newFixedThreadPool(THREADS, work -> new Thread(work, "request-" + last.incrementAndGet()));
     }
 
     /** Ends the program, too: most libraries have threads that would not end. */

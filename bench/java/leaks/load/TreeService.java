@@ -12,8 +12,8 @@ import org.apache.zookeeper.server.NIOServerCnxnFactory;
 import org.apache.zookeeper.server.ZooKeeperServer;
 
 /**
- * Creates a node for each request in a ZooKeeper server, in the same process, and deletes none. In the first dump, the
- * client is busy with an answer.
+ * Creates a node for each request in a ZooKeeper server, in the same process, and deletes none. In the first dump,
+ * requests are inside the catalog, which does not grow.
  */
 final class TreeService {
     static final int REQUESTS_A_DAY = 3_000;
@@ -23,10 +23,6 @@ final class TreeService {
     static void serve(int number) throws KeeperException, InterruptedException {
         byte[] data = ("order " + number + " ".repeat(200)).getBytes(StandardCharsets.US_ASCII);
         client.create("/orders/order-", data, ZooDefs.Ids.OPEN_ACL_UNSAFE, CreateMode.PERSISTENT_SEQUENTIAL);
-    }
-
-    static void list(int number) {
-        client.getChildren("/orders", false, (status, path, context, children) -> Backend.call(), null);
     }
 
     public static void main(String[] words) throws Exception {
@@ -39,6 +35,6 @@ final class TreeService {
         client = new ZooKeeper("127.0.0.1:" + factory.getLocalPort(), 60_000, event -> { });
         client.create("/orders", new byte[0], ZooDefs.Ids.OPEN_ACL_UNSAFE, CreateMode.PERSISTENT);
         Catalog.fill();
-        Load.run(words, Load.During.FIRST, REQUESTS_A_DAY, TreeService::serve, TreeService::list);
+        Load.run(words, Load.During.FIRST, REQUESTS_A_DAY, TreeService::serve, Catalog::update);
     }
 }
