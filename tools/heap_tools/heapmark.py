@@ -85,7 +85,7 @@ class Heapmark:
     def _start(self, words: Sequence[str], streams: Dict[str, Any]) -> "subprocess.Popen[bytes]":
         """Starts heapmark. A signal that ends this tool is held back until `_child` is set, so that `run` can then end
         the child too. The child inherits the files that the shell opened for this tool, such as /dev/fd/63."""
-        how: Dict[str, Any] = {"env": self.environment, "close_fds": False, "bufsize": 0, "preexec_fn": _unblock}
+        how: Dict[str, Any] = {"env": self.environment, "close_fds": False, "bufsize": 0, "preexec_fn": _in_child}
         signal.pthread_sigmask(signal.SIG_BLOCK, ENDING)
         try:
             self._child = subprocess.Popen([self.program, *words], **how, **streams)
@@ -190,6 +190,13 @@ def _widen(pipe: IO[bytes]) -> None:
     """Gives a pipe more room, with which a large dump takes two thirds of the time, if the system allows it."""
     with contextlib.suppress(OSError):
         fcntl.fcntl(pipe.fileno(), F_SETPIPE_SZ, PIPE_SIZE)
+
+
+def _in_child() -> None:
+    """Lets the signals that end a tool through, and ignores the one by which the system would end a program that writes
+    more than a file may have: then heapmark reports that its output cannot be written."""
+    _unblock()
+    signal.signal(signal.SIGXFSZ, signal.SIG_IGN)
 
 
 def _unblock() -> None:

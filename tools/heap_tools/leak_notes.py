@@ -1,0 +1,64 @@
+"""What `leaks` says beside its lines: which objects hold most, which threads there are more of, what is held by weak
+references alone, and what is outside the heap."""
+
+from typing import List, NamedTuple, Optional
+
+from heap_tools.candidates import joint_name
+from heap_tools.console import say
+from heap_tools.direct_buffers import direct_memory, more_direct_memory
+from heap_tools.dump_runs import DumpRuns
+from heap_tools.humanize import counted
+from heap_tools.leak_lines import Answer, Line
+from heap_tools.thread_counts import ThreadCount, grown_thread_counts
+from heap_tools.which_object import FEWEST, MOST, HoldingObject, objects_that_hold
+
+#: How many patterns of names of threads are said.
+PATTERNS = 3
+
+
+class LineObjects(NamedTuple):
+    """The objects that hold most of what a line holds: the number of the line, and the line."""
+
+    number: int
+    line: Line
+    objects: List[HoldingObject]
+
+    def __str__(self) -> str:
+        found = "; ".join(map(str, self.objects))
+        field = joint_name(self.line.held.candidates)
+        return f"line {self.number}: {len(self.objects)} of {self.line.held.holders:,} {field} hold most: {found}"
+
+
+class Notes(NamedTuple):
+    """All that is said beside the lines."""
+
+    objects: Optional[LineObjects]
+    threads: List[ThreadCount]
+    direct: str
+
+
+def notes_of(answer: Answer, first: DumpRuns, last: DumpRuns, shows_values: bool) -> Notes:
+    """Returns what is to be said beside the lines of an answer about two dumps."""
+    direct = more_direct_memory(direct_memory(first.dump), direct_memory(last.dump))
+    threads = grown_thread_counts(first.dump, last.dump)[:PATTERNS]
+    return Notes(line_objects(answer, shows_values), threads, direct)
+
+
+def line_objects(answer: Answer, shows_values: bool) -> Optional[LineObjects]:
+    """Returns the objects that hold most of the first line about 2 to 100,000 of them, or None if many hold a little
+    each."""
+    for number, line in enumerate(answer.lines, 1):
+        if FEWEST <= line.held.holders <= MOST:
+            found = objects_that_hold(answer.probe, line.held, shows_values)
+            return LineObjects(number, line, found) if found else None
+    return None
+
+
+def say_notes(notes: Notes) -> None:
+    """Says what is beside the lines, a line each."""
+    if notes.objects:
+        say(f"leaks: {notes.objects}")
+    for each in notes.threads:
+        say(f"leaks: {counted(each.after - each.before, 'thread')} more: {each}")
+    if notes.direct:
+        say(f"leaks: {notes.direct}")
