@@ -139,7 +139,7 @@ class Format:
 class Block:
     """Sub-records of one size, one after the other."""
 
-    def __init__(self, dumps: bytearray, size: int) -> None:
+    def __init__(self, dumps: bytes, size: int) -> None:
         self.dumps, self.size = dumps, size
 
     def cut(self, most: int) -> Iterator[bytes]:
