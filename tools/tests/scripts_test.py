@@ -1,4 +1,4 @@
-"""Tests that each script of the repository prints its usage at --help and refuses wrong words, and does nothing else."""
+"""Tests that each script of the repository prints its usage at --help, refuses wrong words, and does nothing else."""
 
 from __future__ import annotations
 
