@@ -28,7 +28,7 @@ NAMES = f"{TOP}/bench/plain/main.rs"
 
 
 class Answer(NamedTuple):
-    """The result for one file: 0, the report's length and the report; or code and place of the refusal, and no report."""
+    """The result for one file: 0, the report's length and the report; or the code and place of a refusal."""
 
     code: int
     at: int

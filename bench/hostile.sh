@@ -4,10 +4,11 @@
 # usage: bench/hostile.sh [COUNT [KIND..]]
 #
 # COUNT: objects, classes or the like of the smaller file of each kind (500000). Prints a Markdown table: for each kind
-# the size of the larger file, both programs' seconds on the smaller and the larger, and whether they gave the same report
-# or the same refusal. A run is stopped after a minute, and then differs. Exit status 1 if a run differs. heapmark is the binary of crates/heapmark/out, or what the variable HEAPMARK names;
-# the words of the variable OPTIONS go to it, as in OPTIONS='--workers 1'. Both programs read the kind `named_fields`
-# with a list of 64 fields that are not followed, if heapmark has the option --skip.
+# the size of the larger file, both programs' seconds on the smaller and the larger, and whether they gave the same
+# report or the same refusal. A run is stopped after a minute, and then differs. Exit status 1 if a run differs.
+# heapmark is the binary of crates/heapmark/out, or what the variable HEAPMARK names; the words of the variable OPTIONS
+# go to it, as in OPTIONS='--workers 1'. Both programs read the kind `named_fields` with a list of 64 fields that are
+# not followed, if heapmark has the option --skip.
 set -euo pipefail
 
 top=$(cd "$(dirname "$0")/.." && pwd)

@@ -3,8 +3,8 @@
 # The script sets `room`, a folder for what the runs print.
 # shellcheck shell=bash disable=SC2034 disable=SC2154 # what is set here is used there, and the other way round
 
-# ran NAME COMMAND..: runs a marker. Keeps its report in NAME.report and what else it prints in NAME.told. Sets `status`,
-# and `spent` to its microseconds.
+# ran NAME COMMAND..: runs a marker. Keeps its report in NAME.report and what else it prints in NAME.told. Sets
+# `status`, and `spent` to its microseconds.
 ran() {
     local name=$1 start
     shift
@@ -15,8 +15,8 @@ ran() {
     how_ended "$name" > "$room/$name.end"
 }
 
-# how_ended NAME: prints how the run that `ran` kept as NAME ended: `report`, `refused 3 Truncated at 70`, or `failed ..`
-# if it was neither, as after a signal or a status without a refusal.
+# how_ended NAME: prints how the run that `ran` kept as NAME ended: `report`, `refused 3 Truncated at 70`, or `failed`
+# with its status if it was neither, as after a signal or a status without a refusal.
 how_ended() {
     local refusal
     refusal=$(sed -n 's/^[a-z]*: \(refused [0-9].*\)/\1/p' "$room/$1.told")

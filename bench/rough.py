@@ -12,10 +12,10 @@ The groups, all of them if none is given; N is 1000 if it is not given:
 
 In `cut` and `changed` heapmark has to print what the plain marker of bench/plain prints, to the byte: the same report,
 or the same refusal at the same offset. A run that ends otherwise, as by a signal, is wrong even if both do so. In
-`many` every run has to give the plain marker's report. In `memory` and `threads` a run has to end with the whole report,
-or with refusal 15 or 18 and nothing written. In `memory`, at limits up to 3, it may also end with status 127 or by
-SIGSEGV, with nothing written: then it was not loaded. In `streams` a run has to end with status 0 and the whole report;
-or, after a beginning of the report, with refusal 20, by the interrupt or by SIGPIPE.
+`many` every run has to give the plain marker's report. In `memory` and `threads` a run has to end with the whole
+report, or with refusal 15 or 18 and nothing written. In `memory`, at limits up to 3, it may also end with status 127 or
+by SIGSEGV, with nothing written: then it was not loaded. In `streams` a run has to end with status 0 and the whole
+report; or, after a beginning of the report, with refusal 20, by the interrupt or by SIGPIPE.
 
 Prints a line for each group with how its runs ended, and each run that was wrong; exit status 1 if any was. heapmark is
 the binary of crates/heapmark/out, or what the variable HEAPMARK names. `threads` needs root, and runs as nobody.

@@ -3,13 +3,13 @@
 #
 # usage: bench/run.sh [RUNS [DUMP..]]
 #
-# RUNS: how often each program runs on each dump (5); the best wall time of them counts, and the largest peak of
-# memory. DUMP..: those of /tmp/heapmark-bench if none is given (bench/dumps.sh makes them). Prints Markdown tables:
-# whole programs first, then the dumps, then the phases of the plain marker. heapmark is the binary that `rt run` in
+# RUNS: how often each program runs on each dump (5); the best wall time of them counts, and the largest peak of memory.
+# DUMP..: those of /tmp/heapmark-bench if none is given (bench/dumps.sh makes them). Prints Markdown tables: whole
+# programs first, then the dumps, then the phases of the plain marker. heapmark is the binary that `rt run` in
 # crates/heapmark made, or what the variable HEAPMARK names. The words of the variable STARTER start each run: on a busy
 # machine STARTER='chrt -f 10', as root, keeps other work off the processors. The words of the variable OPTIONS go to
-# heapmark, as in OPTIONS='--buffer 4096'. A dump that all refuse alike has no row. Exit status 1 if a report differs, or
-# a run ends without a report and without a refusal.
+# heapmark, as in OPTIONS='--buffer 4096'. A dump that all refuse alike has no row. Exit status 1 if a report differs,
+# or a run ends without a report and without a refusal.
 runs=5
 # shellcheck source=bench/head.sh
 . "$(dirname "$0")/head.sh"

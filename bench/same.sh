@@ -4,12 +4,12 @@
 # usage: bench/same.sh DUMP..
 #
 # On each dump heapmark runs with 1, 2, 4 and 64 workers, and with two lists of fields that it skips: the referents of
-# references, and the table of all hash maps with the value of each weak one. Prints a line for each dump: its megabytes,
-# its objects, whether all reports are the plain marker's, and how the counts by class agree with NAME.histogram, if it
-# is beside NAME.hprof. In a class that counts as different, the histogram and the dump differ, whatever is reachable;
-# bench/compare.sh shows them. If both markers refuse a dump, the line has the refusal, which must be the same. A run that
-# ends without a report and without a refusal counts as different. The last line is `N dumps, M runs, K different`. Exit
-# status 1 if a run differs.
+# references, and the table of all hash maps with the value of each weak one. Prints a line for each dump: its
+# megabytes, its objects, whether all reports are the plain marker's, and how the counts by class agree with
+# NAME.histogram, if it is beside NAME.hprof. In a class that counts as different, the histogram and the dump differ,
+# whatever is reachable; bench/compare.sh shows them. If both markers refuse a dump, the line has the refusal, which
+# must be the same. A run that ends without a report and without a refusal counts as different. The last line is `N
+# dumps, M runs, K different`. Exit status 1 if a run differs.
 #
 # heapmark is the binary of crates/heapmark/out, or what the variable HEAPMARK names.
 set -euo pipefail
@@ -51,8 +51,10 @@ counted() {
     [ -s "$histogram" ] || return 0
     PLAIN=$room/plain "$top/bench/compare.sh" "$1" "$histogram" "$heapmark" > "$room/counts" 2> "$room/told" ||
         { printf ', not compared with its histogram: %s' "$(tail -n 1 "$room/told")"; return 1; }
-    awk '/ same count / { same = $1 } NF == 4 && $1 ~ /^[0-9]+$/ && $4 != "(all)" && $1 != $2 { differ++; names = names " " $4 }
-            END { printf ", %d classes counted alike, %d not%s", same, differ, differ ? ":" names : "" }' "$room/counts"
+    awk '
+        / same count / { same = $1 }
+        NF == 4 && $1 ~ /^[0-9]+$/ && $4 != "(all)" && $1 != $2 { differ++; names = names " " $4 }
+        END { printf ", %d classes counted alike, %d not%s", same, differ, differ ? ":" names : "" }' "$room/counts"
 }
 
 rustc --edition 2024 -O -o "$room/plain" "$top/bench/plain/main.rs"

@@ -1,8 +1,9 @@
 # Reads the words of a shell script. To be sourced by sh or bash before the script does anything.
 #
-# The comment at the head of a script is its help, which `--help` and `-h` print. Its line `usage: NAME WORD..` says which
-# words the script takes: those in brackets are optional, and one that ends in `..` may come more than once. Another
-# option, or another number of words, ends the script with status 2. What follows the word COMMAND is that command's.
+# The comment at the head of a script is its help, which `--help` and `-h` print. Its line `usage: NAME WORD..` says
+# which words the script takes: those in brackets are optional, and one that ends in `..` may come more than once.
+# Another option, or another number of words, ends the script with status 2. What follows the word COMMAND is that
+# command's.
 # shellcheck shell=sh
 
 # wrong_words MESSAGE: prints MESSAGE and the usage on standard error, and ends the script with status 2.

@@ -92,7 +92,7 @@ class Meter:
             self._thread.part = before
 
     def part_of(self, words: Any) -> Part:
-        """Returns the part for which a process with these words runs: that of this thread, or the one that they name."""
+        """Returns the part for which a process with these words runs: that of this thread, or the one they name."""
         if self.part().crate or not isinstance(words, list) or "--crate-name" not in words:
             return self.part()
         return Part(words[words.index("--crate-name") + 1], TESTS if "--test" in words else CHECK)

@@ -1,4 +1,4 @@
-"""Tests that each script of the repository prints its usage at --help and refuses wrong words, and does nothing else."""
+"""Tests that each script of the repository prints its usage at --help, refuses wrong words, and does nothing else."""
 
 from __future__ import annotations
 
@@ -128,10 +128,11 @@ class ScriptsTest(unittest.TestCase):
         self.assertEqual({it: after.get(it) for it in after.keys() | before if after.get(it) != before.get(it)}, {})
 
     def test_each_command_is_found(self) -> None:
-        """What runs something when it is started can be run, and has a first line by which it is found. Tests are run
-        by unittest."""
+        """What runs something when it is started can be run, and has a first line by which it is found. unittest runs
+        the tests, and pip setup.py."""
         for path in (it for folder in FOLDERS for it in (self.copy / folder).rglob("*")):
-            if path.is_file() and not path.name.endswith("_test.py") and path.suffix in ("", ".py", ".sh"):
+            is_run_by_others = path.name.endswith("_test.py") or path.name == "setup.py"
+            if path.is_file() and path.suffix in ("", ".py", ".sh") and not is_run_by_others:
                 text = path.read_text(encoding="utf-8")
                 runs = is_script(path) or 'if __name__ == "__main__"' in text
                 self.assertEqual((os.access(path, os.X_OK), is_script(path)), (runs, runs), str(path))
