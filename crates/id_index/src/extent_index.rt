@@ -5,7 +5,8 @@ ghost use Rattle.id_index.specs.Repeats.{IsFirstRepeat};
 
 use crate::beginnings::Beginnings;
 use crate::extents::Extent;
-use crate::look_up::{first_bearer, is_guessed};
+use crate::look_up::first_bearer;
+use crate::probed::Probed;
 use std::alloc::Allocator;
 use std::marker::Model;
 
@@ -45,18 +46,13 @@ impl<A: Allocator> Model for ExtentIndex<A> {
 }
 
 impl<A: Allocator> ExtentIndex<A> {
-    /// Returns the number of the first object that bears `id`, or `None` if no object does.
+    /// Looks up the first object that bears `id`. The probes are extents.
     // Inlined, as the `find` of an index is, which only forwards to this.
     #[inline(always)]
-    pub(crate) fn find(&self, id: u64) -> Option<u32>
-        ensures { result ≡ position (λ x. x == id) self.now }
+    pub(crate) fn look_up(&self, id: u64) -> Probed
+        ensures { result.number ≡ position (λ x. x == id) self.now }
     {
         first_bearer(&self.extents[..self.kept], &self.beginnings, id)
-    }
-
-    /// Tests whether the guessed extent has an object that bears `id`, so that `find` does not search.
-    pub(crate) fn is_guessed(&self, id: u64) -> bool {
-        is_guessed(&self.extents[..self.kept], &self.beginnings, id)
     }
 
     /// Returns the number of the first object whose identifier an earlier one bears, or the number of objects if there

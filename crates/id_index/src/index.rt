@@ -10,7 +10,9 @@ ghost use Rattle.id_index.specs.Repeats.{IsFirstRepeat};
 use crate::builder::ExtentIndexBuilder;
 use crate::extent_index::ExtentIndex;
 use crate::narrow_entries::NarrowIndex;
+use crate::probed::Probed;
 use crate::wide_entries::WideIndex;
+use crate::{look_up, narrow_entries, wide_entries};
 use std::alloc::{AllocError, Allocator};
 use std::marker::Model;
 
@@ -77,34 +79,45 @@ impl<A: Allocator> IdIndex<A> {
         }
     }
 
+    /// Looks up the first object that bears `id`, and counts the extents or entries that it reads. For tests: `find` is
+    /// made of it.
+    // Inlined, as `find` is.
+    #[inline(always)]
+    pub fn look_up(&self, id: u64) -> Probed
+        ensures { result.number ≡ position (λ x. x == id) self.now }
+    {
+        if id & self.mask != self.bits.low {
+            return Probed::nothing();
+        }
+        match &self.form {
+            Form::Extents(extents) => return extents.look_up(id >> self.bits.shift),
+            Form::Narrow(entries) => return entries.look_up(id >> self.bits.shift),
+            Form::Wide(entries) => return entries.look_up(id >> self.bits.shift),
+        }
+    }
+
     /// Returns the number of the first object that bears `id`, or `None` if no object does.
     // Inlined into a worker's loop, which looks up each reference that is not 0.
     #[inline(always)]
     pub fn find(&self, id: u64) -> Option<u32>
         ensures { result ≡ position (λ x. x == id) self.now }
     {
-        if id & self.mask != self.bits.low {
-            return None;
-        }
-        match &self.form {
-            Form::Extents(extents) => return extents.find(id >> self.bits.shift),
-            Form::Narrow(entries) => return entries.find(id >> self.bits.shift),
-            Form::Wide(entries) => return entries.find(id >> self.bits.shift),
-        }
+        self.look_up(id).number
     }
 
     /// Tests whether an object bears `id` and is found by a guess: without a search, or among entries of whole
-    /// identifiers by a short one. For tests: only time rests on guesses.
+    /// identifiers by a short one. Reads the probes of the look-up itself. For tests: only time rests on guesses.
     pub fn is_guessed(&self, id: u64) -> bool
         ensures { IsTrue result → Contains self.now id }
     {
-        let guessed = match &self.form {
-            Form::Extents(extents) => extents.is_guessed(id >> self.bits.shift),
-            Form::Narrow(entries) => entries.is_guessed(id >> self.bits.shift),
-            Form::Wide(entries) => entries.is_guessed(id >> self.bits.shift),
+        let most = match &self.form {
+            Form::Extents(_) => look_up::GUESSED,
+            Form::Narrow(_) => narrow_entries::GUESSED,
+            Form::Wide(_) => wide_entries::GUESSED,
         };
+        let is_short = self.look_up(id).probes <= most;
         match self.find(id) {
-            Some(_) => return guessed,
+            Some(_) => return is_short,
             None => return false,
         }
     }

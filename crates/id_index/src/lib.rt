@@ -41,6 +41,7 @@ mod narrow_entries;
 mod narrow_entries_builder;
 mod page_words;
 mod pages;
+mod probed;
 mod probes;
 mod pruning;
 mod repeats;
@@ -51,5 +52,6 @@ mod wide_entries;
 
 pub use index::{IdIndex, IdIndexBuilder, LowBits};
 pub use narrow_entries_builder::NarrowEntriesBuilder;
+pub use probed::Probed;
 pub use used_ids::{UsedIds, are_close};
 pub use wide_builder::WideEntriesBuilder;

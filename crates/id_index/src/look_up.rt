@@ -1,6 +1,6 @@
 //! Look-ups in ascending extents.
 
-ghost use Rattle.std.specs.Prelude.{IfNone, IfSome, MatchOption, ◌/◌, ◌<◌, ◌≢◌, ◌^◌};
+ghost use Rattle.std.specs.Prelude.{IfNone, IfSome, MatchOption, ◌/◌, ◌<◌, ◌≢◌, ◌≤◌, ◌^◌};
 ghost use Rattle.std.specs.Int.{bit_at};
 ghost use Rattle.id_index.specs.working.Beginnings.{AreBeginnings, IsAround};
 ghost use Rattle.id_index.specs.working.Extents.{AreAscending, AreFewAPage, HasBearer, IsBearerAt, IsFirstBearer};
@@ -9,10 +9,14 @@ ghost use Rattle.id_index.specs.working.Extents.{IsFirstFrom, IsNumberAt, end_of
 use crate::beginnings::Beginnings;
 use crate::extents::{Extent, GRANULES};
 use crate::pages::first_from;
+use crate::probed::Probed;
 use std::alloc::Allocator;
 
 /// The most extents of one page: each has an object at a granule where no earlier extent of the page has one.
 const MANY_EXTENTS: usize = 64;
+
+/// The most extents that a look-up reads if its guess is right: the guessed one, and the one before it.
+pub(crate) const GUESSED: usize = 2;
 
 /// Returns the number of the object that `extent` has at granule `granule`, or `None` if it has no object there.
 // Inlined, as [`first_bearer`] is.
@@ -52,82 +56,82 @@ fn number_at(extents: &[Extent], at: usize, id: u64) -> Option<u32>
 
 /// Returns the number of the object that bears `id` in the first extent with such an object, or `None` if there is no
 /// such extent. `from` is the index of the first extent whose page is not below that of `id`.
-fn number_from(extents: &[Extent], from: usize, id: u64) -> Option<u32>
+fn number_from(extents: &[Extent], from: usize, id: u64) -> Probed
     requires extents { AreAscending extents.now }
     requires few { AreFewAPage extents.now }
     requires from { IsFirstFrom extents.now (id / 64) from }
-    ensures { IsFirstBearer extents.now id result }
+    ensures first { IsFirstBearer extents.now id result.number }
+    ensures probes { result.probes ≤ 64 }
 {
     let (page, granule) = (id / GRANULES, (id % GRANULES) as u32);
     let end = extents.len().min(from.saturating_add(MANY_EXTENTS));
     for at in from..end {
         let extent = extents[at];
+        let probes = at - from + 1;
         if extent.page != page {
-            return None;
+            return Probed {
+                number: None,
+                probes,
+            };
         }
         if let Some(number) = number_at_granule(extent, granule) {
-            return Some(number);
+            return Probed {
+                number: Some(number),
+                probes,
+            };
         }
     }
-    None
+    Probed {
+        number: None,
+        probes: MANY_EXTENTS,
+    }
 }
 
 /// Like [`first_bearer`], for an `id` that was not found at the guess `near`. The first extent whose page is not below
 /// that of `id` is at index `begin` or later, and at `end` or earlier.
 // Not inlined, so that nearly all look-ups are one straight line.
 #[inline(never)]
-fn search_extents(extents: &[Extent], begin: usize, end: usize, near: usize, id: u64) -> Option<u32>
+fn search_extents(extents: &[Extent], begin: usize, end: usize, near: usize, id: u64) -> Probed
     requires extents { AreAscending extents.now }
     requires few { AreFewAPage extents.now }
     requires around { IsAround extents.now (id / 64) begin end }
-    ensures { IsFirstBearer extents.now id result }
+    ensures first { IsFirstBearer extents.now id result.number }
+    ensures probes { result.probes ≤ 254 }
 {
-    let from = first_from(extents, begin, end, near, id / GRANULES);
-    number_from(extents, from, id)
+    let (from, probes) = first_from(extents, begin, end, near, id / GRANULES);
+    let found = number_from(extents, from, id);
+    Probed {
+        number: found.number,
+        probes: GUESSED + probes + found.probes,
+    }
 }
 
 /// Returns the number of the object that bears `id` in the first extent with such an object, or `None` if there is no
-/// such extent.
+/// such extent. Reads at most `GUESSED` extents if the guess is right.
 // Inlined, as the `find` of an index is, which only forwards to this.
 #[inline(always)]
 pub(crate) fn first_bearer<A: Allocator>(
     extents: &[Extent],
     beginnings: &Beginnings<A>,
     id: u64,
-) -> Option<u32>
+) -> Probed
     requires extents { AreAscending extents.now }
     requires few { AreFewAPage extents.now }
     requires begun { AreBeginnings extents.now beginnings.now }
-    ensures { IsFirstBearer extents.now id result }
+    ensures first { IsFirstBearer extents.now id result.number }
+    ensures probes { result.probes ≤ 254 }
 {
     let page = id / GRANULES;
     let (begin, end) = match beginnings.around(extents, page) {
         Some(range) => range,
-        None => return None,
+        None => return Probed::nothing(),
     };
     let near = beginnings.guess(page, begin, end);
     match number_at(extents, near, id) {
-        Some(number) => Some(number),
+        Some(number) => Probed {
+            number: Some(number),
+            probes: GUESSED,
+        },
         None => search_extents(extents, begin, end, near, id),
-    }
-}
-
-/// Tests whether [`first_bearer`] finds `id` without a search: the extent that is guessed for it is the first of its
-/// page and has an object that bears `id`.
-pub(crate) fn is_guessed<A: Allocator>(
-    extents: &[Extent],
-    beginnings: &Beginnings<A>,
-    id: u64,
-) -> bool
-    requires extents { AreAscending extents.now }
-    requires begun { AreBeginnings extents.now beginnings.now }
-{
-    let page = id / GRANULES;
-    match beginnings.around(extents, page) {
-        Some((begin, end)) => {
-            let near = beginnings.guess(page, begin, end);
-            return number_at(extents, near, id).is_some();
-        }
-        None => return false,
     }
 }

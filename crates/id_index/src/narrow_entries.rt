@@ -6,11 +6,15 @@ ghost use Rattle.id_index.specs.working.NarrowEntries.{AreSet, DoAscend, Names};
 ghost use Rattle.id_index.specs.Repeats.{IsFirstRepeat};
 
 use crate::page_words::PageWords;
+use crate::probed::Probed;
 use std::alloc::Allocator;
 use std::marker::Model;
 
 /// The number in an entry that is not set: no object has this number.
 pub(crate) const UNSET: u32 = u32::MAX;
+
+/// The number of entries that a look-up reads if its guess is right.
+pub(crate) const GUESSED: usize = 1;
 
 /// An object's identifier and the object's number. While granules are noted, a `NarrowEntry` has the bits of a page
 /// instead (`used_ids`).
@@ -62,43 +66,54 @@ pub(crate) fn do_ascend(entries: &[NarrowEntry]) -> bool
     true
 }
 
-/// Returns the number of the object that bears `id` in the ascending `entries`, or `None` if no entry has `id`.
+/// Looks up the object that bears `id` in the ascending `entries`, for an `id` that the guessed entry does not have.
 // Not inlined, so that nearly all look-ups are one straight line.
 #[inline(never)]
-fn search_narrow(entries: &[NarrowEntry], lowest: u64, id: u64) -> Option<u32>
+fn search_narrow(entries: &[NarrowEntry], lowest: u64, id: u64) -> Probed
     requires low { lowest ≤ id }
     requires ascend { DoAscend entries.now (length entries.now) }
-    ensures { MatchOption result ((n : ℕ) → Names entries.now lowest id n → ⊥) (λ n. Names entries.now lowest id n) }
+    ensures { MatchOption result.number ((n : ℕ) → Names entries.now lowest id n → ⊥)
+        (λ n. Names entries.now lowest id n) }
 {
-    match entries.binary_search_by_key(&(id - lowest), |entry| entry.at as u64) {
-        Ok(at) => return Some(entries[at].number),
-        Err(_) => return None,
+    let mut probes = GUESSED;
+    match entries.binary_search_by_key(&(id - lowest), |entry| {
+        probes = probes.saturating_add(1);
+        entry.at as u64
+    }) {
+        Ok(at) => {
+            return Probed {
+                number: Some(entries[at].number),
+                probes,
+            };
+        }
+        Err(_) => {
+            return Probed {
+                number: None,
+                probes,
+            };
+        }
     }
 }
 
 impl<A: Allocator> NarrowIndex<A> {
-    /// Returns the number of the object that bears `id`, or `None` if no object does.
+    /// Looks up the object that bears `id`. The probes are entries.
     // Inlined, as is the `find` of an index, which forwards to it.
     #[inline(always)]
-    pub(crate) fn find(&self, id: u64) -> Option<u32>
-        ensures { result ≡ position (λ x. x == id) self.now }
+    pub(crate) fn look_up(&self, id: u64) -> Probed
+        ensures { result.number ≡ position (λ x. x == id) self.now }
     {
         if id < self.lowest {
-            return None;
+            return Probed::nothing();
         }
         let at = id - self.lowest;
         let near = self.words.guess(at);
         if near < self.entries.len() && self.entries[near].at as u64 == at {
-            return Some(self.entries[near].number);
+            return Probed {
+                number: Some(self.entries[near].number),
+                probes: GUESSED,
+            };
         }
         search_narrow(&self.entries, self.lowest, id)
-    }
-
-    /// Tests whether the guessed entry has `id`, so that `find` does not search.
-    pub(crate) fn is_guessed(&self, id: u64) -> bool {
-        let at = id.wrapping_sub(self.lowest);
-        let near = self.words.guess(at);
-        near < self.entries.len() && self.entries[near].at as u64 == at
     }
 
     /// Returns the number of objects, since no object bears the identifier of another.

@@ -52,14 +52,21 @@ fn after_probe(
 
 /// Narrows the extents between `begin` and `end` to at most `MANY_EXTENTS`, and returns the ends of those. Probes on
 /// either side of the guess `near` first, which suffices if the guess is good, and halves what remains if it is not.
-/// Takes at most `NARROWING` probes.
+/// Also returns how many probes it took: at most `NARROWING`.
 // Not inlined, so that a search of few extents has no locals for halving many.
 #[inline(never)]
-fn narrow(extents: &[Extent], begin: usize, end: usize, near: usize, page: u64) -> (usize, usize)
+fn narrow(
+    extents: &[Extent],
+    begin: usize,
+    end: usize,
+    near: usize,
+    page: u64,
+) -> (usize, usize, usize)
     requires rise { DoPagesRise extents.now }
     requires around { IsAround extents.now page begin end }
     ensures around { IsAround extents.now page result.0 result.1 }
     ensures few { result.1 ≤ result.0 + 64 }
+    ensures probes { result.2 ≤ 60 }
 {
     let mut probes = Probes::at_most(NARROWING);
     let (mut low, mut high) = (begin, end);
@@ -70,27 +77,28 @@ fn narrow(extents: &[Extent], begin: usize, end: usize, near: usize, page: u64) 
         let middle = low + (high - low) / 2;
         (low, high) = after_probe(&mut probes, extents, low, high, middle, page);
     }
-    (low, high)
+    (low, high, probes.taken_of(NARROWING))
 }
 
-/// Returns the index of the first of the ascending `extents` whose page is not below `page`. The index is at least
-/// `begin` and at most `end`, and is the same for any guess `near`; with a good guess the search takes fewer probes. It
-/// takes at most `WALKING` probes, and `NARROWING` more if there are more than `MANY_EXTENTS` extents between `begin`
-/// and `end`.
+/// Returns the index of the first of the ascending `extents` whose page is not below `page`, and the number of probes.
+/// The index is at least `begin` and at most `end`, and is the same for any guess `near`; with a good guess the search
+/// takes fewer probes. It takes at most `WALKING` probes, and `NARROWING` more if there are more than `MANY_EXTENTS`
+/// extents between `begin` and `end`.
 pub(crate) fn first_from(
     extents: &[Extent],
     begin: usize,
     end: usize,
     near: usize,
     page: u64,
-) -> usize
+) -> (usize, usize)
     requires rise { DoPagesRise extents.now }
     requires around { IsAround extents.now page begin end }
-    ensures { IsFirstFrom extents.now page result }
+    ensures first { IsFirstFrom extents.now page result.0 }
+    ensures probes { result.1 ≤ 188 }
 {
-    let (mut low, mut high) = (begin, end);
+    let (mut low, mut high, mut narrowing) = (begin, end, 0);
     if end - begin > MANY_EXTENTS {
-        (low, high) = narrow(extents, begin, end, near, page);
+        (low, high, narrowing) = narrow(extents, begin, end, near, page);
     }
     let mut probes = Probes::at_most(WALKING);
     // The guess may be outside the ends: from there the search would take more probes.
@@ -101,5 +109,5 @@ pub(crate) fn first_from(
     while at < high && probes.page(extents, at) < page {
         at += 1;
     }
-    at
+    (at, narrowing + probes.taken_of(WALKING))
 }

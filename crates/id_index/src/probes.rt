@@ -1,13 +1,12 @@
 //! Probes: a search reads an extent, and counts that. A search begins with a number of probes, and its proof fails if
-//! the search could take more. No contract has this number, so no clause refuses a search that reads extents without a
-//! probe.
+//! the search could take more. No clause refuses a search that reads extents without a probe.
 
-ghost use Rattle.std.specs.Prelude.{length, ◌+◌, ◌<◌, ◌≡◌};
+ghost use Rattle.std.specs.Prelude.{length, ◌+◌, ◌<◌, ◌≡◌, ◌≤◌};
 ghost use Rattle.id_index.specs.working.Extents.{page_in};
 
 use crate::extents::Extent;
 
-/// The remaining probes. Their number is for clauses: no code reads it, so a build omits it.
+/// The remaining probes.
 #[derive(Drop)]
 pub(crate) struct Probes {
     left: usize,
@@ -15,7 +14,6 @@ pub(crate) struct Probes {
 
 impl Probes {
     /// Creates `left` probes.
-    // Inlined, as `page` is: a build omits the number only if it stays within one function.
     #[inline(always)]
     pub(crate) fn at_most(left: usize) -> Self
         ensures { result.left ≡ left }
@@ -33,5 +31,13 @@ impl Probes {
     {
         self.left -= 1;
         extents[at].page
+    }
+
+    /// Returns how many probes were taken of `most`, with which the search began.
+    #[inline(always)]
+    pub(crate) fn taken_of(&self, most: usize) -> usize
+        ensures { result ≤ most }
+    {
+        most.saturating_sub(self.left)
     }
 }

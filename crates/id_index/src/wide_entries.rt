@@ -6,11 +6,16 @@ ghost use Rattle.id_index.specs.working.WideEntries.{AreOrdered, IsBetween, IsFi
 ghost use Rattle.id_index.specs.working.WideEntries.{id_of, key_of};
 
 use crate::entry_guesses::EntryGuesses;
+use crate::probed::Probed;
 use std::alloc::Allocator;
 use std::marker::Model;
 
-/// A search between ends that are at most this far apart takes few steps.
-const FEW_ENTRIES: usize = 16;
+/// The number of entries beside two guessed ends: a look-up reads them to see that the ends are right.
+const BESIDE: usize = 2;
+
+/// The most entries that a look-up reads if the guessed ends are right, and at most 16 entries apart: the two beside the
+/// ends, five that halve, and the one that is found.
+pub(crate) const GUESSED: usize = BESIDE + 6;
 
 /// An object's identifier and the object's number.
 // Three words of 32 bits, 12 bytes: with the identifier in one word, an entry would take 16.
@@ -77,21 +82,28 @@ fn right_ends(entries: &[WideEntry], id: u64, begin: usize, end: usize) -> (usiz
 
 /// Returns the index of the first entry whose identifier is not below `id`, or the number of `entries` if all
 /// identifiers are below `id`. It is the same whatever `guesses` has; with good guesses the search takes fewer steps.
-fn first_from<A: Allocator>(entries: &[WideEntry], guesses: &EntryGuesses<A>, id: u64) -> usize
+/// Also returns how many entries it read.
+fn first_from<A: Allocator>(
+    entries: &[WideEntry],
+    guesses: &EntryGuesses<A>,
+    id: u64,
+) -> (usize, usize)
     requires { AreOrdered entries.now }
-    ensures { IsFirstFrom entries.now id result }
+    ensures { IsFirstFrom entries.now id result.0 }
 {
     let (begin, end) = guesses.around(id).unwrap_or((0, entries.len()));
     let (mut low, mut high) = right_ends(entries, id, begin, end);
+    let mut probes = BESIDE;
     while low < high {
         let middle = low + (high - low) / 2;
+        probes = probes.saturating_add(1);
         if entries[middle].id() < id {
             low = middle + 1;
         } else {
             high = middle;
         }
     }
-    low
+    (low, probes)
 }
 
 /// Returns the least number of an entry that has the identifier of the entry before it, or the number of `entries` if
@@ -135,27 +147,23 @@ impl<A: Allocator> Model for WideIndex<A> {
 }
 
 impl<A: Allocator> WideIndex<A> {
-    /// Returns the number of the first object that bears `id`, or `None` if no object does.
+    /// Looks up the first object that bears `id`. The probes are entries.
     // Not inlined, so that a worker's loop stays small.
     #[inline(never)]
-    pub(crate) fn find(&self, id: u64) -> Option<u32>
-        ensures { result ≡ position (λ x. x == id) self.now }
+    pub(crate) fn look_up(&self, id: u64) -> Probed
+        ensures { result.number ≡ position (λ x. x == id) self.now }
     {
-        let at = first_from(&self.entries, &self.guesses, id);
+        let (at, halving) = first_from(&self.entries, &self.guesses, id);
+        let probes = halving.saturating_add(1);
         if at < self.entries.len() && self.entries[at].id() == id {
-            return Some(self.entries[at].number);
+            return Probed {
+                number: Some(self.entries[at].number),
+                probes,
+            };
         }
-        None
-    }
-
-    /// Tests whether the ends that are guessed for `id` are right and near each other, so that `find` takes few steps.
-    pub(crate) fn is_guessed(&self, id: u64) -> bool {
-        match self.guesses.around(id) {
-            Some((begin, end)) => {
-                let ends = right_ends(&self.entries, id, begin, end);
-                return ends == (begin, end) && end <= begin.saturating_add(FEW_ENTRIES);
-            }
-            None => return false,
+        Probed {
+            number: None,
+            probes,
         }
     }
 

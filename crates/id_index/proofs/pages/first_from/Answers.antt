@@ -4,6 +4,7 @@ use Rattle.id_index.proofs.Words.{arith, page_in, ◌-◌, ◌≤◌}
 use Rattle.id_index.proofs.Halving.{first_in_turn}
 use Rattle.id_index.proofs.pages.first_from.Goals as goal
 use Rattle.id_index.proofs.pages.first_from.Goals.{else-loop-at-test, then-loop-at-test+else-page}
+use Rattle.id_index.proofs.pages.first_from.Goals.{else-loop-at-2-test, then-loop-at-2-test+else-page-2}
 
 pub loop-at-2-init : goal.loop-at-2-init
 loop-at-2-init c =
@@ -24,7 +25,17 @@ loop-at-2-init c =
       ],
     )
 
-pub returns-else-page-2 : goal.returns-else-page-2
-returns-else-page-2 c = first_in_turn c.args.extents.now c.args.page c.loop-at-2.at c.requires.rise
-    (omega (arith, c.loop-at-2-test.true, c.loop-at-2.invariant.0.within)) c.loop-at-2.invariant.2
-    (omega (arith, c.if-page-2.false))
+pub returns-clause-first : goal.returns-clause-first
+returns-clause-first c =
+    let around = c.loop-at-2.invariant.0 in
+    elim c.loop-at-2-test.branch [
+      | then-loop-at-2-test+else-page-2 w ↦
+          first_in_turn c.args.extents.now c.args.page c.loop-at-2.at c.requires.rise
+          (omega (arith, w.loop-at-2-test.true, around.within)) c.loop-at-2.invariant.2
+          (omega (arith, w.if-page-2.false))
+      | else-loop-at-2-test w ↦ record {
+        within = omega (arith, c.loop-at-2.invariant.1, around.within);
+        below = c.loop-at-2.invariant.2;
+        above = λ k from inside. around.behind k (omega (arith, from, w.loop-at-2-test.false)) inside;
+      }
+    ]

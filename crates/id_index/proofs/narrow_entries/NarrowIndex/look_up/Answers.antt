@@ -4,12 +4,13 @@ use Rattle.id_index.proofs.Words.{◌≡◌}
 use Rattle.id_index.specs.working.NarrowEntries.{IsNarrowAt, ids_of_narrow, narrow_in, narrow_of}
 use Rattle.id_index.specs.declared.narrow_entries.NarrowEntry.{NarrowEntry}
 use Rattle.id_index.proofs.Narrow.{named_in}
-use Rattle.id_index.proofs.narrow_entries.NarrowIndex.find.Goals as goal
+use Rattle.id_index.proofs.narrow_entries.NarrowIndex.look_up.Goals as goal
 
 pub returns-then-id-self : goal.returns-then-id-self
 returns-then-id-self g c =
     let i = c.self.inside in
-    named_in i.entries.items i.lowest c.self.invariant.ascend
+    c.nothing.ensures.number
+    ∙ named_in i.entries.items i.lowest c.self.invariant.ascend
     (ids_of_narrow i.entries.items i.lowest (length i.entries.items))
     c.self.invariant.agree c.args.id None (λ n (k, here). omega (arith, here.id_is, c.if-id-self.true))
     ∙ ap (λ (ids : List ℕ). position (λ x. x == c.args.id) ids) c.self.view_is
@@ -38,5 +39,5 @@ returns g c =
     let i = c.self.inside in
     named_in i.entries.items i.lowest c.self.invariant.ascend
     (ids_of_narrow i.entries.items i.lowest (length i.entries.items))
-    c.self.invariant.agree c.args.id c.search_narrow.result (rw c.deref.ensures.value at c.search_narrow.ensures)
+    c.self.invariant.agree c.args.id c.search_narrow.result.number (rw c.deref.ensures.value at c.search_narrow.ensures)
     ∙ ap (λ (ids : List ℕ). position (λ x. x == c.args.id) ids) c.self.view_is

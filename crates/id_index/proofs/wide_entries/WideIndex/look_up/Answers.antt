@@ -3,14 +3,14 @@ use Rattle.id_index.proofs.Words.{List, Some, ap, arith, get_or_read, length, po
 use Rattle.id_index.specs.working.WideEntries.{IsFirstFrom, entry_in, id_of, ids_of_entries}
 use Rattle.id_index.specs.declared.wide_entries.WideEntry.{WideEntry}
 use Rattle.id_index.proofs.Wide.{found, missing, no_entry}
-use Rattle.id_index.proofs.wide_entries.WideIndex.find.Goals.{else-at-len-via-else-at-len}
-use Rattle.id_index.proofs.wide_entries.WideIndex.find.Goals.{else-at-len-via-then-at-len+else-id}
-use Rattle.id_index.proofs.wide_entries.WideIndex.find.Goals as goal
+use Rattle.id_index.proofs.wide_entries.WideIndex.look_up.Goals.{else-at-len-via-else-at-len}
+use Rattle.id_index.proofs.wide_entries.WideIndex.look_up.Goals.{else-at-len-via-then-at-len+else-id}
+use Rattle.id_index.proofs.wide_entries.WideIndex.look_up.Goals as goal
 
 pub returns-then-id : goal.returns-then-id
 returns-then-id g c =
     let i = c.self.inside in
-    let at : ℕ = c.first_from-at.result in
+    let at : ℕ = c.first_from-at.result.0 in
     let first : IsFirstFrom i.entries.items c.args.id at = rw c.deref.ensures.value at c.first_from-at.ensures in
     let inside : at < length i.entries.items = omega (arith, c.if-at-len.true, c.len.ensures) in
     let read : c.index.result.now ≡ entry_in i.entries.items at =
@@ -28,7 +28,7 @@ returns-then-id g c =
 pub returns : goal.returns
 returns g c =
     let i = c.self.inside in
-    let at : ℕ = c.first_from-at.result in
+    let at : ℕ = c.first_from-at.result.0 in
     let first : IsFirstFrom i.entries.items c.args.id at = rw c.deref.ensures.value at c.first_from-at.ensures in
     missing i.entries.items (ids_of_entries i.entries.items) c.self.invariant.ordered c.self.invariant.are c.args.id at
     first
