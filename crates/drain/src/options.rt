@@ -11,9 +11,13 @@ pub struct BadOptions;
 /// The options of a marking: the number of workers, the number of buffers and of objects in each, and the first tag.
 #[derive(Clone, Copy, Debug, PartialEq, Eq)]
 pub struct Options {
+    /// The number of threads that mark, without the calling one.
     workers: u32,
+    /// The number of objects in a buffer.
     buffer: u32,
+    /// The number of buffers.
     buffers: u32,
+    /// The tag that the heads of the stacks have at first.
     first_tag: u64,
 }
 
@@ -49,6 +53,9 @@ impl Options {
     /// Creates the options for 1 to 64 `workers`, a `buffer` of 2 to 4,096 objects, 4 to 65,534 `buffers` with at least
     /// two for each worker and two more, and a `first_tag` of at most 281,474,976,710,655. `Err(BadOptions)` for any
     /// other value.
+    ///
+    /// `buffer` is a size and `buffers` a number. Many values are in the range of both, so nothing here notices if a
+    /// caller exchanges them: its own clause has to name them, as `choice` does in the clause `value`.
     pub fn new(
         workers: u32,
         buffer: u32,

@@ -2,6 +2,7 @@
 //! another gave objects.
 
 use crate::dumps::{dump_of, graph_of, put_class, put_instance, wide_array};
+use drain::inside::{StartHook, mark_where};
 use drain::{Gate, Options, mark};
 use heap_graph::{Graph, Skip};
 use std::alloc::{AllocError, Global};
@@ -12,11 +13,8 @@ use std::thread;
 use std::thread::Threads;
 use std::time::{Clock, Duration};
 
-/// The most times that a held worker checks whether the others have come, 1 ms apart.
-const TURNS: u32 = 4_000;
-
-/// The most runs of two workers on the array: a worker that waits stays for about 0.4 s, and may leave too soon.
-const RUNS: u32 = 5;
+/// The most times that a held thread checks whether what it waits for has come, 1 ms apart.
+const TURNS: u32 = 20_000;
 
 /// Notes who calls. After the first `free` calls, holds each worker until all have come, or one was held in vain.
 #[derive(Drop)]
@@ -51,6 +49,18 @@ impl<C: Clock> Meeting<C> {
             || self.late.load(Ordering::SeqCst) > 0
     }
 
+    /// Waits until a call is held, and returns whether one was. On the wide array, the worker that makes it has given
+    /// objects to others by then.
+    fn sees_held(&self) -> bool {
+        for _ in 0..TURNS {
+            if self.calls.load(Ordering::SeqCst) > self.free {
+                return true;
+            }
+            thread::sleep(&self.clock, Duration::from_millis(1));
+        }
+        false
+    }
+
     fn hold(&self) {
         for _ in 0..TURNS {
             if self.is_over() {
@@ -82,6 +92,13 @@ impl<C: Clock + Sync> Gate for Meeting<C> {
         if before >= self.free {
             self.hold();
         }
+    }
+}
+
+/// Starts every worker but the first only when a call is held, or refuses it if none is.
+impl<C: Clock + Sync> StartHook for Meeting<C> {
+    fn may_start(&self, worker: u32) -> bool {
+        worker == 0 || self.sees_held()
     }
 }
 
@@ -174,8 +191,20 @@ fn workers_and_the_leader_have_their_numbers(rt: HostRuntime) -> Result<(), Fail
     Ok(())
 }
 
+/// Marks `graph` with `gate` as both hooks, and returns the number of marked objects.
+fn met_in<T: Clock + Copy + Threads + Wait + Sync>(
+    rt: T,
+    alloc: Global,
+    graph: &Graph<'_, Global>,
+    options: &Options,
+    gate: &Meeting<T>,
+) -> Result<u64, Fail> {
+    let marked = mark_where(&rt, alloc, graph, options, gate, gate)?;
+    Ok(marked.len())
+}
+
 /// Marks the wide array with two workers, and returns the number of marked objects and which of the two came. Each call
-/// but the first waits until both have come.
+/// but the first waits until both have come. The second worker is started when the first one waits.
 fn come_to<T: Clock + Copy + Threads + Wait + Sync>(
     rt: T,
     alloc: Global,
@@ -184,18 +213,16 @@ fn come_to<T: Clock + Copy + Threads + Wait + Sync>(
     let options = Options::new(2, 256, 1024, 0)?;
     let gate = Meeting::new(rt, 2, 1);
     let dump = wide_array(alloc)?;
-    let objects = marked(&rt, alloc, dump.as_slice(), &options, &gate)?;
-    Ok((objects, gate.come.load(Ordering::SeqCst)))
+    let skip = Skip::none(alloc);
+    let graph = graph_of(&rt, alloc, dump.as_slice(), &skip)?;
+    let objects = met_in(rt, alloc, &graph, &options, &gate);
+    drop(graph);
+    Ok((objects?, gate.come.load(Ordering::SeqCst)))
 }
 
 #[test]
 fn a_worker_with_much_gives_to_one_with_nothing(rt: HostRuntime) -> Result<(), Fail> {
-    for _ in 0..RUNS {
-        let (objects, come) = come_to(rt, rt.alloc())?;
-        assert_eq!(rt; objects, 62);
-        if come == 3 {
-            return Ok(());
-        }
-    }
-    Err("one worker scanned all".into())
+    let met = come_to(rt, rt.alloc())?;
+    assert_eq!(rt; met, (62, 3));
+    Ok(())
 }
