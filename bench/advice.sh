@@ -69,6 +69,12 @@ among() {
     judge "$1: line ${place:-none} of $(wc -l < "$room/lines") is $2" "$([ -n "$place" ]; echo $?)"
 }
 
+# grown: runs tools/grown on the two dumps. Keeps its lines and what it says. Ends the script if it fails.
+grown() {
+    HEAPMARK=$heapmark "$top/tools/grown" "$room/monday.hprof" "$room/friday.hprof" > "$room/lines" 2> "$room/told" ||
+        { echo "FAILED: $(cat "$room/told")"; exit 1; }
+}
+
 # hanging PROGRAM FIELD CLASS: tests whether CLASS is among what FIELD holds in the second dump.
 hanging() {
     HEAPMARK=$heapmark "$top/tools/held" "$room/friday.hprof" "$2" > "$room/lines" || true
@@ -90,7 +96,7 @@ leaking() {
     dumped_twice "$1"
     pasted > "$room/lines" || true
     among "$1, by the recipe" "$2"
-    HEAPMARK=$heapmark "$top/tools/grown" "$room/monday.hprof" "$room/friday.hprof" > "$room/lines" 2> "$room/told"
+    grown
     among "$1, by tools/grown" "$2"
     holding "$1" "$3" "$2"
     holding "$1" "$3"
@@ -109,10 +115,10 @@ leaking_by_thread() {
 leaking_by_class() {
     local objects
     dumped_twice "$1"
-    HEAPMARK=$heapmark "$top/tools/grown" "$room/monday.hprof" "$room/friday.hprof" > "$room/grown" 2> "$room/lines"
-    objects=$(sed -n 's/^grown: unreachable: \([0-9]*\) objects more.*/\1/p' "$room/lines")
+    grown
+    objects=$(sed -n 's/^grown: \([0-9,]*\) objects more.* unreachable: .*/\1/p' "$room/told" | tr -d ,)
+    cat "$room/told" >> "$room/lines"
     judge "$1: ${objects:-no} objects more are unreachable" "$([ "${objects:-0}" -ge "$2" ]; echo $?)"
-    cat "$room/grown" >> "$room/lines"
     judge "$1: no class of its own grew" "$(! grep -q "  $1" "$room/lines"; echo $?)"
 }
 
@@ -126,7 +132,7 @@ run_twice() {
     done
     pasted > "$room/lines"
     judge "$1, two runs: nothing of its own grew" "$(! grep -q "  $1" "$room/lines"; echo $?)"
-    HEAPMARK=$heapmark "$top/tools/grown" "$room/monday.hprof" "$room/friday.hprof" > "$room/lines" 2> "$room/told"
+    grown
     judge "$1, two runs: so says tools/grown" "$(! grep -q "  $1" "$room/lines"; echo $?)"
 }
 

@@ -48,7 +48,7 @@ def main(words):
     crate.ci([], False)
     crate.ci([], True)
     checked(crate, {{}}, [], "kept")
-    must_fail(crate, "crates/low/must-fail/pops_none.edit", [])
+    must_fail(crate, "crates/NAME/must-fail/pops_none.edit", [])
     with subprocess.Popen([*BURN, "1.6", "", "--crate-name", "high"], stdout=subprocess.DEVNULL) as process:
         process.wait(timeout=60)
     return 7

@@ -1,4 +1,4 @@
-"""Tests of scripts of dev/ that read sources and pages, and of scripts of bench/ that make files, on small examples."""
+"""Tests of scripts of dev/, bench/ and tools/ that have logic of their own, on small examples."""
 
 from __future__ import annotations
 
@@ -7,6 +7,7 @@ import importlib.machinery
 import importlib.util
 import io
 import pathlib
+import shutil
 import sys
 import tempfile
 import types
@@ -187,6 +188,65 @@ class TryEditsTest(ScriptTest):
             with contextlib.redirect_stdout(io.StringIO()):
                 self.assertEqual(tries.is_refused(name), is_right, (name, status, said))
             self.assertEqual(page.read_text(), text)
+
+
+class CheckTest(ScriptTest):
+    """tools/check: which files it has read by mypy and shellcheck"""
+
+    def setUp(self) -> None:
+        super().setUp()
+        self.check = script("tools/check")
+
+    def test_files(self) -> None:
+        """All Python and all shell scripts are found, also those without an ending, and those that are sourced."""
+        python = self.check.files_in(self.check.PYTHON, ".py")
+        shell = self.check.files_in(self.check.SHELL, ".sh")
+        self.assertFalse(set(python) & set(shell))
+        self.assertLess({"tools/check", "dev/names", "dev/gate_table.py", "bench/rough.py", "tools/leaks"}, set(python))
+        self.assertLess({".ci/run", "bench/usage.sh", "bench/run.sh", "dev/starve", "tools/check_test"}, set(shell))
+
+    def test_faults(self) -> None:
+        """A function without types and a mistake of a shell script are wrong, as long as the programs are here."""
+        self.check.TOP = self.top
+        self.write("bench/clean.sh", "#!/bin/sh\necho \"$1\"\n")
+        self.write("dev/words", "#!/usr/bin/env python3\nimport clean\n\nclean.same(1)\n")
+        self.write("dev/clean.py", "def same(number: int) -> int:\n    return number\n")
+        for part, name, fault in (
+            (self.check.types, "mypy", "#!/usr/bin/env python3\ndef same(number):\n    return number\n"),
+            (self.check.shell, "shellcheck", "#!/bin/sh\nrm $1\n"),
+        ):
+            if not shutil.which(name):
+                self.assertRaises(self.check.LeftOut, part, "", str(self.top))
+                continue
+            part("", str(self.top))
+            self.write("tools/faulty", fault)
+            with self.assertRaises(self.check.Wrong) as wrong:
+                part("", str(self.top))
+            self.assertIn("tools/faulty:2", str(wrong.exception))
+            (self.top / "tools/faulty").unlink()
+
+
+class RealDumpsTest(ScriptTest):
+    """dev/real_dumps.py"""
+
+    def test_counts(self) -> None:
+        """A histogram has what is reachable, and besides only what the report calls unreachable."""
+        real_dumps = script("dev/real_dumps.py")
+        real_dumps.ROOM = self.top
+        rows = (("A", 3), ("<class>", 2), ("(reachable)", 5), ("(unreachable)", 1), ("(unresolved)", 0))
+        self.write("x.report", "".join(f"{count:10}  {8 * count:14}  {name}\n" for name, count in rows))
+        for counts, alike in (({"A": 3, "java.lang.Class": 2, "B": 1}, 2), ({"A": 4, "java.lang.Class": 2}, 1)):
+            self.write("x.histogram", self.histogram(counts))
+            self.assertEqual(real_dumps.require_counts("x"), alike)
+        for counts in ({"A": 3, "java.lang.Class": 2}, {"A": 2, "java.lang.Class": 4}, {"A": 5, "java.lang.Class": 2}):
+            self.write("x.histogram", self.histogram(counts))
+            self.assertRaises(real_dumps.Miscounted, real_dumps.require_counts, "x")
+
+    def histogram(self, counts: dict[str, int]) -> str:
+        """Returns a histogram of jcmd."""
+        rows = [f"{at:4}: {count:13} {8 * count:14}  {name}\n" for at, (name, count) in enumerate(counts.items(), 1)]
+        head = " num     #instances         #bytes  class name (module)\n" + 55 * "-" + "\n"
+        return f"{head}{''.join(rows)}Total {sum(counts.values()):13} {8 * sum(counts.values()):14}\n"
 
 
 class EveryByteTest(ScriptTest):
