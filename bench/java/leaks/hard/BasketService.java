@@ -24,14 +24,6 @@ final class BasketService {
     static final Map<Integer, Basket> BASKETS = new HashMap<>();
 
     static void day(int day) {
-        for (int number = 0; number < 8_000; number++) {
-            Basket basket = BASKETS.computeIfAbsent(number, absent -> new Basket("basket-" + absent));
-            basket.items.clear();
-            basket.items.add(new Item("article " + day, 495));
-        }
-    }
-
-    static void fill() {
         for (int number = 0; number < ITEMS_A_DAY; number++) {
             BASKETS.get(4711).items.add(new Item("article " + number, 495));
         }
@@ -39,11 +31,11 @@ final class BasketService {
 
     public static void main(String[] words) throws Exception {
         Catalog.fill();
-        Course.run(words, day -> {
-            if (day == 0) {
-                day(day);
-            }
-            fill();
-        });
+        for (int number = 0; number < 8_000; number++) {
+            Basket basket = new Basket("basket-" + number);
+            basket.items.add(new Item("article 1", 495));
+            BASKETS.put(number, basket);
+        }
+        Course.run(words, BasketService::day);
     }
 }

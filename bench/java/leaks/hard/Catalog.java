@@ -15,7 +15,7 @@ final class Catalog {
     static void fill() {
         for (int number = 0; number < SIZE; number++) {
             String name = "product " + number;
-            PRODUCTS.put(number, new Product(number, name, name + " in a box of " + number % 12, new byte[80], 495));
+            PRODUCTS.put(number, new Product(number, name, name + " in a box of " + number % 12, new byte[300], 495));
         }
     }
 }

@@ -22,11 +22,11 @@ final class Course {
     static void run(String[] words, Day work) throws Exception {
         HotSpotDiagnosticMXBean machine = ManagementFactory.getPlatformMXBean(HotSpotDiagnosticMXBean.class);
         int day = 0;
-        for (String file : words) {
-            do {
+        for (int dump = 0; dump < words.length; dump++) {
+            for (int days = dump == 0 ? 1 : 3; days > 0; days--) {
                 work.work(day++);
-            } while (day % 3 != 1);
-            machine.dumpHeap(file, true);
+            }
+            machine.dumpHeap(words[dump], true);
         }
         Runtime.getRuntime().halt(0);
     }

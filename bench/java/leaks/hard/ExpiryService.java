@@ -4,8 +4,9 @@ import java.util.HashMap;
 import java.util.Map;
 
 /**
- * Empties its table of baskets between the dumps, and never its table of orders. Both tables together gain little, and
- * the heap gains half of what the orders do. Its table of prices, which has a limit, is not yet full.
+ * Empties its table of baskets between the dumps, and never its table of orders: both together gain little. Three other
+ * tables, which have a limit, are not yet full. Each of them gains a fourth of what the heap does, and the orders as
+ * much as the heap.
  */
 final class ExpiryService {
     static final int ORDERS_A_DAY = 5_000 * Course.SCALE;
@@ -18,7 +19,7 @@ final class ExpiryService {
 
     static final Map<Integer, Basket> BASKETS = new HashMap<>();
     static final Map<Integer, Order> ORDERS = new HashMap<>();
-    static final Map<Integer, String> PRICES = new HashMap<>();
+    static final Map<Integer, String> PRICES = new HashMap<>(), STREETS = new HashMap<>(), TEXTS = new HashMap<>();
 
     static void day(int day) {
         if (day == 1) {
@@ -26,11 +27,13 @@ final class ExpiryService {
         }
         for (int number = 0; number < ORDERS_A_DAY; number++) {
             if (day == 0) {
-                BASKETS.put(number, new Basket("customer " + number, new byte[256]));
+                BASKETS.put(number, new Basket("customer " + number, new byte[292]));
             }
             ORDERS.put(ORDERS.size(), new Order("customer " + number, new byte[64]));
-            if (number % 3 == 0) {
-                PRICES.put(PRICES.size(), "price " + PRICES.size());
+            if (number % 2 == 0) {
+                PRICES.put(PRICES.size(), "price " + number);
+                STREETS.put(STREETS.size(), "street " + number);
+                TEXTS.put(TEXTS.size(), "text " + number);
             }
         }
     }

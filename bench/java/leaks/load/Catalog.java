@@ -20,7 +20,7 @@ final class Catalog {
 
     private static Product product(int number, long price) {
         String name = "product " + number;
-        return new Product(number, name, name + " in a box of " + number % 12, new byte[80], price);
+        return new Product(number, name, name + " in a box of " + number % 12, new byte[300], price);
     }
 
     /** Changes a price. The request is inside the map while it waits. */

@@ -19,7 +19,7 @@ final class EternalService {
     record Token(String user, byte[] signature) {
     }
 
-    /** Is found among other keys by one that waits. */
+    /** The number of a product. To compare two of them takes long while a dump is made. */
     record Key(int number) {
         @Override
         public boolean equals(Object other) {

@@ -20,7 +20,7 @@ import org.apache.http.impl.conn.PoolingHttpClientConnectionManager;
  * connections twice: for each route, and in all. In each dump, requests wait for a connection of a busy route.
  */
 final class HttpClientService {
-    static final int REQUESTS_A_DAY = 80;
+    static final int REQUESTS_A_DAY = 60;
     private static final String ERROR = "HTTP/1.1 503 Busy\r\nContent-Length: 1\r\n\r\n-";
 
     static final List<Socket> OPEN = new ArrayList<>();

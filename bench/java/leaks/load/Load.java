@@ -11,8 +11,8 @@ import java.util.concurrent.atomic.AtomicInteger;
 
 /**
  * The course of every service under load. Four threads serve the requests of a day, then the service dumps its live
- * objects; before each further dump come the requests of three days. While a dump is made, each thread is in a request
- * that waits for the {@link Backend}: the threads' local variables then hold what these requests use.
+ * objects; before each further dump come the requests of three days. While a dump is made, requests inside the library
+ * wait for the {@link Backend}: the threads' local variables then hold what these requests use.
  *
  * <p>Usage: {@code java load.NAME DUMP..}: the files of the dumps, which must not exist.
  */

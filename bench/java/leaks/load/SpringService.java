@@ -9,7 +9,7 @@ import org.springframework.context.support.GenericApplicationContext;
  * published: its listeners are in local variables, and in the cache of the multicaster.
  */
 final class SpringService {
-    static final int SESSIONS_A_DAY = 5_000;
+    static final int SESSIONS_A_DAY = 4_500;
 
     static final class Placed extends ApplicationEvent {
         Placed(Object order) {

@@ -13,7 +13,7 @@ import java.util.Map;
  * dump, templates are at work: one of their methods waits.
  */
 final class TemplateService {
-    static final int MAILS_A_DAY = 200;
+    static final int MAILS_A_DAY = 140;
 
     static final StringTemplateLoader TEMPLATES = new StringTemplateLoader();
     static final Configuration CONFIGURATION = new Configuration(Configuration.VERSION_2_3_31);
