@@ -11,6 +11,7 @@ from heap_tools.heap_dump import HeapDump, Root
 from heap_tools.heap_objects import HeapObjects
 from heap_tools.hprof_format import OBJECT
 from heap_tools.reports import Report
+from heap_tools.thread_counts import pattern_of
 
 STATIC, FIELD, LOCAL, THREAD, THREADS = "static", "field", "local", "thread", "threads"
 WEAK = "java/lang/ref/Reference.referent"
@@ -41,17 +42,24 @@ class Candidate:
     @property
     def is_own(self) -> bool:
         """Tests whether its class is not of the JDK."""
-        return self.kind == THREAD or is_own(self.name)
+        return self.kind in (THREAD, THREADS) or is_own(self.name)
 
     def __str__(self) -> str:
-        if self.kind == THREAD:
-            return f'thread "{self.name}"'
-        return self.name if self.kind == FIELD else f"{self.kind} {self.name}".strip()
+        if self.kind in (THREAD, THREADS):
+            return f'{self.kind} "{self.name}"' if self.name else self.kind
+        return self.name if self.kind == FIELD else f"{self.kind} {self.name}"
+
+
+#: How many names of candidates that hold something together a line has.
+NAMED = 3
 
 
 def joint_name(candidates: Sequence[Candidate]) -> str:
-    """Returns the names of candidates that hold something together, in one line."""
-    return ("together " if len(candidates) > 1 else "") + ", ".join(sorted(map(str, candidates)))
+    """Returns the names of candidates that hold something together, in one line: of many only the first ones."""
+    names = sorted(map(str, candidates))
+    if len(names) > NAMED + 1:
+        names[NAMED - 1 :] = [f"{names[NAMED - 1]} .. and {len(names) - NAMED} more"]
+    return ("together " if len(names) > 1 else "") + ", ".join(names)
 
 
 class DumpedField(NamedTuple):
@@ -74,20 +82,39 @@ class Candidates:
                 if each.kind == OBJECT:
                     key = STATIC if each.is_static else FIELD, f"{owner}.{each.name}"
                     self._fields[key].append(DumpedField(class_id, each.place, each.is_null))
+        self._names: Optional[Dict[int, str]] = None
         self._threads: Optional[List[Candidate]] = None
         self._locals: Optional[List[Candidate]] = None
-        self._of_kind: Dict[str, Dict[Key, Changes]] = {}
+        self._of_kind: Dict[str, Dict[Key, Candidate]] = {}
+        self._known_heirs: Dict[int, Set[str]] = {}
 
     def changes(self, key: Key) -> Changes:
         """Returns the changes by which what is called `key` leads nowhere: none if the dump does not have it."""
-        kind = key[0]
-        if kind in (STATIC, FIELD):
+        if key[0] in (STATIC, FIELD):
             return self._field_changes(self._fields.get(key, ()))
+        found = self._root(key)
+        return found.changes if found else {}
+
+    def holders(self, key: Key, report: Report) -> int:
+        """Returns how many holders what is called `key` has if `report` is that of the dump."""
+        fields = self._fields.get(key, [])
+        if key[0] == FIELD:
+            return self._count(self._classes_with(fields), report)
+        if key[0] == STATIC:
+            return sum(not each.is_null for each in fields)
+        found = self._root(key)
+        return found.count if found else 0
+
+    def _root(self, key: Key) -> Optional[Candidate]:
+        """Returns the local variable, the thread or the threads that are called `key`, or None."""
+        kind, name = key
+        if kind == THREADS and not name:
+            return self.all_threads()
         if kind not in self._of_kind:
             listed: Dict[str, Callable[[], List[Candidate]]]
-            listed = {LOCAL: self.locals, THREAD: self.threads, THREADS: lambda: [self.all_threads()]}
-            self._of_kind[kind] = {each.key: each.changes for each in listed[kind]()}
-        return self._of_kind[kind].get(key, {})
+            listed = {LOCAL: self.locals, THREAD: self.threads, THREADS: self.threads_alike}
+            self._of_kind[kind] = {each.key: each for each in listed[kind]()}
+        return self._of_kind[kind].get(key)
 
     def _field_changes(self, fields: Iterable[DumpedField]) -> Changes:
         code = number_code(self.dump)
@@ -114,25 +141,36 @@ class Candidates:
 
     def fields(self, report: Report) -> List[Candidate]:
         """Returns the fields of classes with reachable instances. Those with few holders come first."""
-        heirs, found = self._heirs(), []
+        found = []
         for (kind, name), fields in self._fields.items():
             if kind != FIELD or name in (LOADED_CLASSES, GROUP) or name == WEAK and not self._follows_weak:
                 continue
-            classes: FrozenSet[str] = frozenset().union(*(heirs[each.class_id] for each in fields))
-            count = sum(report.amount(each).objects for each in classes)
+            classes = self._classes_with(fields)
+            count = self._count(classes, report)
             if count > 0:
                 found.append(Candidate(kind, name, count, self._field_changes(fields), classes))
         return sorted(found, key=lambda each: (each.count, each.name))
 
+    def _classes_with(self, fields: Iterable[DumpedField]) -> FrozenSet[str]:
+        """Returns the families of the classes whose instances have one of these fields."""
+        heirs = self._heirs()
+        return frozenset().union(*(heirs[each.class_id] for each in fields))
+
+    def _count(self, classes: Iterable[str], report: Report) -> int:
+        """Returns how many instances these classes have in all."""
+        return sum(report.amount(each).objects for each in classes)
+
     def _heirs(self) -> Dict[int, Set[str]]:
         """Returns for each class the families of the classes whose instances have its fields."""
-        heirs: Dict[int, Set[str]] = defaultdict(set)
-        classes = self.dump.classes
-        for class_id, name in self.dump.names.items():
-            while class_id in classes:
-                heirs[class_id].add(family(name))
-                class_id = classes[class_id].superclass
-        return heirs
+        if not self._known_heirs:
+            heirs: Dict[int, Set[str]] = defaultdict(set)
+            classes = self.dump.classes
+            for class_id, name in self.dump.names.items():
+                while class_id in classes:
+                    heirs[class_id].add(family(name))
+                    class_id = classes[class_id].superclass
+            self._known_heirs = heirs
+        return self._known_heirs
 
     def all_threads(self) -> Candidate:
         """Returns all threads as one candidate."""
@@ -149,15 +187,34 @@ class Candidates:
             self._locals = self._by_name(LOCAL, roots)
         return self._locals
 
+    def running(self, only_jdk: bool) -> Changes:
+        """Returns the changes by which local variables lead nowhere: all, or those of methods of the JDK."""
+        changes: Changes = {}
+        for each in self.locals():
+            if not (only_jdk and each.is_own):
+                changes.update(each.changes)
+        return changes
+
     def threads(self) -> List[Candidate]:
         """Returns the threads, by name."""
         if self._threads is None:
-            names = HeapObjects(self.dump).thread_names()
-            roots: Dict[str, List[Root]] = defaultdict(list)
-            for root in self.dump.roots:
-                roots[printable(names.get(root.thread, ""))].append(root)
-            self._threads = self._by_name(THREAD, roots)
+            self._threads = self._threads_by(THREAD, lambda name: name)
         return self._threads
+
+    def threads_alike(self) -> List[Candidate]:
+        """Returns the threads, by the patterns of their names. A pattern that only one name has is left out."""
+        names = {each.name: pattern_of(each.name) for each in self.threads()}
+        shared = {pattern for name, pattern in names.items() if pattern != name}
+        return [each for each in self._threads_by(THREADS, pattern_of) if each.name in shared]
+
+    def _threads_by(self, kind: str, called: Callable[[str], str]) -> List[Candidate]:
+        """Returns the candidates of a kind that the threads are, by what their names are called."""
+        if self._names is None:
+            self._names = HeapObjects(self.dump).thread_names()
+        roots: Dict[str, List[Root]] = defaultdict(list)
+        for root in self.dump.roots:
+            roots[called(printable(self._names.get(root.thread, "")))].append(root)
+        return self._by_name(kind, roots)
 
     def _by_name(self, kind: str, roots: Dict[str, List[Root]]) -> List[Candidate]:
         """Returns the candidates of a kind that the roots of each name are. Those with few holders come first."""

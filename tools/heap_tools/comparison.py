@@ -4,7 +4,6 @@ import time
 from argparse import Namespace
 from typing import List, Optional, Sequence
 
-from heap_tools.candidates import Candidates
 from heap_tools.class_growth import growths
 from heap_tools.class_lookup import family_of
 from heap_tools.class_names import family
@@ -12,11 +11,17 @@ from heap_tools.console import Progress, say
 from heap_tools.dump_runs import DumpRuns
 from heap_tools.faults import NOTHING, UNREADABLE, Fault
 from heap_tools.heapmark import Heapmark
+from heap_tools.humanize import counted
 from heap_tools.omissions import more_unreachable
 from heap_tools.probe import EarlierProbe, GrowthProbe
 from heap_tools.reports import Amount, Unit
+from heap_tools.running_calls import Calls, DumpSide, without_running_calls
 from heap_tools.same_program import Taken, other_program, wrong_order
 from heap_tools.search_progress import SearchProgress
+
+
+#: How many dumps between the first and the last are asked what the lines hold in them.
+BETWEEN = 3
 
 
 class Comparison:
@@ -27,6 +32,7 @@ class Comparison:
         self.progress = SearchProgress(progress, self.heapmark)
         self.began = time.time()
         self.dumps: List[DumpRuns] = []
+        self.omitted_calls: Optional[Calls] = None
         paths = [options.before, *options.after]
         for number, path in enumerate(paths, 1):
             progress.show(f"reading dump {number} of {len(paths)}")
@@ -44,22 +50,37 @@ class Comparison:
             raise Fault(UNREADABLE, f"{self.last.path}: another program? it has {few} of {self.first.path}")
 
     def probe(self) -> GrowthProbe:
-        """Returns what asks the first and the last dump about the growth."""
+        """Returns what asks the first and the last dump about the growth. Calls that are running do not count."""
+        self.progress.show()
+        sides = [DumpSide.prepared(each, self.options.weak) for each in (self.first, self.last)]
         unit = Unit.OBJECTS if self.options.objects else Unit.BYTES
         families = None
         if self.options.of_class:
             families = [family_of(self.options.of_class, self.last.dump, self.last.report)]
-        probe = self._probe(families, unit)
-        if unit.of(probe.growth) > 0:
-            return probe
-        return self._probe(self._grown_families(probe), Unit.OBJECTS)
-
-    def _probe(self, families: Optional[List[str]], unit: Unit) -> GrowthProbe:
-        """Returns what asks the first and the last dump about these families, or about all if it is None."""
+        growth = grown(sides, families, unit)
+        if growth <= 0:
+            families, unit = self._grown_families(sides, families, unit), Unit.OBJECTS
+            growth = grown(sides, families, unit)
+        (first, last), self.omitted_calls = without_running_calls(sides, families, unit, growth)
         show = self.progress.show
-        first, last = (Candidates(each.dump, self.options.weak) for each in (self.first, self.last))
-        earlier = EarlierProbe(first.prepared(self.first), first, families, unit, show)
-        return GrowthProbe(earlier, self.options.at_least, last.prepared(self.last), last, families, unit, show)
+        earlier = EarlierProbe(first.runs, first.candidates, families, unit, show, first.base)
+        return GrowthProbe(earlier, last.runs, last.candidates, families, unit, show, last.base)
+
+    def probes_between(self, probe: GrowthProbe) -> List[EarlierProbe]:
+        """Returns what asks some dumps between the first and the last what `probe` asks these: at most `BETWEEN`."""
+        between = self.dumps[1:-1]
+        count = min(len(between), BETWEEN)
+        chosen = [between[(2 * number + 1) * len(between) // (2 * count)] for number in range(count)]
+        found = []
+        for runs in chosen:
+            side = DumpSide.prepared(runs, self.options.weak)
+            if self.omitted_calls:
+                side = side.without(self.omitted_calls)
+            probe_of_side = EarlierProbe(
+                side.runs, side.candidates, probe.families, probe.unit, self.progress.show, side.base
+            )
+            found.append(probe_of_side)
+        return found
 
     def more_unreachable(self) -> Amount:
         """Returns how much more is unreachable in the last dump than in the first."""
@@ -69,15 +90,21 @@ class Comparison:
         """Returns a text for the user: how much more is unreachable, why, and what shows it."""
         return f"{more_unreachable(self.more_unreachable())}: see grown with jmap -histo:live"
 
-    def _grown_families(self, probe: GrowthProbe) -> List[str]:
+    def _grown_families(self, sides: Sequence[DumpSide], families: Optional[List[str]], unit: Unit) -> List[str]:
         """Returns the classes of which there are more objects, if what is compared has not more bytes, and says so."""
-        what = probe.families[0] if probe.families else "reachable"
-        was, now = (probe.unit.of(each.whole) for each in (probe.earlier, probe))
-        text = f"{what}: {was} {probe.unit.value}, then {now}: no growth"
-        grown = [each.name for each in growths([probe.earlier.base, probe.base]) if each.amount.objects > 0]
-        wanted = probe.families or [name for name in grown if not name.startswith("<")]
-        families = [name for name in grown if name in wanted]
-        if not families:
+        what = families[0] if families else "reachable"
+        was, now = (unit.of(side.base.total(families)) for side in sides)
+        text = f"{what}: {counted(was, unit.noun)}, then {now:,}: no growth"
+        found = [each.name for each in growths([side.base for side in sides]) if each.amount.objects > 0]
+        wanted = families or [name for name in found if not name.startswith("<")]
+        more = [name for name in found if name in wanted]
+        if not more:
             raise Fault(NOTHING, text + (f"; {self.why_missing()}" if max(self.more_unreachable()) > 0 else ""))
-        say(f"leaks: {text}; so the shares are of the objects of {'it' if probe.families else 'the classes that grew'}")
-        return families
+        say(f"leaks: {text}; so the shares are of the objects of {'it' if families else 'the classes that grew'}")
+        return more
+
+
+def grown(sides: Sequence[DumpSide], families: Optional[List[str]], unit: Unit) -> int:
+    """Returns how much more the last dump has of these families, or of all that is reachable if they are None."""
+    first, last = (unit.of(side.base.total(families)) for side in sides)
+    return last - first

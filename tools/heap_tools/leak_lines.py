@@ -1,9 +1,10 @@
 """The answer of `leaks`: the lines that show what holds the growth, in their order."""
 
-from typing import Callable, List, NamedTuple, Tuple
+import enum
+from typing import Callable, Dict, List, NamedTuple, Sequence
 
-from heap_tools.candidates import joint_name
-from heap_tools.probe import GrowthProbe, Retained
+from heap_tools.candidates import Candidate, joint_name
+from heap_tools.probe import EarlierProbe, GrowthProbe, Retained
 from heap_tools.reference_paths import ReferencePaths
 from heap_tools.reports import Amount
 from heap_tools.search import Search
@@ -11,15 +12,23 @@ from heap_tools.search_progress import SearchProgress
 
 #: The number of holders up to which fields are searched first. Most lines that are printed have fewer.
 FEW = 64
+#: The part of the largest share that is most of it.
+MOST = 0.6
+#: The part of the steps between dumps at which a leak grows.
+STEPS = 0.8
+#: Shares in percent that differ by less are the same.
+SAME = 5
 
 
 class Line(NamedTuple):
-    """What was found: what it held, what it holds, the share of the growth in percent, and what is above it."""
+    """What was found: what it held, what it holds, the share of the growth in percent, what is above it, and how many
+    holders there were."""
 
     held: Retained
     before: Amount
     share: float
     above: List[Retained]
+    holders_before: int
 
     def path(self) -> str:
         """Returns the way from the top down to what was found."""
@@ -34,23 +43,163 @@ class Answer(NamedTuple):
     probe: GrowthProbe
 
 
-def by_growth(probe: GrowthProbe) -> Callable[[Retained], Tuple[int, bool, int, int, str]]:
-    """Returns what lines are sorted by: few holders, own classes, a large share of the growth, little else."""
+class Doubt(enum.IntEnum):
+    """Why a line may not name what leaks. The worst doubt of a line counts."""
 
-    def key(held: Retained) -> Tuple[int, bool, int, int, str]:
-        share = probe.percent(probe.gain(held.candidates))
-        least = held.heap.bytes if held.is_own else -held.heap.bytes
-        return held.holders, not held.is_own, -round(share / 10), least, joint_name(held.candidates)
+    #: There is none.
+    NONE = 0
+    #: Something else gained far more.
+    SMALL = 1
+    #: There are more holders than before, which explains most of what they gained: they are what leaks, not its holder.
+    PAYLOAD = 2
+    #: It grew between the first dump and the last, but not at most steps between.
+    UNSTEADY = 3
+    #: What holds all that it holds gained little: so most of what it gained was held beside it before.
+    MOVED = 4
 
-    return key
+
+class Place(enum.IntEnum):
+    """Where a line stands among those with as many holders and the same doubt."""
+
+    #: It is the one with the largest share, or below that and has most of it.
+    MAIN = 0
+    #: It is such a one of the JDK, and an own one has the same share.
+    ECHO = 1
+    #: It is another.
+    BESIDE = 2
 
 
-def answer_of(probe: GrowthProbe, at_least: int, top: int, progress: SearchProgress) -> Answer:
+class Rank(NamedTuple):
+    """What lines are sorted by, the smallest first. In the main place `size` is what the line holds in all, so that the
+    deepest comes first: the accumulation point. In others it is the share, the largest first."""
+
+    doubt: Doubt
+    holders: int
+    place: Place
+    size: float
+    name: str
+
+
+class Ranks:
+    """The ranks of what a search has found."""
+
+    def __init__(self, search: Search, probe: GrowthProbe, between: Sequence[EarlierProbe]) -> None:
+        self.probe, self.between = probe, between
+        self.found, self.steady = search.found, search.steady
+        self.share: Dict[int, float] = {id(held): probe.share(held.candidates) for held in self.found}
+        self._small = self._small_ones()
+
+    def sorted(self) -> List[Retained]:
+        """Returns what was found, the answer first."""
+        doubts = {id(held): self.doubt(held) for held in self.found}
+        ranks = {id(held): self.rank(held, doubts) for held in self.found}
+        return sorted(self.found, key=lambda held: ranks[id(held)])
+
+    def rank(self, held: Retained, doubts: Dict[int, Doubt]) -> Rank:
+        """Returns the rank of one that was found, by the doubts of all."""
+        doubt = doubts[id(held)]
+        alike = [each for each in self.found if each.holders == held.holders and doubts[id(each)] == doubt]
+        place = self.place(held, alike)
+        size = -self.share[id(held)] if place == Place.BESIDE else held.heap.bytes
+        return Rank(doubt, held.holders, place, size, joint_name(held.candidates))
+
+    def place(self, held: Retained, alike: List[Retained]) -> Place:
+        """Returns the place of `held` among those with as many holders and the same doubt."""
+        share, best = self.share[id(held)], max(alike, key=lambda each: (self.share[id(each)], each.heap.bytes))
+        if held is not best and (share < MOST * self.share[id(best)] or not self._is_below(best, held)):
+            return Place.BESIDE
+        if not held.is_own and any(each.is_own and abs(self.share[id(each)] - share) < SAME for each in alike):
+            return Place.ECHO
+        return Place.MAIN
+
+    def _is_below(self, upper: Retained, lower: Retained) -> bool:
+        """Tests whether `upper` holds what `lower` does, or the other way round: both are on one path."""
+        if upper.heap.objects < lower.heap.objects:
+            upper, lower = lower, upper
+        return self.probe.holds_all(upper, lower)
+
+    def doubt(self, held: Retained) -> Doubt:
+        """Returns the worst doubt about `held`."""
+        if self._has_moved(held):
+            return Doubt.MOVED
+        if not self._grew_at_most_steps(held):
+            return Doubt.UNSTEADY
+        if self.is_payload(held):
+            return Doubt.PAYLOAD
+        return Doubt.SMALL if id(held) in self._small else Doubt.NONE
+
+    def is_payload(self, held: Retained) -> bool:
+        """Tests whether the holders that came since the first dump explain most of what was gained, each by what a
+        holder has on average."""
+        more = held.holders - self.probe.earlier.holders(held.candidates)
+        unit, gain = self.probe.unit, self.probe.gain(held.candidates)
+        return more > 0 and more * unit.of(held.amount) >= unit.of(gain) * held.holders / 2
+
+    def _has_moved(self, held: Retained) -> bool:
+        """Tests whether one that gained less than half as much holds all that `held` does."""
+        gain = self.share[id(held)]
+        uppers = [each for each in self.steady if self.probe.share(each.candidates) < gain / 2]
+        return any(self.probe.holds_all(each, held) for each in uppers) or self._moved_within_its_class(held)
+
+    def _moved_within_its_class(self, held: Retained) -> bool:
+        """Tests whether the fields of a class together gained less than half of what `held`, one of them, did, which
+        held hardly anything before."""
+        if len(held.candidates) > 1 or 10 * self.probe.unit.of(self.probe.earlier.retained(held.candidates).amount) > (
+            self.probe.unit.of(held.amount)
+        ):
+            return False
+        kin = kin_of(held.candidates[0], self.probe)
+        return len(kin) > 1 and self.probe.share(kin) < self.share[id(held)] / 2
+
+    def _grew_at_most_steps(self, held: Retained) -> bool:
+        """Tests whether `held` gained at most steps between the dumps that are asked."""
+        if not self.between:
+            return True
+        probes = [self.probe.earlier, *self.between, self.probe]
+        series = [self.probe.unit.of(probe.retained(held.candidates).amount) for probe in probes]
+        rises = sum(after > before for before, after in zip(series, series[1:]))
+        return rises >= STEPS * (len(series) - 1)
+
+    def _small_ones(self) -> "set[int]":
+        """Returns those beside which something else with few holders gained far more. What is beside has little in
+        common with the other: a container that many share holds what each of them does."""
+        few = [each for each in self.found if each.holders <= FEW and not self.is_payload(each)]
+        return {id(held) for held in few if any(self._is_far_larger(each, held) for each in few)}
+
+    def _is_far_larger(self, other: Retained, held: Retained) -> bool:
+        """Tests whether `other` gained far more than `held`, and holds less than half of what it holds."""
+        if MOST * self.share[id(other)] <= self.share[id(held)]:
+            return False
+        both, unit = self.probe.retained([*other.candidates, *held.candidates]), self.probe.unit
+        return unit.of(both.amount) >= unit.of(other.amount) + unit.of(held.amount) / 2
+
+
+def kin_of(candidate: Candidate, probe: GrowthProbe) -> List[Candidate]:
+    """Returns the fields of the class that declares `candidate`, static ones if it is static."""
+    owner = candidate.name.rpartition(".")[0]
+    every = [*probe.candidates.statics(), *probe.candidates.fields(probe.base)]
+    return [each for each in every if each.kind == candidate.kind and each.name.rpartition(".")[0] == owner]
+
+
+def by_holders(held: Retained) -> int:
+    """Returns what is found first: what has few holders."""
+    return held.holders
+
+
+def answer_of(
+    probe: GrowthProbe,
+    at_least: int,
+    top: int,
+    progress: SearchProgress,
+    probes_between: Callable[[], List[EarlierProbe]] = lambda: [],
+) -> Answer:
     """Searches the dumps for what holds `at_least` percent of the growth, and returns at most `top` lines."""
-    search = Search(probe, at_least, top, by_growth(probe), progress, FEW)
+    search = Search(probe, at_least, top, by_holders, progress, FEW)
     search.find(probe.candidates.fields(probe.base))
-    paths, lines = ReferencePaths(probe, search.found, progress), []
+    search.found = Ranks(search, probe, probes_between() if search.found else []).sorted()
+    paths, lines = ReferencePaths(probe, [*search.found, *search.steady]), []
     for held in search.first():
         before = probe.earlier.retained(held.candidates).amount
-        lines.append(Line(held, before, probe.percent(held.amount.minus(before)), paths.complete(held)))
+        share = probe.percent(held.amount.minus(before))
+        lines.append(Line(held, before, share, paths.above(held), probe.earlier.holders(held.candidates)))
     return Answer(lines, search, probe)

@@ -31,7 +31,8 @@ def more_unreachable(more: Amount) -> str:
     other one is left out if it is not."""
     figures = (more.objects, "object"), (more.bytes, "byte")
     parts = [f"{counted(number, noun)} more" for number, noun in figures if number > 0]
-    return f"{', '.join(parts)} {'is' if parts[0].startswith('1 ') else 'are'} unreachable: {WHY_UNREACHABLE}"
+    is_one = len(parts) == 1 and parts[0].startswith("1 ")
+    return f"{', '.join(parts)} {'is' if is_one else 'are'} unreachable: {WHY_UNREACHABLE}"
 
 
 def on_page(more: Amount) -> List[str]:

@@ -1,11 +1,11 @@
 """What candidates retain: the difference that they make to the report of a dump, and to the growth between two."""
 
-from typing import Callable, Dict, FrozenSet, List, NamedTuple, Optional, Sequence, Tuple
+from typing import Callable, Dict, FrozenSet, List, NamedTuple, Optional, Sequence
 
 from heap_tools.candidates import Candidate, Candidates, Key
 from heap_tools.changed_copy import Changes
 from heap_tools.dump_runs import DumpRuns
-from heap_tools.reports import Amount, Unit
+from heap_tools.reports import Amount, Report, Unit
 
 
 class Retained(NamedTuple):
@@ -28,20 +28,10 @@ class Retained(NamedTuple):
         return any(each.is_own for each in self.candidates)
 
 
-class GroupShare(NamedTuple):
-    """The share of a group in percent, and a bound that the share of no part of it exceeds."""
-
-    percent: float
-    bound: float
-
-    def minus(self, part: "GroupShare") -> "GroupShare":
-        """Returns the share of the rest of a group, if nothing is held by both only together."""
-        return GroupShare(self.percent - part.percent, self.bound - part.bound)
-
-
 class Probe:
     """Asks a dump what candidates hold of `families`, or of all that is reachable if that is None. Shares are in
-    `unit`. Calls `before_run` before each run of heapmark."""
+    `unit`. Calls `before_run` before each run of heapmark. `base` is the report of `runs` without changes, if it is
+    known."""
 
     def __init__(
         self,
@@ -50,11 +40,12 @@ class Probe:
         families: Optional[List[str]],
         unit: Unit,
         before_run: Callable[[], None] = lambda: None,
+        base: Optional[Report] = None,
     ) -> None:
         self.runs, self.candidates, self.families, self.unit = runs, candidates, families, unit
-        self.base = runs.base()
-        self.whole = self.base.total(families)
         self.before_run = before_run
+        self.base = base or runs.base()
+        self.whole = self.base.total(families)
         self._known: Dict[FrozenSet[Key], Retained] = {}
 
     def retained(self, group: Sequence[Candidate]) -> Retained:
@@ -68,7 +59,7 @@ class Probe:
         changes: Changes = {}
         for each in group:
             changes.update(self.changes(each))
-        if not changes:
+        if changes.keys() <= self.runs.cut.keys():
             return Retained(group, Amount(), Amount(), {})
         self.before_run()
         report = self.runs.without(changes)
@@ -85,18 +76,21 @@ class Probe:
         """Returns the share of an amount in percent."""
         return 100 * self.unit.of(amount) / max(1, self.unit.of(self.whole))
 
-    def exact(self, group: Sequence[Candidate]) -> float:
-        """Returns the share of a group in percent."""
+    def bound(self, group: Sequence[Candidate]) -> float:
+        """Returns a share in percent that the share of no part of `group` exceeds: that of what the group holds."""
         return self.percent(self.retained(group).amount)
 
-    def share(self, group: Sequence[Candidate]) -> GroupShare:
-        """Returns the share of a group."""
-        percent = self.exact(group)
-        return GroupShare(percent, percent)
+    def share(self, group: Sequence[Candidate]) -> float:
+        """Returns the share of a group in percent."""
+        return self.bound(group)
 
-    def part(self, group: Sequence[Candidate], _whole: GroupShare) -> GroupShare:
-        """Returns the share of a part of a group whose share is known."""
-        return self.share(group)
+    def holds_all(self, upper: Retained, lower: Retained) -> bool:
+        """Tests whether `upper` holds all that `lower` does: without both, no more is unreachable than without it."""
+        if upper.heap.objects < lower.heap.objects:
+            return False
+        if any(amount.objects > upper.lost.get(name, Amount()).objects for name, amount in lower.lost.items()):
+            return False
+        return self.retained([*upper.candidates, *lower.candidates]).heap == upper.heap
 
 
 class EarlierProbe(Probe):
@@ -106,31 +100,28 @@ class EarlierProbe(Probe):
         """Returns the changes by which what has the name of the candidate leads nowhere in this dump."""
         return self.candidates.changes(candidate.key)
 
-    def bounds(self, group: Sequence[Candidate]) -> Tuple[Amount, Amount]:
-        """Returns the most and the least that `group` can hold, by the groups that were asked for: it holds at most
-        what a group does of which it is a part, and at least what each part of it does."""
-        key = frozenset(each.key for each in group)
-        above = [retained.amount for known, retained in self._known.items() if key <= known]
-        below = [retained.amount for known, retained in self._known.items() if known <= key]
-        return min([self.whole, *above], key=self.unit.of), max([Amount(), *below], key=self.unit.of)
+    def holders(self, group: Sequence[Candidate]) -> int:
+        """Returns how many holders what has the names of the candidates has in this dump."""
+        return sum(self.candidates.holders(each.key, self.base) for each in group)
 
 
 class GrowthProbe(Probe):
     """Asks a later dump what candidates hold, and `earlier` how much of it they held before. Shares are of the growth.
-    What a group holds now bounds what it gained. So `earlier` is asked only about what holds `at_least` percent."""
+    What a group holds now bounds what each part of it gained, since no part holds more than the group. What the group
+    itself gained is no such bound: a part that shrank cancels one that grew."""
 
     def __init__(
         self,
         earlier: EarlierProbe,
-        at_least: int,
         runs: DumpRuns,
         candidates: Candidates,
         families: Optional[List[str]],
         unit: Unit,
         before_run: Callable[[], None] = lambda: None,
+        base: Optional[Report] = None,
     ) -> None:
-        super().__init__(runs, candidates, families, unit, before_run)
-        self.earlier, self.at_least = earlier, at_least
+        super().__init__(runs, candidates, families, unit, before_run, base)
+        self.earlier = earlier
         self.growth = self.whole.minus(earlier.whole)
 
     def percent(self, amount: Amount) -> float:
@@ -141,27 +132,6 @@ class GrowthProbe(Probe):
         """Returns what a group holds more than before."""
         return self.retained(group).amount.minus(self.earlier.retained(group).amount)
 
-    def exact(self, group: Sequence[Candidate]) -> float:
-        """Returns the share of a group in the growth, or a bound of it if that is too little."""
-        bound = self.percent(self.retained(group).amount)
-        return bound if bound < self.at_least else self.percent(self.gain(group))
-
-    def share(self, group: Sequence[Candidate]) -> GroupShare:
-        """Returns the share of a group in the growth, or a bound of it if that says whether it is enough."""
-        bound = self.percent(self.retained(group).amount)
-        if bound < self.at_least:
-            return GroupShare(bound, bound)
-        least, most = (bound - self.percent(before) for before in self.earlier.bounds(group))
-        if least >= self.at_least:
-            return GroupShare(least, bound)
-        if most < self.at_least:
-            return GroupShare(most, bound)
-        return GroupShare(self.exact(group), bound)
-
-    def part(self, group: Sequence[Candidate], whole: GroupShare) -> GroupShare:
-        """Returns the likely share of a part of a group whose share is `whole`: if the rest of the group holds too
-        little, the part has gained what the group has."""
-        bound = self.percent(self.retained(group).amount)
-        if bound >= self.at_least > whole.bound - bound:
-            return GroupShare(whole.percent, bound)
-        return self.share(group)
+    def share(self, group: Sequence[Candidate]) -> float:
+        """Returns the share of the growth that a group gained."""
+        return self.percent(self.gain(group))

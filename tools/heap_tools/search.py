@@ -1,23 +1,33 @@
-"""The search for what holds many objects: by halves of a group, since a group holds at least what each of it does."""
+"""The search for what holds many objects: by halves of a group.
 
-from typing import Any, Callable, List, Optional, Sequence, Tuple
+What a part of a group holds is never more than what the group holds. So a group that holds too little now is left, and
+each part of any other group is looked into: what holds enough alone is found. What a group *gained* between two dumps
+bounds nothing, since a part that shrank cancels one that grew; it is asked only of what is found to hold enough.
+"""
+
+from typing import Any, Callable, Dict, Iterable, List, Sequence, Tuple
 
 from heap_tools.candidates import Candidate
-from heap_tools.probe import GroupShare, Probe, Retained
+from heap_tools.class_names import package
+from heap_tools.probe import Probe, Retained
 from heap_tools.search_progress import SearchProgress
 
 #: How many fields are tried first after one is found: those that come next have as many holders, or some more.
 NEXT = 8
 
+#: What is tried as one: a candidate, or several that may hold something together.
+Unit = Sequence[Candidate]
+
 
 class Search:
-    """A search for the `top` first holders of `at_least` percent. `order` says how lines are sorted: a key for what
-    was found. `progress` is noted how far it is. Fields with at most `few` holders are tried before the others."""
+    """A search for the `top` first holders of `at_least` percent, those with few holders first. `order` says how lines
+    are sorted: a key for what was found. `progress` is noted how far it is. Fields with at most `few` holders are tried
+    before the others. `found` is what has the share, `steady` what holds as much, but did not gain it."""
 
     def __init__(
         self,
         probe: Probe,
-        at_least: int,
+        at_least: float,
         top: int,
         order: Callable[[Retained], Any],
         progress: SearchProgress,
@@ -26,7 +36,7 @@ class Search:
         self.probe, self.at_least, self.top, self.order, self.progress = probe, at_least, top, order, progress
         self.few = few
         self.found: List[Retained] = []
-        self.statics: Optional[Retained] = None
+        self.steady: List[Retained] = []
         self.is_cut = False
         self.all = self.left = 0
 
@@ -39,14 +49,15 @@ class Search:
         found = ""
         if self.found:
             candidates = self.found[-1].candidates
-            found = f"{candidates[0]}, {self.percent(candidates):.0f}%"
+            found = f"{candidates[0]}, {self.probe.share(candidates):.0f}%"
         self.progress.note(self.left, self.all, found)
 
     def find(self, fields: Sequence[Candidate]) -> None:
         """Finds static fields, local variables and threads, then `fields`."""
-        self.all = self.left = len(fields)
+        self.expect(fields)
         self.find_roots()
         self.look_in_likely(fields)
+        self.look_in_kin_of(fields)
         self.found.sort(key=self.order)
         self.is_cut |= len(self.found) > self.top
 
@@ -54,11 +65,10 @@ class Search:
         """Finds static fields, local variables and threads."""
         candidates, statics = self.probe.candidates, self.probe.candidates.statics()
         self.expect(statics)
-        self.statics = self.probe.retained(statics)
-        if self.is_enough(self.probe.share(statics)):
+        if self.is_enough(statics):
             self.look_in_own_first(statics)
             self.look_together(statics)
-        if self.is_enough(self.probe.share([candidates.all_threads()])):
+        if self.is_enough([candidates.all_threads()]):
             for group in candidates.locals(), candidates.threads():
                 self.expect(group)
                 self.look_in_own_first(group)
@@ -67,9 +77,9 @@ class Search:
         """Adds a group to what is to be tried."""
         self.all, self.left = self.all + len(group), self.left + len(group)
 
-    def is_enough(self, share: GroupShare) -> bool:
-        """Tests whether a share is one to be shown."""
-        return share.percent >= self.at_least
+    def is_enough(self, group: Sequence[Candidate]) -> bool:
+        """Tests whether a group holds so much now that a part of it may have the share."""
+        return bool(group) and self.probe.bound(group) >= self.at_least
 
     def look_in_own_first(self, group: Sequence[Candidate]) -> None:
         """Finds those of `group` that hold enough, of own classes first."""
@@ -94,15 +104,15 @@ class Search:
     def look_in(self, group: Sequence[Candidate], first: int = 0) -> None:
         """Finds the holders of `group` each of which holds enough. After one is found, the `first` next ones of a large
         rest are tried before the others."""
-        share = None
+        likely = 0.0
         while group:
             known = len(self.found)
-            rest, share = self.find_one(group, share)
+            rest, likely = self.look_for_one(group, likely)
             self.left -= len(group) - len(rest)
             group = self.wanted(rest)
             if first and len(self.found) > known and len(group) > 3 * first:
                 self.look_in(group[:first])
-                group = self.wanted(group[first:])
+                group, likely = self.wanted(group[first:]), 0.0
 
     def wanted(self, group: Sequence[Candidate]) -> List[Candidate]:
         """Returns those of `group` that may still be among the first `top`. The others have too many holders."""
@@ -112,68 +122,94 @@ class Search:
         self.left -= len(group) - len(wanted)
         return wanted
 
-    def find_one(
-        self, group: Sequence[Candidate], share: Optional[GroupShare]
-    ) -> Tuple[List[Candidate], Optional[GroupShare]]:
-        """Finds one holder of `group` that holds enough, by halves. `share` is the likely share of the group, None if
-        it is unknown. Returns those that are still to be tried, and their likely share."""
-        share = whole = self.asked(group, share)
-        later: List[Candidate] = []
-        group = list(group)
-        while self.is_enough(share) and len(group) > 1:
-            self.note()
-            left, right = group[: len(group) // 2], group[len(group) // 2 :]
-            of_left = self.probe.part(left, share)
-            if self.is_enough(of_left):
-                group, share, later = left, of_left, right + later
+    def look_for_one(self, group: Sequence[Candidate], likely: float) -> Tuple[List[Candidate], float]:
+        """Looks for one of `group` that holds enough, and notes whether it has the share. Returns those that are still
+        to be tried, and the share that they are likely to hold. `likely` is that of the group."""
+        unit, rest, likely = self.halved([[each] for each in group], likely)
+        if unit:
+            held = self.probe.retained(unit)
+            if self.probe.share(unit) >= self.at_least:
+                self.found.append(held)
             else:
-                group, share = right, self.asked(right, share.minus(of_left))
-        if not self.is_enough(share) or self.percent(group) < self.at_least:
-            return later, None
-        self.found.append(self.probe.retained(group))
-        return later, whole.minus(GroupShare(self.percent(group), share.bound))
+                self.steady.append(held)
+        return [candidate for each in rest for candidate in each], likely
 
-    def asked(self, group: Sequence[Candidate], share: Optional[GroupShare]) -> GroupShare:
-        """Returns the share of `group`. A group of several whose likely share is enough is not tried: its parts will
+    def halved(self, units: List[Unit], likely: float) -> Tuple[Unit, List[Unit], float]:
+        """Looks for one of `units` that holds enough, by halves. Returns it, or nothing, the units that are still to be
+        tried, and what they are likely to hold. A group that is likely to hold enough is not asked: its parts will
         be."""
-        if share is not None and self.is_enough(share) and len(group) > 1:
-            return share
+        later: List[Unit] = []
+        whole = share = likely if likely >= self.at_least and len(units) > 1 else self.bound(units)
+        while share >= self.at_least and len(units) > 1:
+            left, right = units[: len(units) // 2], units[len(units) // 2 :]
+            of_left = self.bound(left)
+            if of_left >= self.at_least:
+                units, share, later = left, of_left, right + later
+            else:
+                share -= of_left
+                if share < self.at_least or len(right) == 1:
+                    share = self.bound(right)
+                units = right
+        if share < self.at_least or self.bound(units) < self.at_least:
+            return [], later, 0.0
+        return units[0], later, whole - share
+
+    def bound(self, units: Sequence[Unit]) -> float:
+        """Returns the share that no part of `units` exceeds."""
         self.note()
-        return self.probe.share(group)
+        return self.probe.bound([candidate for unit in units for candidate in unit])
 
-    def percent(self, candidates: Sequence[Candidate]) -> float:
-        """Returns the share of `candidates` in percent."""
-        return self.probe.exact(candidates) if candidates else 0
+    def percent(self, candidates: Sequence[Candidate], least: float) -> float:
+        """Returns the share of `candidates`, or a bound of it if that is below `least`."""
+        bound = self.probe.bound(candidates) if candidates else 0.0
+        return bound if bound < least else self.probe.share(candidates)
 
-    def find_statics(self, statics: Sequence[Candidate]) -> List[Candidate]:
-        """Finds a few of `statics`, of own classes if these are enough, that hold enough alone or together. Returns
-        them."""
-        own = [each for each in statics if each.is_own]
-        found: List[Candidate] = []
-        if self.percent(statics) >= self.at_least:
-            found = self.needed(own if self.percent(own) >= self.at_least else list(statics), [], 0, self.at_least)
-        if found:
-            self.found.append(self.probe.retained(found))
-        return found
+    # What holds enough only together
+
+    def look_in_kin_of(self, fields: Sequence[Candidate]) -> None:
+        """Finds fields with few holders that hold enough only together, if what is found leaves as much."""
+        best = max((self.probe.share(each.candidates) for each in self.found if each.holders <= self.few), default=0)
+        if not self.few or best > 100 - self.at_least:
+            return
+        known = {each for held in [*self.found, *self.steady] for each in held.candidates}
+        rest = [each for each in fields if each.count <= self.few and each not in known]
+        if rest and self.percent(rest, self.at_least) >= self.at_least:
+            self.look_in_kin(rest)
 
     def look_together(self, statics: Sequence[Candidate]) -> None:
         """Finds static fields that hold enough only together, those of own classes first."""
-        whole = self.percent(statics)
+        whole = self.percent(statics, self.at_least)
         alone = [holder for held in self.found for holder in held.candidates]
-        if whole - max((self.percent(held.candidates) for held in self.found), default=0) < self.at_least:
-            return
-        base = self.percent(alone)
-        least = (base + whole) / 2
+        best = max((self.probe.share(held.candidates) for held in self.found), default=0.0)
+        base = self.percent(alone, 0.0) if whole - best >= self.at_least else whole
         if whole - base < self.at_least:
             return
+        least = (base + whole) / 2
         rest = [each for each in statics if each not in alone]
         own = [each for each in rest if each.is_own]
-        if own and self.percent(own + alone) >= least:
+        if own and self.percent([*own, *alone], least) >= least:
             rest = own
+        if self.look_in_kin(rest):
+            return
         needed = self.needed(rest, alone, base, least)
         if needed:
-            together = needed if self.percent(needed) >= self.at_least else alone + needed
-            self.found.append(self.probe.retained(together))
+            is_enough = self.percent(needed, self.at_least) >= self.at_least
+            self.found.append(self.probe.retained(needed if is_enough else [*alone, *needed]))
+
+    def look_in_kin(self, group: Sequence[Candidate]) -> bool:
+        """Finds those of `group` that hold enough only together, of one class or else of one package. Returns whether
+        there are any."""
+        for kin in by_class(group), by_package(group):
+            known, units = len(self.found), [each for each in kin if len(each) > 1]
+            likely = 0.0
+            while units:
+                unit, units, likely = self.halved(units, likely)
+                if unit and self.probe.share(unit) >= self.at_least:
+                    least = 0.9 * self.probe.share(unit)
+                    self.found.append(self.probe.retained(self.needed(list(unit), [], 0, least) or unit))
+            if len(self.found) > known:
+                return True
+        return False
 
     def needed(self, group: List[Candidate], others: List[Candidate], base: float, least: float) -> List[Candidate]:
         """Returns a small part of `group` that together with `others` holds `least` percent. Without `group`, `others`
@@ -182,11 +218,28 @@ class Search:
             return group
         half, shares = len(group) // 2, []
         for part in (group[:half], group[half:]):
-            shares.append(self.percent(part + others))
+            shares.append(self.percent([*part, *others], least))
             if shares[-1] >= least:
                 return self.needed(part, others, base, least)
         if sum(shares) - 2 * base > (least - base) / 2:
             return []
-        right = self.needed(group[half:], others + group[:half], base, least)
-        left = right and self.needed(group[:half], others + right, base, least)
+        right = self.needed(group[half:], [*others, *group[:half]], base, least)
+        left = right and self.needed(group[:half], [*others, *right], base, least)
         return left and left + right
+
+
+def by_class(group: Iterable[Candidate]) -> List[Unit]:
+    """Returns the fields of `group` by the class that declares them."""
+    return _by(group, lambda each: each.name.rpartition(".")[0])
+
+
+def by_package(group: Iterable[Candidate]) -> List[Unit]:
+    """Returns the fields of `group` by the package of their class."""
+    return _by(group, lambda each: package(each.name.rpartition(".")[0]))
+
+
+def _by(group: Iterable[Candidate], place: Callable[[Candidate], str]) -> List[Unit]:
+    found: Dict[str, List[Candidate]] = {}
+    for each in group:
+        found.setdefault(place(each), []).append(each)
+    return list(found.values())

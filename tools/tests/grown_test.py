@@ -92,7 +92,7 @@ class GrownTest(ToolTest):
         """The times of dumps: their order, and the growth an hour. `other` stands in for heapmark."""
         timed("early.hprof", 480000)
         timed("late.hprof", 480004)
-        later = "grown: wrong order? late.hprof was dumped later than early.hprof"
+        later = "grown: early.hprof: wrong order? it was dumped earlier than late.hprof"
         self.expect(["early.hprof", "late.hprof"])
         self.expect(["late.hprof", "early.hprof"], said=later)
         self.expect(["early.hprof", "late.hprof", "early.hprof"], said=later)
@@ -232,7 +232,7 @@ class GrownTest(ToolTest):
         """What is unreachable, and what waiting virtual threads hold."""
         write("before", (1, 8, "A"), unreachable=(10, 100))
         write("after", (1, 8, "A"), unreachable=(17, 170))
-        grows = "grown: unreachable: 7 objects more, 70 bytes more: *waiting virtual threads*jmap -histo:live*"
+        grows = "grown: 7 objects more, 70 bytes more are unreachable: *waiting virtual threads*jmap -histo:live*"
         self.expect(["before", "after"], said=grows)
         self.expect(["after", "before"])
         self.expect(["before", "after", "before", "after"], said=grows)
@@ -243,7 +243,7 @@ class GrownTest(ToolTest):
         write("shop", *((1, 8, f"shop/A{number}") for number in range(9)), (1, 8, "java/lang/String"))
         write("bank", *((1, 8, f"bank/A{number}") for number in range(4)), (1, 8, "java/lang/String"))
         ended = self.ran("shop", "bank")
-        self.assertEqual(ended.said, "grown: two programs? bank has 0 of the 9 own classes of shop\n")
+        self.assertEqual(ended.said, "grown: bank: another program? it has 0 of the 9 own classes of shop\n")
         self.assertEqual(ended.status, 0)
 
     def test_own(self):

@@ -14,7 +14,12 @@ from tests.support.tool_test import ToolTest, histogram
 
 def line(objects, size, share, before, after, holders, path):
     """Returns a line of the output."""
-    return f"{objects:10} {size:14} {share:4}% {before:14} {after:14} {holders:9}  {path}\n"
+    return f"{objects:10} {size:14} {share:4}% {before:14} {after:14} {holders:>9}  {path}\n"
+
+
+def columns_of(line):
+    """Returns the columns of a line of the output."""
+    return re.fullmatch(r" *(\d+) +(\d+) +(\d+%) +(\d+) +(\d+) +((?:\d+ to )?\d+)  (.*)", line).groups()
 
 
 class LeaksTest(ToolTest):
@@ -36,13 +41,13 @@ class LeaksTest(ToolTest):
         after.write("after")
         ended = self.ran("before", "after", *words)
         self.assertEqual(ended.status, 0, ended.said)
-        return [each.split(None, 6) for each in ended.out.splitlines()]
+        return [list(columns_of(each)) for each in ended.out.splitlines()]
 
     def test_cache(self):
         """The field that holds the growth, by identifiers of both sizes; not the catalog, which holds more."""
         lines = line(120, 2160, 100, 720, 2880, 1, self.PATH)
         lines += line(120, 2160, 100, 732, 2892, 1, "static shop/Service.CACHE")
-        lines += line(60, 1200, 56, 400, 1600, 80, f"{self.PATH} > shop/Order.text")
+        lines += line(60, 1200, 56, 400, 1600, "20 to 80", f"{self.PATH} > shop/Order.text")
         self.expect(["monday", "friday"], lines, self.COST)
         self.assertNotIn("Catalog", lines)
         rows = self.found(cache(20, id_size=4), cache(80, id_size=4))
@@ -96,7 +101,7 @@ class LeaksTest(ToolTest):
         self.assertEqual([row[-1] for row in rows[:2]], [path, 'thread "http-0"'])
         self.assertEqual([row[3] for row in rows[:2]], ["720", "743"])
         rows = self.found(handler(20, "http-7"), handler(80))
-        self.assertEqual([(row[3], row[-1]) for row in rows[:2]], [("0", 'thread "http-0"'), ("720", path)])
+        self.assertEqual([(row[3], row[-1]) for row in rows[:2]], [("720", path), ("0", 'thread "http-0"')])
 
     def test_together(self):
         """Static fields that hold the growth only together."""
@@ -106,15 +111,15 @@ class LeaksTest(ToolTest):
     def test_executor(self):
         """Who owns the queue, of which a worker thread knows, too."""
         rows = self.found(worker(20), worker(80))
-        path = "static shop/Service.TIMER > java/util/Executor.queue"
-        self.assertEqual([row[-1] for row in rows[:2]], [path, f"{path} > java/util/Queue.table"])
+        timer, queue = "static shop/Service.TIMER", "java/util/Executor.queue > java/util/Queue.table"
+        self.assertEqual([row[-1] for row in rows[:2]], [timer, f"{timer} > {queue}"])
         owned_twice = [worker(count) for count in (20, 80)]
         for dump in owned_twice:
             dump.of_class(10, "shop/Screen", {"SHOWN": 605}, fields=["task"])
             dump.instance(605, 10, 600)
             dump.root(10)
-        path = path.replace("static", "together static shop/Screen.SHOWN, static")
-        self.assertEqual(self.found(*owned_twice)[0][-1], path)
+        both = f"together static shop/Screen.SHOWN, {timer}"
+        self.assertEqual(self.found(*owned_twice)[0][-1], f"{both} > {queue}")
 
     def test_no_growth(self):
         """The whole did not grow, or nothing did."""
@@ -122,7 +127,7 @@ class LeaksTest(ToolTest):
         moved(60).write("after")
         said = f"leaks: reachable: 816 bytes, then 816: no growth; so the shares are of the objects of *\n{self.COST}"
         self.expect(["before", "after"], line(50, 0, 100, 10, 60, 1, "static shop/Catalog.SOLD"), said)
-        said = "leaks: reachable: 6508 bytes, then 6508: no growth"
+        said = "leaks: reachable: 6,508 bytes, then 6,508: no growth"
         self.expect(["friday", "friday"], said=said, status=3)
         lost = cache(80, minutes=20)
         lost.values(9000, BYTE, bytes(500))

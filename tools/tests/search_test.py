@@ -33,7 +33,7 @@ class ToldGains(Told, GrowthProbe):
 
     def __init__(self, earlier, things):
         super().__init__(things)
-        self.earlier, self.at_least, self.growth = ToldEarlier(earlier), 30, Amount(100, 100)
+        self.earlier, self.growth = ToldEarlier(earlier), Amount(100, 100)
 
 
 def field(name, count=1):
@@ -63,23 +63,18 @@ class SearchTest(unittest.TestCase):
     def search(self, probe, fields, top=4, few=64):
         """Searches `fields`, and returns the names of what was found."""
         found = Search(probe, 30, top, lambda held: (held.holders, str(held.candidates[0])), mock.Mock(), few)
-        found.all = found.left = len(fields)
+        found.expect(fields)
         found.look_in_likely(fields)
         return sorted(str(held.candidates[0]) for held in found.found)
 
-    def test_bounds(self):
-        """What is known of a larger or a smaller group says whether a gain is enough; else BEFORE is asked."""
-        first, second, third = (field(f"A.{name}") for name in "abc")
-        probe = ToldGains([([["A.a"]], 10), ([["A.c"]], 200)], [([["A.a"]], 60), ([["A.b"]], 50), ([["A.c"]], 210)])
-        asked = probe.earlier.asked
-        self.assertEqual(probe.share([first, second]), (100, 110))
-        self.assertEqual(asked, [["A.a", "A.b"]])
-        self.assertEqual(probe.share([first]), (50, 60))
-        self.assertEqual(probe.share([second]), (40, 50))
-        self.assertEqual(len(asked), 1)
-        self.assertEqual(probe.share([third]), (10, 210))
-        self.assertEqual(probe.share([third, field("A.d")]), (10, 210))
-        self.assertEqual(asked, [["A.a", "A.b"], ["A.c"]])
+    def test_shrinking_part(self):
+        """A part that shrank does not hide one that grew, and BEFORE is asked only about what holds enough alone."""
+        fields = [field(f"A.{name}") for name in "abcd"]
+        probe = ToldGains([([["A.a"]], 200), ([["A.b"]], 10)], [([["A.a"]], 50), ([["A.b"]], 80), ([["A.c"]], 20)])
+        self.assertLess(probe.share(fields), 0)
+        probe.earlier.asked.clear()
+        self.assertEqual(self.search(probe, fields), ["A.b"])
+        self.assertEqual(sorted(probe.earlier.asked), [["A.a"], ["A.b"]])
 
     def test_few_first(self):
         """Own fields with many holders are not tried if fields of the JDK with few holders are enough."""

@@ -1,8 +1,9 @@
 """held: what hangs by some fields of a dump."""
 
-from typing import NamedTuple, NoReturn, Optional, Sequence
+from typing import NamedTuple, NoReturn, Optional, Sequence, Tuple
 
 from heap_tools import command_line
+from heap_tools.candidates import Candidates
 from heap_tools.changed_copy import Changes
 from heap_tools.class_growth import growths, lines_to_print
 from heap_tools.command_line import Parser, number
@@ -28,11 +29,7 @@ fields, `A.x > B.y` means B.y, `local A.f` the local variables of a method, and
 
 It runs heapmark on DUMP, and on DUMP with these fields declared as numbers, so
 that they lead nowhere, and shows where the reports differ, as grown does
-between two dumps; grown --help says how names are shown and which heapmark
-runs. The roots of local variables and threads are null in their place. A line
-on standard error says if an entry of FIELDS names no field, or nothing hangs by
-FIELDS alone. A name that begins with a hyphen goes after `--`.
-
+between XX
 Exit status:
   0  done: what hangs by FIELDS, if anything, was printed
   1  DUMP cannot be read or was refused; nothing was printed
@@ -46,6 +43,8 @@ Exit status:
 Example:
   $ held app.hprof 'java/lang/ThreadLocal$ThreadLocalMap$Entry.value'
 """
+
+
 def parser() -> Parser:
     """Returns the options and operands."""
     it = Parser("held", "[OPTIONS] <DUMP> <FIELDS>", ABOUT, NOTES)
@@ -58,8 +57,8 @@ def parser() -> Parser:
 
 
 class Difference(NamedTuple):
-    """The whole report of a dump, and the one without some fields, None if the dump has none of them. `all_found`: each
-    entry of the list names a field."""
+    """The report of a dump without some fields, None if the dump has none of them, and the one with them. `all_found`:
+    each entry of the list names a field."""
 
     without: Optional[Report]
     whole: Report
@@ -83,9 +82,23 @@ def difference(path: str, text: str) -> Difference:
     if not changes:
         return Difference(None, runs.report, False)
     try:
-        return Difference(runs.without(changes), runs.report, all_found)
+        return Difference(*largest(runs, changes), all_found)
     except LaterFault:
         raise Fault(UNREADABLE, f"{path}: not read a second time") from None
+
+
+def largest(runs: DumpRuns, changes: Changes) -> Tuple[Report, Report]:
+    """Returns the report of the dump with `changes` and the one without them, both of the dump as it is, or both
+    without local variables if `changes` make the larger difference then. A call that runs hides what fields hold, by
+    its local variables; but fields below the local variables of a call, such as those of a server in `main`, hold
+    nothing without it."""
+    plain = runs.without(changes), runs.report
+    calls = Candidates(runs.dump).running(only_jdk=False)
+    if calls.keys() <= changes.keys() or not calls.keys().isdisjoint(changes.keys()):
+        return plain
+    idle = runs.with_cut(calls)
+    silent = idle.without(changes), idle.base()
+    return max(plain, silent, key=lambda pair: pair[1].reachable.minus(pair[0].reachable))
 
 
 def main(words: Sequence[str]) -> int:

@@ -5,7 +5,7 @@ from argparse import Namespace
 from typing import NoReturn, Optional, Sequence, Tuple
 
 from heap_tools import command_line
-from heap_tools.candidates import Candidates, joint_name
+from heap_tools.candidates import joint_name
 from heap_tools.class_lookup import family_of
 from heap_tools.class_names import family, is_array
 from heap_tools.command_line import Parser, number
@@ -18,6 +18,7 @@ from heap_tools.humanize import counted
 from heap_tools.omissions import HIDDEN_HOLDERS, WHY_UNREACHABLE
 from heap_tools.probe import Probe, Retained
 from heap_tools.reports import Report, Unit
+from heap_tools.running_calls import DumpSide, without_running_calls
 from heap_tools.search import Search
 from heap_tools.search_progress import SearchProgress
 
@@ -44,6 +45,9 @@ Each line is the difference of two reports of heapmark: of the dump, and of the
 dump in which the field is a number, so that it leads nowhere; of a local
 variable or a thread the roots are null. Two lists hold only what is held
 anyway, and do not count: the classes of a loader, and the threads of a group.
+Calls that are running do not count: their local variables lead into containers
+that fields hold. So local variables lead nowhere if at most 5% of what is asked
+for is lost by that; else those of methods of the JDK, if that loses no more.
 heapmark gets the dump from a pipe; no file is written. The heapmark that runs
 is what the variable HEAPMARK names, else the one beside this tool, else the one
 built in this repository, else that of PATH. If SIGINT, SIGTERM or SIGHUP ends
@@ -107,16 +111,18 @@ def searched(options: Namespace, name: Optional[str]) -> Search:
     progress.show("reading the dump")
     try:
         runs = DumpRuns.of(heapmark, options.dump, "holders")
-        candidates = Candidates(runs.dump, options.weak)
         families = [family_of(name, runs.dump, runs.report)] if name else None
         in_bytes = options.bytes or not families or is_array(families[0])
-        shown = SearchProgress(progress, heapmark)
         unit = Unit.BYTES if in_bytes else Unit.OBJECTS
-        probe = Probe(candidates.prepared(runs), candidates, families, unit, shown.show)
+        shown = SearchProgress(progress, heapmark)
+        shown.show()
+        side = DumpSide.prepared(runs, options.weak)
         if families:
-            require_objects(families[0], runs, probe.base)
+            require_objects(families[0], runs, side.base)
+        (side,), _ = without_running_calls([side], families, unit, unit.of(side.base.total(families)))
+        probe = Probe(side.runs, side.candidates, families, unit, shown.show, side.base)
         search = Search(probe, options.at_least or (10 if name else 20), options.top, by_amount, shown)
-        search.find(candidates.fields(probe.base))
+        search.find(side.candidates.fields(side.base))
     finally:
         progress.clear()
     return search
@@ -154,7 +160,7 @@ def say_remainder(search: Search) -> None:
     whole = probe.unit.of(probe.whole)
     what = counted(whole, probe.unit.noun)
     what = f"{what} of {probe.families[0]}" if probe.families else what
-    rest = whole - (probe.unit.of(search.statics.amount) if search.statics else 0)
+    rest = whole - probe.unit.of(probe.retained(probe.candidates.statics()).amount)
     if search.is_cut:
         say("holders: fields with more holders may hold as much: see --top")
     if not search.found:

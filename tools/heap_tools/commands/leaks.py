@@ -1,5 +1,6 @@
 """leaks: which fields, static fields, local variables and threads hold what grew between dumps of one program."""
 
+import functools
 import sys
 import time
 from argparse import Namespace
@@ -25,21 +26,31 @@ NOTES = """
 The columns are the objects and the bytes that are held in the last dump and
 were not in the first, their share of the growth, the bytes that were held in
 the first dump and are in the last (with --objects, objects), the number of
-holders, and the field. The holders of a field are the instances that have it; a
-static field has one holder; those of a local variable are the threads in its
-method. At the same number of holders, fields of the JDK come last, and of those
-that gained as much the one that holds least comes first. Fields above a field,
-from a static field, a local variable or a thread down, stand before it: `A > B`
-means that only A leads to B.
+holders, in the first dump too if it was another, and the field. The holders of
+a field are the instances that have it; a static field has one holder; those of
+a local variable are the threads in its method. Fields above a field, from a
+static field, a local variable or a thread down, stand before it: in `A > B`, A
+holds all that B does.
+
+Lines with few holders come first, and of fields above one another the deepest
+that still has most of the growth: the accumulation point. Lines whose holders
+became more with the leak come later, and so do those that did not grow at each
+step, or whose owner gained little. Fields of the JDK come after own ones with
+the same share.
+
+Calls that are running do not count: their local variables lead into containers
+that fields hold. So local variables lead nowhere if at most 5% of the growth is
+lost by that; else those of methods of the JDK, if that loses no more.
 
 The growth is that of the reachable bytes, or of the objects and bytes of CLASS.
 If no more bytes are reachable than before, it is that of the objects of all
 classes that grew. A share is above 100% if what the field does not hold shrank.
 
 Names of the last dump are looked up in the first one: hidden classes, such as
-those of lambdas, by what is common to them. Of further dumps only the reports
-are used. For what is held in one dump, see holders, which also says how it is
-found; for which classes grew, see grown.
+those of lambdas, by what is common to them. Up to three dumps between the first
+and the last are asked what the lines held; of others only the reports are used.
+For what is held in one dump, see holders, which also says how it is found; for
+which classes grew, see grown.
 
 Exit status:
   0  done: what holds the growth, if anything, was printed
@@ -80,17 +91,28 @@ def printed(lines: Sequence[Line], unit: Unit) -> str:
     for line in lines:
         gain, was, now = line.held.amount.minus(line.before), unit.of(line.before), unit.of(line.held.amount)
         text = f"{gain.objects:10} {gain.bytes:14} {line.share:4.0f}% {was:14} {now:14}"
-        texts.append(f"{text} {line.held.holders:9}  {line.path()}\n")
+        texts.append(f"{text} {holders_of(line):>{width_of(lines)}}  {line.path()}\n")
     return "".join(texts)
 
 
-def heads(comparison: Comparison, probe: GrowthProbe) -> str:
+def holders_of(line: Line) -> str:
+    """Returns the number of holders of a line, and before it the one in the first dump if that differs."""
+    was, now = line.holders_before, line.held.holders
+    return str(now) if was == now else f"{was} to {now}"
+
+
+def width_of(lines: Sequence[Line]) -> int:
+    """Returns the width of the column of holders."""
+    return max([9, *(len(holders_of(line)) for line in lines)])
+
+
+def heads(comparison: Comparison, probe: GrowthProbe, width: int) -> str:
     """Returns what stands above the lines on a terminal: how much the heap grew, and the heads of the columns."""
     was, now = (size(each.runs.report.total(probe.families).bytes) for each in (probe.earlier, probe))
     what = probe.families[0] if probe.families and len(probe.families) == 1 else "reachable"
     took = comparison.last.dump.time - comparison.first.dump.time
     head = f"{what} {was} to {now}" + f" in {duration(took)}" * (took > 0)
-    return f"{head}\n{'objects':>10} {'bytes':>14} share {'before':>14} {'after':>14} {'holders':>9}  field\n"
+    return f"{head}\n{'objects':>10} {'bytes':>14} share {'before':>14} {'after':>14} {'holders':>{width}}  field\n"
 
 
 def say_remainder(answer: Answer, comparison: Comparison) -> None:
@@ -110,7 +132,9 @@ def compared(options: Namespace, words: Sequence[str]) -> Tuple[Comparison, Answ
     progress = Progress("leaks")
     try:
         comparison = Comparison(options, words, progress)
-        return comparison, answer_of(comparison.probe(), options.at_least, options.top, comparison.progress)
+        probe = comparison.probe()
+        between = functools.partial(comparison.probes_between, probe)
+        return comparison, answer_of(probe, options.at_least, options.top, comparison.progress, between)
     finally:
         progress.clear()
 
@@ -125,7 +149,7 @@ def main(words: Sequence[str]) -> int:
     if options.html is not None:
         require_place(options.html)
     comparison, answer = compared(options, words)
-    top = heads(comparison, answer.probe) if is_terminal(sys.stdout) and answer.lines else ""
+    top = heads(comparison, answer.probe, width_of(answer.lines)) if is_terminal(sys.stdout) and answer.lines else ""
     write(top + printed(answer.lines, answer.probe.unit))
     if options.html is not None:
         write_page(options.html, content_of(comparison, answer))
