@@ -20,11 +20,11 @@ def shown(raw: bytes) -> str:
 def printable(text: str) -> str:
     """Spells a text of a dump in one line: of what does not print, of quotes and of backslashes each byte of their
     UTF-8 as `\\x` and two digits, so that no two texts are spelled alike."""
-    return "".join(each if each.isprintable() and each not in '"\\' else _escaped(each) for each in text)
+    return "".join(each if each.isprintable() and each not in '"\\' else byte_escapes(each) for each in text)
 
 
-def _escaped(char: str) -> str:
-    """Returns the bytes of a character as escapes."""
+def byte_escapes(char: str) -> str:
+    """Returns the bytes of a character's UTF-8, each as `\\x` and two digits."""
     return "".join(f"\\x{byte:02x}" for byte in char.encode(errors="surrogatepass"))
 
 

@@ -13,7 +13,12 @@ def size(number: int) -> str:
 
 def counted(number: int, noun: str) -> str:
     """Returns a number with its noun."""
-    return f"{number:,} {noun}{'' if number == 1 else 's'}"
+    return f"{number:,} {plural(number, noun)}"
+
+
+def plural(number: int, noun: str) -> str:
+    """Returns `noun` as it is after `number`."""
+    return noun if abs(number) == 1 else f"{noun}es" if noun.endswith("s") else f"{noun}s"
 
 
 def duration(milliseconds: float) -> str:

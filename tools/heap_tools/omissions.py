@@ -1,8 +1,8 @@
 """What heap dumps do not have, for each version of the JDK, in the words of all tools and of the page."""
 
-from typing import List
+from typing import List, Optional
 
-from heap_tools.humanize import counted
+from heap_tools.humanize import counted, size
 from heap_tools.reports import Amount
 
 #: What dumps omit of virtual threads that wait, by the version of the JDK.
@@ -24,6 +24,8 @@ NEVER_SHOWN = [
     "of a 64-bit machine counts 8 bytes, so sizes differ from those that the virtual machine reports. Numbers of "
     "objects can be compared.",
 ]
+#: What is unreachable is much if it is at least this part of all that a dump has more, in percent, and of its heap.
+MUCH_OF_MORE, MUCH_OF_HEAP = 20, 1
 
 
 def more_unreachable(more: Amount) -> str:
@@ -43,3 +45,16 @@ def on_page(more: Amount) -> List[str]:
 def unreachable_on_page(objects: int) -> str:
     """Returns a sentence on the `objects` that are unreachable in the last dump of a page."""
     return f"What holds unreachable objects, of which the last dump has {objects:,}: {WHY_UNREACHABLE}."
+
+
+def large_unreachable(more: Amount, grown: Amount, heap: Amount) -> Optional[str]:
+    """Returns a warning if what is unreachable in the last dump only is much, else None. `more` is how much that is,
+    `grown` how much more is reachable in it, and `heap` all that is."""
+    share = 100 * more.bytes / max(1, more.bytes + max(0, grown.bytes))
+    if more.bytes <= 0 or share < MUCH_OF_MORE or 100 * more.bytes < MUCH_OF_HEAP * heap.bytes:
+        return None
+    return (
+        f"{size(more.bytes)} more are unreachable in the last dump than in the first, and no figure of what is held or "
+        f"reachable has them. That is {share:.0f}% of all that the last dump has more: {WHY_UNREACHABLE}. jmap "
+        "-histo:live PID counts those that are live: compare two of its outputs by grown."
+    )

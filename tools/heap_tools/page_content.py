@@ -4,39 +4,42 @@ import os
 import platform
 import shlex
 import time
+from typing import List, Sequence
 
 from heap_tools import VERSION, page
 from heap_tools.candidates import joint_name
 from heap_tools.class_growth import growths
-from heap_tools.class_names import CLASSES
+from heap_tools.class_names import CLASSES, is_own
 from heap_tools.comparison import Comparison
 from heap_tools.dump_runs import DumpRuns, is_dump
 from heap_tools.faults import UNWRITABLE, WRONG_USE, Fault
 from heap_tools.leak_lines import Answer, Line
 from heap_tools.omissions import on_page
 from heap_tools.probe import GrowthProbe, Probe
+from heap_tools.program_facts import facts_of
 from heap_tools.reports import Amount
 
 
 def content_of(comparison: Comparison, answer: Answer) -> page.Leak:
     """Returns what the page of `--html` shows."""
     options, probe = comparison.options, answer.probe
-    reports = [runs.report for runs in comparison.dumps]
-    grown = [each for each in growths(reports, probe.unit) if each.name != CLASSES]
     of_class = probe.families[0] if probe.families and options.of_class else None
-    whole = f"all reachable {probe.unit.value}"
-    if probe.families:
-        whole = f"the {probe.unit.value} of {of_class or 'the classes that grew'}"
+    reports = [runs.report for runs in comparison.dumps]
+    found = [each for each in growths(reports, probe.unit) if each.name != CLASSES]
+    grown = [page.GrownClass(each.name, [report.amount(each.name) for report in reports]) for each in found]
     return page.Leak(
         dumps=[dump_of(runs) for runs in comparison.dumps],
-        grown=[page.GrownClass(each.name, [report.amount(each.name) for report in reports]) for each in grown],
+        grown=grown,
         holders=[holder_of(line, probe) for line in answer.lines],
         last=reports[-1].families,
+        growth=probe.growth,
         omitted=on_page(comparison.more_unreachable()),
-        making=making(comparison),
-        by=probe.unit.value,
-        share_of=whole,
+        making=making_of(comparison),
+        by=probe.unit,
         of_class=of_class,
+        is_of_grown=bool(probe.families) and of_class is None,
+        program=program_of(comparison.last),
+        next_steps=next_steps(comparison.last.path, answer.lines, [of_class] if of_class else [it.name for it in grown]),
     )
 
 
@@ -47,6 +50,12 @@ def dump_of(runs: DumpRuns) -> page.DumpEntry:
     return page.DumpEntry(runs.path, size, made, report.reachable, report.unreachable, report.unresolved)
 
 
+def program_of(runs: DumpRuns) -> page.ProgramEntry:
+    """Returns what the page shows of the program that a dump is of."""
+    facts = facts_of(runs.dump)
+    return page.ProgramEntry(facts.name, facts.process, facts.machine)
+
+
 def holder_of(line: Line, probe: GrowthProbe) -> page.HolderEntry:
     """Returns what the page shows of a line."""
     candidates = line.held.candidates
@@ -54,16 +63,35 @@ def holder_of(line: Line, probe: GrowthProbe) -> page.HolderEntry:
     name = ", ".join(sorted(each.name for each in candidates))
     before = share_of(line.before, probe.earlier)
     after = share_of(line.held.amount, probe)
-    above = [joint_name(each.candidates) for each in line.above]
-    return page.HolderEntry(kind, name, line.held.holders, before, after, above)
+    above = [sorted(map(str, each.candidates)) for each in line.above]
+    return page.HolderEntry(kind, name, line.held.holders, before, after, line.share, above)
 
 
 def share_of(amount: Amount, probe: Probe) -> page.HeldShare:
     """Returns an amount, and its share of what is reachable in the dump that `probe` asks."""
-    return page.HeldShare(amount.objects, amount.bytes, 100 * probe.unit.of(amount) / max(1, probe.unit.of(probe.whole)))
+    return page.HeldShare(amount, 100 * probe.unit.of(amount) / max(1, probe.unit.of(probe.whole)))
 
 
-def making(comparison: Comparison) -> page.Making:
+def next_steps(path: str, lines: Sequence[Line], names: Sequence[str]) -> List[page.NextStep]:
+    """Returns commands on the dump `path` that say more: of the first line, and of the first of the classes `names`, of
+    own classes if there is one."""
+    steps = []
+    if lines:
+        field = joint_name(lines[0].held.candidates)
+        steps.append(page.NextStep("All that hangs by it, class by class", command_line("held", path, field)))
+    for name in [*filter(is_own, names), *names][:1]:
+        purpose = f"What holds objects of {name}, those that did not grow, too"
+        steps.append(page.NextStep(purpose, command_line("holders", path, name)))
+    return steps
+
+
+def command_line(*words: str) -> str:
+    """Returns a command as a shell reads it, with the words after the first as operands."""
+    is_option = any(word.startswith("-") for word in words)
+    return " ".join(map(shlex.quote, [words[0], "--", *words[1:]] if is_option else words))
+
+
+def making_of(comparison: Comparison) -> page.Making:
     """Returns how the figures were found."""
     command = " ".join(map(shlex.quote, ["leaks", *comparison.words]))
     versions = [("leaks", VERSION), ("heapmark", comparison.heapmark.version()), ("Python", platform.python_version())]
@@ -74,7 +102,7 @@ def making(comparison: Comparison) -> page.Making:
 def write_page(path: str, leak: page.Leak) -> None:
     """Writes the page into the file `path`."""
     try:
-        page.write(leak, path)
+        page.save(leak, path)
     except OSError as fault:
         raise Fault(UNWRITABLE, f"{path}: the page cannot be written: {fault.strerror}") from None
 

@@ -136,8 +136,8 @@ class LeaksTest(ToolTest):
         self.expect(["friday", "lost"], said=f"{said}; {more}", status=3)
 
     def test_share(self):
-        """A share is above 100% if what the field does not hold shrank, and the help says so. Those of the page are of
-        the whole heap, and are not."""
+        """A share is above 100% if what the field does not hold shrank, and the help says so. The page has the same
+        share, and beside it that of the heap, which is not."""
         before, after = cache(20), cache(80)
         before.of_class(8, "shop/Old", {"ALL": 8000})
         before.values(8000, BYTE, bytes(1080))
@@ -146,8 +146,10 @@ class LeaksTest(ToolTest):
         self.assertEqual(rows[0], ["120", "2160", "200%", "720", "2880", "1", self.PATH])
         self.assertIn("A share is above 100% if what the field does not hold shrank.", self.ran("--help").out)
         page = pathlib.Path("page.html").read_text(encoding="utf-8")
-        shares = [float(share) for share in re.findall("([0-9.]+)\u00a0%", page)]
-        self.assertTrue(shares and max(shares) <= 100, shares)
+        first = re.findall('data-label="(Share of the [^"]*)"(.*?)</td>', page, re.S)[:2]
+        shares = {name: re.findall("([0-9.]+)\u00a0%", cell) for name, cell in first}
+        self.assertEqual(shares["Share of the growth"], ["200"])
+        self.assertTrue(all(float(share) <= 100 for share in shares["Share of the heap"]), shares)
 
     def test_several(self):
         """Further dumps, up to 30 and too many."""

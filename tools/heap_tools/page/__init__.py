@@ -1,7 +1,8 @@
 """The page of `leaks --html`: one HTML file that fetches nothing and runs no script.
 
-`model.py` has what `leaks` fills, `top.py` and `sections.py` the parts of the page, `pictures.py` and `treemap.py` the
-pictures; `words.py` escapes and spells; `page.html` has all templates, `page.css` the style.
+`model.py` has what `leaks` fills. `sections.py` has the whole page, `top.py`, `holders.py` and `classes.py` its larger
+parts, `tables.py` what these share. `chart.py`, `treemap.py` and `treemap_picture.py` make the pictures. `templates.py`
+escapes and fills, `words.py` spells; `page.html` has all templates, `page.css` the style.
 """
 
 import contextlib
@@ -10,10 +11,11 @@ import secrets
 import stat
 from typing import Callable
 
-from heap_tools.page.model import FIELD, LOCAL, STATIC, THREAD, TOGETHER
-from heap_tools.page.model import DumpEntry, GrownClass, HeldShare, HolderEntry, Leak, Limits, Making
+from heap_tools.candidates import FIELD, LOCAL, STATIC, THREAD
+from heap_tools.page.model import TOGETHER, DumpEntry, GrownClass, HeldShare, HolderEntry, Leak, Limits, Making
+from heap_tools.page.model import NextStep, ObjectEntry, ProgramEntry, ThreadGroupEntry
 from heap_tools.page.sections import whole_page
-from heap_tools.reports import Amount
+from heap_tools.reports import Amount, Unit
 
 __all__ = [
     "Amount",
@@ -26,11 +28,16 @@ __all__ = [
     "Leak",
     "Limits",
     "Making",
+    "NextStep",
+    "ObjectEntry",
+    "ProgramEntry",
     "STATIC",
     "THREAD",
     "TOGETHER",
+    "ThreadGroupEntry",
+    "Unit",
     "html_of",
-    "write",
+    "save",
 ]
 
 #: The most bytes of a page.
@@ -52,7 +59,7 @@ def html_of(leak: Leak) -> str:
     return str(text)
 
 
-def write(leak: Leak, file: str) -> None:
+def save(leak: Leak, file: str) -> None:
     """Writes the page into the file at the path `file`. Raises `OSError` if it cannot be written. A plain file then is
     as it was before, and never has a part of the page."""
     content = html_of(leak).encode()

@@ -1,13 +1,22 @@
 """What the page of a leak shows. `leaks` fills these; the page writes them. All texts are plain text."""
 
-from dataclasses import dataclass
+from dataclasses import dataclass, field
 from typing import Dict, List, Optional, Tuple
 
-from heap_tools.candidates import FIELD, LOCAL, STATIC, THREAD  # noqa: F401 (kinds of holders)
-from heap_tools.reports import Amount
+from heap_tools.reports import Amount, Unit
 
-#: The kind of static fields that hold only together.
+#: The kind of static fields that hold only together. The others are those of `candidates`.
 TOGETHER = "together"
+
+
+@dataclass(frozen=True)
+class ProgramEntry:
+    """The program of the last dump, as far as the dump says: its main class or the file that it was started from, the
+    number of its process, and its virtual machine."""
+
+    name: Optional[str] = None
+    process: Optional[int] = None
+    machine: Optional[str] = None
 
 
 @dataclass(frozen=True)
@@ -29,27 +38,65 @@ class GrownClass:
     name: str
     amounts: List[Amount]
 
+    @property
+    def growth(self) -> Amount:
+        """How much more there is of it in the last dump than in the first."""
+        return self.amounts[-1].minus(self.amounts[0])
+
 
 @dataclass(frozen=True)
 class HeldShare:
-    """What a holder holds in one dump; `percent` of what `Leak.share_of` says."""
+    """What a holder holds in one dump; `percent` of what `Leak.whole` says."""
 
-    objects: int
-    bytes: int
+    amount: Amount
     percent: float
 
 
 @dataclass(frozen=True)
 class HolderEntry:
     """What holds some of the growth. `name` is without the word of its kind, `holders` the number of instances that
-    have the field. `above`: the fields through which it is reached, from the top down to the one right above it."""
+    have the field, `share` its share of the growth in percent. `above`: what it is reached through, from the top down
+    to what is right above it, at each step the fields that lead there together, most often one."""
 
     kind: str
     name: str
     holders: int
     before: HeldShare
     after: HeldShare
-    above: List[str]
+    share: float
+    above: List[List[str]]
+
+
+@dataclass(frozen=True)
+class ObjectEntry:
+    """One of the objects that have the field of a holder. `line`: the number of the holder in `Leak.holders`, the first
+    is 1. `name`: what tells it from the others, empty if nothing does. `bytes`: what it holds through the field in the
+    last dump, which is `percent` of what all of them do."""
+
+    line: int
+    class_name: str
+    name: str
+    bytes: int
+    percent: float
+
+
+@dataclass(frozen=True)
+class ThreadGroupEntry:
+    """The threads of a name. `pattern`: the name, with `*` for what differs. `before` and `now`: how many there are in
+    the first and in the last dump. `frames`: the methods that they are in, the innermost first."""
+
+    pattern: str
+    before: int
+    now: int
+    frames: List[str]
+
+
+@dataclass(frozen=True)
+class NextStep:
+    """A command that says more, ready to paste, and what it shows."""
+
+    purpose: str
+    command: str
 
 
 @dataclass(frozen=True)
@@ -67,24 +114,48 @@ class Making:
 @dataclass(frozen=True)
 class Leak:
     """All that the page shows. `dumps`: two or more, the earliest first. `holders`: the first is the headline.
-    `last`: the classes of the last report. `omitted`: sentences on what these dumps do not show. `by`: which figure
-    counts, "bytes" or "objects". `share_of`: what percents are of. `of_class`: the class whose objects the holders
-    hold, if only these count."""
+    `last`: the classes of the last report. `growth`: what shares of the growth are of. `omitted`: sentences on what
+    these dumps do not show. `by`: which figure counts. `of_class`: the class whose objects the holders hold, if only
+    these count. `is_of_grown`: only the classes that grew count. `notes`: sentences on the growth that the holders do
+    not hold."""
 
     dumps: List[DumpEntry]
     grown: List[GrownClass]
     holders: List[HolderEntry]
     last: Dict[str, Amount]
+    growth: Amount
     omitted: List[str]
     making: Making
-    by: str = "bytes"
-    share_of: str = "all reachable bytes"
+    by: Unit = Unit.BYTES
     of_class: Optional[str] = None
+    is_of_grown: bool = False
+    program: ProgramEntry = ProgramEntry()
+    next_steps: List[NextStep] = field(default_factory=list)
+    objects: List[ObjectEntry] = field(default_factory=list)
+    threads: List[ThreadGroupEntry] = field(default_factory=list)
+    notes: List[str] = field(default_factory=list)
 
     @property
-    def is_of_all(self):
+    def is_of_all(self) -> bool:
         """Tests whether the holders hold objects of all classes."""
-        return self.share_of == f"all reachable {self.by}"
+        return self.of_class is None and not self.is_of_grown
+
+    @property
+    def whole(self) -> str:
+        """What shares of one dump are of."""
+        if self.is_of_all:
+            return f"all reachable {self.by.value}"
+        return f"the {self.by.value} of {self.of_class or 'the classes that grew'}"
+
+    @property
+    def rise(self) -> Amount:
+        """How much more is reachable in the last dump than in the first."""
+        return self.dumps[-1].reachable.minus(self.dumps[0].reachable)
+
+    @property
+    def more_unreachable(self) -> Amount:
+        """How much more is unreachable in the last dump than in the first."""
+        return self.dumps[-1].unreachable.minus(self.dumps[0].unreachable)
 
 
 @dataclass(frozen=True)

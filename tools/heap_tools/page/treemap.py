@@ -1,13 +1,12 @@
 """What a heap is made of, by package and class, and the rectangles of its picture."""
 
 import functools
-import re
 from collections import defaultdict
 from dataclasses import dataclass
-from typing import List, Optional
+from typing import DefaultDict, Iterable, List, Mapping, Optional, Sequence
 
 from heap_tools import class_names
-from heap_tools.reports import Amount
+from heap_tools.reports import Amount, Row
 
 #: How many parts of a package's name make a group.
 DEPTH = 3
@@ -32,8 +31,8 @@ class Group:
     parts: List[Part]
 
     @property
-    def amount(self):
-        """Returns the objects and bytes of its classes."""
+    def amount(self) -> Amount:
+        """The objects and bytes of its classes."""
         return total_of(part.amount for part in self.parts)
 
 
@@ -46,18 +45,18 @@ class Box:
     width: float
     height: float
 
-    def within(self, edge, head):
+    def within(self, edge: float, head: float) -> "Box":
         """Returns the box without an `edge` on each side and a `head`."""
         width, height = self.width - 2 * edge, self.height - 2 * edge - head
         return Box(self.x + edge, self.y + edge + head, max(0, width), max(0, height))
 
 
-def total_of(amounts):
+def total_of(amounts: Iterable[Amount]) -> Amount:
     """Returns the sum of amounts."""
     return functools.reduce(Amount.plus, amounts, Amount())
 
 
-def package_of(name):
+def package_of(name: str) -> str:
     """Returns the group of a class: the first parts of its package, or what stands for one."""
     package = class_names.package(name)
     if package:
@@ -67,53 +66,54 @@ def package_of(name):
     return "classes" if name == class_names.CLASSES else "no package"
 
 
-def short_name(name):
+def short_name(name: str) -> str:
     """Returns the name of a class without its package, and of an array as Java writes it."""
     element = class_names.element(name)
-    return element.rpartition("/")[2] + ("" if element == name else "[]" * re.match(r"\[*", name).end())
+    return element.rpartition("/")[2] + ("" if element == name else "[]" * (len(name) - len(name.lstrip("["))))
 
 
-def part_of(classes):
+def part_of(classes: Sequence[Row]) -> Part:
     """Returns classes with their amounts as one part."""
-    name = classes[0][0] if len(classes) == 1 else None
-    return Part(name, len(classes), total_of(amount for _, amount in classes))
+    name = classes[0].name if len(classes) == 1 else None
+    return Part(name, len(classes), total_of(each.amount for each in classes))
 
 
-def alone(sizes, most, least):
+def number_alone(sizes: Sequence[int], most: int, least: float) -> int:
     """Returns how many of `sizes`, the largest first, stand alone, so that there are at most `most` with all others as
     one. Those below `least` do not, unless it is a single one."""
     large = sum(size >= least for size in sizes)
     return len(sizes) if len(sizes) <= min(most, large + 1) else min(most - 1, large)
 
 
-def parts_of(classes, most, least):
+def parts_of(classes: Sequence[Row], most: int, least: float) -> List[Part]:
     """Returns at most `most` parts of `classes`. The last holds the others."""
-    classes = sorted(classes, key=lambda it: (-it[1].bytes, -it[1].objects, it[0]))
-    number = alone([amount.bytes for _, amount in classes], most, least)
+    classes = sorted(classes, key=lambda it: (-it.amount.bytes, -it.amount.objects, it.name))
+    number = number_alone([each.amount.bytes for each in classes], most, least)
     return [part_of([it]) for it in classes[:number]] + ([part_of(classes[number:])] if classes[number:] else [])
 
 
-def groups_of(classes, most_groups, most_parts):
-    """Returns the classes of a report, a dict of amounts by name, by package, the largest first. Small packages are one
-    group at the end."""
-    packages, least = defaultdict(list), SMALL * total_of(classes.values()).bytes
+def groups_of(classes: Mapping[str, Amount], most_groups: int, most_parts: int) -> List[Group]:
+    """Returns the classes of a report, with their amounts, by package, the largest first. Small packages are one group
+    at the end."""
+    packages: DefaultDict[str, List[Row]] = defaultdict(list)
+    least = SMALL * total_of(classes.values()).bytes
     for name, amount in classes.items():
-        packages[package_of(name)].append((name, amount))
-    sizes = {name: total_of(amount for _, amount in packages[name]).bytes for name in packages}
+        packages[package_of(name)].append(Row(name, amount))
+    sizes = {name: total_of(each.amount for each in packages[name]).bytes for name in packages}
     order = sorted(packages, key=lambda name: (-sizes[name], name))
-    number = alone([sizes[name] for name in order], most_groups, least)
+    number = number_alone([sizes[name] for name in order], most_groups, least)
     groups = [Group(name, parts_of(packages[name], most_parts, least)) for name in order[:number]]
     rest = [it for name in order[number:] for it in packages[name]]
     return groups + ([Group(None, parts_of(rest, most_parts, least))] if rest else [])
 
 
-def worst_ratio(areas, side):
+def worst_ratio(areas: Sequence[float], side: float) -> float:
     """Returns the ratio of the sides of the longest rectangle, if rectangles of `areas` fill a strip along `side`."""
     thickness = sum(areas) / side
     return max(max(thickness / (area / thickness), (area / thickness) / thickness) for area in areas)
 
 
-def strip_length(areas, side):
+def strip_length(areas: Sequence[float], side: float) -> int:
     """Returns how many of `areas` belong in the next strip: more, as long as the rectangles become more square."""
     number = 1
     while number < len(areas) and worst_ratio(areas[: number + 1], side) <= worst_ratio(areas[:number], side):
@@ -121,16 +121,17 @@ def strip_length(areas, side):
     return number
 
 
-def boxes_of(weights, box):
+def boxes_of(weights: Sequence[float], box: Box) -> List[Box]:
     """Returns a box within `box` for each of `weights`, which are positive, the largest first. It is the squarified
     layout of Bruls, Huizing and van Wijk."""
-    scale, boxes = box.width * box.height / max(1, sum(weights)), []
+    scale = box.width * box.height / max(1, sum(weights))
+    boxes: List[Box] = []
     areas = [weight * scale for weight in weights]
     while areas and min(box.width, box.height) > 0:
         side = min(box.width, box.height)
         number = strip_length(areas, side)
         strip, areas = areas[:number], areas[number:]
-        thickness, at = sum(strip) / side, 0
+        thickness, at = sum(strip) / side, 0.0
         for area in strip:
             length = area / thickness
             if box.width >= box.height:

@@ -12,7 +12,10 @@ import subprocess
 import sys
 import tempfile
 import time
+from typing import Any, Callable, Dict, List, Optional, Tuple
 
+#: A message of the DevTools protocol.
+Message = Dict[str, Any]
 #: Seconds for the browser to start, or to reply.
 LIMIT = 60
 #: Gives the browser its two pipes under the numbers that it expects them at.
@@ -41,27 +44,29 @@ LOGGED = ("Log.entryAdded", "Runtime.consoleAPICalled", "Runtime.exceptionThrown
 FRAME = "new Promise(done => requestAnimationFrame(() => requestAnimationFrame(done)))"
 
 
-def found():
+def found() -> Optional[str]:
     """Returns the path of a Chromium, or `None`."""
     return next(filter(None, map(shutil.which, ("chromium", "chromium-browser", "google-chrome"))), None)
 
 
-def pipe():
+def pipe() -> Tuple[int, int]:
     """Returns the ends of a new pipe, whose numbers are not those at which the browser expects its pipes."""
     low = os.pipe()
-    high = [fcntl.fcntl(end, fcntl.F_DUPFD_CLOEXEC, 10) for end in low]
+    reader, writer = (fcntl.fcntl(end, fcntl.F_DUPFD_CLOEXEC, 10) for end in low)
     for end in low:
         os.close(end)
-    return high
+    return reader, writer
 
 
 class Chromium:
     """A running browser with one page. Its messages are those of the DevTools protocol."""
 
-    def __init__(self, program):
+    def __init__(self, program: str) -> None:
         self.room = tempfile.TemporaryDirectory()
-        self.number, self.rest, self.events = 0, b"", []
-        self.target = self.session = None
+        self.number, self.rest = 0, b""
+        self.events: List[Message] = []
+        self.target: Optional[str] = None
+        self.session: Optional[str] = None
         theirs, self.into = pipe()
         self.out, theirs_too = pipe()
         words = [sys.executable, "-c", START, str(theirs), str(theirs_too), program, *OPTIONS]
@@ -76,7 +81,7 @@ class Chromium:
         os.close(theirs)
         os.close(theirs_too)
 
-    def close(self):
+    def close(self) -> None:
         """Ends the browser."""
         with contextlib.suppress(ProcessLookupError):
             os.killpg(self.process.pid, signal.SIGKILL)
@@ -86,10 +91,10 @@ class Chromium:
         with contextlib.suppress(OSError):  # a process of the browser may still write
             self.room.cleanup()
 
-    def send(self, method, **parameters):
+    def send(self, method: str, **parameters: Any) -> int:
         """Sends a request, and returns its number."""
         self.number += 1
-        message = {"id": self.number, "method": method, "params": parameters}
+        message: Message = {"id": self.number, "method": method, "params": parameters}
         if self.session:
             message["sessionId"] = self.session
         rest = json.dumps(message).encode() + b"\0"
@@ -97,15 +102,16 @@ class Chromium:
             rest = rest[os.write(self.into, rest) :]
         return self.number
 
-    def call(self, method, **parameters):
+    def call(self, method: str, **parameters: Any) -> Message:
         """Sends a request, and returns the reply."""
         number = self.send(method, **parameters)
         reply = self.wait_for(lambda message: message.get("id") == number)
         if "error" in reply:
             raise RuntimeError(f"{method}: {reply['error']}")
-        return reply["result"]
+        result: Message = reply["result"]
+        return result
 
-    def wait_for(self, is_wanted):
+    def wait_for(self, is_wanted: Callable[[Message], bool]) -> Message:
         """Returns the next message that is wanted. Keeps the events of the page."""
         ends = time.monotonic() + LIMIT
         while True:
@@ -117,7 +123,7 @@ class Chromium:
             if is_wanted(message):
                 return message
 
-    def next_message(self, ends):
+    def next_message(self, ends: float) -> Message:
         """Reads a message. Raises `TimeoutError` if none came by the time `ends`."""
         while b"\0" not in self.rest:
             ready, _, _ = select.select([self.out], [], [], max(0, ends - time.monotonic()))
@@ -126,9 +132,10 @@ class Chromium:
                 raise TimeoutError("the browser ended, or does not reply")
             self.rest += more
         text, _, self.rest = self.rest.partition(b"\0")
-        return json.loads(text)
+        message: Message = json.loads(text)
+        return message
 
-    def open(self, url):
+    def open(self, url: str) -> None:
         """Opens a page, on a wide and light screen."""
         self.session = None
         if self.target:
@@ -146,40 +153,40 @@ class Chromium:
             self.wait_for(lambda message: "method" in message)
         self.value(FRAME)
 
-    def show(self, width=1280, dark=False, media="screen"):
+    def show(self, width: int = 1280, dark: bool = False, media: str = "screen") -> None:
         """Shows the page in a window of this width, in the dark or not, on a screen or as printed (`media`)."""
         self.call("Emulation.setDeviceMetricsOverride", width=width, height=900, deviceScaleFactor=1, mobile=False)
         scheme = {"name": "prefers-color-scheme", "value": "dark" if dark else "light"}
         self.call("Emulation.setEmulatedMedia", media=media, features=[scheme])
         self.value(FRAME)
 
-    def value(self, expression):
+    def value(self, expression: str) -> Any:
         """Returns the value of an expression in the page."""
         result = self.call("Runtime.evaluate", expression=expression, returnByValue=True, awaitPromise=True)
         if "exceptionDetails" in result:
             raise RuntimeError(str(result["exceptionDetails"])[:2000])
         return result["result"].get("value")
 
-    def fetched(self):
+    def fetched(self) -> List[str]:
         """Returns the addresses that the page requested."""
         requests = [event for event in self.events if event["method"] == "Network.requestWillBeSent"]
         return [event["params"]["request"]["url"] for event in requests]
 
-    def logged(self):
+    def logged(self) -> List[str]:
         """Returns what the page logged: what it was refused, too."""
         return [json.dumps(event["params"])[:500] for event in self.events if event["method"] in LOGGED]
 
-    def named(self):
+    def named(self) -> List[Tuple[Optional[str], str]]:
         """Returns the role and the name of each part of the page that a screen reader finds."""
         nodes = self.call("Accessibility.getFullAXTree")["nodes"]
         parts = [(node.get("role", {}), node.get("name", {})) for node in nodes if not node.get("ignored")]
         return [(role.get("value"), name.get("value", "")) for role, name in parts]
 
-    def picture(self):
+    def picture(self) -> bytes:
         """Returns a picture of the whole page, as PNG."""
         shot = self.call("Page.captureScreenshot", format="png", captureBeyondViewport=True)
         return base64.b64decode(shot["data"])
 
-    def printed(self):
+    def printed(self) -> bytes:
         """Returns the page as it is printed, as PDF."""
         return base64.b64decode(self.call("Page.printToPDF", printBackground=False, preferCSSPageSize=True)["data"])

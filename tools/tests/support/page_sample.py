@@ -1,39 +1,56 @@
-"""Leaks for the tests of the page: one as it happens, and hostile ones."""
+"""Leaks for the tests of the page: one as it happens, and changes of it."""
+
+import dataclasses
+from typing import Any, Dict, List, Sequence, Tuple
 
 from heap_tools import page
 
 NOON = 1_795_780_800_000
 MINUTE = 60_000
+OWN, MAP = "com/acme/shop/metrics/MetricsService", "java/util/concurrent/ConcurrentHashMap"
+#: How much more is reachable in the last dump of the sample.
+GROWTH = page.Amount(602_801, 17_076_437)
 
 
-def amounts(*pairs):
+def amounts(*pairs: Tuple[int, int]) -> List[page.Amount]:
     """Returns pairs of objects and bytes as amounts."""
     return [page.Amount(*pair) for pair in pairs]
 
 
-def dump(number, reachable, unreachable, unresolved=12):
-    """Returns a dump that was taken so many times six minutes after noon."""
+def dump(number: int, reachable: Tuple[int, int], unreachable: Tuple[int, int], unresolved: int = 12) -> page.DumpEntry:
+    """Returns a dump that was taken `number` times six minutes after noon."""
     file, time = f"/tmp/shop-{number}.hprof", NOON + 6 * MINUTE * number
-    return page.DumpEntry(file, 61_200_441 + 9_000_000 * number, time, *amounts(reachable, unreachable), unresolved)
+    size = 61_200_441 + 9_000_000 * number
+    return page.DumpEntry(file, size, time, page.Amount(*reachable), page.Amount(*unreachable), unresolved)
 
 
-def making(command="leaks --html leak.html /tmp/shop-0.hprof /tmp/shop-1.hprof /tmp/shop-2.hprof"):
+def making(
+    command: str = "leaks --html leak.html /tmp/shop-0.hprof /tmp/shop-1.hprof /tmp/shop-2.hprof",
+) -> page.Making:
     """Returns how a page was made."""
-    versions = [("heapmark", "0.1.0"), ("leaks", "0.1.0"), ("Python", "3.11.7"), ("JVM", "OpenJDK 64-Bit Server VM 21")]
+    versions = [("leaks", "0.1.0"), ("heapmark", "0.1.0"), ("Python", "3.11.7")]
     return page.Making(command, 31, 14.2, NOON + 20 * MINUTE, versions)
 
 
-def grown(name, *pairs):
+def grown(name: str, *pairs: Tuple[int, int]) -> page.GrownClass:
     """Returns a class that grew, with its objects and bytes in each dump."""
     return page.GrownClass(name, amounts(*pairs))
 
 
-def holder(kind, name, holders, before, after, above=()):
-    """Returns a holder. `before` and `after`: objects, bytes and percent."""
-    return page.HolderEntry(kind, name, holders, page.HeldShare(*before), page.HeldShare(*after), list(above))
+def held(objects: int, size: int, percent: float) -> page.HeldShare:
+    """Returns what a holder holds in one dump."""
+    return page.HeldShare(page.Amount(objects, size), percent)
 
 
-def classes():
+def holder(
+    kind: str, name: str, holders: int, before: page.HeldShare, after: page.HeldShare, *above: str
+) -> page.HolderEntry:
+    """Returns a holder, with its share of the growth of the sample."""
+    share = 100 * (after.amount.bytes - before.amount.bytes) / GROWTH.bytes
+    return page.HolderEntry(kind, name, holders, before, after, share, [[step] for step in above])
+
+
+def classes() -> Dict[str, page.Amount]:
     """Returns the classes of a report, with a catalog and a leak."""
     kinds = [
         ("byte[]", 301_442, 21_033_107),
@@ -60,49 +77,93 @@ def classes():
     return {name: page.Amount(objects, size) for name, objects, size in kinds + many + more}
 
 
-def leak():
-    """Returns a leak over three dumps, as `leaks` finds it."""
-    own, map_of_all = "com/acme/shop/metrics/MetricsService", "java/util/concurrent/ConcurrentHashMap"
-    return page.Leak(
+def grown_classes() -> List[page.GrownClass]:
+    """Returns the classes that grew."""
+    return [
+        grown(f"{OWN}$Meter", (22_010, 968_440), (48_300, 2_125_200), (74_967, 3_298_548)),
+        grown("byte[]", (150_010, 14_300_220), (226_113, 17_702_010), (301_442, 21_033_107)),
+        grown("java/lang/String", (147_002, 3_528_048), (222_540, 5_340_960), (298_117, 7_154_808)),
+        grown(f"{MAP}$Node", (26_300, 736_400), (52_803, 1_478_484), (79_233, 2_218_524)),
+        grown("java/util/concurrent/atomic/LongAdder", (22_010, 352_160), (48_300, 772_800), (74_967, 1_199_472)),
+        grown("java/lang/Long", (22_266, 178_128), (48_556, 388_448), (75_223, 601_784)),
+        grown("java/util/ArrayList", (60_920, 1_462_080), (60_980, 1_463_520), (60_944, 1_462_656)),
+    ]
+
+
+def holders() -> List[page.HolderEntry]:
+    """Returns what holds the growth."""
+    poll = held(11, 4_020, 0.01), held(9_400, 8_300_120, 14.24)
+    queue = "java/util/concurrent/ScheduledThreadPoolExecutor$DelayedWorkQueue.queue"
+    above = "static com/acme/shop/timeout/TimeoutService.TIMER", "java/util/concurrent/ThreadPoolExecutor.workQueue"
+    meters = f"{OWN}.METERS"
+    return [
+        holder(page.STATIC, meters, 1, held(88_104, 4_011_220, 9.73), held(299_904, 20_425_100, 35.04)),
+        holder(
+            page.FIELD,
+            f"{MAP}.table",
+            44,
+            held(88_220, 4_031_004, 9.78),
+            held(300_001, 20_440_216, 35.07),
+            f"static {meters}",
+        ),
+        holder(page.LOCAL, "com/acme/shop/Poller.run", 3, *poll),
+        holder(page.THREAD, "http-nio-8080-exec-1", 1, *poll),
+        holder(page.FIELD, queue, 1, held(0, 0, 0.0), held(8_000, 8_200_000, 14.07), *above),
+    ]
+
+
+def leak(**changes: Any) -> page.Leak:
+    """Returns a leak over three dumps, as `leaks` finds it, with `changes`."""
+    found = page.Leak(
         dumps=[
             dump(0, (702_113, 41_208_334), (1_201, 52_000)),
             dump(1, (1_001_702, 49_700_118), (1_310, 56_112)),
             dump(2, (1_304_914, 58_284_771), (1_222, 53_004)),
         ],
-        grown=[
-            grown(f"{own}$Meter", (22_010, 968_440), (48_300, 2_125_200), (74_967, 3_298_548)),
-            grown("byte[]", (150_010, 14_300_220), (226_113, 17_702_010), (301_442, 21_033_107)),
-            grown("java/lang/String", (147_002, 3_528_048), (222_540, 5_340_960), (298_117, 7_154_808)),
-            grown(f"{map_of_all}$Node", (26_300, 736_400), (52_803, 1_478_484), (79_233, 2_218_524)),
-            grown("java/util/concurrent/atomic/LongAdder", (22_010, 352_160), (48_300, 772_800), (74_967, 1_199_472)),
-            grown("java/lang/Long", (22_266, 178_128), (48_556, 388_448), (75_223, 601_784)),
-            grown("java/util/ArrayList", (60_920, 1_462_080), (60_980, 1_463_520), (60_944, 1_462_656)),
-        ],
-        holders=[
-            holder(page.STATIC, f"{own}.METERS", 1, (88_104, 4_011_220, 9.73), (299_904, 20_425_100, 35.04)),
-            holder(
-                page.FIELD,
-                f"{map_of_all}.table",
-                44,
-                (88_220, 4_031_004, 9.78),
-                (300_001, 20_440_216, 35.07),
-                [f"static {own}.METERS"],
-            ),
-            holder(page.LOCAL, "com/acme/shop/Poller.run", 3, (11, 4_020, 0.01), (9_400, 8_300_120, 14.24)),
-            holder(page.THREAD, "http-nio-8080-exec-1", 1, (11, 4_020, 0.01), (9_400, 8_300_120, 14.24)),
-            holder(
-                page.FIELD,
-                "java/util/concurrent/ScheduledThreadPoolExecutor$DelayedWorkQueue.queue",
-                1,
-                (0, 0, 0.0),
-                (8_000, 8_200_000, 14.07),
-                [
-                    "static com/acme/shop/timeout/TimeoutService.TIMER",
-                    "java/util/concurrent/ThreadPoolExecutor.workQueue",
-                ],
-            ),
-        ],
+        grown=grown_classes(),
+        holders=holders(),
         last=classes(),
+        growth=GROWTH,
         omitted=["Stacks of virtual threads that wait: JDK 21 omits them. What only they hold is unreachable here."],
         making=making(),
+        program=page.ProgramEntry("com.acme.shop.Application", 4711, "OpenJDK 64-Bit Server VM, Java 21.0.4"),
+        next_steps=[
+            page.NextStep("All that hangs by it, class by class", f"held /tmp/shop-2.hprof 'static {OWN}.METERS'"),
+            page.NextStep(f"What holds objects of {OWN}$Meter", f"holders /tmp/shop-2.hprof '{OWN}$Meter'"),
+        ],
     )
+    return dataclasses.replace(found, **changes)
+
+
+def bare_leak(**changes: Any) -> page.Leak:
+    """Returns the sample without what may be missing, and with `changes`."""
+    nothing: Dict[str, Any] = {"grown": [], "holders": [], "last": {}, "omitted": [], "next_steps": []}
+    return leak(**{**nothing, "program": page.ProgramEntry(), **changes})
+
+
+def full_leak(**changes: Any) -> page.Leak:
+    """Returns the sample with all that a page can have: objects, threads, notes, and much that is unreachable."""
+    first, middle, last = leak().dumps
+    objects = [
+        page.ObjectEntry(1, MAP, "meters of /checkout", 12_300_110, 60.2),
+        page.ObjectEntry(2, f"{MAP}$Node[]", "", 1_200, 0.02),
+    ]
+    threads = [
+        page.ThreadGroupEntry("report-*", 1, 284, ["java/lang/Object.wait", "com/acme/shop/Reporter.run"]),
+        page.ThreadGroupEntry("http-nio-8080-exec-*", 10, 9, []),
+    ]
+    every: Dict[str, Any] = {
+        "dumps": [first, middle, dataclasses.replace(last, unreachable=page.Amount(410_204, 14_500_118))],
+        "objects": objects,
+        "threads": threads,
+        "notes": ["1,204,332 bytes more are held by weak or final references alone."],
+    }
+    return leak(**{**every, **changes})
+
+
+def uneven(times: Sequence[int]) -> page.Leak:
+    """Returns a leak with a dump at each of `times`, in minutes, in which all grows as the time does."""
+    series = [(1_000 * minute, 10_000 * minute) for minute in times]
+    dumps = [dump(number, amount, (0, 0)) for number, amount in enumerate(series)]
+    dumps = [dataclasses.replace(each, time=NOON + MINUTE * minute) for each, minute in zip(dumps, times)]
+    return leak(dumps=dumps, grown=[grown("com/acme/Steady", *series)])

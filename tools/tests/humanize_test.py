@@ -1,0 +1,60 @@
+"""Numbers in words: sizes, times, and numbers of things."""
+
+import unittest
+
+from heap_tools import humanize
+
+
+class HumanizeTest(unittest.TestCase):
+    """Each function over a table."""
+
+    def test_size(self) -> None:
+        """Bytes in words, at the edges of each unit."""
+        table = {
+            0: "0 bytes",
+            1: "1 byte",
+            -1: "-1 byte",
+            999: "999 bytes",
+            1000: "1.0 kB",
+            99_949: "99.9 kB",
+            99_950: "100 kB",
+            999_499: "999 kB",
+            999_500: "1.0 MB",
+            41_208_334: "41.2 MB",
+            587_000_000: "587 MB",
+            10**12: "1000 GB",
+        }
+        for number, wanted in table.items():
+            with self.subTest(number):
+                self.assertEqual(humanize.size(number), wanted)
+
+    def test_counted(self) -> None:
+        """One is no plural."""
+        for number, noun, wanted in [
+            (0, "object", "0 objects"),
+            (1, "object", "1 object"),
+            (-1, "object", "-1 object"),
+            (1234, "object", "1,234 objects"),
+            (1, "class", "1 class"),
+            (2, "class", "2 classes"),
+        ]:
+            with self.subTest(wanted):
+                self.assertEqual(humanize.counted(number, noun), wanted)
+
+    def test_duration(self) -> None:
+        """How long something took, in two units."""
+        table = {
+            0: "0 s",
+            59_999: "1 min",
+            754_000: "12 min 34 s",
+            3_600_000: "1 h",
+            86_400_000: "1 day",
+            273_600_000: "3 days 4 h",
+        }
+        for milliseconds, wanted in table.items():
+            with self.subTest(milliseconds):
+                self.assertEqual(humanize.duration(milliseconds), wanted)
+
+
+if __name__ == "__main__":
+    unittest.main()

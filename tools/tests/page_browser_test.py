@@ -1,0 +1,213 @@
+"""A browser opens pages of `leaks --html`: of dumps, and of leaks that no dump has."""
+
+import pathlib
+import re
+import shutil
+import subprocess
+import tempfile
+import unittest
+from typing import List
+
+from heap_tools.class_names import shown
+from heap_tools.page import templates
+from tests.support import page_sample
+from tests.support.dump_writer import DumpWriter
+from tests.support.hostile_names import HOSTILE_CLASSES, SCRIPT, hostile_leak
+from tests.support.in_browser import CUT, LOW_CONTRAST, SCROLLING, InBrowser
+from tests.support.services import cache
+from tests.support.tool_test import ToolTest
+
+#: Adds an element to the page, and returns which rule of its policy refuses that.
+REFUSED = """
+new Promise(done => {
+  document.addEventListener('securitypolicyviolation', event => done(event.effectiveDirective));
+  document.body.append(Object.assign(document.createElement('%s'), {%s}));
+})
+"""
+#: The sides of A4 in points.
+A4 = (595, 842)
+
+
+class ToolPageTest(InBrowser, ToolTest):
+    """The pages that leaks makes of dumps have what leaks prints."""
+
+    tool = "leaks"
+
+    def made(self, before: DumpWriter, after: DumpWriter, *files: str) -> List[str]:
+        """Makes the page of two dumps, in files with these names. Returns the columns of the first line of leaks."""
+        before.write(files[0])
+        after.write(files[1])
+        ended = self.ran("--html", "page.html", "--", *files)
+        self.assertEqual(ended.status, 0, ended.said)
+        return str(ended.out).split("\n")[0].split(None, 6)
+
+    def test_leak(self) -> None:
+        """The figures of a leak."""
+        objects, size, share, before, after, holders, way = self.made(cache(40), cache(160, 12), "monday", "friday")
+        self.open("page.html")
+        self.check_screens()
+        *above, name = way.split(" > ")
+        self.assertEqual(self.texts("#holders .holders tbody tr:first-child th > .name"), [name])
+        self.assertEqual(self.texts("#holders .holders tbody tr:first-child li"), above)
+        self.assertEqual(self.texts("header li"), above)
+        row = "#holders .holders tbody tr:first-child td:nth-of-type"
+        self.assertEqual(self.figures(f"{row}(1) data"), [int(holders)])
+        self.assertEqual(self.figures(f"{row}(2) data")[2], int(objects))
+        self.assertEqual(self.figures(f"{row}(3) data"), [int(before), int(after), int(size)])
+        self.assertEqual(self.texts(f"{row}(4)"), [share.replace("%", " %")])
+        self.assertEqual(self.figures("h1 data"), [int(after), int(before)])
+        self.assertEqual(self.texts("#making tbody th"), ["monday", "friday"])
+        self.assertIn("In 12 min", self.texts(".lead")[0])
+        command = self.texts(".next code")[0]
+        self.assertEqual(command, f"held friday {name}")
+        self.assertIn("shop/Order", self.ran(*command.split()[1:], tool="held").out)
+
+    def test_hostile_dump(self) -> None:
+        """The names of classes, of fields and of files are text."""
+        files = [f"{SCRIPT[:-9]}{number}.hprof" for number in (1, 2)]
+        *_, way = self.made(hostile_dump(2), hostile_dump(9), *files)
+        self.assertIn(shown(f"{SCRIPT}.{SCRIPT}".encode()), way)
+        self.open("page.html")
+        self.check_screens()
+        self.assertEqual(self.texts("#making tbody th"), files)
+        grown = self.texts("#grown tbody th")
+        for name in HOSTILE_CLASSES:
+            self.assertIn(templates.plain(shown(name.encode()), 240), grown)
+        self.assertIn(shown(f"{SCRIPT}.{SCRIPT}".encode()), " ".join(self.texts("#holders tbody th")))
+
+
+def hostile_dump(count: int) -> DumpWriter:
+    """Returns a dump in which a static field holds `count` objects of each of the hostile classes."""
+    dump = DumpWriter(time=60_000 * count)
+    objects: List[int] = []
+    dump.of_class(1, SCRIPT, {SCRIPT: 1000})
+    dump.of_class(2, "[Ljava/lang/Object;")
+    for number, name in enumerate(HOSTILE_CLASSES, 10):
+        dump.of_class(number, name, fields=[SCRIPT])
+        for at in range(count):
+            objects.append(10_000 * number + at)
+            dump.instance(objects[-1], number, 0)
+    dump.array(1000, 2, *objects)
+    dump.root(1)
+    return dump
+
+
+def lowest_text(pdf: bytes) -> List[float]:
+    """Returns where the lowest text of each page ends, 1 being the foot. Returns nothing if pdftotext is missing."""
+    if not shutil.which("pdftotext"):
+        return []
+    command = ["pdftotext", "-bbox", "-", "-"]
+    text = subprocess.run(command, input=pdf, stdout=subprocess.PIPE, check=True).stdout.decode()
+    ends = []
+    for sheet in re.findall(r"<page (.*?)</page>", text, re.S):
+        height = float(re.findall(r'height="([\d.]+)"', sheet)[0])
+        ends.append(max(float(end) for end in re.findall(r'yMax="([\d.]+)"', sheet)) / height)
+    return ends
+
+
+class BrowserTest(InBrowser):
+    """What a browser makes of the pages."""
+
+    def test_figures_of_a_leak(self) -> None:
+        """The browser shows the figures of the sample."""
+        leak = page_sample.leak()
+        self.open_page_of(leak)
+        self.check_screens()
+        name = "com/acme/shop/metrics/MetricsService.METERS"
+        self.assertEqual(self.texts("h1"), [f"Static field {name} holds 20.4 MB, up from 4.0 MB"])
+        cell = "#holders tbody tr:first-child td:nth-of-type(3)"
+        self.assertEqual(self.texts(f"{cell} data"), ["4.0 MB", "20.4 MB", "+16.4 MB"])
+        self.assertEqual(self.texts("#grown tbody th"), [it.name for it in leak.grown])
+        exact = set(self.figures("#making td data"))
+        for dump in leak.dumps:
+            self.assertLessEqual({dump.reachable.bytes, dump.reachable.objects, dump.unreachable.bytes, dump.size}, exact)
+        self.assertEqual(self.texts("#last tfoot data"), ["1,304,914", "58.3 MB"])
+        self.assertEqual([[step] for step in self.texts("#holders tbody tr:last-child li")], leak.holders[-1].above)
+        self.assertEqual(self.texts("title")[0], f"{name}: 4.0 MB to 20.4 MB")
+
+    def test_other_pages(self) -> None:
+        """A page of which nothing was found, and one that has all that there can be."""
+        for leak in page_sample.bare_leak(), page_sample.full_leak():
+            self.open_page_of(leak)
+            self.check_screens()
+
+    def test_wide_table_scrolls(self) -> None:
+        """Between the two widths a table may be wider than its place: then a shadow shows that it scrolls."""
+        self.open_page_of(page_sample.full_leak())
+        self.browser.show(660)
+        self.assertLessEqual(self.browser.value("document.documentElement.scrollWidth"), 660)
+        self.assertIn("dumps", self.browser.value(SCROLLING))
+        style = self.browser.value("getComputedStyle(document.querySelector('.scroll')).backgroundAttachment")
+        self.assertEqual(sorted(set(style.split(", "))), ["local", "scroll"])
+
+    def test_paper(self) -> None:
+        """On paper the page is light, also for those who have it dark, and nothing is cut."""
+        self.open_page_of(page_sample.full_leak())
+        self.browser.show(700, dark=True, media="print")
+        self.check_shown(700)
+        self.assertEqual(self.browser.value("getComputedStyle(document.querySelector('h2')).color"), "rgb(21, 25, 30)")
+
+    def test_printed(self) -> None:
+        """It is printed on A4, and no page but the last is left half empty."""
+        for leak in page_sample.leak(), page_sample.full_leak(), page_sample.leak(grown=page_sample.leak().grown * 4):
+            self.open_page_of(leak)
+            self.browser.show(700, media="print")
+            printed = self.browser.printed()
+            self.assertTrue(printed.startswith(b"%PDF-"))
+            sides = re.findall(rb"/MediaBox \[0 0 ([\d.]+) ([\d.]+)\]", printed)
+            self.assertEqual({(round(float(width)), round(float(height))) for width, height in sides}, {A4})
+            for ends in lowest_text(printed)[:-1]:
+                self.assertGreater(ends, 0.7)
+
+    def test_hostile_names(self) -> None:
+        """The browser shows hostile names as text."""
+        self.open_page_of(hostile_leak())
+        self.check_screens(may_scroll=True)
+        self.assertIn(SCRIPT, self.texts("#grown tbody th"))
+        self.assertIn("\\xe2\\x80\\xaeltr\\xe2\\x81\\xa6", self.texts("#making tbody th"))
+        self.assertEqual(self.browser.value("document.images.length + document.links.length"), 7)
+
+    def test_screen_reader(self) -> None:
+        """The parts that a screen reader finds have names, on narrow screens, too."""
+        self.open_page_of(page_sample.leak())
+        for width in 1280, 390:
+            self.browser.show(width)
+            parts = self.browser.named()
+            for role in "banner", "navigation", "main", "contentinfo", "table", "figure", "rowheader":
+                self.assertIn(role, [part for part, _ in parts])
+            images = [name for role, name in parts if role in ("image", "img")]
+            self.assertEqual(len(images), 2 + len(page_sample.leak().grown))
+            self.assertTrue(all(images))
+            regions = [name for role, name in parts if role == "region"]
+            self.assertTrue(all(regions))
+            self.assertIn("What holds it", regions)
+
+    def test_policy(self) -> None:
+        """If a name ever were more than text, the policy of the page would still refuse to fetch or to run it."""
+        self.open_page_of(page_sample.leak())
+        for tag, attributes, rule in [
+            ("img", "src: 'http://127.0.0.1:9/x'", "img-src"),
+            ("script", "textContent: 'alert(1)'", "script-src-elem"),
+            ("iframe", "src: 'http://127.0.0.1:9/x'", "frame-src"),
+        ]:
+            with self.subTest(tag):
+                self.assertEqual(self.browser.value(REFUSED % (tag, attributes)), rule)
+
+    def test_the_browser_sees_what_is_wrong(self) -> None:
+        """These tests would see a page that fetches, runs, overflows, is cut or is pale."""
+        pale = "<p style='color: #999; width: 2000px'>pale"
+        cut = "<div class=scroll style='width: 50px; overflow: auto'><table class=wide><td>" + "x" * 200 + "</table></div>"
+        with tempfile.TemporaryDirectory() as room:
+            file = pathlib.Path(room, "wrong.html")
+            file.write_text(f"{pale}<img src='http://127.0.0.1:9/x'><script>alert(1)</script></p>{cut}")
+            self.browser.open(file.as_uri())
+        self.assertIn("http://127.0.0.1:9/x", self.browser.fetched())
+        self.assertGreaterEqual(len(self.browser.logged()), 2)
+        self.assertEqual(len(self.browser.value(LOW_CONTRAST)), 1)
+        self.assertGreater(self.browser.value("document.documentElement.scrollWidth"), 1280)
+        self.assertEqual(self.browser.value(SCROLLING), ["wide"])
+        self.assertEqual(self.browser.value(CUT), ["x" * 40])
+
+
+if __name__ == "__main__":
+    unittest.main()

@@ -1,0 +1,63 @@
+"""The treemap of the last heap: its groups, and its boxes."""
+
+import unittest
+
+from heap_tools.page import treemap
+from tests.support import page_sample
+
+
+class TreemapTest(unittest.TestCase):
+    """What the last heap is made of."""
+
+    def test_packages(self) -> None:
+        """The group of a class."""
+        table = {
+            "com/acme/shop/catalog/Product": "com/acme/shop",
+            "[[Ljava/util/HashMap$Node;": "java/util",
+            "byte[]": "arrays of numbers",
+            "[[I": "arrays of numbers",
+            "<class>": "classes",
+            "Main": "no package",
+            "[LMain;": "no package",
+            "?0x7f": "no package",
+        }
+        for name, package in table.items():
+            with self.subTest(name):
+                self.assertEqual(treemap.package_of(name), package)
+
+    def test_short_names(self) -> None:
+        """The name of a class in its box."""
+        table = {"a/B$C": "B$C", "[[La/B;": "B[][]", "byte[]": "byte[]", "Main": "Main", "<class>": "<class>"}
+        for name, short in table.items():
+            with self.subTest(name):
+                self.assertEqual(treemap.short_name(name), short)
+
+    def test_groups_lose_nothing(self) -> None:
+        """The groups have all objects, bytes and classes."""
+        classes = page_sample.classes()
+        whole = treemap.total_of(classes.values())
+        for most in (1, 2, 3, 50):
+            with self.subTest(most):
+                groups = treemap.groups_of(classes, most, most)
+                self.assertLessEqual(len(groups), most)
+                self.assertEqual(treemap.total_of(group.amount for group in groups), whole)
+                self.assertEqual(sum(part.classes for group in groups for part in group.parts), len(classes))
+
+    def test_boxes_fill_the_box(self) -> None:
+        """Each box is as large as its weight, and within the whole."""
+        for weights in [[1], [6, 6, 4, 3, 2, 2, 1], [10**12, 1, 1], list(range(100, 0, -1))]:
+            with self.subTest(len(weights)):
+                boxes = treemap.boxes_of(weights, treemap.Box(0, 0, 600, 400))
+                self.assertEqual(len(boxes), len(weights))
+                for weight, box in zip(weights, boxes):
+                    self.assertAlmostEqual(box.width * box.height, weight / sum(weights) * 240_000, delta=0.01)
+                    self.assertGreaterEqual(min(box.x, box.y), 0)
+                    self.assertLess(max(box.x + box.width - 600, box.y + box.height - 400), 0.01)
+
+    def test_no_box_is_no_fault(self) -> None:
+        """A box without room has no boxes."""
+        self.assertEqual(treemap.boxes_of([1], treemap.Box(0, 0, 0, 10)), [])
+
+
+if __name__ == "__main__":
+    unittest.main()

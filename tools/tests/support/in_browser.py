@@ -1,0 +1,130 @@
+"""Tests of pages in a browser: what a page fetches, logs and shows, and whether it fits and has contrast."""
+
+import atexit
+import pathlib
+import tempfile
+import unittest
+from typing import Any, List
+
+from heap_tools import page
+from tests.support import chromium
+
+#: Returns the texts of the page whose contrast is below 4.5, as the browser draws them.
+LOW_CONTRAST = """
+(() => {
+  const numbers = text => text.match(/[\\d.]+/g).map(Number);
+  const light = colour => {
+    const [r, g, b] = colour.map(it => it / 255).map(it => it <= 0.04045 ? it / 12.92 : ((it + 0.055) / 1.055) ** 2.4);
+    return 0.2126 * r + 0.7152 * g + 0.0722 * b;
+  };
+  const ground = element => {
+    const box = element.closest('svg.cell') || element.closest('g.group');
+    if (box) return numbers(getComputedStyle(box.querySelector('rect')).fill);
+    for (let at = element; at; at = at.parentElement) {
+      const colour = numbers(getComputedStyle(at).backgroundColor);
+      if (colour.length < 4 || colour[3] > 0) return colour;
+    }
+    return [255, 255, 255];
+  };
+  const low = [];
+  for (const element of document.querySelectorAll('body *')) {
+    const text = [...element.childNodes].filter(it => it.nodeType === 3).map(it => it.data).join('').trim();
+    if (!text || !element.getClientRects().length) continue;
+    const style = getComputedStyle(element);
+    const front = light(numbers(element instanceof SVGElement ? style.fill : style.color));
+    const back = light(ground(element));
+    const ratio = (Math.max(front, back) + 0.05) / (Math.min(front, back) + 0.05);
+    if (ratio < 4.5) low.push(`${ratio.toFixed(2)} ${element.tagName} ${text.slice(0, 40)}`);
+  }
+  return low;
+})()
+"""
+#: Returns the texts that are cut: they reach out of what clips them, or of the page.
+CUT = """
+(() => {
+  const isShown = it => it.getClientRects().length && !it.closest('.aside, caption, thead, title, desc, svg.cell');
+  const cut = [];
+  for (const element of document.querySelectorAll('body *')) {
+    const text = [...element.childNodes].filter(it => it.nodeType === 3).map(it => it.data).join('').trim();
+    if (!text || !isShown(element)) continue;
+    const range = document.createRange();
+    range.selectNodeContents(element);
+    const box = range.getBoundingClientRect();
+    const clip = (element.closest('.scroll, svg.chart') || document.documentElement).getBoundingClientRect();
+    if (box.left < clip.left - 1 || box.right > clip.right + 1) cut.push(text.slice(0, 40));
+  }
+  return cut;
+})()
+"""
+#: Returns the kinds of the tables that are wider than their place.
+SCROLLING = (
+    "[...document.querySelectorAll('.scroll')].filter(it => it.scrollWidth > it.clientWidth + 1)"
+    ".map(it => it.firstElementChild.className)"
+)
+
+
+def say_left_out() -> None:
+    """Says that no page was opened in a browser."""
+    print("left out: the pages in a browser: no chromium is here", flush=True)
+
+
+class InBrowser(unittest.TestCase):
+    """A test with a browser. Without one it is left out, and the last line of all says so."""
+
+    browser: chromium.Chromium
+
+    @classmethod
+    def setUpClass(cls) -> None:
+        """Starts the browser."""
+        program = chromium.found()
+        if not program:
+            atexit.unregister(say_left_out)
+            atexit.register(say_left_out)
+            raise unittest.SkipTest("no chromium is here")
+        cls.browser = chromium.Chromium(program)
+
+    @classmethod
+    def tearDownClass(cls) -> None:
+        """Ends the browser."""
+        cls.browser.close()
+
+    def open(self, file: str) -> None:
+        """Opens a page, and requires that it fetched nothing, logged nothing and runs nothing."""
+        address = pathlib.Path(file).resolve().as_uri()
+        self.browser.open(address)
+        self.assertEqual(self.browser.fetched(), [address])
+        self.assertEqual(self.browser.logged(), [])
+        self.assertEqual(self.browser.value("document.scripts.length"), 0)
+
+    def open_page_of(self, leak: page.Leak) -> None:
+        """Opens the page of a leak."""
+        with tempfile.TemporaryDirectory() as room:
+            page.save(leak, f"{room}/leak.html")
+            self.open(f"{room}/leak.html")
+
+    def check_screens(self, may_scroll: bool = False) -> None:
+        """Requires that the page fits into each window, that all text has contrast, and that one of the pictures that
+        show the same is shown. `may_scroll`: its tables need not fit."""
+        for width, dark in (1280, False), (1280, True), (390, False), (390, True):
+            with self.subTest(width=width, dark=dark):
+                self.browser.show(width, dark)
+                self.check_shown(width, may_scroll)
+
+    def check_shown(self, width: int, may_scroll: bool = False) -> None:
+        """Requires that of the page in a window of this width."""
+        self.assertLessEqual(self.browser.value("document.documentElement.scrollWidth"), width)
+        self.assertEqual(self.browser.value(LOW_CONTRAST), [])
+        if not may_scroll:
+            self.assertEqual((self.browser.value(SCROLLING), self.browser.value(CUT)), ([], []))
+        for kind in "chart", "treemap":
+            pictures = f"[...document.querySelectorAll('svg.{kind}')].map(it => it.clientWidth > 0)"
+            self.assertIn(sorted(self.browser.value(pictures)), ([], [False, False, True]))
+
+    def texts(self, selector: str) -> List[str]:
+        """Returns the texts of the elements that a selector names, with plain blanks."""
+        found = self.browser.value(f"[...document.querySelectorAll({selector!r})].map(it => it.textContent)")
+        return [" ".join(text.replace("\u00a0", " ").split()) for text in found]
+
+    def figures(self, selector: str) -> Any:
+        """Returns the exact figures of the elements that a selector names."""
+        return self.browser.value(f"[...document.querySelectorAll({selector!r})].map(it => Number(it.value))")
