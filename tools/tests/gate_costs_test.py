@@ -77,6 +77,7 @@ class TablesTest(unittest.TestCase):
         lines = [gate_table.head(), *(gate_table.line(name, row) for name, row in rows.items())]
         lines.append(gate_table.line(gate_table.ALL, gate_table.sums(rows)))
         self.assertEqual("\n".join([*lines, ""]), TABLE)
+        self.assertEqual(gate_table.line("low", gate_table.Row(0.6, 0.4, 2)).split(), ["low", "1", "-", "2"])
 
     def test_the_page(self) -> None:
         """The page of the repository has a row for each crate, and the sums of the rows."""
@@ -94,7 +95,7 @@ class PartsTest(unittest.TestCase):
         costs = Costs()
         for crate, what, edit, minutes in (
             ("low", gate_parts.CHECK, "", 2),
-            ("low", gate_parts.EDITS, "", 1),
+            ("low", gate_parts.EDITS, "", 4),
             ("low", gate_parts.EDITS, "one", 3),
             ("low", gate_parts.EDITS, "two", 4),
             ("high", gate_parts.CHECK, "", 5),
@@ -102,10 +103,10 @@ class PartsTest(unittest.TestCase):
         ):
             costs.add(Part(crate, what, edit), 60 * minutes)
         uses: dict[str, list[str]] = {"low": [], "high": ["low"]}
-        # `high` is checked from 2 to 7. Beside it: the copy up to 1, the tests of `high`, two up to 7, one up to 10.
+        # `high` is checked from 2 to 7. Beside it: the copy up to 4, the tests of `high`, two up to 9, one from 7 on.
         self.assertEqual(gate_parts.minutes_with(2, uses, costs), 10)
-        self.assertEqual(gate_parts.minutes_with(1, uses, costs), 16)
-        self.assertEqual(gate_parts.minutes_with(9, uses, costs), 7)
+        self.assertEqual(gate_parts.minutes_with(1, uses, costs), 19)
+        self.assertEqual(gate_parts.minutes_with(9, uses, costs), 8)  # the copy, then the longest edit
         self.assertEqual(costs.crates(), ["low", "high"])
         self.assertEqual([it.edit for it in costs.edits()], ["two", "one"])
 
