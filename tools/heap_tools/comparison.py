@@ -18,6 +18,7 @@ from heap_tools.reports import Amount, Unit
 from heap_tools.running_calls import Calls, DumpSide, without_running_calls
 from heap_tools.same_program import Taken, other_program, wrong_order
 from heap_tools.search_progress import SearchProgress
+from heap_tools.weak_growth import MUCH, weak_growth, weakly_held_words
 
 
 #: How many dumps between the first and the last are asked what the lines hold in them.
@@ -33,6 +34,8 @@ class Comparison:
         self.began = time.time()
         self.dumps: List[DumpRuns] = []
         self.omitted_calls: Optional[Calls] = None
+        self.follows_weak: bool = options.weak
+        self.weakly_held = Amount()
         paths = [options.before, *options.after]
         for number, path in enumerate(paths, 1):
             progress.show(f"reading dump {number} of {len(paths)}")
@@ -52,11 +55,11 @@ class Comparison:
     def probe(self) -> GrowthProbe:
         """Returns what asks the first and the last dump about the growth. Calls that are running do not count."""
         self.progress.show()
-        sides = [DumpSide.prepared(each, self.options.weak) for each in (self.first, self.last)]
         unit = Unit.OBJECTS if self.options.objects else Unit.BYTES
         families = None
         if self.options.of_class:
             families = [family_of(self.options.of_class, self.last.dump, self.last.report)]
+        sides = self._sides(families, unit)
         growth = grown(sides, families, unit)
         if growth <= 0:
             families, unit = self._grown_families(sides, families, unit), Unit.OBJECTS
@@ -66,6 +69,26 @@ class Comparison:
         earlier = EarlierProbe(first.runs, first.candidates, families, unit, show, first.base)
         return GrowthProbe(earlier, last.runs, last.candidates, families, unit, show, last.base)
 
+    def _sides(self, families: Optional[List[str]], unit: Unit) -> List[DumpSide]:
+        """Returns the first and the last dump. Weak references are cut, unless the user follows them, or most of the
+        growth is held by them alone, which is said."""
+        sides = [DumpSide.prepared(each, self.follows_weak) for each in (self.first, self.last)]
+        if self.follows_weak:
+            return sides
+        followed = [DumpSide.prepared(each, follows_weak=True) for each in (self.first, self.last)]
+        growth = weak_growth(sides, followed, families)
+        if unit.of(growth) <= max(0, grown(sides, families, unit)):
+            self.weakly_held = growth
+            return sides
+        say(f"leaks: {weakly_held_words(growth)}: most of the growth; so these references are followed")
+        self.follows_weak = True
+        return followed
+
+    def weak_words(self, probe: GrowthProbe) -> str:
+        """Returns a text on what grew and is held by weak references alone, empty if that is little."""
+        held, whole = probe.unit.of(self.weakly_held), probe.unit.of(probe.growth)
+        return f"{weakly_held_words(self.weakly_held)}: see --weak" if 100 * held >= MUCH * whole else ""
+
     def probes_between(self, probe: GrowthProbe) -> List[EarlierProbe]:
         """Returns what asks some dumps between the first and the last what `probe` asks these: at most `BETWEEN`."""
         between = self.dumps[1:-1]
@@ -73,7 +96,7 @@ class Comparison:
         chosen = [between[(2 * number + 1) * len(between) // (2 * count)] for number in range(count)]
         found = []
         for runs in chosen:
-            side = DumpSide.prepared(runs, self.options.weak)
+            side = DumpSide.prepared(runs, self.follows_weak)
             if self.omitted_calls:
                 side = side.without(self.omitted_calls)
             probe_of_side = EarlierProbe(

@@ -4,9 +4,9 @@ references alone, and what is outside the heap."""
 from typing import List, NamedTuple, Optional
 
 from heap_tools.candidates import joint_name
+from heap_tools.comparison import Comparison
 from heap_tools.console import say
 from heap_tools.direct_buffers import direct_memory, more_direct_memory
-from heap_tools.dump_runs import DumpRuns
 from heap_tools.humanize import counted
 from heap_tools.leak_lines import Answer, Line
 from heap_tools.thread_counts import ThreadCount, grown_thread_counts
@@ -30,18 +30,20 @@ class LineObjects(NamedTuple):
 
 
 class Notes(NamedTuple):
-    """All that is said beside the lines."""
+    """All that is said beside the lines. `sentences` are on what the lines do not have."""
 
     objects: Optional[LineObjects]
     threads: List[ThreadCount]
-    direct: str
+    sentences: List[str]
 
 
-def notes_of(answer: Answer, first: DumpRuns, last: DumpRuns, shows_values: bool) -> Notes:
-    """Returns what is to be said beside the lines of an answer about two dumps."""
-    direct = more_direct_memory(direct_memory(first.dump), direct_memory(last.dump))
-    threads = grown_thread_counts(first.dump, last.dump)[:PATTERNS]
-    return Notes(line_objects(answer, shows_values), threads, direct)
+def notes_of(comparison: Comparison, answer: Answer, shows_values: bool) -> Notes:
+    """Returns what is to be said beside the lines of an answer."""
+    first, last = comparison.first.dump, comparison.last.dump
+    direct = more_direct_memory(direct_memory(first), direct_memory(last))
+    threads = grown_thread_counts(first, last)[:PATTERNS]
+    sentences = [each for each in (comparison.weak_words(answer.probe), direct) if each]
+    return Notes(line_objects(answer, shows_values), threads, sentences)
 
 
 def line_objects(answer: Answer, shows_values: bool) -> Optional[LineObjects]:
@@ -60,5 +62,5 @@ def say_notes(notes: Notes) -> None:
         say(f"leaks: {notes.objects}")
     for each in notes.threads:
         say(f"leaks: {counted(each.after - each.before, 'thread')} more: {each}")
-    if notes.direct:
-        say(f"leaks: {notes.direct}")
+    for sentence in notes.sentences:
+        say(f"leaks: {sentence}")

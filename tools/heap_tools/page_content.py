@@ -14,13 +14,14 @@ from heap_tools.comparison import Comparison
 from heap_tools.dump_runs import DumpRuns, is_dump
 from heap_tools.faults import UNWRITABLE, WRONG_USE, Fault
 from heap_tools.leak_lines import Answer, Line
+from heap_tools.leak_notes import Notes
 from heap_tools.omissions import on_page
 from heap_tools.probe import GrowthProbe, Probe
 from heap_tools.program_facts import facts_of
 from heap_tools.reports import Amount
 
 
-def content_of(comparison: Comparison, answer: Answer) -> page.Leak:
+def content_of(comparison: Comparison, answer: Answer, notes: Notes) -> page.Leak:
     """Returns what the page of `--html` shows."""
     options, probe = comparison.options, answer.probe
     of_class = probe.families[0] if probe.families and options.of_class else None
@@ -40,7 +41,18 @@ def content_of(comparison: Comparison, answer: Answer) -> page.Leak:
         is_of_grown=bool(probe.families) and of_class is None,
         program=program_of(comparison.last),
         next_steps=next_steps(comparison.last.path, answer.lines, [of_class] if of_class else [it.name for it in grown]),
+        objects=objects_of(notes),
+        threads=[page.ThreadGroupEntry(it.pattern, it.before, it.after, it.frames) for it in notes.threads],
+        notes=[f"{sentence[0].upper()}{sentence[1:]}." for sentence in notes.sentences],
     )
+
+
+def objects_of(notes: Notes) -> List[page.ObjectEntry]:
+    """Returns the objects that hold most of what a line holds."""
+    if not notes.objects:
+        return []
+    number, found = notes.objects.number, notes.objects.objects
+    return [page.ObjectEntry(number, it.class_name, it.named_by, it.amount.bytes, it.percent) for it in found]
 
 
 def dump_of(runs: DumpRuns) -> page.DumpEntry:

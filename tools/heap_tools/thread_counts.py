@@ -28,9 +28,14 @@ class ThreadCount(NamedTuple):
     after: int
     stack: List[Frame]
 
+    @property
+    def frames(self) -> List[str]:
+        """The methods of the stack, at most the innermost `FRAMES`."""
+        return [f"{frame.class_name}.{frame.method}" for frame in self.stack[:FRAMES]]
+
     def __str__(self) -> str:
-        stack = ", ".join(f"{frame.class_name}.{frame.method}" for frame in self.stack[:FRAMES])
-        return f'threads "{self.pattern}": {self.before}, then {self.after}' + (f"; most are in {stack}" if stack else "")
+        most = f"; most are in {', '.join(self.frames)}" if self.stack else ""
+        return f'threads "{self.pattern}": {self.before}, then {self.after}{most}'
 
 
 def number_of_threads(dump: HeapDump) -> int:

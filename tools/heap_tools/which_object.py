@@ -27,9 +27,13 @@ class HoldingObject(NamedTuple):
     amount: Amount
     percent: float
 
+    @property
+    def named_by(self) -> str:
+        """What names it, in one line, empty if nothing does."""
+        return ", ".join(map(str, self.names))
+
     def __str__(self) -> str:
-        names = ", ".join(map(str, self.names))
-        return f"{self.class_name}{f' ({names})' if names else ''}: {self.percent:.0f}%"
+        return f"{self.class_name}{f' ({self.named_by})' if self.names else ''}: {self.percent:.0f}%"
 
 
 class ObjectSearch:

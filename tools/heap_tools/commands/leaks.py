@@ -13,6 +13,7 @@ from heap_tools.console import Progress, is_terminal, say, write
 from heap_tools.faults import WRONG_USE, Fault
 from heap_tools.humanize import counted, duration, size
 from heap_tools.leak_lines import Answer, Line, answer_of
+from heap_tools.leak_notes import Notes, notes_of, say_notes
 from heap_tools.page_content import content_of, require_place, write_page
 from heap_tools.probe import GrowthProbe
 from heap_tools.reports import Unit
@@ -82,6 +83,7 @@ def parser() -> Parser:
     it.option("--top", "N", "Show at most N lines [default: 4]", type=number(1), default=4)
     it.option("--html", "FILE", "Also write a page for a browser, with charts, to FILE")
     it.flag("--weak", "Follow soft, weak, final and phantom references, too")
+    it.flag("--no-values", "Name no object by a text of the dump: only by its class")
     return it
 
 
@@ -127,14 +129,15 @@ def say_remainder(answer: Answer, comparison: Comparison) -> None:
         say(f"leaks: {comparison.why_missing()}")
 
 
-def compared(options: Namespace, words: Sequence[str]) -> Tuple[Comparison, Answer]:
-    """Compares the dumps. Returns the comparison and its answer."""
+def compared(options: Namespace, words: Sequence[str]) -> Tuple[Comparison, Answer, Notes]:
+    """Compares the dumps. Returns the comparison, its answer, and what is said beside the lines."""
     progress = Progress("leaks")
     try:
         comparison = Comparison(options, words, progress)
         probe = comparison.probe()
         between = functools.partial(comparison.probes_between, probe)
-        return comparison, answer_of(probe, options.at_least, options.top, comparison.progress, between)
+        answer = answer_of(probe, options.at_least, options.top, comparison.progress, between)
+        return comparison, answer, notes_of(comparison, answer, not options.no_values)
     finally:
         progress.clear()
 
@@ -148,11 +151,12 @@ def main(words: Sequence[str]) -> int:
         raise Fault(WRONG_USE, f"{1 + len(options.after)} dumps: at most {MOST_FILES}")
     if options.html is not None:
         require_place(options.html)
-    comparison, answer = compared(options, words)
+    comparison, answer, notes = compared(options, words)
     top = heads(comparison, answer.probe, width_of(answer.lines)) if is_terminal(sys.stdout) and answer.lines else ""
     write(top + printed(answer.lines, answer.probe.unit))
     if options.html is not None:
-        write_page(options.html, content_of(comparison, answer))
+        write_page(options.html, content_of(comparison, answer, notes))
+    say_notes(notes)
     say_remainder(answer, comparison)
     cost = f"{counted(answer.search.all, 'field')}, {counted(comparison.heapmark.runs, 'run')} of heapmark"
     say(f"leaks: {cost}, {time.time() - comparison.began:.1f} s")
