@@ -8,6 +8,7 @@ from heap_tools.class_growth import growths
 from heap_tools.class_lookup import family_of
 from heap_tools.class_names import family
 from heap_tools.console import Progress, say
+from heap_tools.direct_buffers import BUFFER, direct_memory, more_direct_memory
 from heap_tools.dump_runs import DumpRuns
 from heap_tools.faults import NOTHING, UNREADABLE, Fault
 from heap_tools.heapmark import Heapmark
@@ -42,6 +43,7 @@ class Comparison:
             self.dumps.append(DumpRuns.of(self.heapmark, path, "leaks"))
         self.first, self.last = self.dumps[0], self.dumps[-1]
         self._require_one_program()
+        self.direct = direct_memory(self.first.dump), direct_memory(self.last.dump)
 
     def _require_one_program(self) -> None:
         """Raises `Fault` if the dumps are not in the order of their times, or seem to be of two programs."""
@@ -61,6 +63,14 @@ class Comparison:
             families = [family_of(self.options.of_class, self.last.dump, self.last.report)]
         sides = self._sides(families, unit)
         growth = grown(sides, families, unit)
+        before, after = self.direct
+        if families is None and unit is Unit.BYTES and after.bytes - before.bytes > max(0, growth):
+            say(
+                f"leaks: {more_direct_memory(before, after)}: the heap grew by less; so the shares are of the objects of "
+                f"{BUFFER}"
+            )
+            families, unit = [BUFFER], Unit.OBJECTS
+            growth = grown(sides, families, unit)
         if growth <= 0:
             families, unit = self._grown_families(sides, families, unit), Unit.OBJECTS
             growth = grown(sides, families, unit)

@@ -6,7 +6,7 @@ from typing import List, NamedTuple, Optional
 from heap_tools.candidates import joint_name
 from heap_tools.comparison import Comparison
 from heap_tools.console import say
-from heap_tools.direct_buffers import direct_memory, more_direct_memory
+from heap_tools.direct_buffers import more_direct_memory
 from heap_tools.humanize import counted
 from heap_tools.leak_lines import Answer, Line
 from heap_tools.thread_counts import ThreadCount, grown_thread_counts
@@ -14,6 +14,8 @@ from heap_tools.which_object import FEWEST, MOST, HoldingObject, objects_that_ho
 
 #: How many patterns of names of threads are said.
 PATTERNS = 3
+#: Of how many lines the objects are looked for.
+TRIED = 2
 
 
 class LineObjects(NamedTuple):
@@ -39,21 +41,25 @@ class Notes(NamedTuple):
 
 def notes_of(comparison: Comparison, answer: Answer, shows_values: bool) -> Notes:
     """Returns what is to be said beside the lines of an answer."""
-    first, last = comparison.first.dump, comparison.last.dump
-    direct = more_direct_memory(direct_memory(first), direct_memory(last))
-    threads = grown_thread_counts(first, last)[:PATTERNS]
+    direct = more_direct_memory(*comparison.direct)
+    threads = grown_thread_counts(comparison.first.dump, comparison.last.dump)[:PATTERNS]
     sentences = [each for each in (comparison.weak_words(answer.probe), direct) if each]
     return Notes(line_objects(answer, shows_values), threads, sentences)
 
 
 def line_objects(answer: Answer, shows_values: bool) -> Optional[LineObjects]:
-    """Returns the objects that hold most of the first line about 2 to 100,000 of them, or None if many hold a little
-    each."""
-    for number, line in enumerate(answer.lines, 1):
-        if FEWEST <= line.held.holders <= MOST:
-            found = objects_that_hold(answer.probe, line.held, shows_values)
-            return LineObjects(number, line, found) if found else None
-    return None
+    """Returns the objects that hold most of a line about 2 to 100,000 of them: of the first line whose objects have
+    names, else of the first one of which few objects hold most; None if many hold a little each. At most `TRIED` lines
+    are tried."""
+    asked = [(at, it) for at, it in enumerate(answer.lines, 1) if FEWEST <= it.held.holders <= MOST]
+    nameless = None
+    for number, line in asked[:TRIED]:
+        found = objects_that_hold(answer.probe, line.held, shows_values)
+        if found and any(each.names for each in found):
+            return LineObjects(number, line, found)
+        if found and nameless is None:
+            nameless = LineObjects(number, line, found)
+    return nameless
 
 
 def say_notes(notes: Notes) -> None:
