@@ -1,7 +1,7 @@
 -- If the form of a text has no fault, the text is accepted or its links have a first fault. Each object keeps or breaks
 -- each rule, so the first object that breaks one is found by going through them.
 use Rattle.heap_graph.proofs.Words.{Class, Contains, DuplicateObject, Fails, HasLinkFault, Instance, InstanceSize}
-use Rattle.heap_graph.proofs.Words.{IsAccepted, IsChain, IsFirstFault, IsLateRule, IsLeastRule, IsOrderly, IsPlaced}
+use Rattle.heap_graph.proofs.Words.{IsAccepted, IsChain, IsFirstFault, IsLeastRule, IsOrderly, IsPlaced, IsRuleOfKind}
 use Rattle.heap_graph.proofs.Words.{LinkRule, List, None, ObjectArray, Option, Record, Some, Spells, SubRecord}
 use Rattle.heap_graph.proofs.Words.{SuperChain, TooLarge, UnknownClass, ZeroObject, [], ap, arith, cases_eq, cases_lt}
 use Rattle.heap_graph.proofs.Words.{class_dump, class_named, code_of, heap_list, heap_of, id_of, inl, inr}
@@ -13,9 +13,9 @@ use Rattle.heap_graph.proofs.Firsts.{slice_get_of}
 use Rattle.heap_graph.proofs.ChainLaws.{chain_ends, cut_is_no_chain, one_chain}
 use Rattle.heap_graph.proofs.PathLaws.{contains_cases, contains_first, contains_none, contains_rest}
 use Rattle.heap_graph.proofs.RuleLaws.{array_fine, array_unknown, class_bad, class_fine, instance_fine}
-use Rattle.heap_graph.proofs.RuleLaws.{instance_unknown, instance_wrong, none_late}
+use Rattle.heap_graph.proofs.RuleLaws.{instance_unknown, instance_wrong, none_of_kind}
 use Rattle.heap_graph.proofs.Superclasses.{Comes, comes_to, super_told}
-use Rattle.heap_graph.proofs.Testing.{IsOwn, duplicate_fails, fine_object, large_fails, late_fails, none_before}
+use Rattle.heap_graph.proofs.Testing.{IsOwn, duplicate_fails, fine_object, large_fails, none_before, of_kind_fails}
 use Rattle.heap_graph.proofs.Testing.{zero_fails}
 
 contains_told : (xs : List ℕ) (x : ℕ) → Contains xs x ⊎ (Contains xs x → ⊥)
@@ -26,8 +26,8 @@ contains_told (y ∷ ys) x =
     (λ none. inr (λ c. ⊎_elim other none (contains_cases y ys x c))) (contains_told ys x))
     (cases_eq y x)
 
-abbrev LateTold : ℕ → List SubRecord → SubRecord → Type 0
-LateTold s heap o = (rule : Option LinkRule) × IsLateRule s heap o rule
+abbrev HasRuleOfKind : ℕ → List SubRecord → SubRecord → Type 0
+HasRuleOfKind s heap o = (rule : Option LinkRule) × IsRuleOfKind s heap o rule
 
 abbrev LeastTold : ℕ → List SubRecord → ℕ → Type 0
 LeastTold s heap n = (rule : Option LinkRule) × IsLeastRule s heap n rule
@@ -42,7 +42,7 @@ module _ (s : ℕ) (heap : List SubRecord) where
   -- ---- the rules on classes, superclasses and sizes
 
   sized : (i : Instance) (c : Class) → class_named heap i.class ≡ Some c → Comes heap i.class
-      → LateTold s heap (instance_dump i)
+      → HasRuleOfKind s heap (instance_dump i)
   sized i c named (inl h) =
       let right : length i.values ≡ layout_size s h.0 → (chain : List Class) → IsChain heap i.class chain
       → length i.values ≡ layout_size s chain =
@@ -55,40 +55,41 @@ module _ (s : ℕ) (heap : List SubRecord) where
   sized i c named (inr (inr never)) =
       (None, instance_fine s heap i c named (λ chain is. absurd (chain_ends heap i.class chain is never)))
 
-  instance_told : (i : Instance) (o : Option Class) → class_named heap i.class ≡ o → LateTold s heap (instance_dump i)
+  instance_told : (i : Instance) (o : Option Class) → class_named heap i.class ≡ o
+      → HasRuleOfKind s heap (instance_dump i)
   instance_told i None e = (Some UnknownClass, instance_unknown s heap i e)
   instance_told i (Some c) e = sized i c e (comes_to heap i.class)
 
   array_told : (a : ObjectArray) (o : Option Class) → class_named heap a.class ≡ o
-      → LateTold s heap (object_array_dump a)
+      → HasRuleOfKind s heap (object_array_dump a)
   array_told a None e = (Some UnknownClass, array_unknown s heap a e)
   array_told a (Some c) e = (None, array_fine s heap a c e)
 
-  late_told : (o : SubRecord) → LateTold s heap o
-  late_told (root r) = (None, none_late s heap (root r) (λ h. h) (λ h. h) (λ h. h))
-  late_told (class_dump c) =
+  of_kind_told : (o : SubRecord) → HasRuleOfKind s heap o
+  of_kind_told (root r) = (None, none_of_kind s heap (root r) (λ h. h) (λ h. h) (λ h. h))
+  of_kind_told (class_dump c) =
       ⊎_elim (λ bad. (Some SuperChain, class_bad s heap c bad)) (λ fine. (None, class_fine s heap c fine))
       (super_told heap c.super)
-  late_told (instance_dump i) = instance_told i (class_named heap i.class) refl
-  late_told (object_array_dump a) = array_told a (class_named heap a.class) refl
-  late_told (primitive_array_dump a) =
-      (None, none_late s heap (primitive_array_dump a) (λ h. h) (λ h. h) (λ h. h))
+  of_kind_told (instance_dump i) = instance_told i (class_named heap i.class) refl
+  of_kind_told (object_array_dump a) = array_told a (class_named heap a.class) refl
+  of_kind_told (primitive_array_dump a) =
+      (None, none_of_kind s heap (primitive_array_dump a) (λ h. h) (λ h. h) (λ h. h))
 
   -- ---- all rules
 
-  own_told : (n : ℕ) (o : SubRecord) → IsOwn heap n o → (rule : Option LinkRule) → IsLateRule s heap o rule
+  own_told : (n : ℕ) (o : SubRecord) → IsOwn heap n o → (rule : Option LinkRule) → IsRuleOfKind s heap o rule
       → LeastTold s heap n
-  own_told n o own (Some rule) late = (Some rule, late_fails s heap n o own rule late)
-  own_told n o own None late =
-      ⊎_elim (λ few. (None, fine_object s heap n o own late few))
-      (λ many. (Some TooLarge, large_fails s heap n o own late many)) (cases_lt n most_objects)
+  own_told n o own (Some rule) kind = (Some rule, of_kind_fails s heap n o own rule kind)
+  own_told n o own None kind =
+      ⊎_elim (λ few. (None, fine_object s heap n o own kind few))
+      (λ many. (Some TooLarge, large_fails s heap n o own kind many)) (cases_lt n most_objects)
 
   least_told : (n : ℕ) (o : SubRecord) → slice_get (objects heap) n ≡ Some o → LeastTold s heap n
   least_told n o is =
-      let late = late_told o in
+      let kind = of_kind_told o in
       ⊎_elim (λ zero_id. (Some ZeroObject, zero_fails s heap n o is zero_id))
       (λ not_zero. ⊎_elim (λ again. (Some DuplicateObject, duplicate_fails s heap n o is not_zero again))
-      (λ first. own_told n o (record { is = is; not_zero = not_zero; first = first }) late.0 late.1)
+      (λ first. own_told n o (record { is = is; not_zero = not_zero; first = first }) kind.0 kind.1)
       (contains_told (take n (map id_of (objects heap))) (id_of o))) (cases_eq (id_of o) 0)
 
   -- ---- the first object that breaks a rule

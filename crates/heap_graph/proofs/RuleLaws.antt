@@ -1,6 +1,6 @@
 -- What the fates of classes say of the rules on superclasses and sizes.
-use Rattle.heap_graph.proofs.Words.{BreaksLate, Class, DuplicateObject, Fate, HasBadChain, HasWrongSize, HaveFates}
-use Rattle.heap_graph.proofs.Words.{Instance, InstanceSize, IsBadSuper, IsChain, IsFate, IsLateRule, IsSettled}
+use Rattle.heap_graph.proofs.Words.{BreaksOfKind, Class, DuplicateObject, Fate, HasBadChain, HasWrongSize, HaveFates}
+use Rattle.heap_graph.proofs.Words.{Instance, InstanceSize, IsBadSuper, IsChain, IsFate, IsRuleOfKind, IsSettled}
 use Rattle.heap_graph.proofs.Words.{LacksClass, Layout, LinkRule, List, NeverEnds, None, ObjectArray, Sight, Some}
 use Rattle.heap_graph.proofs.Words.{SubRecord, SuperChain, TableEntry, UnknownClass, ZeroObject, [], ap, arith}
 use Rattle.heap_graph.proofs.Words.{class_dump, class_named, code_of, get_or, get_or_from_slice_get, ids_of, inl, inr}
@@ -104,56 +104,56 @@ endless_super heap super never = inr never
 
 module _ (s : ℕ) (heap : List SubRecord) where
   -- an object breaks none of the rules on classes, superclasses and sizes
-  pub none_late : (o : SubRecord) → (LacksClass heap o → ⊥) → (HasBadChain heap o → ⊥) → (HasWrongSize s heap o → ⊥)
-      → IsLateRule s heap o None
-  none_late o class chain size UnknownClass h = class h
-  none_late o class chain size SuperChain h = chain h
-  none_late o class chain size InstanceSize h = size h
-  none_late o class chain size rule h = h
+  pub none_of_kind : (o : SubRecord) → (LacksClass heap o → ⊥) → (HasBadChain heap o → ⊥) → (HasWrongSize s heap o → ⊥)
+      → IsRuleOfKind s heap o None
+  none_of_kind o class chain size UnknownClass h = class h
+  none_of_kind o class chain size SuperChain h = chain h
+  none_of_kind o class chain size InstanceSize h = size h
+  none_of_kind o class chain size rule h = h
 
-  class_least : (c : Class) (rule : LinkRule) → BreaksLate s heap (class_dump c) rule
+  class_least : (c : Class) (rule : LinkRule) → BreaksOfKind s heap (class_dump c) rule
       → code_of SuperChain ≤ code_of rule
   class_least c SuperChain h = omega arith
   class_least c rule h = absurd h
 
-  pub class_bad : (c : Class) → IsBadSuper heap c.super → IsLateRule s heap (class_dump c) (Some SuperChain)
+  pub class_bad : (c : Class) → IsBadSuper heap c.super → IsRuleOfKind s heap (class_dump c) (Some SuperChain)
   class_bad c bad = (bad, class_least c)
 
-  pub class_fine : (c : Class) → (IsBadSuper heap c.super → ⊥) → IsLateRule s heap (class_dump c) None
-  class_fine c fine = none_late (class_dump c) (λ h. h) fine (λ h. h)
+  pub class_fine : (c : Class) → (IsBadSuper heap c.super → ⊥) → IsRuleOfKind s heap (class_dump c) None
+  class_fine c fine = none_of_kind (class_dump c) (λ h. h) fine (λ h. h)
 
   -- ---- classes and sizes of instances and arrays
 
-  eleven_least : (o : SubRecord) (rule : LinkRule) → BreaksLate s heap o rule → code_of UnknownClass ≤ code_of rule
+  eleven_least : (o : SubRecord) (rule : LinkRule) → BreaksOfKind s heap o rule → code_of UnknownClass ≤ code_of rule
   eleven_least o ZeroObject h = absurd h
   eleven_least o DuplicateObject h = absurd h
   eleven_least o rule h = omega arith
 
   pub instance_unknown : (i : Instance) → class_named heap i.class ≡ None
-      → IsLateRule s heap (instance_dump i) (Some UnknownClass)
+      → IsRuleOfKind s heap (instance_dump i) (Some UnknownClass)
   instance_unknown i e = (e, eleven_least (instance_dump i))
 
   sized_least : (i : Instance) (c : Class) → class_named heap i.class ≡ Some c → (rule : LinkRule)
-      → BreaksLate s heap (instance_dump i) rule → code_of InstanceSize ≤ code_of rule
+      → BreaksOfKind s heap (instance_dump i) rule → code_of InstanceSize ≤ code_of rule
   sized_least i c named UnknownClass h = absurd (some_none (sym named ∙ h))
   sized_least i c named InstanceSize h = omega arith
   sized_least i c named rule h = absurd h
 
   pub instance_wrong : (i : Instance) (c : Class) (chain : List Class) → class_named heap i.class ≡ Some c
       → IsChain heap i.class chain → (length i.values ≡ layout_size s chain → ⊥)
-      → IsLateRule s heap (instance_dump i) (Some InstanceSize)
+      → IsRuleOfKind s heap (instance_dump i) (Some InstanceSize)
   instance_wrong i c chain named is wrong = ((chain, is, wrong), sized_least i c named)
 
   pub instance_fine : (i : Instance) (c : Class) → class_named heap i.class ≡ Some c
       → ((chain : List Class) → IsChain heap i.class chain → length i.values ≡ layout_size s chain)
-      → IsLateRule s heap (instance_dump i) None
+      → IsRuleOfKind s heap (instance_dump i) None
   instance_fine i c named right =
-      none_late (instance_dump i) (λ h. some_none (sym named ∙ h)) (λ h. h) (λ h. h.2 (right h.0 h.1))
+      none_of_kind (instance_dump i) (λ h. some_none (sym named ∙ h)) (λ h. h) (λ h. h.2 (right h.0 h.1))
 
   pub array_unknown : (a : ObjectArray) → class_named heap a.class ≡ None
-      → IsLateRule s heap (object_array_dump a) (Some UnknownClass)
+      → IsRuleOfKind s heap (object_array_dump a) (Some UnknownClass)
   array_unknown a e = (e, eleven_least (object_array_dump a))
 
   pub array_fine : (a : ObjectArray) (c : Class) → class_named heap a.class ≡ Some c
-      → IsLateRule s heap (object_array_dump a) None
-  array_fine a c named = none_late (object_array_dump a) (λ h. some_none (sym named ∙ h)) (λ h. h) (λ h. h)
+      → IsRuleOfKind s heap (object_array_dump a) None
+  array_fine a c named = none_of_kind (object_array_dump a) (λ h. some_none (sym named ∙ h)) (λ h. h) (λ h. h)

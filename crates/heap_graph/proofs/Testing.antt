@@ -1,6 +1,6 @@
 -- What the tests of an object show.
-use Rattle.heap_graph.proofs.Words.{Breaks, BreaksLate, Contains, DuplicateObject, Fails, InstanceSize, IsFirstRepeat}
-use Rattle.heap_graph.proofs.Words.{IsLateRule, IsLeastFault, IsLeastRule, LinkRule, List, None, Some, SubRecord}
+use Rattle.heap_graph.proofs.Words.{Breaks, BreaksOfKind, Contains, DuplicateObject, Fails, InstanceSize, IsFirstRepeat}
+use Rattle.heap_graph.proofs.Words.{IsLeastFault, IsLeastRule, IsRuleOfKind, LinkRule, List, None, Some, SubRecord}
 use Rattle.heap_graph.proofs.Words.{SuperChain, TooLarge, UnknownClass, ZeroObject, ap, arith, cases_order, code_of}
 use Rattle.heap_graph.proofs.Words.{id_of, map, most_objects, objects, option_map, same_Some, slice_get, slice_get-map}
 use Rattle.heap_graph.proofs.Words.{subst, sym, take, ℕ, ⊎_elim, ◌+◌, ◌<◌, ◌∙◌, ◌≡◌, ◌≤◌}
@@ -42,41 +42,41 @@ module _ (s : ℕ) (heap : List SubRecord) (n : ℕ) (o : SubRecord) where
         → IsLeastFault s heap n DuplicateObject
     duplicate_fails own again = least_fails DuplicateObject again (ten_least own)
 
-  late_breaks : (rule : LinkRule) → BreaksLate s heap o rule → Breaks s heap n o rule
-  late_breaks ZeroObject h = absurd h
-  late_breaks DuplicateObject h = absurd h
-  late_breaks TooLarge h = absurd h
-  late_breaks rule h = h
+  of_kind_breaks : (rule : LinkRule) → BreaksOfKind s heap o rule → Breaks s heap n o rule
+  of_kind_breaks ZeroObject h = absurd h
+  of_kind_breaks DuplicateObject h = absurd h
+  of_kind_breaks TooLarge h = absurd h
+  of_kind_breaks rule h = h
 
   module _ (own : IsOwn heap n o) where
-    late_least : (rule : LinkRule)
-        → ((other : LinkRule) → BreaksLate s heap o other → code_of rule ≤ code_of other) → (other : LinkRule)
+    of_kind_least : (rule : LinkRule)
+        → ((other : LinkRule) → BreaksOfKind s heap o other → code_of rule ≤ code_of other) → (other : LinkRule)
         → Breaks s heap n o other → code_of rule ≤ code_of other
-    late_least rule least ZeroObject b = absurd (own.not_zero b)
-    late_least rule least DuplicateObject b = absurd (own.first b)
-    late_least rule least TooLarge b = (code_range rule).1
-    late_least rule least other b = least other b
+    of_kind_least rule least ZeroObject b = absurd (own.not_zero b)
+    of_kind_least rule least DuplicateObject b = absurd (own.first b)
+    of_kind_least rule least TooLarge b = (code_range rule).1
+    of_kind_least rule least other b = least other b
 
-    pub late_fails : (rule : LinkRule) → IsLateRule s heap o (Some rule) → IsLeastFault s heap n rule
-    late_fails rule late = least_fails own.is rule (late_breaks rule late.0) (late_least rule late.1)
+    pub of_kind_fails : (rule : LinkRule) → IsRuleOfKind s heap o (Some rule) → IsLeastFault s heap n rule
+    of_kind_fails rule kind = least_fails own.is rule (of_kind_breaks rule kind.0) (of_kind_least rule kind.1)
 
-    large_least : IsLateRule s heap o None → (other : LinkRule) → Breaks s heap n o other → 14 ≤ code_of other
-    large_least late ZeroObject b = absurd (own.not_zero b)
-    large_least late DuplicateObject b = absurd (own.first b)
-    large_least late TooLarge b = omega arith
-    large_least late other b = absurd (late other b)
+    large_least : IsRuleOfKind s heap o None → (other : LinkRule) → Breaks s heap n o other → 14 ≤ code_of other
+    large_least kind ZeroObject b = absurd (own.not_zero b)
+    large_least kind DuplicateObject b = absurd (own.first b)
+    large_least kind TooLarge b = omega arith
+    large_least kind other b = absurd (kind other b)
 
-    pub large_fails : IsLateRule s heap o None → most_objects ≤ n → IsLeastFault s heap n TooLarge
-    large_fails late large = least_fails own.is TooLarge large (large_least late)
+    pub large_fails : IsRuleOfKind s heap o None → most_objects ≤ n → IsLeastFault s heap n TooLarge
+    large_fails kind large = least_fails own.is TooLarge large (large_least kind)
 
-    none_breaks : IsLateRule s heap o None → n < most_objects → (rule : LinkRule) → Breaks s heap n o rule → ⊥
-    none_breaks late few ZeroObject b = own.not_zero b
-    none_breaks late few DuplicateObject b = own.first b
-    none_breaks late few TooLarge b = absurd (omega (arith, few, b))
-    none_breaks late few rule b = late rule b
+    none_breaks : IsRuleOfKind s heap o None → n < most_objects → (rule : LinkRule) → Breaks s heap n o rule → ⊥
+    none_breaks kind few ZeroObject b = own.not_zero b
+    none_breaks kind few DuplicateObject b = own.first b
+    none_breaks kind few TooLarge b = absurd (omega (arith, few, b))
+    none_breaks kind few rule b = kind rule b
 
-    pub fine_object : IsLateRule s heap o None → n < most_objects → IsLeastRule s heap n None
-    fine_object late few rule f = none_breaks late few rule (the_object own.is rule f)
+    pub fine_object : IsRuleOfKind s heap o None → n < most_objects → IsLeastRule s heap n None
+    fine_object kind few rule f = none_breaks kind few rule (the_object own.is rule f)
 
 -- one more object that breaks no rule
 pub none_before : (s : ℕ) (heap : List SubRecord) (n : ℕ)

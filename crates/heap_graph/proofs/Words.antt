@@ -107,5 +107,5 @@ pub use Rattle.heap_graph.specs.working.PlacedObjects.{AreObjects, AreOf, ArePla
 pub use Rattle.heap_graph.specs.working.ReadObjects.{IsReadOf}
 pub use Rattle.heap_graph.specs.working.Refinement.{StandFor}
 pub use Rattle.heap_graph.specs.working.Resolving.{IsNamed, Resolves, known_ids, target_in}
-pub use Rattle.heap_graph.specs.working.RuleAnswers.{AreFine, BreaksLate, IsFaultOf, IsLateRule, IsLeastRule}
+pub use Rattle.heap_graph.specs.working.RuleAnswers.{AreFine, BreaksOfKind, IsFaultOf, IsLeastRule, IsRuleOfKind}
 pub use Rattle.heap_graph.specs.working.Values.{values_ids}

@@ -2,7 +2,7 @@
 use Rattle.std.specs.Prelude.{Bool, List, None, Option, Some, [], false, filter, filter_map, if◌then◌else◌, is_none}
 use Rattle.std.specs.Prelude.{length, map, slice_get, ℕ, ◌++◌, ◌==◌, ◌∷◌, ◌≡◌}
 use Rattle.byteorder.specs.Endian.{big_number}
-use Rattle.heap_graph.specs.Fields.{declared_fields, field_ids}
+use Rattle.heap_graph.specs.Fields.{declared_fields, field_ids, object_type}
 use Rattle.heap_graph.specs.Layout.{IsChain}
 use Rattle.heap_graph.specs.Heap.{number_named, objects}
 use Rattle.hprof_grammar.specs.SubRecord.{Class, Constant, Instance, Member, Static, SubRecord}
@@ -10,10 +10,10 @@ use Rattle.hprof_grammar.specs.SubRecord.SubRecord.{class_dump, instance_dump, o
 
 -- the values of type 2 among the constant pool entries, and among the static fields
 abbrev pub constant_ids : ℕ → List Constant → List ℕ
-constant_ids s constants = map (λ c. big_number s c.value) (filter (λ c. c.type == 2) constants)
+constant_ids s constants = map (λ c. big_number s c.value) (filter (λ c. c.type == object_type) constants)
 
 abbrev pub static_ids : ℕ → List Static → List ℕ
-static_ids s statics = map (λ f. big_number s f.value) (filter (λ f. f.type == 2) statics)
+static_ids s statics = map (λ f. big_number s f.value) (filter (λ f. f.type == object_type) statics)
 
 -- Superclass, loader, signers and protection domain, then the constant pool, then the static fields. The two reserved
 -- identifiers are not followed.

@@ -1,7 +1,7 @@
 //! The list of fields that are not followed.
 
 ghost use Rattle.std.specs.Prelude.{IfOk, List, [], false, true, ◌<◌, ◌≡◌, ◌≤◌};
-ghost use Rattle.heap_graph.specs.SkipText.{SpellsSkips};
+ghost use Rattle.heap_graph.specs.SkipText.{SpellsSkips, most_entries};
 ghost use Rattle.heap_graph.specs.Skips.{SkipEntry};
 
 mod class_skips;
@@ -37,8 +37,8 @@ impl<'t, A: Allocator> Model for Skip<'t, A> {
 
 /// Tests whether a list of `entries` entries has room for another one.
 fn has_room(entries: usize) -> bool
-    ensures room { result ≡ true → entries < 64 }
-    ensures full { result ≡ false → 64 ≤ entries }
+    ensures room { result ≡ true → entries < most_entries }
+    ensures full { result ≡ false → most_entries ≤ entries }
 {
     entries < MOST_ENTRIES
 }

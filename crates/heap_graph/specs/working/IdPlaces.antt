@@ -3,6 +3,7 @@ use Rattle.std.specs.Prelude.{Bool, List, [], drop, if◌then◌else◌, map, no
 use Rattle.byteorder.specs.Endian.{big_number}
 use Rattle.hprof_grammar.specs.SubRecord.{Class, Member}
 use Rattle.hprof_grammar.specs.TagsAndTypes.{size_of}
+use Rattle.heap_graph.specs.Fields.{object_type}
 
 -- the size in bytes of the values of fields, and the same for fields paired with the classes that declare them
 abbrev pub size_together : ℕ → List Member → ℕ
@@ -15,7 +16,7 @@ size_of_fields s fields = sum_by (λ f. size_of s f.1.type) fields
 abbrev pub id_places : (Member → Bool) → ℕ → ℕ → List Member → List ℕ
 id_places skips s at [] = []
 id_places skips s at (m ∷ ms) =
-    (if not (skips m) && (m.type == 2) then at ∷ [] else []) ++ id_places skips s (at + size_of s m.type) ms
+    (if not (skips m) && (m.type == object_type) then at ∷ [] else []) ++ id_places skips s (at + size_of s m.type) ms
 
 -- the identifiers at the places among the values
 abbrev pub ids_at : ℕ → List ℕ → List ℕ → List ℕ

@@ -8,20 +8,20 @@ use Rattle.heap_graph.specs.declared.refusal.LinkRule.TheVariants.{UnknownClass,
 use Rattle.heap_graph.specs.LinkFault.{IsFirstFault, IsLeastFault, code_of}
 use Rattle.heap_graph.specs.LinkRules.{Fails, HasBadChain, HasWrongSize, LacksClass}
 
--- object `o` breaks the rule, which is one of those on classes, superclasses and sizes
-abbrev pub BreaksLate : ℕ → List SubRecord → SubRecord → LinkRule → Type 0
-BreaksLate s heap o ZeroObject = ⊥
-BreaksLate s heap o DuplicateObject = ⊥
-BreaksLate s heap o UnknownClass = LacksClass heap o
-BreaksLate s heap o SuperChain = HasBadChain heap o
-BreaksLate s heap o InstanceSize = HasWrongSize s heap o
-BreaksLate s heap o TooLarge = ⊥
+-- object `o` breaks the rule, which is one of those that depend on its kind: on classes, superclasses and sizes
+abbrev pub BreaksOfKind : ℕ → List SubRecord → SubRecord → LinkRule → Type 0
+BreaksOfKind s heap o ZeroObject = ⊥
+BreaksOfKind s heap o DuplicateObject = ⊥
+BreaksOfKind s heap o UnknownClass = LacksClass heap o
+BreaksOfKind s heap o SuperChain = HasBadChain heap o
+BreaksOfKind s heap o InstanceSize = HasWrongSize s heap o
+BreaksOfKind s heap o TooLarge = ⊥
 
 -- the first of these rules that the object breaks, or `None` if it breaks none
-abbrev pub IsLateRule : ℕ → List SubRecord → SubRecord → Option LinkRule → Type 0
-IsLateRule s heap o None = (rule : LinkRule) → BreaksLate s heap o rule → ⊥
-IsLateRule s heap o (Some rule) = BreaksLate s heap o rule × ((other : LinkRule) → BreaksLate s heap o other
-    → code_of rule ≤ code_of other)
+abbrev pub IsRuleOfKind : ℕ → List SubRecord → SubRecord → Option LinkRule → Type 0
+IsRuleOfKind s heap o None = (rule : LinkRule) → BreaksOfKind s heap o rule → ⊥
+IsRuleOfKind s heap o (Some rule) = BreaksOfKind s heap o rule
+    × ((other : LinkRule) → BreaksOfKind s heap o other → code_of rule ≤ code_of other)
 
 -- the first of all rules that object `n` breaks, or `None` if it breaks none
 abbrev pub IsLeastRule : ℕ → List SubRecord → ℕ → Option LinkRule → Type 0

@@ -11,6 +11,15 @@ use indexmap::IndexMap;
 use std::alloc::{AllocError, Allocator};
 use std::marker::Model;
 
+/// The result of a look-up of a class.
+#[derive(Clone, Copy)]
+pub(crate) struct LookUp {
+    /// The number of the class, or `None` if there is none.
+    number: Option<u32>,
+    /// Whether the guessed class was the right one, so that the map was not searched.
+    is_guess: bool,
+}
+
 /// Classes in order, found by their identifiers. A class's number is its position in the map. The map is searched only
 /// if the guessed class is another one.
 #[derive(Drop)]
@@ -90,23 +99,25 @@ impl<A: Allocator> ClassTable<A> {
         }
     }
 
-    /// Returns the number of the class `id`, if the table contains it.
+    /// Looks up the class `id`: tests the guessed class, and searches the map only if that is another one.
+    // One function says where a class is and whether it was guessed, so that tests see a look-up that never guesses.
     // Inlined, as the `find` of the classes is.
     #[inline(always)]
-    fn find(&self, id: u64) -> Option<u32>
+    fn look_up(&self, id: u64) -> LookUp
         requires { length self.now.entries < 2 ^ 32 }
-        ensures { result ≡ position (λ x. x == id) (ids_of self.now.entries) }
+        ensures { result.number ≡ position (λ x. x == id) (ids_of self.now.entries) }
     {
-        let number = self.guesses.guess(id);
-        if self.bears(number, id) {
-            return Some(number);
+        let guess = self.guesses.guess(id);
+        if self.bears(guess, id) {
+            return LookUp {
+                number: Some(guess),
+                is_guess: true,
+            };
         }
-        self.find_in_map(id)
-    }
-
-    /// Tests whether `find` needs no search of the map for `id`, because the guessed class bears `id`.
-    fn is_guessed(&self, id: u64) -> bool {
-        self.bears(self.guesses.guess(id), id)
+        LookUp {
+            number: self.find_in_map(id),
+            is_guess: false,
+        }
     }
 
     /// Returns the identifier and the entry of class `number`.
@@ -129,12 +140,14 @@ impl<'d, A: Allocator> Classes<'d, A> {
         requires { length self.now.table.entries < 2 ^ 32 }
         ensures { result ≡ position (λ x. x == id) (ids_of self.now.table.entries) }
     {
-        self.table.find(id)
+        self.table.look_up(id).number
     }
 
-    /// Tests whether a class bears `id` and is found by a guess, without a search of the map.
-    pub(crate) fn is_guessed(&self, id: u64) -> bool {
-        self.table.is_guessed(id)
+    /// Tests whether `find` needs no search of the map for `id`, because the guessed class bears `id`.
+    pub(crate) fn is_guessed(&self, id: u64) -> bool
+        requires { length self.now.table.entries < 2 ^ 32 }
+    {
+        self.table.look_up(id).is_guess
     }
 
     /// Returns the identifier of class `number`.

@@ -27,14 +27,14 @@ impl<'d, A: Allocator> Objects<'d, A> {
     ghost use Rattle.id_index.specs.Repeats.{IsFirstRepeat};
     ghost use Rattle.heap_graph.specs.working.PlacedObjects.{AreOf};
     ghost use Rattle.heap_graph.specs.working.ClassFates.{HaveFatesOf};
-    ghost use Rattle.heap_graph.specs.working.RuleAnswers.{IsLateRule, IsLeastRule};
+    ghost use Rattle.heap_graph.specs.working.RuleAnswers.{IsLeastRule, IsRuleOfKind};
 
     /// Returns `LinkRule::SuperChain` if the class dump at `at` breaks this rule, otherwise `None`.
     fn class_rule(&self, at: u32) -> Option<LinkRule>
         requires object { (c : Class) × Stands self.now.view at (class_dump c) }
         requires heap { (heap : List SubRecord) × HaveFatesOf self.now heap }
         ensures { (heap : List SubRecord) (c : Class) → HaveFatesOf self.now heap
-            → Stands self.now.view at (class_dump c) → IsLateRule self.now.view.id_size heap (class_dump c) result }
+            → Stands self.now.view at (class_dump c) → IsRuleOfKind self.now.view.id_size heap (class_dump c) result }
     {
         let superclass = self.view.superclass(at);
         if superclass == 0 {
@@ -56,7 +56,7 @@ impl<'d, A: Allocator> Objects<'d, A> {
         requires heap { (heap : List SubRecord) × HaveFatesOf self.now heap }
         ensures { (heap : List SubRecord) (i : Instance) → HaveFatesOf self.now heap
             → Stands self.now.view at (instance_dump i)
-            → IsLateRule self.now.view.id_size heap (instance_dump i) result }
+            → IsRuleOfKind self.now.view.id_size heap (instance_dump i) result }
     {
         let number = match self.classes.find(self.view.instance_class(at)) {
             Some(number) => number,
@@ -79,7 +79,7 @@ impl<'d, A: Allocator> Objects<'d, A> {
         requires heap { (heap : List SubRecord) × HaveFatesOf self.now heap }
         ensures { (heap : List SubRecord) (a : ObjectArray) → HaveFatesOf self.now heap
             → Stands self.now.view at (object_array_dump a)
-            → IsLateRule self.now.view.id_size heap (object_array_dump a) result }
+            → IsRuleOfKind self.now.view.id_size heap (object_array_dump a) result }
     {
         match self.classes.find(self.view.array_class(at)) {
             Some(_) => return None,
@@ -87,19 +87,19 @@ impl<'d, A: Allocator> Objects<'d, A> {
         }
     }
 
-    /// Returns the first of the rules on classes, superclasses and sizes that the object at `at` breaks, or `None` if
-    /// it breaks none.
-    fn late_rule(&self, at: u32) -> Option<LinkRule>
+    /// Returns the first of the rules for the kind of the object at `at` that the object breaks, or `None` if it breaks
+    /// none. These rules are on classes, superclasses and sizes.
+    fn rule_of_kind(&self, at: u32) -> Option<LinkRule>
         requires object { (o : SubRecord) × Stands self.now.view at o × (is_object o ≡ true) }
         requires heap { (heap : List SubRecord) × HaveFatesOf self.now heap }
         ensures { (heap : List SubRecord) (o : SubRecord) → HaveFatesOf self.now heap → Stands self.now.view at o
-            → is_object o ≡ true → IsLateRule self.now.view.id_size heap o result }
+            → is_object o ≡ true → IsRuleOfKind self.now.view.id_size heap o result }
     {
         match self.view.kind(at) {
-            ObjectKind::Class => return self.class_rule(at),
-            ObjectKind::Instance => return self.instance_rule(at),
-            ObjectKind::ObjectArray => return self.array_rule(at),
-            ObjectKind::PrimitiveArray => return None,
+            ObjectKind::Class => self.class_rule(at),
+            ObjectKind::Instance => self.instance_rule(at),
+            ObjectKind::ObjectArray => self.array_rule(at),
+            ObjectKind::PrimitiveArray => None,
         }
     }
 
@@ -123,7 +123,7 @@ impl<'d, A: Allocator> Objects<'d, A> {
         if number == repeat {
             return Some(LinkRule::DuplicateObject);
         }
-        if let Some(rule) = self.late_rule(place) {
+        if let Some(rule) = self.rule_of_kind(place) {
             return Some(rule);
         }
         if number >= MOST_OBJECTS {

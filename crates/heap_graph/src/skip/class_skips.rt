@@ -5,6 +5,7 @@ ghost use Rattle.hprof_grammar.specs.MemberFields.{member_of};
 ghost use Rattle.hprof_grammar.specs.Record.{Record};
 ghost use Rattle.hprof_grammar.specs.SubRecord.{Member};
 ghost use Rattle.std.specs.List.{list_any};
+ghost use Rattle.heap_graph.specs.Fields.{object_type};
 ghost use Rattle.heap_graph.specs.Skips as skips;
 ghost use Rattle.heap_graph.specs.working.ClassSkips.{names_class};
 ghost use Rattle.heap_graph.specs.working.PlacedNames.{AreNamesByIdOf};
@@ -106,7 +107,7 @@ impl<'s, 'a, A: Allocator> ClassSkips<'s, 'a, A> {
     pub(crate) fn follows(&self, field: MemberField) -> bool
         requires { (test : Member → Bool) × IsSkipTest self.now test }
         ensures { (test : Member → Bool) → IsSkipTest self.now test
-            → result ≡ (not (test (member_of field)) && (field.type_code == 2)) }
+            → result ≡ (not (test (member_of field)) && (field.type_code == object_type)) }
     {
         field.type_code == OBJECT_TYPE && !self.has(field.name)
     }

@@ -1,7 +1,7 @@
 //! An entry of the list of fields that are not followed, and how it is read from the text.
 
 ghost use Rattle.std.specs.Prelude.{Contains, IfNone, IfSome, MatchOption, ◌++◌, ◌∷◌, ◌≡◌};
-ghost use Rattle.heap_graph.specs.SkipText.{IsEntry, entry_text};
+ghost use Rattle.heap_graph.specs.SkipText.{IsEntry, comma, entry_text};
 ghost use Rattle.heap_graph.specs.Skips.{SkipEntry};
 
 use std::marker::Model;
@@ -40,8 +40,9 @@ impl<'t> SkipEntry<'t> {
 /// Returns the part of `text` before its first comma, and the part after this comma. Returns `text` and `None` if
 /// `text` has no comma.
 pub(super) fn first_piece(text: &str) -> (&str, Option<&str>)
-    ensures no_comma { Contains result.0.now 44 → ⊥ }
-    ensures whole { MatchOption result.1 (text.now ≡ result.0.now) (λ more. text.now ≡ result.0.now ++ 44 ∷ more.now) }
+    ensures no_comma { Contains result.0.now comma → ⊥ }
+    ensures whole { MatchOption result.1 (text.now ≡ result.0.now)
+        (λ more. text.now ≡ result.0.now ++ comma ∷ more.now) }
 {
     match text.split_once(',') {
         Some((piece, more)) => (piece, Some(more)),
@@ -52,7 +53,7 @@ pub(super) fn first_piece(text: &str) -> (&str, Option<&str>)
 /// Reads the entry that `piece` spells. `piece` must have no comma. The last dot separates the class from the field.
 /// Returns `None` if there is no dot, or if the class or the field is empty.
 pub(super) fn entry_of(piece: &str) -> Option<SkipEntry<'_>>
-    requires { Contains piece.now 44 → ⊥ }
+    requires { Contains piece.now comma → ⊥ }
     ensures entry { IfSome result (λ e. IsEntry e × (entry_text e ≡ piece.now)) }
     ensures none { IfNone result ((e : SkipEntry) → IsEntry e → entry_text e ≡ piece.now → ⊥) }
 {

@@ -3,7 +3,7 @@ use Rattle.std.proofs.Common.{nat_eq, subst}
 use Rattle.std.specs.List.{IsDistinct}
 use Rattle.heap_graph.specs.working.ClassList.{ClassList, ids_of}
 use Rattle.heap_graph.proofs.GuessLaws.{own_place}
-use Rattle.heap_graph.proofs.classes.table.ClassTable.find.Goals as goal
+use Rattle.heap_graph.proofs.classes.table.ClassTable.look_up.Goals as goal
 
 pub returns-then-bears : goal.returns-then-bears
 returns-then-bears g c =
