@@ -13,7 +13,7 @@ use std::marker::Model;
 /// The number of entries beside two guessed ends: a look-up reads them to see that the ends are right.
 const BESIDE: usize = 2;
 
-/// The most entries that a look-up reads if the guessed ends are right, and at most 16 entries apart: the two beside the
+/// The most entries that a look-up reads if the guessed ends are right and at most 16 entries apart: the two beside the
 /// ends, five that halve, and the one that is found.
 pub(crate) const GUESSED: usize = BESIDE + 6;
 

@@ -8,8 +8,8 @@ use prog.Memory.{Memory}
 use prog.Routine.{Routine}
 use types.Logic.{Logic, sem}
 use contract.Monad.{Fun}
-use types.Kit.{‵, ◌⊛◌, some, later, ◌$◌, ◌∵◌, !, qed, move, keep, use1, split, join, pick, fjoin, feq_i, feq_l, flt_i, check}
-use types.Kit.{show, await, updating, now as at_once, done}
+use types.Kit.{‵, ◌⊛◌, some, later, ◌$◌, ◌∵◌, !, qed, move, keep, use1, split, join, pick, fjoin, feq_i, feq_l, flt_i}
+use types.Kit.{check, show, await, updating, now as at_once, done}
 use denote.Memory.{hidden_shr}
 use denote.Builtin.{bool, unit}
 use denote.Steps.{nothing, only}
@@ -28,12 +28,28 @@ module _ {M : Type 1} {𝓤 : Ura M} (𝓛 : Logic 𝓤) (at_mem : Memory → SP
 
   -- the quota d at the place c, and n bytes
   abbrev pub at_asks : Lft → Share → ℕ × ℕ → Row.Denot → ℕ → Asks.Ghost
-  at_asks κ q c d n =
-      (((κ, tt), (q, tt), tt, (record { ref_ptr = c; now = d }, (n, tt)), (vptr c.0 c.1 ∷ [], (vint w64 n ∷ [], tt))), tt)
+  at_asks κ q c d n = (
+    (
+      (κ, tt),
+      (q, tt),
+      tt,
+      (record { ref_ptr = c; now = d }, (n, tt)),
+      (vptr c.0 c.1 ∷ [], (vint w64 n ∷ [], tt)),
+    ),
+    tt,
+  )
 
   abbrev pub at_returns : Lft → Share → ℕ × ℕ → Row.Denot → ℕ → Returns.Ghost
-  at_returns κ q c d n =
-      (((κ, tt), (q, tt), tt, (record { ref_ptr = c; now = d }, (n, tt)), (vptr c.0 c.1 ∷ [], (vint w64 n ∷ [], tt))), tt)
+  at_returns κ q c d n = (
+    (
+      (κ, tt),
+      (q, tt),
+      tt,
+      (record { ref_ptr = c; now = d }, (n, tt)),
+      (vptr c.0 c.1 ∷ [], (vint w64 n ∷ [], tt)),
+    ),
+    tt,
+  )
 
 module _ {M : Type 1} {𝓤 : Ura M} (𝓛 : Logic 𝓤) (at_mem : Memory → SProp 𝓤) (run : Routine → Fun 𝓤) (κ : Lft)
     (q : Share) (c : ℕ × ℕ) (d : Row.Denot) (n : ℕ) where
