@@ -166,6 +166,26 @@ class ComparisonsTest(unittest.TestCase):
         status, out, err = self.ended("run.sh", "1", self.whole)
         self.assertEqual((status, out, err), (1, "", f"run.sh: {self.heapmark} is not built\n"))
 
+    @unittest.skipUnless(shutil.which("cc") and shutil.which("/usr/bin/time"), "cc or time is not here")
+    def test_phases(self) -> None:
+        """A run without a report has no times."""
+        for name in ("no report", "no refusal", "a signal"):
+            self.program("heapmark", WRONG[name])
+            status, _, err = self.ended("phases.sh", "1", self.whole)
+            self.assertEqual((status, err.splitlines()[-1][:27]), (1, "phases.sh: heapmark: failed"), name)
+
+    @unittest.skipUnless(shutil.which("rustc"), "rustc is not here")
+    def test_differ(self) -> None:
+        """Two programs that fail alike differ."""
+        path = os.environ["PATH"]
+        source, differ = str(TOP / "bench/differ.rs"), str(self.room / "differ")
+        subprocess.run(["rustc", "--edition", "2024", "-o", differ, source], check=True, env={**os.environ, "PATH": path})
+        for name, text in (("a report", MARKER), *WRONG.items()):
+            side = str(self.program("heapmark", text))
+            run = subprocess.run([differ, side, side, "1", "2"], stdout=subprocess.PIPE, check=False, cwd=self.room)
+            is_answer = name in ("a report", "another report")
+            self.assertEqual(run.returncode, 0 if is_answer else 1, name)
+
     def test_rough(self) -> None:
         """A dump of which there is no report, or another one, is not treated; a signal on both sides is wrong."""
         self.assertEqual(self.ended("rough.py", "--count", "2", self.whole, "cut", "many")[0], 0)
