@@ -72,8 +72,9 @@ class QuotesTest(ScriptTest):
         self.assertEqual(self.ended(quotes), (0, ["3 quotations, 0 that do not stand"]))
         page.write_text(page.read_text().replace("entry", "place"))
         self.write("crates/heap/README.md", "As in `src/lost.rt`:\n\n```rust\nfn pop(a: u8) {}\n```\n")
+        self.write("crates/heap/src/lib.rt", "//! No code of `src/lib.rt`:\n//! more words.\n\nfn pop() {}\n")
         status, lines = self.ended(quotes)
-        self.assertEqual((status, lines[-1]), (1, "3 quotations, 2 that do not stand"))
+        self.assertEqual((status, lines[-1]), (1, "3 quotations, 3 that do not stand"))
         self.assertIn("docs/PAGE.md: what is quoted from crates/heap/specs/A.antt does not stand there", lines)
 
 
@@ -89,11 +90,13 @@ class NamesTest(ScriptTest):
         self.write("docs/GLOSSARY.md", glossary)
         self.write("docs/A.md", "# A head\n\nSee [b](B.md#more), [c](C.md) and\n[a](#a-head); `pop_all`, `popAll`.\n")
         self.write("docs/B.md", "# Less\n\n    `lost_word` of a block\n")
+        self.write("bench/run.sh", "# As bench/walk.sh.\necho lost/walk.sh\n")
         status, lines = self.ended(names)
         self.assertEqual(status, 1)
         self.assertEqual(
             sorted(lines[:-1]),
             [
+                "bench/run.sh:1: bench/walk.sh",
                 "crates/heap/src/lib.rt:1: heap/src/lost.rt",
                 "crates/heap/src/lib.rt:1: pop_one",
                 "docs/A.md:3: B.md#more",
