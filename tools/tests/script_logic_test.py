@@ -259,21 +259,24 @@ class EveryByteTest(ScriptTest):
         """Values with one result are one range, which may contain the dump's own value; reports are mixed in."""
         every_byte = script("bench/every_byte.py")
         refused, report = every_byte.Answer(3, 70, b""), every_byte.Answer(0, 2, b"ab")
-        rows = every_byte.ranges((refused, None, refused, report, report, refused))
+        later = every_byte.Answer(3, 71, b"")
+        rows = every_byte.ranges((refused, None, refused, report, report, refused, later))
         mix = ((ord("a") * 31 + ord("b")) * 31 + ord("a")) * 31 + ord("b")
-        self.assertEqual([tuple(it) for it in rows], [(0, 2, 3, 70, 0), (3, 4, 0, 2, mix), (5, 5, 3, 70, 0)])
+        self.assertEqual([tuple(it) for it in rows[:2]], [(0, 2, 3, 70, 0), (3, 4, 0, 2, mix)])
+        self.assertEqual([tuple(it) for it in rows[2:]], [(5, 5, 3, 70, 0), (6, 6, 3, 71, 0)])
 
 
 class UsedNamesTest(ScriptTest):
     """bench/used_names.py"""
 
     def test_copy(self) -> None:
-        """Names of classes and fields stay, other strings go, and no other byte changes."""
+        """Names of classes, of fields and of what a frame names stay, other strings go, and no other byte changes."""
         used_names = script("bench/used_names.py")
         whole = dump_writer.DumpWriter()
         identifiers = {name: whole.text(name) for name in ("lost", "a/A", "next", "more")}
         whole.of_class(8, "a/A", fields=["next"])
         whole.instance(100, 8, 0)
+        whole.thread(1, 100, [(8, "run")])
         whole.write(self.top / "whole")
         wanted = whole.bytes()
         for name in ("lost", "more"):
@@ -281,7 +284,7 @@ class UsedNamesTest(ScriptTest):
             self.assertEqual(wanted.count(record), 1)
             wanted = wanted.replace(record, b"")
         status, lines = self.ended(used_names, str(self.top / "whole"), str(self.top / "copy"))
-        self.assertEqual((status, lines), (0, ["2 strings left out, 2 kept"]))
+        self.assertEqual((status, lines), (0, ["2 strings left out, 5 kept"]))
         self.assertEqual((self.top / "copy").read_bytes(), wanted)
         with contextlib.redirect_stderr(io.StringIO()), self.assertRaises(SystemExit) as ended:
             self.ended(used_names, str(self.top / "whole"), str(self.top / "whole"))
