@@ -145,7 +145,8 @@ class ReadingListTest(ScriptTest):
         """A file comes after those that it uses, and one that nothing rests on only with --outside."""
         reading_list = script("dev/reading_list")
         reading_list.CRATES = self.top / "crates"
-        source = "ghost use Rattle.heap.specs.High.{is_high};\npub fn top() -> u8\n    ensures high { is_high result }\n{\n}\n"
+        clause = "    ensures high { is_high result }\n"
+        source = f"ghost use Rattle.heap.specs.High.{{is_high}};\npub fn top() -> u8\n{clause}{{\n}}\n"
         high = "pub use Rattle.heap.specs.Low.{low}\n\n-- Above.\nis_high : ℕ → Type\nis_high n = low n\n"
         self.write("crates/heap/src/lib.rt", source)
         self.write("crates/heap/specs/High.antt", high)
