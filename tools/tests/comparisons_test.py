@@ -27,6 +27,7 @@ WRONG = {
     "another report": MARKER.replace("1 8 A", "1 9 A"),
     "another refusal": MARKER.replace("at 70", "at 71").replace("printf", "exit 1; printf"),
     "a report and a status": MARKER + "exit 1\n",
+    "a report and a refusal": MARKER + "echo 'plain: refused 3 Truncated at 70' >&2\nexit 1\n",
 }
 #: Writes in place of a program the file of its name in the folder `sides`.
 RUSTC = """#!/bin/sh
@@ -103,11 +104,11 @@ class ComparisonsTest(unittest.TestCase):
                 dump = self.cut if name == "another refusal" else self.whole
                 status, out, _ = self.ended("same.sh", dump)
                 self.assertEqual((status, out.splitlines()[-1]), (1, "1 dumps, 6 runs, 6 different"))
-        for text in (WRONG["no report"], WRONG["no refusal"], WRONG["a signal"]):
-            self.program("heapmark", text)
-            self.program("sides/plain", text)
+        for name in ("no report", "no refusal", "a signal", "a report and a refusal"):
+            self.program("heapmark", WRONG[name])
+            self.program("sides/plain", WRONG[name])
             status, out, _ = self.ended("same.sh", self.whole)
-            self.assertEqual((status, out.splitlines()[-1]), (1, "1 dumps, 6 runs, 6 different"))
+            self.assertEqual((status, out.splitlines()[-1]), (1, "1 dumps, 6 runs, 6 different"), name)
 
     def test_same_beside_a_histogram(self) -> None:
         """The counts of a histogram are compared, too, and one that cannot be read is a failure."""
