@@ -51,11 +51,6 @@ of_report() {
     $3 !~ /^\((reachable|unreachable|unresolved)\)$/ { print $1, $3 in code ? code[$3] : $3 }' "$1"
 }
 
-# require_report NAME: ends the script with status 1 if the run NAME gave no report.
-require_report() {
-    [ "$(end_of "$1")" = report ] || { echo "compare.sh: $1: $(end_of "$1")" >&2; exit 1; }
-}
-
 ran reporter "$@" "$dump"
 require_report reporter
 ran plain "$plain" "$dump" --count all

@@ -234,12 +234,31 @@ impl Maker {
     }
 }
 
-/// Status, standard output, and the refusal without the program's name.
-fn answer(program: &str, dump: &str) -> (Option<i32>, Vec<u8>, String) {
-    let output = Command::new(program).arg(dump).output().expect("the program runs");
-    let told = String::from_utf8_lossy(&output.stderr);
-    let refusal = told.lines().find_map(|line| line.split_once(": refused ")).map_or("", |(_, refusal)| refusal);
-    (output.status.code(), output.stdout, refusal.to_string())
+/// How a program ended: its status, its report, and its refusal without the program's name.
+#[derive(Debug, PartialEq)]
+struct Ended {
+    status: Option<i32>,
+    report: Vec<u8>,
+    refusal: String,
+}
+
+impl Ended {
+    /// Runs `program` on `dump`.
+    fn of(program: &str, dump: &str) -> Ended {
+        let output = Command::new(program).arg(dump).output().expect("the program runs");
+        let told = String::from_utf8_lossy(&output.stderr);
+        let refusal = told.lines().find_map(|line| line.split_once(": refused ")).map_or("", |(_, refusal)| refusal);
+        Ended { status: output.status.code(), report: output.stdout, refusal: refusal.to_string() }
+    }
+
+    /// Tests whether it is a report or a refusal, and not a signal or a status without either.
+    fn is_an_answer(&self) -> bool {
+        match self.status {
+            Some(0) => self.report.ends_with(b"  (unresolved)\n") && self.refusal.is_empty(),
+            Some(1) => self.report.is_empty() && !self.refusal.is_empty(),
+            _ => false,
+        }
+    }
 }
 
 fn main() -> ExitCode {
@@ -261,12 +280,12 @@ fn main() -> ExitCode {
             maker.damage(&mut bytes);
         }
         std::fs::write(&path, &bytes).expect("a file");
-        let (first, second) = (answer(one, dump), answer(other, dump));
-        if first != second {
+        let (first, second) = (Ended::of(one, dump), Ended::of(other, dump));
+        if first != second || !first.is_an_answer() {
             println!("dump {number} differs: {dump}\n{first:?}\n{second:?}");
             return ExitCode::FAILURE;
         }
-        *seen.entry(first.2.split(" at ").next().unwrap_or_default().to_string()).or_default() += 1;
+        *seen.entry(first.refusal.split(" at ").next().unwrap_or_default().to_string()).or_default() += 1;
     }
     std::fs::remove_file(&path).expect("the file is there");
     seen.iter()

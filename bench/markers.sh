@@ -34,6 +34,11 @@ end_of() {
     cat "$room/$1.end"
 }
 
+# require_report NAME: ends the script with status 1 if the run NAME gave no report.
+require_report() {
+    [ "$(end_of "$1")" = report ] || { echo "${0##*/}: $1: $(end_of "$1")" >&2; exit 1; }
+}
+
 # failed NAME: tests whether the run NAME ended without a report and without a refusal.
 failed() {
     [[ $(end_of "$1") == failed* ]]

@@ -12,27 +12,32 @@
 #   report   until the program ends, with what the leader drains after the workers
 #
 # Marking is known by its threads: it is the last time that as many threads live at once as there are workers. Parsing,
-# linking and reporting start fewer threads. A second table has the least, median and largest time of marking;
-# the largest divided by the least; the median time with one worker divided by the row's median; and the processor time
-# (user and system) of the whole program, the median of RUNS further runs without moments.c. heapmark and STARTER are as
-# in bench/run.sh. The words of the variable OPTIONS go to heapmark, as in OPTIONS='--buffer 64'.
+# linking and reporting start fewer threads. A second table has the least, median and largest time of marking; the
+# largest divided by the least; the median time with one worker divided by the row's median; and the processor time
+# (user and system) of the whole program, the median of RUNS further runs without moments.c. Exit status 1 if a run
+# gives no report. heapmark and STARTER are as in bench/run.sh. The words of the variable OPTIONS go to heapmark, as in
+# OPTIONS='--buffer 64'.
 runs=3
 # shellcheck source=bench/head.sh
 . "$(dirname "$0")/head.sh"
+# shellcheck source=bench/markers.sh
+. "$top/bench/markers.sh"
 
 cc -O2 -shared -fPIC -o "$room/moments.so" "$top/bench/moments.c"
 
 # timed WORKERS DUMP: one run; adds "READ BUILD MARK REPORT", in seconds, to what is kept.
 timed() {
     # shellcheck disable=SC2086 # the starter and the options may be several words
-    $starter env LD_PRELOAD="$room/moments.so" MOMENTS="$room/times" WORKERS="$1" \
-        "$heapmark" "$2" --workers "$1" ${OPTIONS:-} > "$room/report"
+    ran heapmark $starter env LD_PRELOAD="$room/moments.so" MOMENTS="$room/times" WORKERS="$1" \
+        "$heapmark" "$2" --workers "$1" ${OPTIONS:-}
+    require_report heapmark
 }
 
 # used WORKERS DUMP: one run by itself; adds its processor time, in seconds, to what is kept.
 used() {
     # shellcheck disable=SC2086 # the starter and the options may be several words
-    $starter /usr/bin/time -q -f '%U %S' -o "$room/clock" "$heapmark" "$2" --workers "$1" ${OPTIONS:-} > "$room/report"
+    ran heapmark $starter /usr/bin/time -q -f '%U %S' -o "$room/clock" "$heapmark" "$2" --workers "$1" ${OPTIONS:-}
+    require_report heapmark
     awk '{ print $1 + $2 }' "$room/clock" >> "$room/used"
 }
 

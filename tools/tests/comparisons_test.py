@@ -27,6 +27,7 @@ WRONG = {
     "another report": MARKER.replace("1 8 A", "1 9 A"),
     "another refusal": MARKER.replace("at 70", "at 71").replace("printf", "exit 1; printf"),
     "a report and a status": MARKER + "exit 1\n",
+    "a report and a refusal": MARKER + "echo 'plain: refused 3 Truncated at 70' >&2\nexit 1\n",
 }
 #: Writes in place of a program the file of its name in the folder `sides`.
 RUSTC = """#!/bin/sh
@@ -103,11 +104,11 @@ class ComparisonsTest(unittest.TestCase):
                 dump = self.cut if name == "another refusal" else self.whole
                 status, out, _ = self.ended("same.sh", dump)
                 self.assertEqual((status, out.splitlines()[-1]), (1, "1 dumps, 6 runs, 6 different"))
-        for text in (WRONG["no report"], WRONG["no refusal"], WRONG["a signal"]):
-            self.program("heapmark", text)
-            self.program("sides/plain", text)
+        for name in ("no report", "no refusal", "a signal", "a report and a refusal"):
+            self.program("heapmark", WRONG[name])
+            self.program("sides/plain", WRONG[name])
             status, out, _ = self.ended("same.sh", self.whole)
-            self.assertEqual((status, out.splitlines()[-1]), (1, "1 dumps, 6 runs, 6 different"))
+            self.assertEqual((status, out.splitlines()[-1]), (1, "1 dumps, 6 runs, 6 different"), name)
 
     def test_same_beside_a_histogram(self) -> None:
         """The counts of a histogram are compared, too, and one that cannot be read is a failure."""
@@ -165,6 +166,25 @@ class ComparisonsTest(unittest.TestCase):
         self.heapmark.unlink()
         status, out, err = self.ended("run.sh", "1", self.whole)
         self.assertEqual((status, out, err), (1, "", f"run.sh: {self.heapmark} is not built\n"))
+
+    @unittest.skipUnless(shutil.which("cc") and shutil.which("/usr/bin/time"), "cc or time is not here")
+    def test_phases(self) -> None:
+        """A run without a report has no times."""
+        for name in ("no report", "no refusal", "a signal"):
+            self.program("heapmark", WRONG[name])
+            status, _, err = self.ended("phases.sh", "1", self.whole)
+            self.assertEqual((status, err.splitlines()[-1][:27]), (1, "phases.sh: heapmark: failed"), name)
+
+    @unittest.skipUnless(shutil.which("rustc"), "rustc is not here")
+    def test_differ(self) -> None:
+        """Two programs that fail alike differ."""
+        source, differ = str(TOP / "bench/differ.rs"), str(self.room / "differ")
+        subprocess.run(["rustc", "--edition", "2024", "-o", differ, source], check=True)
+        for name, text in (("a report", MARKER), *WRONG.items()):
+            side = str(self.program("heapmark", text))
+            run = subprocess.run([differ, side, side, "1", "2"], stdout=subprocess.PIPE, check=False, cwd=self.room)
+            is_answer = name in ("a report", "another report")
+            self.assertEqual(run.returncode, 0 if is_answer else 1, name)
 
     def test_rough(self) -> None:
         """A dump of which there is no report, or another one, is not treated; a signal on both sides is wrong."""

@@ -72,8 +72,9 @@ class QuotesTest(ScriptTest):
         self.assertEqual(self.ended(quotes), (0, ["3 quotations, 0 that do not stand"]))
         page.write_text(page.read_text().replace("entry", "place"))
         self.write("crates/heap/README.md", "As in `src/lost.rt`:\n\n```rust\nfn pop(a: u8) {}\n```\n")
+        self.write("crates/heap/src/lib.rt", "//! No code of `src/lib.rt`:\n//! more words.\n\nfn pop() {}\n")
         status, lines = self.ended(quotes)
-        self.assertEqual((status, lines[-1]), (1, "3 quotations, 2 that do not stand"))
+        self.assertEqual((status, lines[-1]), (1, "3 quotations, 3 that do not stand"))
         self.assertIn("docs/PAGE.md: what is quoted from crates/heap/specs/A.antt does not stand there", lines)
 
 
@@ -89,11 +90,13 @@ class NamesTest(ScriptTest):
         self.write("docs/GLOSSARY.md", glossary)
         self.write("docs/A.md", "# A head\n\nSee [b](B.md#more), [c](C.md) and\n[a](#a-head); `pop_all`, `popAll`.\n")
         self.write("docs/B.md", "# Less\n\n    `lost_word` of a block\n")
+        self.write("bench/run.sh", "# As bench/walk.sh.\necho lost/walk.sh\n")
         status, lines = self.ended(names)
         self.assertEqual(status, 1)
         self.assertEqual(
             sorted(lines[:-1]),
             [
+                "bench/run.sh:1: bench/walk.sh",
                 "crates/heap/src/lib.rt:1: heap/src/lost.rt",
                 "crates/heap/src/lib.rt:1: pop_one",
                 "docs/A.md:3: B.md#more",
@@ -142,7 +145,8 @@ class ReadingListTest(ScriptTest):
         """A file comes after those that it uses, and one that nothing rests on only with --outside."""
         reading_list = script("dev/reading_list")
         reading_list.CRATES = self.top / "crates"
-        source = "ghost use Rattle.heap.specs.High.{is_high};\npub fn top() -> u8\n    ensures high { is_high result }\n{\n}\n"
+        clause = "    ensures high { is_high result }\n"
+        source = f"ghost use Rattle.heap.specs.High.{{is_high}};\npub fn top() -> u8\n{clause}{{\n}}\n"
         high = "pub use Rattle.heap.specs.Low.{low}\n\n-- Above.\nis_high : ℕ → Type\nis_high n = low n\n"
         self.write("crates/heap/src/lib.rt", source)
         self.write("crates/heap/specs/High.antt", high)
@@ -256,21 +260,24 @@ class EveryByteTest(ScriptTest):
         """Values with one result are one range, which may contain the dump's own value; reports are mixed in."""
         every_byte = script("bench/every_byte.py")
         refused, report = every_byte.Answer(3, 70, b""), every_byte.Answer(0, 2, b"ab")
-        rows = every_byte.ranges((refused, None, refused, report, report, refused))
+        later = every_byte.Answer(3, 71, b"")
+        rows = every_byte.ranges((refused, None, refused, report, report, refused, later))
         mix = ((ord("a") * 31 + ord("b")) * 31 + ord("a")) * 31 + ord("b")
-        self.assertEqual([tuple(it) for it in rows], [(0, 2, 3, 70, 0), (3, 4, 0, 2, mix), (5, 5, 3, 70, 0)])
+        self.assertEqual([tuple(it) for it in rows[:2]], [(0, 2, 3, 70, 0), (3, 4, 0, 2, mix)])
+        self.assertEqual([tuple(it) for it in rows[2:]], [(5, 5, 3, 70, 0), (6, 6, 3, 71, 0)])
 
 
 class UsedNamesTest(ScriptTest):
     """bench/used_names.py"""
 
     def test_copy(self) -> None:
-        """Names of classes and fields stay, other strings go, and no other byte changes."""
+        """Names of classes, of fields and of what a frame names stay, other strings go, and no other byte changes."""
         used_names = script("bench/used_names.py")
         whole = dump_writer.DumpWriter()
         identifiers = {name: whole.text(name) for name in ("lost", "a/A", "next", "more")}
         whole.of_class(8, "a/A", fields=["next"])
         whole.instance(100, 8, 0)
+        whole.thread(1, 100, [(8, "run")])
         whole.write(self.top / "whole")
         wanted = whole.bytes()
         for name in ("lost", "more"):
@@ -278,7 +285,7 @@ class UsedNamesTest(ScriptTest):
             self.assertEqual(wanted.count(record), 1)
             wanted = wanted.replace(record, b"")
         status, lines = self.ended(used_names, str(self.top / "whole"), str(self.top / "copy"))
-        self.assertEqual((status, lines), (0, ["2 strings left out, 2 kept"]))
+        self.assertEqual((status, lines), (0, ["2 strings left out, 5 kept"]))
         self.assertEqual((self.top / "copy").read_bytes(), wanted)
         with contextlib.redirect_stderr(io.StringIO()), self.assertRaises(SystemExit) as ended:
             self.ended(used_names, str(self.top / "whole"), str(self.top / "whole"))
