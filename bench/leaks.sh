@@ -247,7 +247,7 @@ is() {
         holder=${holder//[\\]/\\\\}
         holder=${holder//\[/\\[}
         # shellcheck disable=SC2053 # a holder is a pattern
-        [[ $1 != $holder && $1 != $holder' '* ]] || return 0
+        [[ $1 != $holder && $1 != ${holder}[\ :]* ]] || return 0
     done
     return 1
 }

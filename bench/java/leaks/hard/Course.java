@@ -18,16 +18,21 @@ final class Course {
         void work(int day) throws Exception;
     }
 
-    /** Ends the program, too: some have threads that would not end. */
-    static void run(String[] words, Day work) throws Exception {
-        HotSpotDiagnosticMXBean machine = ManagementFactory.getPlatformMXBean(HotSpotDiagnosticMXBean.class);
-        int day = 0;
-        for (int dump = 0; dump < words.length; dump++) {
-            for (int days = dump == 0 ? 1 : 3; days > 0; days--) {
-                work.work(day++);
+    /** Ends the program, too, even if something fails: some have threads that would not end. */
+    static void run(String[] words, Day work) {
+        try {
+            HotSpotDiagnosticMXBean machine = ManagementFactory.getPlatformMXBean(HotSpotDiagnosticMXBean.class);
+            int day = 0;
+            for (int dump = 0; dump < words.length; dump++) {
+                for (int days = dump == 0 ? 1 : 3; days > 0; days--) {
+                    work.work(day++);
+                }
+                machine.dumpHeap(words[dump], true);
             }
-            machine.dumpHeap(words[dump], true);
+            Runtime.getRuntime().halt(0);
+        } catch (Exception fault) {
+            fault.printStackTrace();
+            Runtime.getRuntime().halt(1);
         }
-        Runtime.getRuntime().halt(0);
     }
 }

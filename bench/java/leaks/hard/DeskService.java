@@ -8,7 +8,7 @@ import java.util.TimerTask;
 
 /**
  * Has a desk in each of five timers, and a desk never forgets a movement. Fields of the JDK with five holders lead to
- * the desks. Desks there are seven: two were closed.
+ * the desks. There are seven desks: two are closed, and in no timer.
  */
 final class DeskService {
     static final int MOVEMENTS_A_DAY = 1_800 * Course.SCALE;
@@ -29,12 +29,22 @@ final class DeskService {
         }
     }
 
+    /** Comes first in each timer. So the timer's thread waits for it, and the desk is in the queue only. */
+    static final class Bell extends TimerTask {
+        @Override
+        public void run() {
+            System.out.println("noon");
+        }
+    }
+
     static final List<Desk> CLOSED = List.of(new Desk(), new Desk());
     static final List<WeakReference<Desk>> DESKS = new ArrayList<>();
 
     static void open(String name) {
+        Timer timer = new Timer(name);
         Desk desk = new Desk();
-        new Timer(name).schedule(desk, 86_400_000);
+        timer.schedule(new Bell(), 3_600_000);
+        timer.schedule(desk, 86_400_000);
         DESKS.add(new WeakReference<>(desk));
     }
 

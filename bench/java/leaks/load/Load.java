@@ -1,9 +1,11 @@
 package load;
 
 import com.sun.management.HotSpotDiagnosticMXBean;
+import java.io.IOException;
 import java.lang.management.ManagementFactory;
 import java.util.Collections;
 import java.util.concurrent.Callable;
+import java.util.concurrent.ExecutionException;
 import java.util.concurrent.ExecutorService;
 import java.util.concurrent.Executors;
 import java.util.concurrent.Future;
@@ -36,6 +38,8 @@ final class Load {
         void serve(int number) throws Exception;
     }
 
+    private final HotSpotDiagnosticMXBean machine =
+            ManagementFactory.getPlatformMXBean(HotSpotDiagnosticMXBean.class);
     private final ExecutorService threads;
     private final AtomicInteger served = new AtomicInteger();
 
@@ -44,31 +48,46 @@ final class Load {
         threads = Executors.newFixedThreadPool(THREADS, work -> new Thread(work, "request-" + last.incrementAndGet()));
     }
 
-    /** Ends the program, too: most libraries have threads that would not end. */
-    static void run(String[] words, During during, int requestsADay, Request request) throws Exception {
+    static void run(String[] words, During during, int requestsADay, Request request) {
         run(words, during, requestsADay, request, request);
     }
 
-    /** Serves {@code inDump} instead of {@code request} while a dump is made. */
-    static void run(String[] words, During during, int requestsADay, Request request, Request inDump) throws Exception {
-        HotSpotDiagnosticMXBean machine = ManagementFactory.getPlatformMXBean(HotSpotDiagnosticMXBean.class);
+    /**
+     * Serves {@code inDump} instead of {@code request} while a dump is made. Ends the program, too, even if something
+     * fails: most libraries have threads that would not end.
+     */
+    static void run(String[] words, During during, int requestsADay, Request request, Request inDump) {
         Load load = new Load();
-        for (int dump = 0; dump < words.length; dump++) {
-            load.serve(request, requestsADay * SCALE * (dump == 0 ? 1 : 3));
-            if (during.isBusy(dump, words.length)) {
-                Backend.setSlow(true);
-                Thread serving = new Thread(() -> load.serve(inDump, THREADS), "serving");
-                serving.start();
-                Backend.awaitRequest();
-                Thread.sleep(200);
-                machine.dumpHeap(words[dump], true);
-                Backend.setSlow(false);
-                serving.join();
-            } else {
-                machine.dumpHeap(words[dump], true);
+        try {
+            for (int dump = 0; dump < words.length; dump++) {
+                load.serve(request, requestsADay * SCALE * (dump == 0 ? 1 : 3));
+                if (during.isBusy(dump, words.length)) {
+                    load.dumpWhile(inDump, words[dump]);
+                } else {
+                    load.machine.dumpHeap(words[dump], true);
+                }
             }
+            Runtime.getRuntime().halt(0);
+        } catch (Exception fault) {
+            ended(fault);
         }
-        Runtime.getRuntime().halt(0);
+    }
+
+    private static void ended(Exception fault) {
+        fault.printStackTrace();
+        Runtime.getRuntime().halt(1);
+    }
+
+    /** Makes a dump while each thread serves a request, at least one of which waits for the backend. */
+    private void dumpWhile(Request inDump, String file) throws IOException, InterruptedException {
+        Backend.setSlow(true);
+        Thread serving = new Thread(() -> serve(inDump, THREADS), "serving");
+        serving.start();
+        Backend.awaitRequest();
+        Thread.sleep(200);
+        machine.dumpHeap(file, true);
+        Backend.setSlow(false);
+        serving.join();
     }
 
     /** Serves as many requests as {@code number} says by all threads, and returns when they are served. */
@@ -84,9 +103,8 @@ final class Load {
             for (Future<Void> done : threads.invokeAll(Collections.nCopies(THREADS, work))) {
                 done.get();
             }
-        } catch (Exception fault) {
-            fault.printStackTrace();
-            Runtime.getRuntime().halt(1);
+        } catch (InterruptedException | ExecutionException fault) {
+            ended(fault);
         }
     }
 }
