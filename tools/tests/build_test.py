@@ -14,7 +14,12 @@ import unittest
 
 TOP = pathlib.Path(__file__).resolve().parents[2]
 #: The crates, in no order: `low` below `left` and `right`, and `heapmark` on top; `apart` is of no use to it.
-CRATES = "heapmark: left right\napart: low\nleft: low  # a comment: with a colon\nright tests_may=Threads: low clap\nlow:\n"
+CRATES = """heapmark: left right
+apart: low
+left: low  # a comment: with a colon
+right tests_may=Threads: low clap
+low:
+"""
 #: Notes when it begins and ends in the file `log`, and fails for the crate `bad` names.
 RT = """#!/bin/sh
 name=$(basename "$PWD")
@@ -80,6 +85,12 @@ class BuildTest(unittest.TestCase):
         ends = {line.split()[1]: number for number, line in enumerate(log) if line.startswith("end")}
         for name, used in (("left", "low"), ("right", "low"), ("heapmark", "left"), ("heapmark", "right")):
             self.assertLess(ends[used], at[name], log)
+
+    def test_crates_at_a_time(self) -> None:
+        self.set(seconds="0.3")
+        self.ended("--crates", "1", "--jobs", "4")
+        steps = [line.split()[0] for line in self.log() if line.startswith(("begin", "end"))]
+        self.assertEqual(steps, 4 * ["begin", "end"])
 
     def test_the_longest_chain_gets_the_most_processes(self) -> None:
         self.ended("--crates", "2", "--jobs", "4")
