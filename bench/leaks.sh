@@ -112,7 +112,8 @@ load/JettyService 17 2 libjetty9-java,libservlet-api-java jetty9-server,jetty9-u
 load/HsqldbService 17 2 libhsqldb-java hsqldb
     org/hsqldb/SessionManager.sessionMap
 load/DerbyService 17 2 libderby-java derby
-    org/apache/derby/iapi/services/context/ContextService.allContexts
+    org/apache/derby/impl/io/vfmem/DataStore.files | org/apache/derby/impl/io/vfmem/BlockedByteArray.blocks
+        | org/apache/derby/impl/io/vfmem/DataStoreEntry.src
 load/StatementService 17 2 libcommons-dbcp2-java,libh2-java commons-dbcp2,commons-pool2,commons-logging,h2
     org/apache/commons/pool2/impl/GenericKeyedObjectPool.poolMap
         | org/apache/commons/dbcp2/PoolingConnection.pstmtPool
@@ -136,7 +137,7 @@ load/AtomService 17 2 libclojure-java clojure
 load/BundleService 17 2 libfelix-framework-java org.apache.felix.framework
     org/apache/felix/framework/util/EventDispatcher.m_svcListeners
 load/EternalService 17 2 libehcache-java ehcache,slf4j-api
-    net/sf/ehcache/store/MemoryStore.map | static load/EternalService.tokens
+    net/sf/ehcache/store/MemoryStore.map
     says tokens
 hard/ExpiryService 17 2
     static hard/ExpiryService.ORDERS

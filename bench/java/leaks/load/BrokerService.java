@@ -19,8 +19,21 @@ final class BrokerService {
     static final int MESSAGES_A_DAY = 1_200;
     static final String[] QUEUES = {"orders", "payments", "invoices"};
 
-    static final ThreadLocal<Session> SESSIONS = new ThreadLocal<>();
+    static final ThreadLocal<Sender> SENDERS = new ThreadLocal<>();
     static Connection connection;
+
+    /** What a thread sends messages by. */
+    static final class Sender {
+        private final Session session = connection.createSession(false, Session.AUTO_ACKNOWLEDGE);
+        private final MessageProducer producer = session.createProducer(null);
+
+        Sender() throws JMSException {
+        }
+
+        void send(String queue, String text) throws JMSException {
+            producer.send(session.createQueue(queue), session.createTextMessage(text));
+        }
+    }
 
     /** Writes down each message before it is queued. */
     static final class Journal extends BrokerFilter {
@@ -36,13 +49,10 @@ final class BrokerService {
     }
 
     static void serve(int number) throws JMSException {
-        if (SESSIONS.get() == null) {
-            SESSIONS.set(connection.createSession(false, Session.AUTO_ACKNOWLEDGE));
+        if (SENDERS.get() == null) {
+            SENDERS.set(new Sender());
         }
-        Session session = SESSIONS.get();
-        MessageProducer producer = session.createProducer(session.createQueue(QUEUES[number % QUEUES.length]));
-        producer.send(session.createTextMessage("order " + number + " ".repeat(900)));
-        producer.close();
+        SENDERS.get().send(QUEUES[number % QUEUES.length], "order " + number + " ".repeat(900));
     }
 
     static void receive(String queue) throws JMSException {

@@ -2,17 +2,16 @@ package load;
 
 import java.sql.Connection;
 import java.sql.DriverManager;
-import java.sql.ResultSet;
+import java.sql.PreparedStatement;
 import java.sql.SQLException;
 import java.sql.Statement;
 
 /**
- * Connects to Derby, which is in the same process, for each request, and does not close the connection. A static
- * service has the connection's contexts; the thread that is served last has them, too. In each dump, a function of the
- * database waits.
+ * Writes each visit into a table of a Derby database that is in memory, in the same process, and deletes none. In each
+ * dump, rows are being written: a function of the database waits.
  */
 public final class DerbyService {
-    static final int REQUESTS_A_DAY = 100;
+    static final int VISITS_A_DAY = 900;
     private static final String DATABASE = "jdbc:derby:memory:shop";
 
     /** The function of the database. */
@@ -22,25 +21,27 @@ public final class DerbyService {
     }
 
     static void serve(int number) throws SQLException {
-        Statement statement = DriverManager.getConnection(DATABASE).createStatement();
-        ResultSet prices = statement.executeQuery("SELECT price(number) FROM orders WHERE number = " + number % 100);
-        while (prices.next()) {
-            prices.getInt(1);
+        String text = "INSERT INTO visits VALUES (?, price(7), ?)";
+        try (Connection connection = DriverManager.getConnection(DATABASE);
+                PreparedStatement statement = connection.prepareStatement(text)) {
+            statement.setInt(1, number);
+            statement.setString(2, "/orders/" + number + "?" + "x".repeat(900));
+            statement.executeUpdate();
         }
     }
 
     public static void main(String[] words) throws Exception {
         System.setProperty("derby.stream.error.file", "/dev/null");
+        System.setProperty("derby.storage.pageCacheSize", "40");
+        System.setProperty("derby.storage.logSwitchInterval", "100000");
+        System.setProperty("derby.storage.checkpointInterval", "100000");
         try (Connection connection = DriverManager.getConnection(DATABASE + ";create=true");
                 Statement statement = connection.createStatement()) {
-            statement.execute("CREATE TABLE orders (number INT PRIMARY KEY)");
-            for (int number = 0; number < 100; number++) {
-                statement.execute("INSERT INTO orders VALUES (" + number + ")");
-            }
+            statement.execute("CREATE TABLE visits (number INT PRIMARY KEY, price INT, path VARCHAR(2000))");
             statement.execute("CREATE FUNCTION price(number INT) RETURNS INT PARAMETER STYLE JAVA NO SQL LANGUAGE JAVA"
                     + " EXTERNAL NAME 'load.DerbyService.price'");
         }
         Catalog.fill();
-        Load.run(words, Load.During.EACH, REQUESTS_A_DAY, DerbyService::serve);
+        Load.run(words, Load.During.EACH, VISITS_A_DAY, DerbyService::serve);
     }
 }

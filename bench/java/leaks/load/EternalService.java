@@ -33,28 +33,26 @@ final class EternalService {
         }
     }
 
-    static Cache products, pictures, tokens;
+    static final CacheManager CACHES = new CacheManager(new Configuration());
 
     static void serve(int number) {
-        tokens.put(new Element("token " + number, new Token("user " + number % 997, new byte[128])));
-        products.get(new Key(number % PRODUCTS_AT_MOST));
-        pictures.get(new Key(number % PRODUCTS_AT_MOST));
+        CACHES.getCache("tokens").put(new Element("token " + number, new Token("user " + number % 997, new byte[128])));
+        CACHES.getCache("pictures").get(new Key(number % PRODUCTS_AT_MOST));
+        look(number);
     }
 
     static void look(int number) {
-        products.get(new Key(number % PRODUCTS_AT_MOST));
+        CACHES.getCache("products").get(new Key(number % PRODUCTS_AT_MOST));
     }
 
-    static Cache cache(CacheManager manager, String name) {
-        manager.addCache(new Cache(new CacheConfiguration(name, 0).eternal(true)));
-        return manager.getCache(name);
+    static Cache cache(String name) {
+        CACHES.addCache(new Cache(new CacheConfiguration(name, 0).eternal(true)));
+        return CACHES.getCache(name);
     }
 
     public static void main(String[] words) throws Exception {
-        CacheManager manager = new CacheManager(new Configuration());
-        products = cache(manager, "products");
-        pictures = cache(manager, "pictures");
-        tokens = cache(manager, "tokens");
+        Cache products = cache("products"), pictures = cache("pictures");
+        cache("tokens");
         for (int number = 0; number < PRODUCTS_AT_MOST; number++) {
             Product product = new Product(number, "product " + number, new byte[160]);
             products.put(new Element(new Key(number), product));
