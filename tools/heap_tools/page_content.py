@@ -7,7 +7,6 @@ import time
 from typing import List, Sequence
 
 from heap_tools import VERSION, page
-from heap_tools.candidates import joint_name
 from heap_tools.class_growth import growths
 from heap_tools.class_names import CLASSES, is_own
 from heap_tools.comparison import Comparison
@@ -89,10 +88,10 @@ def next_steps(path: str, lines: Sequence[Line], names: Sequence[str]) -> List[p
     own classes if there is one."""
     steps = []
     if lines:
-        field = joint_name(lines[0].held.candidates)
-        steps.append(page.NextStep("All that hangs by it, class by class", command_line("held", path, field)))
+        fields = ", ".join(sorted(map(str, lines[0].held.candidates)))
+        steps.append(page.NextStep("All that hangs by it, class by class", command_line("held", path, fields)))
     for name in [*filter(is_own, names), *names][:1]:
-        purpose = f"What holds objects of {name}, those that did not grow, too"
+        purpose = f"What holds objects of {name}, also if it did not grow"
         steps.append(page.NextStep(purpose, command_line("holders", path, name)))
     return steps
 

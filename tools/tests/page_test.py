@@ -95,6 +95,7 @@ class PageTest(unittest.TestCase):
         )
         self.assertNotIn("Share, before and after", text)
         first, *others = leak().holders
+        self.check_texts(leak(growth=page.Amount(1, 1)), "as on the terminal, without what only weak references hold.")
         more = leak(holders=[dataclasses.replace(first, share=200.4), *others])
         self.check_texts(more, "Its share of the growth 200 % of +17.1 MB")
 
@@ -112,6 +113,17 @@ class PageTest(unittest.TestCase):
         ids = [value for value in outline.values("id") if value in {target[1:] for target in outline.values("href")}]
         self.assertEqual(ids, ["heap", "holders", "grown", "last", "omitted", "terms", "making"])
         self.assertEqual([target[1:] for target in outline.values("href")], ids)
+
+    def test_holders_before(self) -> None:
+        """The number of holders in the first dump stands before that of the last, if it is another one."""
+        first = leak().holders[0]
+        for before, wanted in (None, "METERS 44 "), (44, "METERS 44 "), (3, "METERS 3 to 44 "), (0, "METERS 0 to 44 "):
+            self.check_texts(leak(holders=[dataclasses.replace(first, holders=44, holders_before=before)]), wanted)
+
+    def test_threads_of_a_name(self) -> None:
+        """Threads whose names differ in a number hold together, in quotes as one does."""
+        entry = dataclasses.replace(leak().holders[3], kind="threads", name="report-*")
+        self.check_texts(leak(holders=[entry]), 'Threads "report-*" hold 8.3 MB, up from 4.0 kB')
 
     def test_next_steps(self) -> None:
         """The commands that say more, unless they could not be pasted."""
@@ -232,6 +244,7 @@ class PageTest(unittest.TestCase):
         for names, words_of in [
             (["static A.x", "static B.y"], "static A.x and static B.y together"),
             (["static A.x", "static B.y", "static C.z"], "static A.x, static B.y and static C.z together"),
+            ([f"static A.{letter}" for letter in "pqrst"], "static A.p, static A.q, static A.r and 2 more together"),
         ]:
             it = leak(holders=[dataclasses.replace(first, above=[names, ["shop/Table.rows"]])])
             self.assertIn(f"reached through {words_of} shop/Table.rows", self.top_of(it))
