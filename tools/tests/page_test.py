@@ -181,8 +181,8 @@ class PageTest(unittest.TestCase):
     def test_hostile_names_are_text(self) -> None:
         """Names are text, whatever they are."""
         text = self.outline(hostile_leak()).text()
-        escapes = ["\\xe2\\x80\\xaeltr\\xe2\\x81\\xa6", "\\x00\\x07\\x1b[31m\\x0d\\x0a\\x09", "\\xff\\x80", "\\xed\\xa0\\x80"]
-        for name in [*HOSTILE[:7], *escapes]:
+        escapes = ["\\xe2\\x80\\xaeltr\\xe2\\x81\\xa6", "\\x00\\x07\\x1b[31m\\x0d\\x0a\\x09", "\\xff\\x80"]
+        for name in [*HOSTILE[:7], *escapes, "\\xed\\xa0\\x80"]:
             with self.subTest(name):
                 self.assertIn(name, text)
         self.assertNotIn("\u202e", text)
@@ -198,8 +198,8 @@ class PageTest(unittest.TestCase):
         it = full_leak()
         lists = {"grown": it.grown * 100, "holders": it.holders * 10, "dumps": it.dumps * 100}
         lists.update({"objects": it.objects * 30, "threads": it.threads * 40})
-        wanted = ["670 rows", "30 rows", "40 rows", "60 rows"]
-        self.check_texts(dataclasses.replace(it, **lists), "260 dumps more", *(f"Not shown: {each} more" for each in wanted))
+        wanted = [f"Not shown: {number} rows more" for number in (670, 30, 40, 60)]
+        self.check_texts(dataclasses.replace(it, **lists), "260 dumps more", *wanted)
 
     def test_nothing_found(self) -> None:
         """A page of a leak of which nothing was found."""

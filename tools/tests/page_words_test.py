@@ -21,15 +21,16 @@ class WordsTest(unittest.TestCase):
 
     def test_percent(self) -> None:
         """Percentages, with a decimal where it says more."""
-        table: Dict[float, str] = {0: "0 %", 0.04: "<0.1 %", 0.06: "0.1 %", 9.73: "9.7 %", 35.04: "35 %", 99.6: "99.6 %", 100: "100 %"}
+        table: Dict[float, str] = {0: "0 %", 0.04: "<0.1 %", 0.06: "0.1 %", 9.73: "9.7 %", 35.04: "35 %"}
+        table.update({99.6: "99.6 %", 100: "100 %"})
         table[12_345.6] = "12,346 %"
         self.check(words.percent, table)
 
-    def test_difference(self) -> None:
+    def test_with_sign(self) -> None:
         """Differences, with the sign of a minus and the noun."""
-        self.check(lambda it: words.difference(it, Unit.BYTES), {5: "+5 bytes", -1000: "−1.0 kB", 0: "±0 bytes"})
+        self.check(lambda it: words.with_sign(it, Unit.BYTES), {5: "+5 bytes", -1000: "−1.0 kB", 0: "±0 bytes"})
         table = {1: "+1 object", -124: "−124 objects", 0: "±0 objects"}
-        self.check(lambda it: words.difference(it, Unit.OBJECTS), table)
+        self.check(lambda it: words.with_sign(it, Unit.OBJECTS), table)
         self.check(lambda it: words.percent_more(*it), {(10, 14): "+40 %", (10, 5): "−50 %", (10, 10): "±0 %"})
 
     def test_units(self) -> None:

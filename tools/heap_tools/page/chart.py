@@ -24,7 +24,7 @@ REACHABLE, UNREACHABLE, HELD = "reachable", "unreachable", "held"
 
 #: A place between 0 and 1 along the time, and a number.
 Point = Tuple[float, int]
-Item = TypeVar("Item")
+Sample = TypeVar("Sample")
 
 
 @dataclass(frozen=True)
@@ -73,7 +73,7 @@ class Label:
         return left.begin + DIGIT * (len(left.text) + 1) <= right.begin
 
 
-def sampled(items: Sequence[Item]) -> List[Item]:
+def sampled(items: Sequence[Sample]) -> List[Sample]:
     """Returns `items`, or evenly chosen ones if they are too many, the first and the last among them."""
     last = len(items) - 1
     if last < MOST_POINTS:

@@ -7,7 +7,7 @@ from heap_tools.candidates import FIELD, LOCAL, STATIC, THREAD, THREADS
 from heap_tools.page.model import TOGETHER, HolderEntry, Leak, Limits, NextStep, ObjectEntry, ThreadGroupEntry
 from heap_tools.page.tables import body, left_out, share, table
 from heap_tools.page.templates import LONGEST_SENTENCE, Html, breakable, escaped, fill, joined, name_of, plain, visible
-from heap_tools.page.words import change_of, difference, figure, from_to, percent
+from heap_tools.page.words import change_of, figure, from_to, percent, with_sign
 
 
 #: How many fields are named that lead somewhere only together.
@@ -77,7 +77,7 @@ def holders(leak: Leak, limits: Limits) -> Html:
 def holder_table(leak: Leak, limits: Limits) -> Html:
     """Returns the table of what holds the growth."""
     shown = leak.holders[: limits.holders]
-    growth = difference(leak.by.of(leak.growth), leak.by)
+    growth = with_sign(leak.by.of(leak.growth), leak.by)
     is_less = leak.is_of_all and leak.growth != leak.rise
     about = (
         "Without one of these, much of what grew would be unreachable. Those with the fewest holders come first: the "
@@ -125,10 +125,14 @@ def object_table(leak: Leak, limits: Limits) -> Html:
     if not leak.objects:
         return Html()
     shown = leak.objects[: limits.holders]
-    about = "Of the objects that have the field of a line above, these hold the most. Shares are of what all of them hold."
+    about = (
+        "Of the objects that have the field of a line above, these hold the most by it in the last dump. Shares are of "
+        "what all of them hold."
+    )
     heads = {"Object": "name", "Field of": "number", "Bytes": "number", "Share of the line": "shares"}
     parts = [fill("subhead", text="Which objects"), fill("about", text=about)]
-    parts.append(table("objects", "Objects that hold much of the growth", heads, [body(object_row(it, limits) for it in shown)]))
+    rows = body(object_row(it, limits) for it in shown)
+    parts.append(table("objects", "Objects that hold much of the growth", heads, [rows]))
     return joined([*parts, left_out(len(leak.objects) - len(shown), "row")], "\n")
 
 
