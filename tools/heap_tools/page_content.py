@@ -78,7 +78,7 @@ def holder_of(line: Line, probe: GrowthProbe) -> page.HolderEntry:
 
 
 def share_of(amount: Amount, probe: Probe) -> page.HeldShare:
-    """Returns an amount, and its share of what is reachable in the dump that `probe` asks."""
+    """Returns an amount, and its share of what is reachable in the dump of `probe`."""
     return page.HeldShare(amount, 100 * probe.unit.of(amount) / max(1, probe.unit.of(probe.whole)))
 
 

@@ -32,7 +32,7 @@ class ChartTest(unittest.TestCase):
         return chart.chart(it)[0]
 
     def test_places_are_those_of_the_times(self) -> None:
-        """Chart and small lines have uneven dumps where their times are, so that what grows steadily is straight."""
+        """Chart and small lines place dumps by their times, so that what grows steadily is straight."""
         it = uneven([0, 1, 2, 30, 60])
         small = chart.small_line(chart.time_places(it.dumps), [amount.bytes for amount in it.grown[0].amounts], it.by)
         lines = lines_in(self.drawn(it), "reachable") + [points_of(re.findall('<polyline points="([^"]*)"', small)[0])]

@@ -13,7 +13,7 @@ from tests.support.page_sample import bare_leak, full_leak, leak
 
 #: Elements that fetch or run something.
 ACTIVE = {"script", "img", "link", "iframe", "object", "embed", "form", "base", "image", "use", "foreignobject"}
-#: Numbers of one with a noun of many, and numbers without a sign where there is a difference.
+#: Numbers of one with a noun of many, and differences with a hyphen for a minus.
 ONE_OF_MANY = re.compile(
     r"(?<![\d,.])1 (?:objects|bytes|dumps|rows|classes|holders|times|threads)\b|(?<![\w-])-\d[\d,.]* "
 )
@@ -70,7 +70,7 @@ class PageTest(unittest.TestCase):
         )
 
     def test_what_was_dumped(self) -> None:
-        """The program and the date stand at the top; what the dumps do not have is left out."""
+        """The program and the date are at the top; what the dumps do not have is skipped."""
         for wanted in [
             "Program com.acme.shop.Application",
             "Process 4711",
@@ -108,14 +108,14 @@ class PageTest(unittest.TestCase):
         self.assertNotIn("unreachable", self.top_of(leak()))
 
     def test_order(self) -> None:
-        """The answer's table stands before the classes that grew."""
+        """The answer's table comes before the classes that grew."""
         outline = self.outline(full_leak())
         ids = [value for value in outline.values("id") if value in {target[1:] for target in outline.values("href")}]
         self.assertEqual(ids, ["heap", "holders", "grown", "last", "omitted", "terms", "making"])
         self.assertEqual([target[1:] for target in outline.values("href")], ids)
 
     def test_holders_before(self) -> None:
-        """The number of holders in the first dump stands before that of the last, if it is another one."""
+        """The number of holders in the first dump is before that of the last, if it is another one."""
         first = leak().holders[0]
         for before, wanted in (None, "METERS 44 "), (44, "METERS 44 "), (3, "METERS 3 to 44 "), (0, "METERS 0 to 44 "):
             self.check_texts(leak(holders=[dataclasses.replace(first, holders=44, holders_before=before)]), wanted)
@@ -236,7 +236,7 @@ class PageTest(unittest.TestCase):
         self.check_texts(leak(holders=[entry]), f"Static fields {', '.join(names[:6])}, 2 more together hold 1 byte")
 
     def test_way_to_the_first_holder(self) -> None:
-        """What is above the first holder stands below the headline, as a sentence also if it is several fields."""
+        """What is above the first holder is below the headline, as a sentence also if it is several fields."""
         wanted = "reached through static com/acme/shop/timeout/TimeoutService.TIMER"
         self.assertIn(wanted, self.top_of(leak(holders=leak().holders[::-1])))
         self.assertNotIn("reached through", self.top_of(leak()))

@@ -38,7 +38,7 @@ def full(number: int, unit: Unit) -> str:
 
 
 def percent(share: float) -> str:
-    """Returns a percentage, with a decimal where it says more."""
+    """Returns a percentage, with a decimal if it is small."""
     if 0 < share < 0.05:
         return "<0.1\u00a0%"
     places = 0 if share == 0 or 10 <= share <= 99 or share >= 100 else 1
