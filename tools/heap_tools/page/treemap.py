@@ -80,7 +80,7 @@ def part_of(classes: Sequence[Row]) -> Part:
 
 def number_alone(sizes: Sequence[int], most: int, least: float) -> int:
     """Returns how many of `sizes`, the largest first, are shown alone, so that with all others as one there are at most
-    `most`. Those below `least` do not, unless it is a single one."""
+    `most`. Those below `least` are not, unless it is a single one."""
     large = sum(size >= least for size in sizes)
     return len(sizes) if len(sizes) <= min(most, large + 1) else min(most - 1, large)
 
