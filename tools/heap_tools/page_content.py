@@ -7,7 +7,6 @@ import time
 from typing import List, Sequence
 
 from heap_tools import VERSION, page
-from heap_tools.candidates import joint_name
 from heap_tools.class_growth import growths
 from heap_tools.class_names import CLASSES, is_own
 from heap_tools.comparison import Comparison
@@ -26,11 +25,10 @@ def content_of(comparison: Comparison, answer: Answer, notes: Notes) -> page.Lea
     options, probe = comparison.options, answer.probe
     of_class = probe.families[0] if probe.families and options.of_class else None
     reports = [runs.report for runs in comparison.dumps]
-    found = [each for each in growths(reports, probe.unit) if each.name != CLASSES]
-    grown = [page.GrownClass(each.name, [report.amount(each.name) for report in reports]) for each in found]
+    names = [each.name for each in growths(reports, probe.unit) if each.name != CLASSES]
     return page.Leak(
         dumps=[dump_of(runs) for runs in comparison.dumps],
-        grown=grown,
+        grown=[page.GrownClass(name, [report.amount(name) for report in reports]) for name in names],
         holders=[holder_of(line, probe) for line in answer.lines],
         last=reports[-1].families,
         growth=probe.growth,
@@ -40,7 +38,7 @@ def content_of(comparison: Comparison, answer: Answer, notes: Notes) -> page.Lea
         of_class=of_class,
         is_of_grown=bool(probe.families) and of_class is None,
         program=program_of(comparison.last),
-        next_steps=next_steps(comparison.last.path, answer.lines, [of_class] if of_class else [it.name for it in grown]),
+        next_steps=steps_from(comparison.last.path, answer.lines, [of_class] if of_class else names),
         objects=objects_of(notes),
         threads=[page.ThreadGroupEntry(it.pattern, it.before, it.after, it.frames) for it in notes.threads],
         notes=[f"{sentence[0].upper()}{sentence[1:]}." for sentence in notes.sentences],
@@ -80,19 +78,19 @@ def holder_of(line: Line, probe: GrowthProbe) -> page.HolderEntry:
 
 
 def share_of(amount: Amount, probe: Probe) -> page.HeldShare:
-    """Returns an amount, and its share of what is reachable in the dump that `probe` asks."""
+    """Returns an amount, and its share of what is reachable in the dump of `probe`."""
     return page.HeldShare(amount, 100 * probe.unit.of(amount) / max(1, probe.unit.of(probe.whole)))
 
 
-def next_steps(path: str, lines: Sequence[Line], names: Sequence[str]) -> List[page.NextStep]:
+def steps_from(path: str, lines: Sequence[Line], names: Sequence[str]) -> List[page.NextStep]:
     """Returns commands on the dump `path` that say more: of the first line, and of the first of the classes `names`, of
     own classes if there is one."""
     steps = []
     if lines:
-        field = joint_name(lines[0].held.candidates)
-        steps.append(page.NextStep("All that hangs by it, class by class", command_line("held", path, field)))
+        fields = ", ".join(sorted(map(str, lines[0].held.candidates)))
+        steps.append(page.NextStep("All that hangs by it, class by class", command_line("held", path, fields)))
     for name in [*filter(is_own, names), *names][:1]:
-        purpose = f"What holds objects of {name}, those that did not grow, too"
+        purpose = f"What holds objects of {name}, also if it did not grow"
         steps.append(page.NextStep(purpose, command_line("holders", path, name)))
     return steps
 

@@ -21,7 +21,7 @@ NODES = [
 ]
 #: The most nodes of a chain that are followed. Each is a walk over all objects, and a table has few long chains.
 LONGEST_CHAIN = 6
-COMMAND, MACHINE, VERSION = "sun.java.command", "java.vm.name", "java.version"
+COMMAND, MACHINE, JAVA_VERSION = "sun.java.command", "java.vm.name", "java.version"
 
 
 class ProgramFacts(NamedTuple):
@@ -37,8 +37,8 @@ def facts_of(dump: HeapDump) -> ProgramFacts:
     """Returns what a dump says of its program. Of the command line only the first word is taken: others may be
     passwords. Walks over all objects some ten times."""
     objects = HeapObjects(dump)
-    known = properties(objects, {COMMAND, MACHINE, VERSION})
-    command, machine, version = (printable(known.get(key, "")) for key in (COMMAND, MACHINE, VERSION))
+    known = properties(objects, {COMMAND, MACHINE, JAVA_VERSION})
+    command, machine, version = (printable(known.get(key, "")) for key in (COMMAND, MACHINE, JAVA_VERSION))
     name = command.split(" ")[0]
     if name.endswith(".jar"):
         name = name.rpartition("/")[2]

@@ -120,7 +120,7 @@ class BrowserTest(InBrowser):
         self.assertEqual(self.texts("#grown tbody th"), [it.name for it in leak.grown])
         exact = set(self.figures("#making td data"))
         for dump in leak.dumps:
-            self.assertLessEqual({dump.reachable.bytes, dump.reachable.objects, dump.unreachable.bytes, dump.size}, exact)
+            self.assertLessEqual({*dump.reachable, *dump.unreachable, dump.size, dump.unresolved}, exact)
         self.assertEqual(self.texts("#last tfoot data"), ["1,304,914", "58.3 MB"])
         self.assertEqual([[step] for step in self.texts("#holders tbody tr:last-child li")], leak.holders[-1].above)
         self.assertEqual(self.texts("title")[0], f"{name}: 4.0 MB to 20.4 MB")
@@ -196,7 +196,7 @@ class BrowserTest(InBrowser):
     def test_the_browser_sees_what_is_wrong(self) -> None:
         """These tests would see a page that fetches, runs, overflows, is cut or is pale."""
         pale = "<p style='color: #999; width: 2000px'>pale"
-        cut = "<div class=scroll style='width: 50px; overflow: auto'><table class=wide><td>" + "x" * 200 + "</table></div>"
+        cut = f"<div class=scroll style='width: 50px; overflow: auto'><table class=wide><td>{'x' * 200}</table></div>"
         with tempfile.TemporaryDirectory() as room:
             file = pathlib.Path(room, "wrong.html")
             file.write_text(f"{pale}<img src='http://127.0.0.1:9/x'><script>alert(1)</script></p>{cut}")

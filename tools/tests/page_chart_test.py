@@ -20,7 +20,8 @@ def points_of(text: str) -> Points:
 
 def lines_in(html: str, kind: str) -> List[Points]:
     """Returns the points of each line of this kind, one for each width."""
-    return [points_of(each) for each in re.findall(rf'<g class="line {kind}">.*?<polyline points="([^"]*)"', html, re.S)]
+    found = re.findall(rf'<g class="line {kind}">.*?<polyline points="([^"]*)"', html, re.S)
+    return [points_of(each) for each in found]
 
 
 class ChartTest(unittest.TestCase):
@@ -31,7 +32,7 @@ class ChartTest(unittest.TestCase):
         return chart.chart(it)[0]
 
     def test_places_are_those_of_the_times(self) -> None:
-        """Chart and small lines have uneven dumps where their times are, so that what grows steadily is straight."""
+        """Chart and small lines place dumps by their times, so that what grows steadily is straight."""
         it = uneven([0, 1, 2, 30, 60])
         small = chart.small_line(chart.time_places(it.dumps), [amount.bytes for amount in it.grown[0].amounts], it.by)
         lines = lines_in(self.drawn(it), "reachable") + [points_of(re.findall('<polyline points="([^"]*)"', small)[0])]
@@ -58,7 +59,8 @@ class ChartTest(unittest.TestCase):
         groups = re.findall(r'<g class="line (\w+)">(.*?)</g>', html, re.S)
         self.assertEqual([kind for kind, _ in groups], ["reachable", "held"] * len(chart.CHARTS))
         for kind, group in groups:
-            self.assertEqual(("polygon" in group, group.count("<circle")), {"held": (False, 2), "reachable": (True, 3)}[kind])
+            wanted = {"held": (False, 2), "reachable": (True, 3)}[kind]
+            self.assertEqual(("polygon" in group, group.count("<circle")), wanted)
         whole = page.html_of(leak())
         self.assertRegex(whole, r"\.line\.held polyline {[^}]*stroke-dasharray")
         self.assertIn("METERS, measured only in the first and the last dump", Outline(whole).text())
@@ -83,7 +85,8 @@ class ChartTest(unittest.TestCase):
             for picture in html.split("</svg>")[:-1]:
                 labels = re.findall(r'<text class="label \w+" x="([\d.]+)" y="([\d.]+)" text-anchor="end">', picture)
                 heights = sorted(float(y) for _, y in labels)
-                self.assertTrue(all(after - before >= 10 for before, after in zip(heights, heights[1:])), (size, heights))
+                gaps = [after - before for before, after in zip(heights, heights[1:])]
+                self.assertTrue(all(gap >= 10 for gap in gaps), (size, heights))
 
     def test_many_dumps(self) -> None:
         """Of many dumps, evenly chosen ones are drawn, the first and the last among them."""

@@ -5,7 +5,7 @@ import unittest
 
 from heap_tools.page import templates, treemap_picture
 
-#: The text of the page, and what it stands on, in pairs of the style's colours that need a contrast of 4.5.
+#: The text of the page, and its ground, in pairs of the style's colours that need a contrast of 4.5.
 TEXTS = [(text, ground) for text in ("ink", "soft", "calm", "accent") for ground in ("paper", "ground")] + [
     ("soft", "faint"),
     ("ink", "faint"),

@@ -13,7 +13,7 @@ from tests.support.page_sample import bare_leak, full_leak, leak
 
 #: Elements that fetch or run something.
 ACTIVE = {"script", "img", "link", "iframe", "object", "embed", "form", "base", "image", "use", "foreignobject"}
-#: Numbers of one with a noun of many, and numbers without a sign where there is a difference.
+#: Numbers of one with a noun of many, and differences with a hyphen for a minus.
 ONE_OF_MANY = re.compile(
     r"(?<![\d,.])1 (?:objects|bytes|dumps|rows|classes|holders|times|threads)\b|(?<![\w-])-\d[\d,.]* "
 )
@@ -70,7 +70,7 @@ class PageTest(unittest.TestCase):
         )
 
     def test_what_was_dumped(self) -> None:
-        """The program and the date stand at the top; what the dumps do not have is left out."""
+        """The program and the date are at the top; what the dumps do not have is skipped."""
         for wanted in [
             "Program com.acme.shop.Application",
             "Process 4711",
@@ -95,6 +95,7 @@ class PageTest(unittest.TestCase):
         )
         self.assertNotIn("Share, before and after", text)
         first, *others = leak().holders
+        self.check_texts(leak(growth=page.Amount(1, 1)), "as on the terminal, without what only weak references hold.")
         more = leak(holders=[dataclasses.replace(first, share=200.4), *others])
         self.check_texts(more, "Its share of the growth 200 % of +17.1 MB")
 
@@ -107,11 +108,22 @@ class PageTest(unittest.TestCase):
         self.assertNotIn("unreachable", self.top_of(leak()))
 
     def test_order(self) -> None:
-        """The answer's table stands before the classes that grew."""
+        """The answer's table comes before the classes that grew."""
         outline = self.outline(full_leak())
         ids = [value for value in outline.values("id") if value in {target[1:] for target in outline.values("href")}]
         self.assertEqual(ids, ["heap", "holders", "grown", "last", "omitted", "terms", "making"])
         self.assertEqual([target[1:] for target in outline.values("href")], ids)
+
+    def test_holders_before(self) -> None:
+        """The number of holders in the first dump is before that of the last, if it is another one."""
+        first = leak().holders[0]
+        for before, wanted in (None, "METERS 44 "), (44, "METERS 44 "), (3, "METERS 3 to 44 "), (0, "METERS 0 to 44 "):
+            self.check_texts(leak(holders=[dataclasses.replace(first, holders=44, holders_before=before)]), wanted)
+
+    def test_threads_of_a_name(self) -> None:
+        """Threads whose names differ in a number hold together, in quotes as one does."""
+        entry = dataclasses.replace(leak().holders[3], kind="threads", name="report-*")
+        self.check_texts(leak(holders=[entry]), 'Threads "report-*" hold 8.3 MB, up from 4.0 kB')
 
     def test_next_steps(self) -> None:
         """The commands that say more, unless they could not be pasted."""
@@ -169,8 +181,8 @@ class PageTest(unittest.TestCase):
     def test_hostile_names_are_text(self) -> None:
         """Names are text, whatever they are."""
         text = self.outline(hostile_leak()).text()
-        escapes = ["\\xe2\\x80\\xaeltr\\xe2\\x81\\xa6", "\\x00\\x07\\x1b[31m\\x0d\\x0a\\x09", "\\xff\\x80", "\\xed\\xa0\\x80"]
-        for name in [*HOSTILE[:7], *escapes]:
+        escapes = ["\\xe2\\x80\\xaeltr\\xe2\\x81\\xa6", "\\x00\\x07\\x1b[31m\\x0d\\x0a\\x09", "\\xff\\x80"]
+        for name in [*HOSTILE[:7], *escapes, "\\xed\\xa0\\x80"]:
             with self.subTest(name):
                 self.assertIn(name, text)
         self.assertNotIn("\u202e", text)
@@ -186,8 +198,8 @@ class PageTest(unittest.TestCase):
         it = full_leak()
         lists = {"grown": it.grown * 100, "holders": it.holders * 10, "dumps": it.dumps * 100}
         lists.update({"objects": it.objects * 30, "threads": it.threads * 40})
-        wanted = ["670 rows", "30 rows", "40 rows", "60 rows"]
-        self.check_texts(dataclasses.replace(it, **lists), "260 dumps more", *(f"Not shown: {each} more" for each in wanted))
+        wanted = [f"Not shown: {number} rows more" for number in (670, 30, 40, 60)]
+        self.check_texts(dataclasses.replace(it, **lists), "260 dumps more", *wanted)
 
     def test_nothing_found(self) -> None:
         """A page of a leak of which nothing was found."""
@@ -224,7 +236,7 @@ class PageTest(unittest.TestCase):
         self.check_texts(leak(holders=[entry]), f"Static fields {', '.join(names[:6])}, 2 more together hold 1 byte")
 
     def test_way_to_the_first_holder(self) -> None:
-        """What is above the first holder stands below the headline, as a sentence also if it is several fields."""
+        """What is above the first holder is below the headline, as a sentence also if it is several fields."""
         wanted = "reached through static com/acme/shop/timeout/TimeoutService.TIMER"
         self.assertIn(wanted, self.top_of(leak(holders=leak().holders[::-1])))
         self.assertNotIn("reached through", self.top_of(leak()))
@@ -232,6 +244,7 @@ class PageTest(unittest.TestCase):
         for names, words_of in [
             (["static A.x", "static B.y"], "static A.x and static B.y together"),
             (["static A.x", "static B.y", "static C.z"], "static A.x, static B.y and static C.z together"),
+            ([f"static A.{letter}" for letter in "pqrst"], "static A.p, static A.q, static A.r and 2 more together"),
         ]:
             it = leak(holders=[dataclasses.replace(first, above=[names, ["shop/Table.rows"]])])
             self.assertIn(f"reached through {words_of} shop/Table.rows", self.top_of(it))

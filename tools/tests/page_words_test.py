@@ -20,16 +20,17 @@ class WordsTest(unittest.TestCase):
                 self.assertEqual(spell(given).replace("\u00a0", " "), wanted)
 
     def test_percent(self) -> None:
-        """Percentages, with a decimal where it says more."""
-        table: Dict[float, str] = {0: "0 %", 0.04: "<0.1 %", 0.06: "0.1 %", 9.73: "9.7 %", 35.04: "35 %", 99.6: "99.6 %", 100: "100 %"}
+        """Percentages, with a decimal if they are small."""
+        table: Dict[float, str] = {0: "0 %", 0.04: "<0.1 %", 0.06: "0.1 %", 9.73: "9.7 %", 35.04: "35 %"}
+        table.update({99.6: "99.6 %", 100: "100 %"})
         table[12_345.6] = "12,346 %"
         self.check(words.percent, table)
 
-    def test_difference(self) -> None:
+    def test_with_sign(self) -> None:
         """Differences, with the sign of a minus and the noun."""
-        self.check(lambda it: words.difference(it, Unit.BYTES), {5: "+5 bytes", -1000: "−1.0 kB", 0: "±0 bytes"})
+        self.check(lambda it: words.with_sign(it, Unit.BYTES), {5: "+5 bytes", -1000: "−1.0 kB", 0: "±0 bytes"})
         table = {1: "+1 object", -124: "−124 objects", 0: "±0 objects"}
-        self.check(lambda it: words.difference(it, Unit.OBJECTS), table)
+        self.check(lambda it: words.with_sign(it, Unit.OBJECTS), table)
         self.check(lambda it: words.percent_more(*it), {(10, 14): "+40 %", (10, 5): "−50 %", (10, 10): "±0 %"})
 
     def test_units(self) -> None:
@@ -40,7 +41,7 @@ class WordsTest(unittest.TestCase):
             self.assertEqual(spell(1234, Unit.BYTES), "1.2\u00a0kB")
 
     def test_figures(self) -> None:
-        """The exact number stands beside what is shown, with the sign of a difference."""
+        """The exact number is beside what is shown, with the sign of a difference."""
         for html, wanted in [
             (words.figure(1, "object"), ("1", "1\u00a0object", "1")),
             (words.figure(41_208_334, "byte"), ("41208334", "41,208,334\u00a0bytes", "41.2 MB")),
@@ -98,7 +99,7 @@ class TemplatesTest(unittest.TestCase):
         self.assertEqual(templates.shortened("a" * 50 + "b" * 50, 60), "a" * 39 + "…" + "b" * 20)
 
     def test_names_are_whole(self) -> None:
-        """A name is the same text, whatever stands between its parts."""
+        """A name is the same text, whatever is between its parts."""
         for name in HOSTILE[:8]:
             with self.subTest(name):
                 self.assertEqual(Outline(templates.name_of(name, 240)).text(), name)

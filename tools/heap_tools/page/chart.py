@@ -19,12 +19,12 @@ RIGHT, TOP, BOTTOM = 30, 26, 26
 LETTER, DIGIT = 7.2, 7.8
 #: Where a number is, above or below its point; how close above it another line is close; how far apart numbers are.
 ABOVE, BELOW, CLOSE, APART = -9, 17, 30, 14
-#: The lines of the chart: what is known at each dump, and what is known of the first and the last one alone.
+#: The lines of the chart: what is known of each dump, and what is known only of the first and the last one.
 REACHABLE, UNREACHABLE, HELD = "reachable", "unreachable", "held"
 
 #: A place between 0 and 1 along the time, and a number.
 Point = Tuple[float, int]
-Item = TypeVar("Item")
+Sample = TypeVar("Sample")
 
 
 @dataclass(frozen=True)
@@ -73,7 +73,7 @@ class Label:
         return left.begin + DIGIT * (len(left.text) + 1) <= right.begin
 
 
-def sampled(items: Sequence[Item]) -> List[Item]:
+def sampled(items: Sequence[Sample]) -> List[Sample]:
     """Returns `items`, or evenly chosen ones if they are too many, the first and the last among them."""
     last = len(items) - 1
     if last < MOST_POINTS:
@@ -139,7 +139,7 @@ def labels_of(places: Sequence[float], texts: Sequence[str], scale: Scale, betwe
 
 def numbers_of(series: Series, others: Sequence[Series], scale: Scale, unit: Unit) -> Html:
     """Returns the numbers at the points of a line, of many points only at the ends and at the highest. They are below
-    the line if one of `others` is close above it, and left out at an end where they would be on another's number."""
+    the line if one of `others` is close above it, and skipped at an end if the number of another is there."""
     places, values = [place for place, _ in series.points], [value for _, value in series.points]
     last = len(values) - 1
     between = range(1, last) if last < FEW_POINTS else [values.index(max(values))]

@@ -7,7 +7,7 @@ from heap_tools.page.tables import amount_cells, bar, body, left_out, table
 from heap_tools.page.templates import Html, breakable, fill, joined, name_of, plain
 from heap_tools.page.treemap import Group, Part, groups_of, total_of
 from heap_tools.page.treemap_picture import colour_of, name_in_full, treemap
-from heap_tools.page.words import difference, figure, figure_in, from_to
+from heap_tools.page.words import figure, figure_in, from_to, with_sign
 
 
 def grown(leak: Leak, limits: Limits) -> Html:
@@ -30,7 +30,7 @@ def grown_row(it: GrownClass, leak: Leak, most: int, limits: Limits) -> Html:
         "grown_row",
         name=name_of(it.name, limits.name),
         growth=figure_in(unit.of(it.growth), unit, is_difference=True),
-        also=difference(unit.other.of(it.growth), unit.other),
+        also=with_sign(unit.other.of(it.growth), unit.other),
         bar=bar(unit.of(it.growth), most, "growth"),
         line=small_line(time_places(leak.dumps), [unit.of(amount) for amount in it.amounts], unit),
         objects=from_to(figure(first.objects, "object"), figure(last.objects, "object")),

@@ -3,11 +3,15 @@
 from dataclasses import dataclass
 from typing import Dict, List, Sequence
 
-from heap_tools.candidates import FIELD, LOCAL, STATIC, THREAD
+from heap_tools.candidates import FIELD, LOCAL, STATIC, THREAD, THREADS
 from heap_tools.page.model import TOGETHER, HolderEntry, Leak, Limits, NextStep, ObjectEntry, ThreadGroupEntry
 from heap_tools.page.tables import body, left_out, share, table
 from heap_tools.page.templates import LONGEST_SENTENCE, Html, breakable, escaped, fill, joined, name_of, plain, visible
-from heap_tools.page.words import change_of, difference, figure, from_to, percent
+from heap_tools.page.words import change_of, figure, from_to, percent, with_sign
+
+
+#: How many fields are named that lead somewhere only together.
+MOST_TOGETHER = 4
 
 
 @dataclass(frozen=True)
@@ -24,13 +28,14 @@ KINDS = {
     FIELD: KindWords("field", "Field", "holds"),
     LOCAL: KindWords("local variable", "Local variables of", "hold"),
     THREAD: KindWords("thread", "Thread", "holds"),
+    THREADS: KindWords("threads", "Threads", "hold"),
     TOGETHER: KindWords("static fields together", "Static fields", "together hold"),
 }
 
 
 def holder_name(holder: HolderEntry, limits: Limits) -> Html:
     """Returns the name of what holds: of a thread in quotes, of all else as a name of Java, or several such names."""
-    if holder.kind == THREAD:
+    if holder.kind in (THREAD, THREADS):
         return fill("plain_name", text=f'"{plain(holder.name, limits.name)}"')
     names = holder.name.split(", ") if holder.kind == TOGETHER else [holder.name]
     shown: List[Html] = [name_of(name, limits.name) for name in names[: limits.steps]]
@@ -51,8 +56,9 @@ def path_to(holder: HolderEntry, limits: Limits) -> Html:
 
 def step_name(names: Sequence[str], limits: Limits) -> Html:
     """Returns a step of a path: a field, or the fields that lead there only together."""
-    shown = [breakable(plain(name, limits.name)) for name in names[: limits.steps]]
-    if len(names) > len(shown):
+    number = len(names) if len(names) <= MOST_TOGETHER else MOST_TOGETHER - 1
+    shown = [breakable(plain(name, limits.name)) for name in names[:number]]
+    if len(names) > number:
         shown.append(escaped(f"{len(names) - len(shown):,} more"))
     if len(shown) < 2:
         return joined(shown)
@@ -71,10 +77,12 @@ def holders(leak: Leak, limits: Limits) -> Html:
 def holder_table(leak: Leak, limits: Limits) -> Html:
     """Returns the table of what holds the growth."""
     shown = leak.holders[: limits.holders]
-    growth = difference(leak.by.of(leak.growth), leak.by)
+    growth = with_sign(leak.by.of(leak.growth), leak.by)
+    is_less = leak.is_of_all and leak.growth != leak.rise
     about = (
         "Without one of these, much of what grew would be unreachable. Those with the fewest holders come first: the "
-        f"first line is the answer. The share of the growth is of that of {leak.whole}, {growth}, as on the terminal. "
+        f"first line is the answer. The share of the growth is of that of {leak.whole}, {growth}, as on the terminal"
+        f"{', without what only weak references hold' if is_less else ''}. "
         f"The {whole_head(leak).lower()} is of {leak.whole} in the first dump and in the last."
     )
     heads = {"Held by": "name", "Holders": "number", "Objects": "number", "Bytes": "number"}
@@ -97,7 +105,7 @@ def holder_row(it: HolderEntry, of_whole: str, limits: Limits) -> Html:
         kind=KINDS[it.kind].label,
         name=holder_name(it, limits),
         path=path_to(it, limits),
-        holders=figure(it.holders, "holder"),
+        holders=holders_of(it),
         objects=change_of(before.objects, after.objects, "object"),
         bytes=change_of(before.bytes, after.bytes, "byte"),
         of_growth=share(it.share, "growth"),
@@ -106,15 +114,25 @@ def holder_row(it: HolderEntry, of_whole: str, limits: Limits) -> Html:
     )
 
 
+def holders_of(it: HolderEntry) -> Html:
+    """Returns the number of holders, and that of the first dump if it was another one."""
+    now = figure(it.holders, "holder")
+    return now if it.holders_before in (None, it.holders) else from_to(figure(it.holders_before or 0, "holder"), now)
+
+
 def object_table(leak: Leak, limits: Limits) -> Html:
     """Returns the table of the objects that have the field of a holder, if these are known."""
     if not leak.objects:
         return Html()
     shown = leak.objects[: limits.holders]
-    about = "Of the objects that have the field of a line above, these hold the most. Shares are of what all of them hold."
+    about = (
+        "Of the objects that have the field of a line above, these hold the most by it in the last dump. Shares are of "
+        "what all of them hold."
+    )
     heads = {"Object": "name", "Field of": "number", "Bytes": "number", "Share of the line": "shares"}
     parts = [fill("subhead", text="Which objects"), fill("about", text=about)]
-    parts.append(table("objects", "Objects that hold much of the growth", heads, [body(object_row(it, limits) for it in shown)]))
+    rows = body(object_row(it, limits) for it in shown)
+    parts.append(table("objects", "Objects that hold much of the growth", heads, [rows]))
     return joined([*parts, left_out(len(leak.objects) - len(shown), "row")], "\n")
 
 

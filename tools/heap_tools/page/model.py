@@ -55,8 +55,9 @@ class HeldShare:
 @dataclass(frozen=True)
 class HolderEntry:
     """What holds some of the growth. `name` is without the word of its kind, `holders` the number of instances that
-    have the field, `share` its share of the growth in percent. `above`: what it is reached through, from the top down
-    to what is right above it, at each step the fields that lead there together, most often one."""
+    have the field in the last dump, `share` its share of the growth in percent. `above`: what it is reached through,
+    from the top down to what is right above it, at each step the fields that lead there together, most often one.
+    `holders_before`: the number in the first dump, if it is known."""
 
     kind: str
     name: str
@@ -65,6 +66,7 @@ class HolderEntry:
     after: HeldShare
     share: float
     above: List[List[str]]
+    holders_before: Optional[int] = None
 
 
 @dataclass(frozen=True)

@@ -44,13 +44,13 @@ def omitted(leak: Leak, limits: Limits) -> Html:
 def making(leak: Leak, limits: Limits) -> Html:
     """Returns how the page was made."""
     made = leak.making
-    runs = f"heapmark ran {humanize.counted(made.runs, 'time')}, within {humanize.duration(1000 * made.seconds)} in all."
+    took = humanize.duration(1000 * made.seconds)
     versions = [[plain(text, limits.name) for text in version] for version in made.versions[: limits.sentences]]
     return fill(
         "making",
         dumps=dump_table(leak, limits),
         command=made.command,
-        runs=runs,
+        runs=f"heapmark ran {humanize.counted(made.runs, 'time')}, within {took} in all.",
         versions=joined((fill("version", name=name, version=version) for name, version in versions), "\n"),
     )
 

@@ -1,4 +1,4 @@
-"""Plain text as HTML: escapes it, shortens it, says where its lines may end, and fills the templates of `page.html`."""
+"""Plain text as HTML: escapes and shortens it, marks where its lines may end, and fills the templates of `page.html`."""
 
 import html
 import pathlib
@@ -33,7 +33,7 @@ def visible(text: str) -> str:
 
 
 def escapes(char: str) -> str:
-    """Returns the bytes of a character. What stands for a byte in the name of a file is that byte."""
+    """Returns the bytes of a character. A character that means a byte in the name of a file is that byte."""
     number = ord(char)
     return f"\\x{number - 0xDC00:02x}" if 0xDC80 <= number <= 0xDCFF else byte_escapes(char)
 

@@ -7,8 +7,8 @@ from heap_tools.omissions import large_unreachable
 from heap_tools.page.holders import KINDS, holder_name, whole_head
 from heap_tools.page.model import HolderEntry, Leak, Limits
 from heap_tools.page.templates import Html, escaped, fill, joined, name_of, plain
-from heap_tools.page.words import MINUS, NONE, PLUS, bare, difference, figure, figure_in, from_to, full, moment
-from heap_tools.page.words import percent, percent_more, period, sign_of, solid
+from heap_tools.page.words import MINUS, PLUS, SAME, bare, figure, figure_in, from_to, full, moment, percent
+from heap_tools.page.words import percent_more, period, sign_of, solid, with_sign
 from heap_tools.reports import Unit
 
 MINUTE, HOUR = 60_000, 3_600_000
@@ -85,7 +85,7 @@ def lead(leak: Leak) -> Html:
 
 def verb_of(leak: Leak, unit: Unit) -> str:
     """Returns what the bytes or the objects of the reachable heap did."""
-    return {PLUS: "grew ", MINUS: "shrank ", NONE: "stayed "}[sign_of(unit.of(leak.rise))]
+    return {PLUS: "grew ", MINUS: "shrank ", SAME: "stayed "}[sign_of(unit.of(leak.rise))]
 
 
 def from_first_to_last(leak: Leak, unit: Unit) -> Html:
@@ -110,7 +110,7 @@ def tiles(leak: Leak) -> Html:
     between = span(leak)
     if between:
         speed = round(leak.by.of(leak.rise) * HOUR / between)
-        note = f"{difference(speed, leak.by)} an hour" if between >= MINUTE else ""
+        note = f"{with_sign(speed, leak.by)} an hour" if between >= MINUTE else ""
         parts.append(fill("tile", name="Time between", value=solid(humanize.duration(between)), note=note))
     if leak.holders:
         first = leak.holders[0]
@@ -124,7 +124,7 @@ def heap_tile(leak: Leak) -> Html:
     """Returns the figure of the reachable heap."""
     unit = leak.by
     before, after = (unit.of(leak.dumps[at].reachable) for at in (0, -1))
-    notes: List[str] = [difference(after - before, unit)]
+    notes: List[str] = [with_sign(after - before, unit)]
     if before > 0:
         notes.append(percent_more(before, after))
     if not is_of_bytes_that_grew(leak):
@@ -136,7 +136,7 @@ def heap_tile(leak: Leak) -> Html:
 
 def growth_tile(leak: Leak, holder: HolderEntry) -> Html:
     """Returns the share of the growth that a holder has."""
-    note = f"of {difference(leak.by.of(leak.growth), leak.by)}"
+    note = f"of {with_sign(leak.by.of(leak.growth), leak.by)}"
     if not leak.is_of_all:
         note += f" of {leak.of_class or 'the classes that grew'}"
     return fill("tile", name="Its share of the growth", value=percent(holder.share), note=note)

@@ -57,7 +57,7 @@ def total_of(amounts: Iterable[Amount]) -> Amount:
 
 
 def package_of(name: str) -> str:
-    """Returns the group of a class: the first parts of its package, or what stands for one."""
+    """Returns the group of a class: the first parts of its package, or a name for classes without one."""
     package = class_names.package(name)
     if package:
         return "/".join(package.split("/")[:DEPTH])
@@ -79,8 +79,8 @@ def part_of(classes: Sequence[Row]) -> Part:
 
 
 def number_alone(sizes: Sequence[int], most: int, least: float) -> int:
-    """Returns how many of `sizes`, the largest first, stand alone, so that there are at most `most` with all others as
-    one. Those below `least` do not, unless it is a single one."""
+    """Returns how many of `sizes`, the largest first, are shown alone, so that with all others as one there are at most
+    `most`. Those below `least` are not, unless it is a single one."""
     large = sum(size >= least for size in sizes)
     return len(sizes) if len(sizes) <= min(most, large + 1) else min(most - 1, large)
 

@@ -9,7 +9,7 @@ from heap_tools.reports import Unit
 
 EPOCH = datetime.datetime(1970, 1, 1)
 #: The signs of a difference: above, below and at zero.
-PLUS, MINUS, NONE = "+", "−", "±"
+PLUS, MINUS, SAME = "+", "−", "±"
 
 
 def solid(text: str) -> str:
@@ -38,7 +38,7 @@ def full(number: int, unit: Unit) -> str:
 
 
 def percent(share: float) -> str:
-    """Returns a percentage, with a decimal where it says more."""
+    """Returns a percentage, with a decimal if it is small."""
     if 0 < share < 0.05:
         return "<0.1\u00a0%"
     places = 0 if share == 0 or 10 <= share <= 99 or share >= 100 else 1
@@ -47,10 +47,10 @@ def percent(share: float) -> str:
 
 def sign_of(number: float) -> str:
     """Returns the sign of a difference."""
-    return PLUS if number > 0 else MINUS if number < 0 else NONE
+    return PLUS if number > 0 else MINUS if number < 0 else SAME
 
 
-def difference(number: int, unit: Unit) -> str:
+def with_sign(number: int, unit: Unit) -> str:
     """Returns a difference with its sign, in words."""
     return sign_of(number) + full(abs(number), unit)
 

@@ -69,7 +69,7 @@ def say_left_out() -> None:
 
 
 class InBrowser(unittest.TestCase):
-    """A test with a browser. Without one it is left out, and the last line of all says so."""
+    """A test with a browser. Without one it is skipped, and the last line of all says so."""
 
     browser: chromium.Chromium
 

@@ -1,4 +1,4 @@
-"""What a page of HTML has, for tests: its elements, its headings, its text, and where its form is wrong."""
+"""What a page of HTML has, for tests: its elements, its headings, its text, and the faults of its form."""
 
 import html.parser
 from typing import Dict, List, Optional, Tuple
