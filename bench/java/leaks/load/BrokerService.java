@@ -1,6 +1,7 @@
 package load;
 
 import javax.jms.Connection;
+import javax.jms.DeliveryMode;
 import javax.jms.JMSException;
 import javax.jms.MessageProducer;
 import javax.jms.Session;
@@ -16,7 +17,7 @@ import org.apache.activemq.command.Message;
  * "invoices". In each dump, messages are being sent.
  */
 final class BrokerService {
-    static final int MESSAGES_A_DAY = 1_200;
+    static final int MESSAGES_A_DAY = 1_800;
     static final String[] QUEUES = {"orders", "payments", "invoices"};
 
     static final ThreadLocal<Sender> SENDERS = new ThreadLocal<>();
@@ -28,6 +29,7 @@ final class BrokerService {
         private final MessageProducer producer = session.createProducer(null);
 
         Sender() throws JMSException {
+            producer.setDeliveryMode(DeliveryMode.NON_PERSISTENT);
         }
 
         void send(String queue, String text) throws JMSException {
