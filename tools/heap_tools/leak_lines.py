@@ -3,7 +3,7 @@
 import enum
 from typing import Callable, Dict, List, NamedTuple, Sequence
 
-from heap_tools.candidates import Candidate, joint_name
+from heap_tools.candidates import FIELD, Candidate, joint_name
 from heap_tools.probe import EarlierProbe, GrowthProbe, Retained
 from heap_tools.reference_paths import ReferencePaths
 from heap_tools.reports import Amount
@@ -63,7 +63,7 @@ class Place(enum.IntEnum):
 
     #: It is the one with the largest share, or below that and has most of it.
     MAIN = 0
-    #: It is such a one of the JDK, and an own one has the same share.
+    #: It is such a one of the JDK, and an own one has the same share; or it is of a collection of the JDK.
     ECHO = 1
     #: It is another.
     BESIDE = 2
@@ -74,7 +74,7 @@ class Rank(NamedTuple):
     deepest comes first: the accumulation point. In others it is the share, the largest first."""
 
     doubt: Doubt
-    holders: int
+    weight: int
     place: Place
     size: float
     name: str
@@ -98,17 +98,17 @@ class Ranks:
     def rank(self, held: Retained, doubts: Dict[int, Doubt]) -> Rank:
         """Returns the rank of one that was found, by the doubts of all."""
         doubt = doubts[id(held)]
-        alike = [each for each in self.found if each.holders == held.holders and doubts[id(each)] == doubt]
+        alike = [each for each in self.found if each.weight == held.weight and doubts[id(each)] == doubt]
         place = self.place(held, alike)
         size = -self.share[id(held)] if place == Place.BESIDE else held.heap.bytes
-        return Rank(doubt, held.holders, place, size, joint_name(held.candidates))
+        return Rank(doubt, held.weight, place, size, joint_name(held.candidates))
 
     def place(self, held: Retained, alike: List[Retained]) -> Place:
         """Returns the place of `held` among those with as many holders and the same doubt."""
         share, best = self.share[id(held)], max(alike, key=lambda each: (self.share[id(each)], each.heap.bytes))
         if held is not best and (share < MOST * self.share[id(best)] or not self._is_below(best, held)):
             return Place.BESIDE
-        if not held.is_own and any(each.is_own and abs(self.share[id(each)] - share) < SAME for each in alike):
+        if any(says_more(each, held) and abs(self.share[id(each)] - share) < SAME for each in alike):
             return Place.ECHO
         return Place.MAIN
 
@@ -174,6 +174,17 @@ class Ranks:
         return unit.of(both.amount) >= unit.of(other.amount) + unit.of(held.amount) / 2
 
 
+def says_more(held: Retained, other: Retained) -> bool:
+    """Tests whether the name of `held` says more than that of `other`: own ones say most, and collections of the JDK
+    say nothing."""
+    return held.is_own and not other.is_own or is_collection(other) and not is_collection(held)
+
+
+def is_collection(held: Retained) -> bool:
+    """Tests whether what holds is fields of the JDK's collections."""
+    return all(each.kind == FIELD and each.name.startswith("java/util/") for each in held.candidates)
+
+
 def kin_of(candidate: Candidate, probe: GrowthProbe) -> List[Candidate]:
     """Returns the fields of the class that declares `candidate`, static ones if it is static."""
     owner = candidate.name.rpartition(".")[0]
@@ -183,7 +194,7 @@ def kin_of(candidate: Candidate, probe: GrowthProbe) -> List[Candidate]:
 
 def by_holders(held: Retained) -> int:
     """Returns what is found first: what has few holders."""
-    return held.holders
+    return held.weight
 
 
 def answer_of(

@@ -116,8 +116,8 @@ class Search:
 
     def wanted(self, group: Sequence[Candidate]) -> List[Candidate]:
         """Returns those of `group` that may still be among the first `top`. The others have too many holders."""
-        most = sorted(held.holders for held in self.found)[self.top - 1 : self.top]
-        wanted = [each for each in group if not most or each.count <= most[0]]
+        most = sorted(held.weight for held in self.found)[self.top - 1 : self.top]
+        wanted = [each for each in group if not most or each.weight <= most[0]]
         self.is_cut |= len(wanted) < len(group)
         self.left -= len(group) - len(wanted)
         return wanted
@@ -171,21 +171,22 @@ class Search:
         best = max((self.probe.share(each.candidates) for each in self.found if each.holders <= self.few), default=0)
         if not self.few or best > 100 - self.at_least:
             return
-        known = {each for held in [*self.found, *self.steady] for each in held.candidates}
-        rest = [each for each in fields if each.count <= self.few and each not in known]
+        known = {each.key for held in [*self.found, *self.steady] for each in held.candidates}
+        rest = [each for each in fields if each.count <= self.few and each.key not in known]
         if rest and self.percent(rest, self.at_least) >= self.at_least:
             self.look_in_kin(rest)
 
     def look_together(self, statics: Sequence[Candidate]) -> None:
         """Finds static fields that hold enough only together, those of own classes first."""
         whole = self.percent(statics, self.at_least)
-        alone = [holder for held in self.found for holder in held.candidates]
+        alone = [each for held in self.found for each in held.candidates]
         best = max((self.probe.share(held.candidates) for held in self.found), default=0.0)
         base = self.percent(alone, 0.0) if whole - best >= self.at_least else whole
         if whole - base < self.at_least:
             return
         least = (base + whole) / 2
-        rest = [each for each in statics if each not in alone]
+        known = {each.key for each in alone}
+        rest = [each for each in statics if each.key not in known]
         own = [each for each in rest if each.is_own]
         if own and self.percent([*own, *alone], least) >= least:
             rest = own

@@ -40,8 +40,9 @@ step, or whose owner gained little. Fields of the JDK come after own ones with
 the same share.
 
 Calls that are running do not count: their local variables lead into containers
-that fields hold. So local variables lead nowhere if at most 5% of the growth is
-lost by that; else those of methods of the JDK, if that loses no more.
+that fields hold. So local variables lead nowhere if less than P percent of the
+growth is lost by that in each dump (or 5%, if P is less); else those of methods
+of the JDK, if that loses no more.
 
 The growth is that of the reachable bytes, or of the objects and bytes of CLASS.
 If no more bytes are reachable than before, it is that of the objects of all
