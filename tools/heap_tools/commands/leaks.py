@@ -121,8 +121,8 @@ def heads(comparison: Comparison, probe: GrowthProbe, width: int) -> str:
 def say_remainder(answer: Answer, comparison: Comparison) -> None:
     """Says what the lines do not."""
     search, probe = answer.search, answer.probe
-    if search.is_cut:
-        say("leaks: fields with more holders may hold as much: see --top")
+    if search.hidden:
+        say(f"leaks: {search.hidden}: see --top")
     if not answer.lines:
         more = ": see --at-least" * (search.at_least > 1)
         say(f"leaks: no field, local variable or thread alone holds {search.at_least}% of the growth{more}")

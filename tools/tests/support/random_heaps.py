@@ -54,9 +54,9 @@ class RandomHeap(DumpWriter):
         lists = [self._list(part) for part in parts]
         for part, (_, items) in zip(parts, lists):
             for number, item in enumerate(items):
-                other = lists[part.others[number]][0] if number < len(part.others) and part.others[number] < len(lists) else 0
+                others = [lists[each][0] for each in part.others[number : number + 1] if each < len(lists)]
                 self.values(item + 1, BYTE, bytes(part.size))
-                self.instance(item, ITEM + part.item, item + 1, other)
+                self.instance(item, ITEM + part.item, item + 1, *(others or [0]))
         self._write_roots(parts, [self._linked(part, top) for part, (top, _) in zip(parts, lists)])
 
     def new(self) -> int:
