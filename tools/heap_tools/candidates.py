@@ -1,5 +1,6 @@
 """What can hold objects in a dump: fields, static fields, local variables and threads, by name."""
 
+import functools
 from collections import defaultdict
 from dataclasses import dataclass, field
 from typing import Callable, Dict, FrozenSet, Iterable, List, NamedTuple, Optional, Sequence, Set, Tuple
@@ -43,6 +44,12 @@ class Candidate:
     def is_own(self) -> bool:
         """Tests whether its class is not of the JDK."""
         return self.kind in (THREAD, THREADS) or is_own(self.name)
+
+    @property
+    def weight(self) -> int:
+        """The number of holders by which lines are ordered. A field of the JDK counts as one with nearly twice as many:
+        a field of an own class just below it says more."""
+        return self.count if self.is_own else 2 * self.count - 1
 
     def __str__(self) -> str:
         if self.kind in (THREAD, THREADS):
@@ -112,7 +119,8 @@ class Candidates:
             return self.all_threads()
         if kind not in self._of_kind:
             listed: Dict[str, Callable[[], List[Candidate]]]
-            listed = {LOCAL: self.locals, THREAD: self.threads, THREADS: self.threads_alike}
+            by_pattern = functools.partial(self._threads_by, THREADS, pattern_of)
+            listed = {LOCAL: self.locals, THREAD: self.threads, THREADS: by_pattern}
             self._of_kind[kind] = {each.key: each for each in listed[kind]()}
         return self._of_kind[kind].get(key)
 
@@ -202,10 +210,8 @@ class Candidates:
         return self._threads
 
     def threads_alike(self) -> List[Candidate]:
-        """Returns the threads, by the patterns of their names. A pattern that only one name has is left out."""
-        names = {each.name: pattern_of(each.name) for each in self.threads()}
-        shared = {pattern for name, pattern in names.items() if pattern != name}
-        return [each for each in self._threads_by(THREADS, pattern_of) if each.name in shared]
+        """Returns the threads of which several have names of one pattern, by the pattern."""
+        return [each for each in self._threads_by(THREADS, pattern_of) if each.count > 1]
 
     def _threads_by(self, kind: str, called: Callable[[str], str]) -> List[Candidate]:
         """Returns the candidates of a kind that the threads are, by what their names are called."""

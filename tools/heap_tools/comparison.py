@@ -16,8 +16,8 @@ from heap_tools.humanize import counted
 from heap_tools.omissions import more_unreachable
 from heap_tools.probe import EarlierProbe, GrowthProbe
 from heap_tools.reports import Amount, Unit
-from heap_tools.running_calls import Calls, DumpSide, without_running_calls
-from heap_tools.same_program import Taken, other_program, wrong_order
+from heap_tools.running_calls import PASSING, Calls, DumpSide, without_running_calls
+from heap_tools.same_program import Taken, other_main, other_program, same_file, wrong_order
 from heap_tools.search_progress import SearchProgress
 from heap_tools.weak_growth import MUCH, weak_growth, weakly_held_words
 
@@ -46,11 +46,13 @@ class Comparison:
         self.direct = direct_memory(self.first.dump), direct_memory(self.last.dump)
 
     def _require_one_program(self) -> None:
-        """Raises `Fault` if the dumps are not in the order of their times, or seem to be of two programs."""
+        """Raises `Fault` if dumps are the same, not in the order of their times, or seem to be of two programs."""
         why = wrong_order([Taken(each.path, each.dump.time) for each in self.dumps])
+        why = why or same_file([each.path for each in self.dumps])
         if why:
             raise Fault(UNREADABLE, why)
         few = other_program(*(map(family, each.dump.names.values()) for each in (self.first, self.last)))
+        few = few or other_main(self.first.dump, self.last.dump)
         if few:
             raise Fault(UNREADABLE, f"{self.last.path}: another program? it has {few} of {self.first.path}")
 
@@ -74,7 +76,9 @@ class Comparison:
         if growth <= 0:
             families, unit = self._grown_families(sides, families, unit), Unit.OBJECTS
             growth = grown(sides, families, unit)
-        (first, last), self.omitted_calls = without_running_calls(sides, families, unit, growth)
+        # What holds less than at_least percent is no line, and nothing below it is.
+        percent = max(PASSING, self.options.at_least - 1)
+        (first, last), self.omitted_calls = without_running_calls(sides, families, unit, growth, percent)
         show = self.progress.show
         earlier = EarlierProbe(first.runs, first.candidates, families, unit, show, first.base)
         return GrowthProbe(earlier, last.runs, last.candidates, families, unit, show, last.base)

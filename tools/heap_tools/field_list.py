@@ -24,8 +24,8 @@ def root_of(text: str) -> Optional[Key]:
 
 def entries_of(text: str) -> List[str]:
     """Returns the entries of a list of fields, which may be a line of holders or leaks."""
-    last = re.sub("^ *[0-9]+ +[0-9]+ +[0-9]+% +[0-9 ]+ ", "", text).rpartition(" > ")[2]
-    last = re.sub("^together ", "", last)
+    last = re.sub("^ *[0-9]+ +[0-9]+ +[0-9]+% +[0-9 ]+ (to [0-9]+ +)?", "", text).rpartition(" > ")[2]
+    last = re.sub(r" \.\. and [0-9]+ more$", "", re.sub("^together ", "", last))
     return [re.sub("^static ", "", entry) for entry in last.replace(", ", ",").split(",")]
 
 

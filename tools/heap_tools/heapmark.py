@@ -91,9 +91,16 @@ class Heapmark:
             self._child = subprocess.Popen([self.program, *words], **how, **streams)
             return self._child
         except OSError as fault:
-            raise Fault(NO_HEAPMARK, f"{self.program} cannot be run: {fault.strerror}") from None
+            text = f"{self.program} cannot be run: {fault.strerror}: {self._advice()}"
+            raise Fault(NO_HEAPMARK, text) from None
         finally:
             _unblock()
+
+    def _advice(self) -> str:
+        """Returns what to do if there is no such program."""
+        if os.environ.get("HEAPMARK"):
+            return "the variable HEAPMARK names it"
+        return "build heapmark with tools/build, put it beside this tool or into PATH, or set HEAPMARK to its path"
 
     def _end(self) -> None:
         """Ends the child, if one was started."""
@@ -125,7 +132,7 @@ class Heapmark:
             words[-1], stdin = "/dev/stdin", opened(path)
         # To a terminal, heapmark says what to do about a refusal. With options, it then reads the file once more.
         ran = self.run(words, stdin=stdin, to_terminal=not options or is_terminal(sys.stderr))
-        if ran.status > 0:
+        if ran.status > 0 and any("refused " in line for line in ran.said):
             raise Fault(UNREADABLE, f"{path}: {_reason(ran.said, words[-1])}{why}")
         return self._judged(path, ran)
 
@@ -143,6 +150,8 @@ class Heapmark:
             ended = f"signal {-ran.status}"
         elif ran.status > 0:
             ended = ": ".join([f"status {ran.status}", *ran.said[:1]])
+            if self.runs == 1:
+                ended += ": is it heapmark?"
         else:
             report = read_report(ran.out.splitlines(), self.program)
             if report:

@@ -3,7 +3,7 @@
 import enum
 from typing import Callable, Dict, List, NamedTuple, Sequence
 
-from heap_tools.candidates import Candidate, joint_name
+from heap_tools.candidates import FIELD, Candidate, joint_name
 from heap_tools.probe import EarlierProbe, GrowthProbe, Retained
 from heap_tools.reference_paths import ReferencePaths
 from heap_tools.reports import Amount
@@ -63,7 +63,8 @@ class Place(enum.IntEnum):
 
     #: It is the one with the largest share, or below that and has most of it.
     MAIN = 0
-    #: It is such a one of the JDK, and an own one has the same share.
+    #: It is such a one of the JDK, and an own one has the same share; or it is of a collection of the JDK; or it is
+    #: several together, above a single one.
     ECHO = 1
     #: It is another.
     BESIDE = 2
@@ -71,13 +72,20 @@ class Place(enum.IntEnum):
 
 class Rank(NamedTuple):
     """What lines are sorted by, the smallest first. In the main place `size` is what the line holds in all, so that the
-    deepest comes first: the accumulation point. In others it is the share, the largest first."""
+    deepest comes first: the accumulation point. Of what leaks the topmost comes first, in other places the largest
+    share. `tier` is 0 for all with few holders, else their number."""
 
     doubt: Doubt
-    holders: int
+    tier: int
     place: Place
+    weight: int
     size: float
     name: str
+
+
+def tier_of(held: Retained) -> int:
+    """Returns 0 for what has few holders, else their number."""
+    return 0 if held.weight <= FEW else held.weight
 
 
 class Ranks:
@@ -97,18 +105,24 @@ class Ranks:
 
     def rank(self, held: Retained, doubts: Dict[int, Doubt]) -> Rank:
         """Returns the rank of one that was found, by the doubts of all."""
-        doubt = doubts[id(held)]
-        alike = [each for each in self.found if each.holders == held.holders and doubts[id(each)] == doubt]
+        doubt, tier = doubts[id(held)], tier_of(held)
+        alike = [each for each in self.found if tier_of(each) == tier and doubts[id(each)] == doubt]
         place = self.place(held, alike)
-        size = -self.share[id(held)] if place == Place.BESIDE else held.heap.bytes
-        return Rank(doubt, held.holders, place, size, joint_name(held.candidates))
+        if doubt == Doubt.PAYLOAD:
+            return Rank(doubt, tier, place, held.weight, -held.heap.bytes, joint_name(held.candidates))
+        if place == Place.BESIDE:
+            return Rank(doubt, tier, place, held.weight, -self.share[id(held)], joint_name(held.candidates))
+        return Rank(doubt, tier, place, 0, held.heap.bytes, joint_name(held.candidates))
 
     def place(self, held: Retained, alike: List[Retained]) -> Place:
         """Returns the place of `held` among those with as many holders and the same doubt."""
-        share, best = self.share[id(held)], max(alike, key=lambda each: (self.share[id(each)], each.heap.bytes))
+        single = [each for each in alike if len(each.candidates) == 1]
+        if held not in single and any(self.probe.holds_all(held, each) for each in single):
+            return Place.ECHO
+        share, best = self.share[id(held)], max(single or alike, key=lambda it: (self.share[id(it)], it.heap.bytes))
         if held is not best and (share < MOST * self.share[id(best)] or not self._is_below(best, held)):
             return Place.BESIDE
-        if not held.is_own and any(each.is_own and abs(self.share[id(each)] - share) < SAME for each in alike):
+        if any(says_more(each, held) and abs(self.share[id(each)] - share) < SAME for each in alike):
             return Place.ECHO
         return Place.MAIN
 
@@ -129,11 +143,13 @@ class Ranks:
         return Doubt.SMALL if id(held) in self._small else Doubt.NONE
 
     def is_payload(self, held: Retained) -> bool:
-        """Tests whether the holders that came since the first dump explain most of what was gained, each by what a
-        holder has on average."""
-        more = held.holders - self.probe.earlier.holders(held.candidates)
-        unit, gain = self.probe.unit, self.probe.gain(held.candidates)
-        return more > 0 and more * unit.of(held.amount) >= unit.of(gain) * held.holders / 2
+        """Tests whether the holders that came since the first dump explain half of what was gained or more, each by
+        what a holder holds on average: before if there are few, since some may have come by chance."""
+        unit, now, was = self.probe.unit, held.holders, self.probe.earlier.holders(held.candidates)
+        amount = unit.of(held.amount)
+        before = unit.of(self.probe.earlier.retained(held.candidates).amount)
+        average = before / max(was, 1) if now <= FEW else amount / now
+        return now > was and 2 * (now - was) * average >= amount - before
 
     def _has_moved(self, held: Retained) -> bool:
         """Tests whether one that gained less than half as much holds all that `held` does."""
@@ -174,6 +190,17 @@ class Ranks:
         return unit.of(both.amount) >= unit.of(other.amount) + unit.of(held.amount) / 2
 
 
+def says_more(held: Retained, other: Retained) -> bool:
+    """Tests whether the name of `held` says more than that of `other`: own ones say most, and collections of the JDK
+    say nothing."""
+    return held.is_own and not other.is_own or is_collection(other) and not is_collection(held)
+
+
+def is_collection(held: Retained) -> bool:
+    """Tests whether what holds is fields of the JDK's collections."""
+    return all(each.kind == FIELD and each.name.startswith("java/util/") for each in held.candidates)
+
+
 def kin_of(candidate: Candidate, probe: GrowthProbe) -> List[Candidate]:
     """Returns the fields of the class that declares `candidate`, static ones if it is static."""
     owner = candidate.name.rpartition(".")[0]
@@ -183,7 +210,7 @@ def kin_of(candidate: Candidate, probe: GrowthProbe) -> List[Candidate]:
 
 def by_holders(held: Retained) -> int:
     """Returns what is found first: what has few holders."""
-    return held.holders
+    return held.weight
 
 
 def answer_of(

@@ -8,7 +8,7 @@ from heap_tools.dump_runs import DumpRuns
 from heap_tools.reports import Report, Unit
 
 #: Local variables that hold at most this share of what is asked for, in percent, are those of calls that are running.
-PASSING = 5
+PASSING = 5.0
 
 
 class Calls(enum.Enum):
@@ -42,14 +42,14 @@ class DumpSide(NamedTuple):
 
 
 def without_running_calls(
-    sides: Sequence[DumpSide], families: Optional[List[str]], unit: Unit, whole: int
+    sides: Sequence[DumpSide], families: Optional[List[str]], unit: Unit, whole: int, percent: float = PASSING
 ) -> Tuple[List[DumpSide], Optional[Calls]]:
-    """Returns the dumps without the local variables of all calls, if in none of them more than `PASSING` percent of
-    `whole` is lost by that; else without those of the JDK's calls, under the same condition; else as they are. Returns
-    also which calls that are."""
+    """Returns the dumps without the local variables of all calls, if in none of them more than `percent` of `whole` is
+    lost by that; else without those of the JDK's calls, under the same condition; else as they are. Returns also which
+    calls that are."""
     for calls in Calls:
         cut = [side.without(calls) for side in sides]
         lost = [unit.of(side.base.total(families).minus(less.base.total(families))) for side, less in zip(sides, cut)]
-        if 100 * max(lost) <= PASSING * whole:
+        if 100 * max(lost) <= percent * whole:
             return cut, calls
     return list(sides), None

@@ -14,6 +14,8 @@ from heap_tools.search_progress import SearchProgress
 
 #: How many fields are tried first after one is found: those that come next have as many holders, or some more.
 NEXT = 8
+#: The part of what several hold together that those of them that are needed must hold, and how many these may be.
+MOST, MOST_TOGETHER = 0.9, 6
 
 #: What is tried as one: a candidate, or several that may hold something together.
 Unit = Sequence[Candidate]
@@ -37,12 +39,17 @@ class Search:
         self.few = few
         self.found: List[Retained] = []
         self.steady: List[Retained] = []
-        self.is_cut = False
         self.all = self.left = 0
 
     def first(self) -> List[Retained]:
         """Returns the `top` first of what was found."""
         return self.found[: self.top]
+
+    @property
+    def hidden(self) -> str:
+        """What is said of those that were found and are not among the first, empty if there are none."""
+        more = len(self.found) - self.top
+        return f"{more} more {'holds' if more == 1 else 'hold'} {self.at_least:.0f}% or more" if more > 0 else ""
 
     def note(self) -> None:
         """Notes how many candidates are still to be tried, and what was found last."""
@@ -57,9 +64,9 @@ class Search:
         self.expect(fields)
         self.find_roots()
         self.look_in_likely(fields)
-        self.look_in_kin_of(fields)
+        if self.few:
+            self.look_in_few_together([each for each in fields if each.count <= self.few])
         self.found.sort(key=self.order)
-        self.is_cut |= len(self.found) > self.top
 
     def find_roots(self) -> None:
         """Finds static fields, local variables and threads."""
@@ -69,7 +76,7 @@ class Search:
             self.look_in_own_first(statics)
             self.look_together(statics)
         if self.is_enough([candidates.all_threads()]):
-            for group in candidates.locals(), candidates.threads():
+            for group in candidates.locals(), candidates.threads(), candidates.threads_alike():
                 self.expect(group)
                 self.look_in_own_first(group)
 
@@ -116,9 +123,8 @@ class Search:
 
     def wanted(self, group: Sequence[Candidate]) -> List[Candidate]:
         """Returns those of `group` that may still be among the first `top`. The others have too many holders."""
-        most = sorted(held.holders for held in self.found)[self.top - 1 : self.top]
-        wanted = [each for each in group if not most or each.count <= most[0]]
-        self.is_cut |= len(wanted) < len(group)
+        most = sorted(held.weight for held in self.found)[self.top - 1 : self.top]
+        wanted = [each for each in group if not most or each.weight <= most[0]]
         self.left -= len(group) - len(wanted)
         return wanted
 
@@ -166,26 +172,38 @@ class Search:
 
     # What holds enough only together
 
-    def look_in_kin_of(self, fields: Sequence[Candidate]) -> None:
-        """Finds fields with few holders that hold enough only together, if what is found leaves as much."""
-        best = max((self.probe.share(each.candidates) for each in self.found if each.holders <= self.few), default=0)
-        if not self.few or best > 100 - self.at_least:
+    def look_in_few_together(self, fields: Sequence[Candidate]) -> None:
+        """Finds fields with few holders that hold enough only together, if what is found leaves as much: those of one
+        class or package; else, if nothing with few holders is found, any of them and roots."""
+        shares = [self.probe.share(each.candidates) for each in self.found if each.holders <= self.few]
+        if max(shares, default=0) > 100 - self.at_least:
             return
-        known = {each for held in [*self.found, *self.steady] for each in held.candidates}
-        rest = [each for each in fields if each.count <= self.few and each not in known]
-        if rest and self.percent(rest, self.at_least) >= self.at_least:
-            self.look_in_kin(rest)
+        rest = self.unknown(fields)
+        if self.percent(rest, self.at_least) >= self.at_least and self.look_in_kin(rest) or shares:
+            return
+        of_dump = self.probe.candidates
+        rest = self.unknown([*of_dump.statics(), of_dump.all_threads(), *fields])
+        whole = self.percent(rest, self.at_least)
+        needed = self.needed(rest, [], 0, MOST * whole) if whole >= self.at_least else []
+        if 0 < len(needed) <= MOST_TOGETHER:
+            self.found.append(self.probe.retained(needed))
+
+    def unknown(self, group: Sequence[Candidate]) -> List[Candidate]:
+        """Returns those of `group` that are not known to hold enough alone, whether they gained it or not."""
+        known = {each.key for held in [*self.found, *self.steady] for each in held.candidates}
+        return [each for each in group if each.key not in known]
 
     def look_together(self, statics: Sequence[Candidate]) -> None:
         """Finds static fields that hold enough only together, those of own classes first."""
         whole = self.percent(statics, self.at_least)
-        alone = [holder for held in self.found for holder in held.candidates]
+        alone = [each for held in self.found for each in held.candidates]
         best = max((self.probe.share(held.candidates) for held in self.found), default=0.0)
         base = self.percent(alone, 0.0) if whole - best >= self.at_least else whole
         if whole - base < self.at_least:
             return
         least = (base + whole) / 2
-        rest = [each for each in statics if each not in alone]
+        known = {each.key for each in alone}
+        rest = [each for each in statics if each.key not in known]
         own = [each for each in rest if each.is_own]
         if own and self.percent([*own, *alone], least) >= least:
             rest = own
@@ -205,7 +223,7 @@ class Search:
             while units:
                 unit, units, likely = self.halved(units, likely)
                 if unit and self.probe.share(unit) >= self.at_least:
-                    least = 0.9 * self.probe.share(unit)
+                    least = MOST * self.probe.share(unit)
                     self.found.append(self.probe.retained(self.needed(list(unit), [], 0, least) or unit))
             if len(self.found) > known:
                 return True

@@ -131,7 +131,7 @@ class GrownTest(ToolTest):
         """A heapmark that is killed, that is missing, and one that is not wanted."""
         killed = self.program("kill -9 $$")
         self.expect(["dump", "friday"], said="grown: *: run 1 on dump failed: signal 9", status=5, heapmark=killed)
-        said = "grown: /nowhere cannot be run: No such file or directory"
+        said = "grown: /nowhere cannot be run: No such file or directory: the variable HEAPMARK names it"
         self.expect(["monday", "dump"], said=said, status=5, heapmark="/nowhere")
         self.expect(["monday", "friday"], self.BY_NUMBER, heapmark="/nowhere")
         self.check_interrupt("dump", "friday")

@@ -177,7 +177,7 @@ class HeldTest(ToolTest):
         other = self.program('case $* in *stdin) exit 1 ;; esac\nexec HEAPMARK "$@"')
         said = "held: cache.hprof: not read a second time"
         self.expect(["cache.hprof", VALUE], said=said, status=1, heapmark=other)
-        said = "held: /nowhere cannot be run: No such file or directory"
+        said = "held: /nowhere cannot be run: No such file or directory: the variable HEAPMARK names it"
         self.expect(["cache.hprof", VALUE], said=said, status=5, heapmark="/nowhere")
         self.check_interrupt("cache.hprof", VALUE)
 

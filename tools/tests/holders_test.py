@@ -47,7 +47,7 @@ class HoldersTest(ToolTest):
             (["shop4.hprof"], half, without_statics(48, 156, "bytes")),
             (["shop.hprof", "--at-least", "10"], smaller, of_bytes),
             (["--at-least", "70", "shop.hprof"], first, of_bytes),
-            (["shop.hprof", "--top=1"], first, f"holders: fields with more holders *: see --top\n{of_bytes}"),
+            (["shop.hprof", "--top=1"], first, f"holders: 1 more holds 20% or more: see --top\n{of_bytes}"),
             (["shop.hprof", "--at-least=90"], "", f"{none}90% of 308 bytes: see --at-least\n{of_bytes}"),
             (["journal.hprof", "Event"], both, without_statics(0, 10, "objects of Event")),
             (["none.hprof"], "", f"{none}20% of 0 bytes*\n{without_statics(0, 0, 'bytes', '0 fields, *')}"),
@@ -100,7 +100,7 @@ class HoldersTest(ToolTest):
         dump.array(601, 11, 600)
         dump.write("lost.hprof")
         for name in ("Lost", "[LLost;"):
-            why = "no object of it is reachable, but 1 are in the dump: *waiting virtual threads*"
+            why = "no object of it is reachable, but 1 is in the dump: *waiting virtual threads*"
             said = f"holders: {name.replace('[', '[[]')}: {why}"
             self.expect(["lost.hprof", name], said=said, status=3)
 

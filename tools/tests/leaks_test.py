@@ -8,7 +8,23 @@ import shutil
 import unittest
 
 from tests.support.dump_writer import BYTE, DumpWriter, word
-from tests.support.services import MINUTE, Service, cache, handler, journal, lambdas, moved, uploads, worker
+from tests.support.services import (
+    MINUTE,
+    Service,
+    cache,
+    handler,
+    journal,
+    lambdas,
+    many_caches,
+    moved,
+    noisy,
+    of_main,
+    running,
+    swapped,
+    twofold,
+    uploads,
+    worker,
+)
 from tests.support.tool_test import ToolTest, histogram
 
 
@@ -54,7 +70,7 @@ class LeaksTest(ToolTest):
         self.assertEqual([rows[0][0], rows[0][1], rows[0][6]], ["120", "1680", self.PATH])
         first = self.ran("--top=1", "monday", "friday")
         self.assertEqual(first.out, lines.splitlines(True)[0])
-        self.assertIn("fields with more holders may hold as much: see --top", first.said)
+        self.assertIn("leaks: 1 more holds 30% or more: see --top\n", first.said)
 
     def test_class(self):
         """The growth of a class, and a class that did not grow."""
@@ -121,6 +137,57 @@ class LeaksTest(ToolTest):
         both = f"together static shop/Screen.SHOWN, {timer}"
         self.assertEqual(self.found(*owned_twice)[0][-1], f"{both} > {queue}")
 
+    def test_running_calls(self):
+        """Calls that are running do not hide what holds the growth, and what they hold is none, in whichever dump."""
+        for first, last in ((cache(20), running(80)), (running(20), cache(80)), (running(20), running(80, ["a", "b"]))):
+            rows = self.found(first, last)
+            self.assertEqual(rows[0], ["120", "2160", "100%", "720", "2880", "1", self.PATH])
+        jdk = running(80, name="java/util/Queue")
+        jdk.of_class(10, "shop/Server")
+        jdk.of_class(12, "[Lshop/Page;")
+        jdk.array(901, 12, *[902] * 300)
+        jdk.thread(9, 709, [(10, "main")])
+        jdk.instance(709, 9)
+        jdk.local(9, 0, 901)
+        rows = self.found(running(20, name="java/util/Queue"), jdk)
+        self.assertIn(["120", "2160", "47%", "720", "2880", "1", self.PATH], rows)
+        self.assertIn("Calls that are running do not count", self.ran("--help").out)
+
+    def test_order(self):
+        """What grew comes before what moved, what grew at each step before what is large by chance, holders before
+        what leaks itself. The number of holders that changed is shown, and the help has the reasons."""
+        rows = self.found(swapped(20, False), swapped(80, True))
+        self.assertEqual([row[-1] for row in rows][::len(rows) - 1], [self.PATH, "static shop/Stock.STORE > shop/Stock.green"])
+        rows = self.found(noisy(20, 900), noisy(80, 9000))
+        self.assertEqual(rows[0][-1], "static shop/Pages.ALL")
+        noisy(50, 100, minutes=6).write("between")
+        noisy(80, 9000, minutes=12).write("after")
+        lines = self.ran("before", "between", "after", "--at-least=10").out.splitlines()
+        names = [columns_of(each)[-1] for each in lines]
+        self.assertEqual((names[0], names[-1]), (self.PATH, "static shop/Pages.ALL"))
+        payload = [columns_of(each) for each in self.ran("monday", "friday").out.splitlines()][-1]
+        self.assertEqual(payload[-2:], ("20 to 80", f"{self.PATH} > shop/Order.text"))
+        self.assertIn("accumulation point", self.ran("--help").out)
+
+    def test_kin(self):
+        """Fields of one class, or of one package, that hold enough only together."""
+        rows = self.found(twofold(20), twofold(80))
+        self.assertEqual(rows[0][-1], "together shop/Polls.publicKeys, shop/Selector.keys")
+        rows = self.found(many_caches(5), many_caches(20))
+        path = "together static shop/Caches.CACHE_0, static shop/Caches.CACHE_1, static shop/Caches.CACHE_2 .. and 5 more"
+        self.assertEqual((rows[0][2], rows[0][-1]), ("100%", path))
+
+    def test_one_program(self):
+        """The same dump twice, and services on one framework with other main classes."""
+        shutil.copy("friday", "copy")
+        for other in ("friday", "copy"):
+            self.expect(["friday", other], said=f"leaks: {other}: the same file as friday", status=1)
+        for name, minutes in (("shop/Orders", 1), ("shop/Orders", 3), ("shop/Stock", 5)):
+            of_main(name, minutes).write(f"{minutes}")
+        self.assertEqual(self.ran("1", "3").status, 0)
+        said = "leaks: 5: another program? it has the main class shop/Stock, not the shop/Orders of 1"
+        self.expect(["1", "5"], said=said, status=1)
+
     def test_no_growth(self):
         """The whole did not grow, or nothing did."""
         moved(10).write("before")
@@ -128,7 +195,8 @@ class LeaksTest(ToolTest):
         said = f"leaks: reachable: 816 bytes, then 816: no growth; so the shares are of the objects of *\n{self.COST}"
         self.expect(["before", "after"], line(50, 0, 100, 10, 60, 1, "static shop/Catalog.SOLD"), said)
         said = "leaks: reachable: 6,508 bytes, then 6,508: no growth"
-        self.expect(["friday", "friday"], said=said, status=3)
+        cache(80, minutes=15).write("later")
+        self.expect(["friday", "later"], said=said, status=3)
         lost = cache(80, minutes=20)
         lost.values(9000, BYTE, bytes(500))
         lost.write("lost")
@@ -242,8 +310,10 @@ class LeaksTest(ToolTest):
         said = "leaks: *: run 6 on * failed: signal 9"
         self.expect(["--html", "page.html", "monday", "friday"], said=said, status=5, heapmark=later)
         self.assertFalse(os.path.exists("page.html"))
-        said = "leaks: /nowhere cannot be run: No such file or directory"
+        said = "leaks: /nowhere cannot be run: No such file or directory: the variable HEAPMARK names it"
         self.expect(["monday", "friday"], said=said, status=5, heapmark="/nowhere")
+        said = "leaks: /bin/false: run 1 on monday failed: status 1: is it heapmark?"
+        self.expect(["monday", "friday"], said=said, status=5, heapmark="/bin/false")
 
     def test_terminal(self):
         """A terminal shows the growth and the heads of the columns, and how far the search is."""

@@ -1,12 +1,23 @@
-"""Tests how many runs the search for holders takes, with probes that know what holders hold."""
+"""Tests what the search for holders finds and what it asks, with probes that know what holders hold, and on small dumps
+made at random, where each candidate is also cut alone."""
 
+import os
+import tempfile
 import unittest
 from unittest import mock
 
-from heap_tools.candidates import FIELD, LOCAL, THREAD, Candidate, Candidates
+from heap_tools.candidates import FIELD, LOCAL, STATIC, THREAD, Candidate, Candidates
+from heap_tools.dump_runs import DumpRuns
+from heap_tools.heap_dump import HeapDump
+from heap_tools.heapmark import Heapmark
+from heap_tools.leak_lines import FEW, answer_of, by_holders
 from heap_tools.probe import EarlierProbe, GrowthProbe, Retained
 from heap_tools.reports import Amount, Unit
+from heap_tools.running_calls import DumpSide, without_running_calls
 from heap_tools.search import NEXT, Search
+from tests.support.marker import MarkedRuns
+from tests.support.random_heaps import random_pair
+from tests.support.tool_test import HEAPMARK
 
 
 class Told:
@@ -95,6 +106,114 @@ class SearchTest(unittest.TestCase):
             self.assertEqual(self.search(probe, fields), names)
             self.assertLessEqual(len(probe.asked), most, at)
         self.assertLess(NEXT, 20)
+
+
+#: How many pairs of dumps made at random are searched, and how many of them with heapmark, too.
+PAIRS, PAIRS_OF_HEAPMARK = int(os.environ.get("RANDOM_PAIRS", "200")), 10
+AT_LEAST = 30
+
+
+class RandomTest(unittest.TestCase):
+    """Searches in pairs of dumps that are made at random."""
+
+    def pairs(self, count):
+        """Yields the first `count` numbers of pairs that grew, and what asks them."""
+        seed = 0
+        while count:
+            probe = self.probe([self.marked(each.bytes()) for each in random_pair(seed)])
+            if probe.growth.bytes > 0:
+                count -= 1
+                yield seed, probe
+            seed += 1
+
+    def marked(self, content):
+        """Returns a dump that is marked in this process."""
+        with tempfile.TemporaryFile() as file:
+            file.write(content)
+            file.flush()
+            return MarkedRuns(HeapDump(file))
+
+    def probe(self, both):
+        """Returns what asks two dumps about the growth of their bytes."""
+        sides = [DumpSide.prepared(runs, False) for runs in both]
+        growth = sides[1].base.reachable.bytes - sides[0].base.reachable.bytes
+        (first, last), _ = without_running_calls(sides, None, Unit.BYTES, growth, AT_LEAST - 1)
+        earlier = EarlierProbe(first.runs, first.candidates, None, Unit.BYTES, base=first.base)
+        return GrowthProbe(earlier, last.runs, last.candidates, None, Unit.BYTES, base=last.base)
+
+    def candidates(self, probe):
+        """Returns all that can hold objects in the last dump."""
+        of_dump = probe.candidates
+        roots = [*of_dump.statics(), *of_dump.locals(), *of_dump.threads()]
+        return [*roots, *of_dump.fields(probe.base)]
+
+    def searched(self, probe, top):
+        """Searches, and returns the search."""
+        search = Search(probe, AT_LEAST, top, by_holders, mock.Mock(), FEW)
+        search.find(probe.candidates.fields(probe.base))
+        return search
+
+    def alone(self, search):
+        """Returns the names of those that were found to hold enough alone."""
+        return sorted(str(held.candidates[0]) for held in search.found if len(held.candidates) == 1)
+
+    def test_all_found(self):
+        """All that gained enough alone are found, and none too many. With a limit, those are left out beside which as
+        many with fewer holders are found."""
+        some = 0
+        for seed, probe in self.pairs(PAIRS):
+            every = [each for each in self.candidates(probe) if probe.share([each]) >= AT_LEAST]
+            self.assertEqual(self.alone(self.searched(probe, 1000)), sorted(map(str, every)), seed)
+            some += len(every)
+            for top in (1, 4):
+                search = self.searched(probe, top)
+                found = self.alone(search)
+                self.assertLessEqual(set(found), set(map(str, every)), seed)
+                for each in every:
+                    before = sum(held.weight < each.weight for held in search.found)
+                    self.assertTrue(str(each) in found or before >= top, (seed, str(each)))
+        self.assertGreater(some, PAIRS)
+
+    def test_paths(self):
+        """Each step of a path holds all that the next one does, object for object; no field is above a static one."""
+        steps = 0
+        for seed, probe in self.pairs(PAIRS // 2):
+            for line in answer_of(probe, AT_LEAST, 8, mock.Mock()).lines:
+                path = [*line.above, line.held]
+                for upper, lower in zip(path, path[1:]):
+                    lost = [self.lost(probe, each) for each in (upper, lower)]
+                    self.assertGreater(lost[0], lost[1], (seed, line.path()))
+                    self.assertFalse(set(upper.candidates) & set(lower.candidates), line.path())
+                    self.assertNotEqual(lower.candidates[0].kind, STATIC, line.path())
+                    steps += 1
+        self.assertGreater(steps, PAIRS / 4)
+
+    def lost(self, probe, held):
+        """Returns the objects that the candidates of `held` hold."""
+        changes = {}
+        for each in held.candidates:
+            changes.update(each.changes)
+        return probe.runs.lost(changes)
+
+    def test_marker(self):
+        """heapmark finds what the marker of these tests does, with the same amounts."""
+        for seed, probe in self.pairs(PAIRS_OF_HEAPMARK):
+            with tempfile.TemporaryDirectory() as folder, mock.patch.dict(os.environ, HEAPMARK=HEAPMARK):
+                both = []
+                for name, dump in zip(("before", "after"), random_pair(seed)):
+                    dump.write(f"{folder}/{name}")
+                    both.append(DumpRuns.of(Heapmark(), f"{folder}/{name}", "leaks"))
+                proved = self.probe(both)
+                lines = [self.lines(each) for each in (probe, proved)]
+                for runs in both:
+                    runs.dump.file.close()
+            self.assertEqual(*lines, seed)
+            self.assertEqual(probe.growth, proved.growth)
+
+    def lines(self, probe):
+        """Returns the lines of the answer, with their amounts."""
+        lines = answer_of(probe, AT_LEAST, 8, mock.Mock()).lines
+        return [(line.path(), line.held.amount, line.before, line.held.heap, line.held.holders) for line in lines]
 
 
 if __name__ == "__main__":

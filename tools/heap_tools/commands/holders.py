@@ -96,7 +96,8 @@ def require_objects(name: str, runs: DumpRuns, base: Report) -> None:
         inner = any(each.startswith(f"{name}$") for each in runs.dump.names.values())
         why = "the dump has no object of it" + ": did the shell take a $ away? quote the name" * inner
         if count:
-            why = f"no object of it is reachable, but {count:,} are in the dump: {HIDDEN_HOLDERS}"
+            are = "is" if count == 1 else "are"
+            why = f"no object of it is reachable, but {count:,} {are} in the dump: {HIDDEN_HOLDERS}"
         raise Fault(NOTHING, f"{name}: {why}")
     if base.amount(name).objects == 0:
         raise Fault(WEAKLY_HELD, f"{name}: only soft, weak, final or phantom references hold its objects: see --weak")
@@ -161,8 +162,8 @@ def say_remainder(search: Search) -> None:
     what = counted(whole, probe.unit.noun)
     what = f"{what} of {probe.families[0]}" if probe.families else what
     rest = whole - probe.unit.of(probe.retained(probe.candidates.statics()).amount)
-    if search.is_cut:
-        say("holders: fields with more holders may hold as much: see --top")
+    if search.hidden:
+        say(f"holders: {search.hidden}: see --top")
     if not search.found:
         say(f"holders: no field, local variable or thread alone holds {at_least}% of {what}{why_none(search)}")
     unreachable = probe.runs.report.unreachable.bytes

@@ -40,8 +40,9 @@ step, or whose owner gained little. Fields of the JDK come after own ones with
 the same share.
 
 Calls that are running do not count: their local variables lead into containers
-that fields hold. So local variables lead nowhere if at most 5% of the growth is
-lost by that; else those of methods of the JDK, if that loses no more.
+that fields hold. So local variables lead nowhere if less than P percent of the
+growth is lost by that in each dump (or 5%, if P is less); else those of methods
+of the JDK, if that loses no more.
 
 The growth is that of the reachable bytes, or of the objects and bytes of CLASS.
 If no more bytes are reachable than before, it is that of the objects of all
@@ -120,8 +121,8 @@ def heads(comparison: Comparison, probe: GrowthProbe, width: int) -> str:
 def say_remainder(answer: Answer, comparison: Comparison) -> None:
     """Says what the lines do not."""
     search, probe = answer.search, answer.probe
-    if search.is_cut:
-        say("leaks: fields with more holders may hold as much: see --top")
+    if search.hidden:
+        say(f"leaks: {search.hidden}: see --top")
     if not answer.lines:
         more = ": see --at-least" * (search.at_least > 1)
         say(f"leaks: no field, local variable or thread alone holds {search.at_least}% of the growth{more}")

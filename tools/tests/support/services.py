@@ -1,5 +1,7 @@
 """Small dumps of services that leak beside a catalog."""
 
+from typing import Sequence
+
 from tests.support.dump_writer import BYTE, DumpWriter, word
 
 MINUTE = 60000
@@ -119,4 +121,72 @@ def moved(count: int) -> DumpWriter:
     for at, number in enumerate(numbers):
         dump.instance(number, 3 if at < count else 2)
     dump.root(1)
+    return dump
+
+
+def running(count: int, methods: Sequence[str] = ("callAppenders",), name: str = "shop/Service") -> Service:
+    """Like `cache`, while threads are in calls of the class `name`: their local variables lead to the array, too."""
+    dump = cache(count)
+    dump.of_class(8, name)
+    dump.of_class(9, "java/lang/Thread")
+    for number, method in enumerate(methods, 1):
+        dump.thread(number, 700 + number, [(8, method)])
+        dump.local(number, 0, 5000)
+        dump.instance(700 + number, 9)
+    return dump
+
+
+def swapped(count: int, is_green: bool) -> Service:
+    """A store has its stock in one of two fields; another static field holds the orders."""
+    dump = cache(count)
+    dump.of_class(8, "shop/Stock", {"STORE": 800}, fields=["blue", "green"])
+    dump.values(801, BYTE, bytes(9000))
+    dump.instance(800, 8, *((0, 801) if is_green else (801, 0)))
+    dump.root(8)
+    return dump
+
+
+def noisy(count: int, noise: int, minutes: int = 0) -> Service:
+    """Beside the orders, a static field holds pages of `noise` bytes, now many and now few."""
+    dump = cache(count, minutes)
+    dump.of_class(8, "shop/Pages", {"ALL": 800})
+    dump.values(800, BYTE, bytes(noise))
+    dump.root(8)
+    return dump
+
+
+def twofold(count: int, owner: str = "shop/Selector") -> Service:
+    """Two fields of a selector, which is a root, lead to the orders: one is of its superclass `owner`."""
+    dump = Service()
+    dump.of_class(7, owner, fields=["keys"])
+    dump.of_class(8, "shop/Polls", fields=["publicKeys"], superclass=7)
+    dump.instance(600, 8, 5000, 5000)
+    dump.orders(count)
+    dump.root(600)
+    return dump
+
+
+def many_caches(count: int) -> Service:
+    """Eight static fields of one class hold some orders each."""
+    dump = Service()
+    dump.of_class(5, "shop/Order", fields=["text"])
+    tops = [5000 + 500 * number for number in range(8)]
+    dump.of_class(6, "shop/Caches", {f"CACHE_{number}": top for number, top in enumerate(tops)})
+    for top in tops:
+        orders = range(top + 1, top + 1 + count)
+        dump.array(top, 4, *orders)
+        for order in orders:
+            dump.instance(order, 5, order + 250)
+            dump.values(order + 250, BYTE, bytes(20))
+    dump.root(6)
+    return dump
+
+
+def of_main(name: str, minutes: int) -> Service:
+    """A service whose main class is `name`."""
+    dump = cache(20 + minutes, minutes)
+    dump.of_class(8, name)
+    dump.of_class(9, "java/lang/Thread")
+    dump.thread(1, 700, [(9, "sleep"), (8, "main")])
+    dump.instance(700, 9)
     return dump
