@@ -22,8 +22,8 @@ from heap_tools.reports import Amount
 
 def content_of(comparison: Comparison, answer: Answer, notes: Notes) -> page.Leak:
     """Returns what the page of `--html` shows."""
-    options, probe = comparison.options, answer.probe
-    of_class = probe.families[0] if probe.families and options.of_class else None
+    probe = answer.probe
+    of_class = probe.families[0] if probe.families and len(probe.families) == 1 else None
     reports = [runs.report for runs in comparison.dumps]
     names = [each.name for each in growths(reports, probe.unit) if each.name != CLASSES]
     return page.Leak(
@@ -74,7 +74,7 @@ def holder_of(line: Line, probe: GrowthProbe) -> page.HolderEntry:
     before = share_of(line.before, probe.earlier)
     after = share_of(line.held.amount, probe)
     above = [sorted(map(str, each.candidates)) for each in line.above]
-    return page.HolderEntry(kind, name, line.held.holders, before, after, line.share, above)
+    return page.HolderEntry(kind, name, line.held.holders, before, after, line.share, above, line.holders_before)
 
 
 def share_of(amount: Amount, probe: Probe) -> page.HeldShare:

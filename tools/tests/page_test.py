@@ -95,7 +95,8 @@ class PageTest(unittest.TestCase):
         )
         self.assertNotIn("Share, before and after", text)
         first, *others = leak().holders
-        self.check_texts(leak(growth=page.Amount(1, 1)), "as on the terminal, without what only weak references hold.")
+        less = "as on the terminal, without what only weak references or running calls hold."
+        self.check_texts(leak(growth=page.Amount(1, 1)), less)
         more = leak(holders=[dataclasses.replace(first, share=200.4), *others])
         self.check_texts(more, "Its share of the growth 200 % of +17.1 MB")
 

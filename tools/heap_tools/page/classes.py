@@ -50,7 +50,7 @@ def last(leak: Leak, limits: Limits) -> Html:
     about = fill("about", text="Packages and classes as a table. Small ones are added together.")
     heads = {"Package and class": "name", "Objects": "number", "Bytes": "number", "Share of the heap": "shares"}
     parts = [last_group(number, it, total, limits) for number, it in enumerate(groups)]
-    parts.append(fill("total", **amount_cells(whole, total)))
+    parts.append(fill("total", cells=amount_cells(whole, total)))
     return joined([picture, about, table("last", "The last heap by package and class", heads, parts)], "\n")
 
 
@@ -61,11 +61,11 @@ def last_group(number: int, group: Group, total: int, limits: Limits) -> Html:
         colour=colour_of(number, group),
         name=breakable(plain(group.name or "other packages", limits.name)),
         rows=joined((last_row(part, total, limits) for part in group.parts), "\n"),
-        **amount_cells(group.amount, total),
+        cells=amount_cells(group.amount, total),
     )
 
 
 def last_row(part: Part, total: int, limits: Limits) -> Html:
     """Returns the row of a class, or of several small ones."""
     name = name_of(part.name, limits.name) if part.name else name_in_full(part)
-    return fill("last_row", name=name, **amount_cells(part.amount, total))
+    return fill("last_row", name=name, cells=amount_cells(part.amount, total))

@@ -82,7 +82,7 @@ def holder_table(leak: Leak, limits: Limits) -> Html:
     about = (
         "Without one of these, much of what grew would be unreachable. Those with the fewest holders come first: the "
         f"first line is the answer. The share of the growth is of that of {leak.whole}, {growth}, as on the terminal"
-        f"{', without what only weak references hold' if is_less else ''}. "
+        f"{', without what only weak references or running calls hold' if is_less else ''}. "
         f"The {whole_head(leak).lower()} is of {leak.whole} in the first dump and in the last."
     )
     heads = {"Held by": "name", "Holders": "number", "Objects": "number", "Bytes": "number"}

@@ -34,10 +34,9 @@ def left_out(number: int, noun: str) -> Html:
     return fill("paragraph", text=f"Not shown: {humanize.counted(number, noun)} more.") if number > 0 else Html()
 
 
-def amount_cells(amount: Amount, total: int) -> Dict[str, object]:
+def amount_cells(amount: Amount, total: int) -> Html:
     """Returns the cells of an amount, and of its share in percent of `total` bytes."""
-    return {
-        "objects": figure(amount.objects, "object"),
-        "bytes": figure(amount.bytes, "byte"),
-        "share": share(100 * amount.bytes / total, "part"),
-    }
+    of_total = share(100 * amount.bytes / total, "part")
+    return fill(
+        "amount_cells", objects=figure(amount.objects, "object"), bytes=figure(amount.bytes, "byte"), share=of_total
+    )

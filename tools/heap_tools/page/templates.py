@@ -1,4 +1,4 @@
-"""Plain text as HTML: escapes and shortens it, marks where its lines may end, and fills the templates of `page.html`."""
+"""Plain text as HTML: escapes and shortens it, marks where its lines may end, fills the templates of `page.html`."""
 
 import html
 import pathlib
