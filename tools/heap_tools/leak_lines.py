@@ -119,12 +119,19 @@ class Ranks:
         single = [each for each in alike if len(each.candidates) == 1]
         if held not in single and any(self.probe.holds_all(held, each) for each in single):
             return Place.ECHO
-        share, best = self.share[id(held)], max(single or alike, key=lambda it: (self.share[id(it)], it.heap.bytes))
+        share, best = self.share[id(held)], self._best(single or alike)
         if held is not best and (share < MOST * self.share[id(best)] or not self._is_below(best, held)):
             return Place.BESIDE
         if any(says_more(each, held) and abs(self.share[id(each)] - share) < SAME for each in alike):
             return Place.ECHO
         return Place.MAIN
+
+    def _best(self, alike: List[Retained]) -> Retained:
+        """Returns the one with the largest share: of several with about the same one, that whose name says most and
+        that has the fewest holders."""
+        largest = max(self.share[id(each)] for each in alike)
+        same = [each for each in alike if self.share[id(each)] > largest - SAME]
+        return min(same, key=lambda each: (is_collection(each), not each.is_own, each.weight, -each.heap.bytes))
 
     def _is_below(self, upper: Retained, lower: Retained) -> bool:
         """Tests whether `upper` holds what `lower` does, or the other way round: both are on one path."""

@@ -234,12 +234,14 @@ class Search:
         hold `base` percent. Returns nothing if many of `group` hold a little each."""
         if len(group) == 1:
             return group
-        half, shares = len(group) // 2, []
-        for part in (group[:half], group[half:]):
-            shares.append(self.percent([*part, *others], least))
-            if shares[-1] >= least:
+        half, little, bounds = len(group) // 2, (least - base) / 2 + 2 * base, 0.0
+        parts = group[:half], group[half:]
+        for part in parts:
+            bound = self.percent([*part, *others], least)
+            if bound >= least:
                 return self.needed(part, others, base, least)
-        if sum(shares) - 2 * base > (least - base) / 2:
+            bounds += bound
+        if bounds > little and sum(self.probe.share([*part, *others]) for part in parts) > little:
             return []
         right = self.needed(group[half:], [*others, *group[:half]], base, least)
         left = right and self.needed(group[:half], [*others, *right], base, least)

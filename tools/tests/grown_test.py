@@ -1,28 +1,30 @@
 """Runs grown on small reports, histograms and dumps, and compares what it prints."""
 
 import pathlib
+import os
 import re
 import shutil
 import subprocess
 import unittest
+from typing import Any, Sequence
 
-from tests.support.tool_test import TOP, ToolTest, histogram, report
+from tests.support.tool_test import TOP, Row, ToolTest, histogram, report
 
 TWO_OBJECTS = TOP / "crates/heapmark/data/two_objects.hprof"
 HOUR = 3600000
 
 
-def write(name, *rows, **more):
+def write(name: str, *rows: Row, **more: Any) -> None:
     """Writes a report."""
     pathlib.Path(name).write_text(report(*rows, **more))
 
 
-def grew(*rows):
+def grew(*rows: Sequence[Any]) -> str:
     """Returns lines of growth, each of objects, bytes, further numbers and a class."""
     return "".join(f"{row[0]:10} {row[1]:14}{''.join(f' {it:>10}' for it in row[2:-1])}  {row[-1]}\n" for row in rows)
 
 
-def an_hour(*rows):
+def an_hour(*rows: Sequence[Any]) -> str:
     """Returns lines of growth whose last number is the growth an hour."""
     lines = []
     for *numbers, rate, name in rows:
@@ -31,7 +33,7 @@ def an_hour(*rows):
     return "".join(lines)
 
 
-def timed(name, hours):
+def timed(name: str, hours: int) -> None:
     """Writes the dump of two objects with this time since 1970 in its header."""
     dump = TWO_OBJECTS.read_bytes()
     pathlib.Path(name).write_bytes(dump[:23] + (hours * HOUR).to_bytes(8, "big") + dump[31:])
@@ -46,7 +48,7 @@ class GrownTest(ToolTest):
     OF_DUMP = grew((2, 8, "A"), (1, 0, "<class>"))
     HALF = "grown: half: no * (refused 1 BadHeader at 0), no whole report, and no whole histogram"
 
-    def setUp(self):
+    def setUp(self) -> None:
         super().setUp()
         same, twice = (5, 50, "Same"), (2, 20, "Twice")
         write("monday", same, (4, 40, "Fewer"), twice, (1, 10, "Twice"), (1, 8, "Gone"), (3, 30, "Longer"))
@@ -54,7 +56,7 @@ class GrownTest(ToolTest):
         write("none")
         shutil.copy(TWO_OBJECTS, "dump")
 
-    def test_order(self):
+    def test_order(self) -> None:
         """Sorted by number or by bytes; ties by the other one and then by name."""
         self.expect(["monday", "friday"], self.BY_NUMBER)
         self.expect(["--bytes", "monday", "friday"], self.BY_BYTES)
@@ -65,14 +67,14 @@ class GrownTest(ToolTest):
         self.expect(["none", "alike"], grew(third, also, second, (2, 80, "First"), (1, 90, "Small")))
         self.expect(["--bytes", "none", "alike"], grew(third, also, second, (1, 90, "Small"), (2, 80, "First")))
 
-    def test_kinds(self):
+    def test_kinds(self) -> None:
         """A report beside a dump, two dumps, and a report without its last line end."""
         self.expect(["none", "dump"], self.OF_DUMP)
         self.expect(["dump", "dump"])
         pathlib.Path("last_line").write_text(pathlib.Path("friday").read_text()[:-1])
         self.expect(["friday", "last_line"])
 
-    def test_several(self):
+    def test_several(self) -> None:
         """Several files: the steps, and classes that grew at each step first."""
         write("day1", (1, 10, "Leak"), (5, 50, "Cache"), (1, 10, "Falls"), (1, 1, "Table"))
         write("day2", (3, 30, "Leak"), (90, 900, "Cache"), (9, 90, "Falls"), (1, 2, "Table"))
@@ -88,7 +90,7 @@ class GrownTest(ToolTest):
         alike = [(85, 850, 85, 0, 0, "Cache"), (5, 50, 2, 0, 3, "Leak"), (1, 10, 8, 0, -7, "Falls")]
         self.expect(["day1", "day2", "day2", "day3"], grew(*alike, (1, 8, 0, 0, 1, "Late"), (0, 3, 0, 0, 0, "Table")))
 
-    def test_times(self):
+    def test_times(self) -> None:
         """The times of dumps: their order, and the growth an hour. `other` stands in for heapmark."""
         timed("early.hprof", 480000)
         timed("late.hprof", 480004)
@@ -108,7 +110,7 @@ class GrownTest(ToolTest):
         said = "grown: friday: --per-hour: *"
         self.expect(["--per-hour", "early.hprof", "friday"], said=said, status=1, heapmark=other)
 
-    def test_what_heapmark_gets(self):
+    def test_what_heapmark_gets(self) -> None:
         """Fields that are not followed, and huge pages unless the tunables are set."""
         runs, fields = pathlib.Path("runs"), ["--skip", "a.b,c.d", "dump", "friday"]
         huge = {"GLIBC_TUNABLES": "glibc.malloc.hugetlb=1"}
@@ -121,13 +123,13 @@ class GrownTest(ToolTest):
         said = "grown: --skip: none of the files is a dump"
         self.expect(["--skip", "a.b", "monday", "friday"], said=said, status=2, heapmark=other)
 
-    def test_unmet_fields(self):
+    def test_unmet_fields(self) -> None:
         """On a terminal, heapmark says which entries name no field, as it does without this tool."""
         seen = self.on_terminal("--skip", "A.none", "dump", "dump")[1]
         self.assertEqual(seen.count("A.none"), 2, seen)
         self.expect(["--skip", "A.none", "dump", "dump"])
 
-    def test_heapmark(self):
+    def test_heapmark(self) -> None:
         """A heapmark that is killed, that is missing, and one that is not wanted."""
         killed = self.program("kill -9 $$")
         self.expect(["dump", "friday"], said="grown: *: run 1 on dump failed: signal 9", status=5, heapmark=killed)
@@ -136,7 +138,7 @@ class GrownTest(ToolTest):
         self.expect(["monday", "friday"], self.BY_NUMBER, heapmark="/nowhere")
         self.check_interrupt("dump", "friday")
 
-    def test_histograms(self):
+    def test_histograms(self) -> None:
         """Histograms of jcmd and jmap, with names as the report has them."""
         rows = [(2, 64, "[B (java.base@17)"), (3, 72, "java.lang.String (java.base@17)")]
         rows += [(1, 16, "Shop$$Lambda$14/0x00000008000c0a08"), (1, 40, "[Ljava.lang.Object; (java.base@17)")]
@@ -163,7 +165,7 @@ class GrownTest(ToolTest):
         pathlib.Path("half").write_text("\n".join(text.split("\n")[:6]))
         self.expect(["before", "half"], said=self.HALF, status=1)
 
-    def test_refused(self):
+    def test_refused(self) -> None:
         """What is refused, and which file the message names."""
         dump = TWO_OBJECTS.read_bytes()
         for name, content in (("cut.hprof", dump[:60]), ("header.hprof", dump[:26])):
@@ -183,19 +185,21 @@ class GrownTest(ToolTest):
         self.expect(["monday", "."], said=said, status=1)
         said = "grown: referent: no list of *"
         self.expect(["--skip", "referent", "dump", "dump"], said=said, status=2)
-        self.expect(["--skip", b"a.\377", "dump", "dump"], said="grown: *: no list of *", status=2)
+        self.expect(["--skip", os.fsdecode(b"a.\377"), "dump", "dump"], said="grown: *: no list of *", status=2)
 
-    def test_pipes(self):
+    def test_pipes(self) -> None:
         """A dump may come from a pipe, a report may not."""
         with subprocess.Popen(["cat", "dump"], stdout=subprocess.PIPE) as cat:
+            assert cat.stdout
             path = f"/dev/fd/{cat.stdout.fileno()}"
             self.expect(["none", path], self.OF_DUMP, pass_fds=[cat.stdout.fileno()])
         with subprocess.Popen(["cat", "monday"], stdout=subprocess.PIPE) as cat:
+            assert cat.stdout
             path = f"/dev/fd/{cat.stdout.fileno()}"
             said = "grown: *: no * (refused 1 BadHeader at 0), and only dumps may come from what is no plain file"
             self.expect(["none", path], said=said, status=1, pass_fds=[cat.stdout.fileno()])
 
-    def test_words(self):
+    def test_words(self) -> None:
         """The help, and words that are wrong."""
         self.check_help("Shows which classes grew between heap dumps of one program: ")
         self.check_wrong_words(
@@ -206,9 +210,9 @@ class GrownTest(ToolTest):
         )
         self.check_wrong_words(["monday", "friday", "--skip"], ["--per-hour=1", "monday", "friday"], ["--", "--help"])
 
-    def test_names_of_files(self):
+    def test_names_of_files(self) -> None:
         """Names that heapmark or a shell may take for something else."""
-        for name in ("day=2.hprof", "two words", "*", b"b\344r"):
+        for name in ("day=2.hprof", "two words", "*", os.fsdecode(b"b\344r")):
             shutil.copy("friday", name)
             self.expect(["monday", name], self.BY_NUMBER)
             shutil.copy("dump", name)
@@ -218,7 +222,7 @@ class GrownTest(ToolTest):
             shutil.copy("friday", name)
             self.expect(["--", "monday", name], self.BY_NUMBER)
 
-    def test_hidden_classes(self):
+    def test_hidden_classes(self) -> None:
         """Hidden classes, whose names have a counter and an address."""
         hidden = "Shop$$Lambda$14+0x00007fee61009210"
         write("one", (9, 90, hidden), (2, 16, f"[L{hidden};"), (1, 8, "A+0"))
@@ -228,7 +232,7 @@ class GrownTest(ToolTest):
         write("three", *((1, 8, f"Hidden+0x000000000000000{letter}") for letter in "abc"))
         self.expect(["none", "three"], grew((3, 24, "Hidden")))
 
-    def test_unreachable(self):
+    def test_unreachable(self) -> None:
         """What is unreachable, and what waiting virtual threads hold."""
         write("before", (1, 8, "A"), unreachable=(10, 100))
         write("after", (1, 8, "A"), unreachable=(17, 170))
@@ -238,7 +242,7 @@ class GrownTest(ToolTest):
         self.expect(["before", "after", "before", "after"], said=grows)
         self.expect(["--more-than", "0", "before", "after"], said=grows)
 
-    def test_two_programs(self):
+    def test_two_programs(self) -> None:
         """Files of two programs have few own classes in common."""
         write("shop", *((1, 8, f"shop/A{number}") for number in range(9)), (1, 8, "java/lang/String"))
         write("bank", *((1, 8, f"bank/A{number}") for number in range(4)), (1, 8, "java/lang/String"))
@@ -246,14 +250,14 @@ class GrownTest(ToolTest):
         self.assertEqual(ended.said, "grown: bank: another program? it has 0 of the 9 own classes of shop\n")
         self.assertEqual(ended.status, 0)
 
-    def test_own(self):
+    def test_own(self) -> None:
         """Only own classes, and only the first lines."""
         own = [(3, 30, "[Lcom/shop/Order;"), (2, 20, "Shop$$Lambda")]
         write("mixed", *own, (9, 90, "java/lang/String"), (9, 90, "byte[]"), (1, 2, "<class>"))
         self.expect(["--own", "none", "mixed"], grew(*own))
         self.expect(["--own", "--top=1", "none", "mixed"], grew(own[0]))
 
-    def test_more_than(self):
+    def test_more_than(self) -> None:
         """A limit, for a script."""
         new = (7, 70, "New")
         self.expect(["--more-than", "3", "monday", "friday"], grew(new), status=3)
@@ -263,7 +267,7 @@ class GrownTest(ToolTest):
         pathlib.Path("cut.hprof").write_bytes(TWO_OBJECTS.read_bytes()[:60])
         self.expect(["--more-than", "3", "monday", "cut.hprof"], said="grown: cut.hprof: * (refused *)", status=1)
 
-    def test_output(self):
+    def test_output(self) -> None:
         """What cannot be written, and bars on a terminal."""
         self.check_output(["monday", "friday"], self.BY_NUMBER)
         self.expect(["monday", "friday"], self.BY_NUMBER, variables={"TMPDIR": "/nowhere"})
@@ -280,10 +284,11 @@ class RecipesTest(ToolTest):
 
     tool = "grown"
 
-    def recipe(self, heading, **reports):
+    def recipe(self, heading: str, **reports: str) -> str:
         """Runs the code that follows this heading, with these reports of dumps. Returns what it prints."""
         page = (TOP / "docs/HISTOGRAM.md").read_text(encoding="utf-8")
-        code = re.search(rf"^#+ {heading}\n.*?((?:^    [^\n]*\n)+)", page, re.M | re.S)[1]
+        code = re.search(rf"^#+ {heading}\n.*?((?:^    [^\n]*\n)+)", page, re.M | re.S)
+        assert code
         program = pathlib.Path("bin/heapmark")
         program.parent.mkdir(exist_ok=True)
         cases = "--skip*' friday.hprof') cat skipped ;;\nmonday.hprof | friday.hprof) cat \"${1%.hprof}\" ;;"
@@ -291,11 +296,11 @@ class RecipesTest(ToolTest):
         program.chmod(0o755)
         for name, text in reports.items():
             pathlib.Path(name).write_text(text)
-        script = re.sub("^    ", "", code, flags=re.M)
+        script = re.sub("^    ", "", code[1], flags=re.M)
         ended = subprocess.run(["sh", "-c", f"PATH=$PWD/bin:$PATH\n{script}"], stdout=subprocess.PIPE, check=False)
         return ended.stdout.decode()
 
-    def test_growth(self):
+    def test_growth(self) -> None:
         """The first recipe prints what grown prints."""
         hidden = "Shop$$Lambda$14+0x00007fee61009210"
         before = report((5, 50, "Same"), (4, 40, "Fewer"), (2, 20, "Twice"), (1, 10, "Twice"), (9, 90, hidden))
@@ -305,13 +310,13 @@ class RecipesTest(ToolTest):
         self.assertEqual(printed, self.ran("monday", "friday").out)
         self.assertEqual(len(printed.splitlines()), 3)
 
-    def test_field(self):
+    def test_field(self) -> None:
         """The second one writes two reports."""
         whole, skipped = report((2, 16, "A")), report((1, 8, "A"))
         self.recipe("What a field holds", friday=whole, skipped=skipped)
         self.assertEqual([pathlib.Path(f"{name}.txt").read_text() for name in ("without", "with")], [skipped, whole])
 
-    def test_shares(self):
+    def test_shares(self) -> None:
         """The other two add up shares and packages."""
         rows = [(2, 60, "com/acme/A"), (3, 20, "[Lcom/acme/B;"), (1, 15, "byte[]"), (1, 5, "[[Lcom/acme/x/C;")]
         text = report(*rows).replace(f"{9:10d} {9:15d}  (reachable)", f"{7:10d} {100:15d}  (reachable)")

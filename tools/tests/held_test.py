@@ -1,22 +1,24 @@
 """Runs held on small dumps, and compares what it prints."""
 
+import os
 import pathlib
 import shutil
 import unittest
 
 from tests.support.dump_writer import INT, LONG, DumpWriter
 from tests.support.held_objects import threads
+from tests.support.services import handler, running
 from tests.support.tool_test import ToolTest, report
 
 KEY, VALUE = "Cache$Entry.key", "Cache$Entry.value"
 
 
-def line(objects, size, name):
+def line(objects: int, size: int, name: str) -> str:
     """Returns a line of the output."""
     return f"{objects:10} {size:14}  {name}\n"
 
 
-def cache():
+def cache() -> DumpWriter:
     """A cache has two entries and a list of two items. Each entry has a key, which the list has too, and a value, a
     list with an item of its own. The fields `value` hold two lists and two items, the fields `key` nothing. The fields
     `key`, `value` and `list` together hold all three lists and all four items."""
@@ -37,7 +39,7 @@ def cache():
     return dump
 
 
-def statics(id_size):
+def statics(id_size: int) -> DumpWriter:
     """The static field `all` of class Größe has an item. Class plain/Other has four static fields: `list` has an
     item, `first` and `second` share an item, and `all` is null. Two hidden classes of one name have an instance each,
     whose `arg$1` is an item. The last class dumps come after the instances."""
@@ -64,11 +66,11 @@ class HeldTest(ToolTest):
     NO_CLASS = "held: Cash.list: no class of the dump is called Cash: spell it as the report does, and in quotes"
     NO_FIELD = "held: Cache.third: Cache itself declares no such field: javap -p lists its fields; a superclass may *"
 
-    def setUp(self):
+    def setUp(self) -> None:
         super().setUp()
         cache().write("cache.hprof")
 
-    def test_fields(self):
+    def test_fields(self) -> None:
         """Fields of instances, alone and together."""
         three, items = f"{KEY},{VALUE},Cache.list", line(4, 0, "Item")
         self.expect(["cache.hprof", VALUE], self.BY_VALUE)
@@ -77,13 +79,13 @@ class HeldTest(ToolTest):
         said = f"held: nothing hangs by {KEY} alone: what it leads to, if anything, is reachable another way too"
         self.expect(["cache.hprof", KEY], said=said)
 
-    def test_more_than(self):
+    def test_more_than(self) -> None:
         """A limit, for a script."""
         self.expect(["--more-than", "1", "cache.hprof", VALUE], self.BY_VALUE, status=3)
         self.expect(["--more-than=2", "cache.hprof", VALUE])
         self.expect(["cache.hprof", VALUE, "--more-than", "1"], self.BY_VALUE, status=3)
 
-    def test_static_fields(self):
+    def test_static_fields(self) -> None:
         """Static fields, hidden classes, letters beyond ASCII, and identifiers of both sizes."""
         other, item, none = "plain/Other", line(1, 0, "Item"), "held: nothing hangs by *"
         lambdas = "Shop$$Lambda"
@@ -110,7 +112,7 @@ class HeldTest(ToolTest):
             self.expect(["static.hprof", "Cache.int_value"], said=numbers, status=6)
         self.assertNotEqual(INT, LONG)
 
-    def test_threads(self):
+    def test_threads(self) -> None:
         """Local variables and threads, as lines of holders and leaks have them."""
         threads().write("threads.hprof")
         served = line(5, 0, "Message") + line(1, 40, "[LMessage;") + line(1, 0, "<class>")
@@ -124,7 +126,18 @@ class HeldTest(ToolTest):
             said = f"held: {kind} {name}: no {noun} of the dump has this name"
             self.expect(["threads.hprof", f"{kind} {name}"], said=said, status=6)
 
-    def test_no_such_name(self):
+    def test_running_calls(self) -> None:
+        """A call that runs hides nothing; but what is reachable only through its local variables hangs by fields."""
+        running(20).write("running.hprof")
+        self.assertIn(line(20, 160, "shop/Order"), self.ran("running.hprof", "shop/Cache.table").out)
+        handler(20).write("handler.hprof")
+        self.assertEqual(self.ran("handler.hprof", "shop/Order.text").out.split()[:3], ["20", "400", "byte[]"])
+        self.assertIn("Calls that are running do not count", self.ran("--help").out)
+        for text in ("  5  0  62%  0  5  2 to 30  ", "static A.b > "):
+            said = f"held: {text}together a.b, c.d .. and 3 more"
+            self.expect(["running.hprof", said[6:]], said="held: a.b: no class *\nheld: c.d: no class *", status=6)
+
+    def test_no_such_name(self) -> None:
         """Names that match nothing, and what may have been meant."""
         self.expect(["cache.hprof", "Cash.list"], said=self.NO_CLASS, status=6)
         self.expect(["cache.hprof", "Cache.third"], said=self.NO_FIELD, status=6)
@@ -139,7 +152,7 @@ class HeldTest(ToolTest):
         said = "held: Shop.arg$1: no class of the dump is called Shop: did the shell take a $ away? quote the name"
         self.expect(["static.hprof", "Shop.arg$1"], said=said, status=6)
 
-    def test_names_of_files(self):
+    def test_names_of_files(self) -> None:
         """Names that heapmark or a shell may take for something else."""
         for name in ("day=2.hprof", "two words", "*"):
             shutil.copy("cache.hprof", name)
@@ -151,20 +164,20 @@ class HeldTest(ToolTest):
         self.expect(["--", "cache.hprof", "-a.b"], said=said, status=6)
         self.expect(["cache.hprof", r"Cache.\c"], said=r"held: Cache.\c: Cache itself declares no *", status=6)
 
-    def test_refused(self):
+    def test_refused(self) -> None:
         """Files and lists that are refused, and wrong words."""
         pathlib.Path("cut.hprof").write_bytes(pathlib.Path("cache.hprof").read_bytes()[:200])
         said = "held: cut.hprof: ends too early: still being written, or cut (refused 3 Truncated at *)"
         self.expect(["cut.hprof", VALUE], said=said, status=1)
         self.expect(["nowhere", VALUE], said="held: nowhere: no such file", status=1)
         self.expect(["/dev/null", VALUE], said="held: /dev/null: no plain file*", status=1)
-        for fields in ("referent", b"a.\377", ""):
+        for fields in ("referent", os.fsdecode(b"a.\377"), ""):
             self.expect(["cache.hprof", fields], said="held: *: no list of *", status=2)
         right = ["cache.hprof", VALUE]
         self.check_wrong_words([], right[:1], [*right, VALUE], ["--number", *right], [*right, "--more-than"])
         self.check_help("Shows what hangs by some fields of a heap dump: ")
 
-    def test_heapmark(self):
+    def test_heapmark(self) -> None:
         """heapmark runs on the dump and on a pipe. It may end early, or be missing."""
         reads = "case $* in *stdin) cat > /dev/null ;; esac"
         other = self.program(f"{reads}\ncat <<'END'\n{report((1, 8, 'A'))}END")
@@ -181,7 +194,7 @@ class HeldTest(ToolTest):
         self.expect(["cache.hprof", VALUE], said=said, status=5, heapmark="/nowhere")
         self.check_interrupt("cache.hprof", VALUE)
 
-    def test_output(self):
+    def test_output(self) -> None:
         """What cannot be written."""
         self.check_output(["cache.hprof", VALUE], self.BY_VALUE)
         self.expect(["cache.hprof", VALUE], self.BY_VALUE, variables={"TMPDIR": "/nowhere"})

@@ -4,17 +4,18 @@ import os
 import pathlib
 import subprocess
 import unittest
+from typing import List, Union
 
 from tests.support.dump_writer import BYTE, DumpWriter
 from tests.support.held_objects import DUMPS, shop
 from tests.support.tool_test import HEAPMARK, ToolTest, histogram
 
-def line(objects, size, share, holders, text):
+def line(objects: int, size: int, share: int, holders: int, text: str) -> str:
     """Returns a line of the output."""
     return f"{objects:10} {size:14} {share:4}% {holders:9}  {text}\n"
 
 
-def without_statics(rest, whole, what, fields="*"):
+def without_statics(rest: int, whole: Union[int, str], what: str, fields: str = "*") -> str:
     """Returns a pattern for the last message."""
     hold = f"threads or the virtual machine hold {rest} of {whole} {what} without any static field"
     return f"holders: {hold}; {fields} of heapmark"
@@ -27,12 +28,12 @@ class HoldersTest(ToolTest):
     ORDERS = line(20, 0, 80, 1, "static Shop.CACHE") + line(20, 0, 80, 1, "Cache.table")
     WHOLE = line(23, 216, 70, 1, "static Shop.CACHE") + line(21, 200, 65, 1, "Cache.table")
 
-    def setUp(self):
+    def setUp(self) -> None:
         super().setUp()
         for name, dump in DUMPS.items():
             dump.write(f"{name}.hprof")
 
-    def test_lines(self):
+    def test_lines(self) -> None:
         """Lines with CLASS and without, by both sizes of identifiers."""
         of_bytes, none = without_statics(92, 308, "bytes"), "holders: no field, local variable or thread alone holds "
         smaller = self.WHOLE + line(1, 40, 13, 1, "java/lang/Thread.orders")
@@ -55,7 +56,7 @@ class HoldersTest(ToolTest):
         ):
             self.expect(words, out, said)
 
-    def test_roots(self):
+    def test_roots(self) -> None:
         """Objects that are roots themselves: no option helps."""
         dump = DumpWriter()
         dump.of_class(1, "Order")
@@ -65,7 +66,7 @@ class HoldersTest(ToolTest):
         none = "holders: no field, local variable or thread alone holds 10% of 1 object of Order: they are roots *"
         self.expect(["roots.hprof", "Order"], said=f"{none}\n{without_statics(1, 1, 'object of Order')}")
 
-    def test_threads(self):
+    def test_threads(self) -> None:
         """Local variables and threads hold objects, too."""
         lines = line(5, 0, 62, 1, "local com/shop/Server.serve")
         mine = line(6, 0, 75, 1, 'thread "http-0"') + lines
@@ -75,7 +76,7 @@ class HoldersTest(ToolTest):
         for each in (mine + worker).splitlines():
             self.assertIn(each, ended.out.splitlines())
 
-    def test_arrays(self):
+    def test_arrays(self) -> None:
         """Shares of arrays are those of bytes: by number, the catalog would hold 90 %."""
         upload = line(10, 10000, 92, 1, "static Upload.CHUNKS")
         said = without_statics(0, "10,900", "bytes of byte[[]]")
@@ -83,14 +84,14 @@ class HoldersTest(ToolTest):
         ended = self.ran("--at-least", "50", "--bytes", "arrays.hprof", "[[B")
         self.assertEqual(ended.out.splitlines()[0], line(1, 720, 90, 1, "static Catalog.ALL").rstrip())
 
-    def test_weak(self):
+    def test_weak(self) -> None:
         """What weak references hold, by default and with --weak."""
         weakly, followed = ["weak.hprof", "Order"], line(1, 0, 100, 2, "java/lang/ref/Reference.referent")
         only = "holders: Order: only soft, weak, final or phantom references *"
         self.expect(weakly, said=only, status=7)
         self.expect(["--weak", *weakly], followed, without_statics(1, 1, "object of Order"))
 
-    def test_no_object(self):
+    def test_no_object(self) -> None:
         """No object of a class is reachable, or in the dump."""
         self.expect(["shop.hprof", "Ghost"], said="holders: Ghost: the dump has no object of it", status=3)
         dump = shop()
@@ -104,7 +105,7 @@ class HoldersTest(ToolTest):
             said = f"holders: {name.replace('[', '[[]')}: {why}"
             self.expect(["lost.hprof", name], said=said, status=3)
 
-    def test_unreachable(self):
+    def test_unreachable(self) -> None:
         """Much is unreachable."""
         dump = shop()
         dump.values(700, BYTE, bytes(100))
@@ -112,7 +113,7 @@ class HoldersTest(ToolTest):
         said = "holders: 100 bytes more are unreachable: *waiting virtual threads*"
         self.expect(["lost.hprof"], self.WHOLE, f"{said}\n{without_statics(92, 308, 'bytes')}")
 
-    def test_no_class(self):
+    def test_no_class(self) -> None:
         """No class has the name, and what may have been meant."""
         odd, shop_dump = "odd.hprof", "shop.hprof"
         for words, why in (
@@ -129,7 +130,7 @@ class HoldersTest(ToolTest):
         said = f"holders: com.shop.Cache: {why}"
         self.expect(["inner.hprof", "com.shop.Cache"], said=said, status=6)
 
-    def test_names(self):
+    def test_names(self) -> None:
         """Names as a user may write them, and the lines that they lead to."""
         hidden = line(2, 16, 50, 1, "static Bus.f10") + line(2, 16, 50, 1, "static Bus.f11")
         hidden += line(2, 16, 50, 4, "Bus$$Lambda.next")
@@ -148,7 +149,7 @@ class HoldersTest(ToolTest):
             for name in names:
                 self.expect(["odd.hprof", name], out, "* without any static field; *")
 
-    def test_own_first(self):
+    def test_own_first(self) -> None:
         """At the same number of holders, own classes come before those of the JDK."""
         dump = DumpWriter()
         dump.of_class(1, "java/util/Timer", {"QUEUE": 200})
@@ -163,11 +164,11 @@ class HoldersTest(ToolTest):
         lines = line(1, 0, 100, 1, "shop/Queue.tasks") + line(1, 0, 100, 1, "static java/util/Timer.QUEUE")
         self.expect(["own.hprof", "Task"], lines, "*")
 
-    def test_files(self):
+    def test_files(self) -> None:
         """Names of files that a tool may take for something else, and files that cannot be read many times."""
         dump, said = pathlib.Path("shop.hprof").read_bytes(), without_statics(5, 25, "objects of Order")
-        for name in ("two words", "*", "day=2", "line\nbreak", b"\xff.hprof"):
-            pathlib.Path(os.fsdecode(name)).write_bytes(dump)
+        for name in ("two words", "*", "day=2", "line\nbreak", os.fsdecode(b"\xff.hprof")):
+            pathlib.Path(name).write_bytes(dump)
             self.expect([name, "Order"], self.ORDERS, said)
         for name in ("--weak", "-dash.hprof"):
             pathlib.Path(name).write_bytes(dump)
@@ -190,7 +191,7 @@ class HoldersTest(ToolTest):
         ):
             self.expect([name, "Order"], said=why, status=1)
 
-    def test_command_line(self):
+    def test_command_line(self) -> None:
         """Options after operands, words that are wrong, and two dumps."""
         said = without_statics(5, 25, "objects of Order")
         for words in (
@@ -208,7 +209,7 @@ class HoldersTest(ToolTest):
         self.expect(["shop.hprof", "shop4.hprof"], said=why, status=2)
         self.check_help("Shows what holds the objects of a class in a heap dump: ")
 
-    def test_heapmark(self):
+    def test_heapmark(self) -> None:
         """A heapmark that is missing, that ends early, or that is another program; and dumps that change."""
         later = '[ "$(wc -l < runs)" -lt 3 ] || '
         for text, ended in (
@@ -232,7 +233,7 @@ class HoldersTest(ToolTest):
         changed = self.program("HEAPMARK $@; truncate -s 1000 short.hprof")
         self.expect(["short.hprof"], said="holders: *it changed while it was read", status=1, heapmark=changed)
 
-    def test_environment(self):
+    def test_environment(self) -> None:
         """Huge pages are set only if GLIBC_TUNABLES is not; and the folder for temporary files is missing."""
         other, said = self.program("exec HEAPMARK $@"), "* without any static field; *"
         for value in ("glibc.malloc.hugetlb=1", ""):
@@ -240,15 +241,15 @@ class HoldersTest(ToolTest):
             self.assertEqual(pathlib.Path("runs").read_text().split("\n")[-2], f"{value} -- /dev/stdin")
         self.expect(["shop.hprof"], self.WHOLE, said, variables={"TMPDIR": "/nowhere"})
 
-    def test_interrupt(self):
+    def test_interrupt(self) -> None:
         """A signal ends the tool and the heapmark that it runs."""
         self.check_interrupt("shop.hprof")
 
-    def test_output(self):
+    def test_output(self) -> None:
         """Output that cannot be written."""
         self.check_output(["shop.hprof", "Order"], self.ORDERS)
 
-    def test_terminal(self):
+    def test_terminal(self) -> None:
         """A terminal shows how far the search is and what was found, and at the end nothing of that; and heads."""
         ended, seen = self.on_terminal("shop.hprof", "Order")
         parts = seen.split("\r")
@@ -259,7 +260,7 @@ class HoldersTest(ToolTest):
         _, seen = self.on_terminal("shop.hprof", "Order", stream="stdout")
         self.assertEqual(seen, f"{'objects':>10} {'bytes':>14} share {'holders':>9}  field\n{self.ORDERS}")
 
-    def test_skip(self):
+    def test_skip(self) -> None:
         """The line of an instance field has the objects that `heapmark --skip` makes unreachable."""
         for dump in ("shop.hprof", "odd.hprof", "late.hprof"):
             whole = totals(dump)
@@ -271,7 +272,7 @@ class HoldersTest(ToolTest):
                     self.assertEqual(lost, [int(objects), int(size)], row)
 
 
-def totals(dump, *words):
+def totals(dump: str, *words: str) -> List[int]:
     """Returns the objects and bytes that heapmark says are reachable."""
     ran = subprocess.run([HEAPMARK, *words, "--", dump], stdout=subprocess.PIPE, check=True)
     return [int(number) for number in ran.stdout.decode().split("\n")[-4].split()[:2]]

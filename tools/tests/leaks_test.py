@@ -1,11 +1,14 @@
 """Runs leaks on small dumps of services that leak beside a catalog, and compares what it prints."""
 
+import fnmatch
 import os
 import pathlib
 import re
 import resource
 import shutil
+import sys
 import unittest
+from typing import List, Tuple, Union
 
 from tests.support.dump_writer import BYTE, DumpWriter, word
 from tests.support.services import (
@@ -25,17 +28,19 @@ from tests.support.services import (
     uploads,
     worker,
 )
-from tests.support.tool_test import ToolTest, histogram
+from tests.support.tool_test import TOOLS, ToolTest, histogram
 
 
-def line(objects, size, share, before, after, holders, path):
+def line(objects: int, size: int, share: int, before: int, after: int, holders: Union[int, str], path: str) -> str:
     """Returns a line of the output."""
     return f"{objects:10} {size:14} {share:4}% {before:14} {after:14} {holders:>9}  {path}\n"
 
 
-def columns_of(line):
+def columns_of(line: str) -> List[str]:
     """Returns the columns of a line of the output."""
-    return re.fullmatch(r" *(\d+) +(\d+) +(\d+%) +(\d+) +(\d+) +((?:\d+ to )?\d+)  (.*)", line).groups()
+    found = re.fullmatch(r" *(\d+) +(\d+) +(\d+%) +(\d+) +(\d+) +((?:\d+ to )?\d+)  (.*)", line)
+    assert found, line
+    return list(found.groups())
 
 
 class LeaksTest(ToolTest):
@@ -46,20 +51,20 @@ class LeaksTest(ToolTest):
     CUT = "leaks: cut: ends too early: still being written, or cut (refused 3 Truncated at [0-9]*)"
     PATH = "static shop/Service.CACHE > shop/Cache.table"
 
-    def setUp(self):
+    def setUp(self) -> None:
         super().setUp()
         cache(20).write("monday")
         cache(80, minutes=12).write("friday")
 
-    def found(self, before, after, *words):
+    def found(self, before: DumpWriter, after: DumpWriter, *words: str) -> List[List[str]]:
         """Writes two dumps, and returns the columns of the lines that leaks prints for them."""
         before.write("before")
         after.write("after")
         ended = self.ran("before", "after", *words)
         self.assertEqual(ended.status, 0, ended.said)
-        return [list(columns_of(each)) for each in ended.out.splitlines()]
+        return [columns_of(each) for each in ended.out.splitlines()]
 
-    def test_cache(self):
+    def test_cache(self) -> None:
         """The field that holds the growth, by identifiers of both sizes; not the catalog, which holds more."""
         lines = line(120, 2160, 100, 720, 2880, 1, self.PATH)
         lines += line(120, 2160, 100, 732, 2892, 1, "static shop/Service.CACHE")
@@ -72,7 +77,7 @@ class LeaksTest(ToolTest):
         self.assertEqual(first.out, lines.splitlines(True)[0])
         self.assertIn("leaks: 1 more holds 30% or more: see --top\n", first.said)
 
-    def test_class(self):
+    def test_class(self) -> None:
         """The growth of a class, and a class that did not grow."""
         for name in ("shop/Order", "shop.Order"):
             first = self.ran("--class", name, "monday", "friday").out.splitlines(True)[0]
@@ -92,25 +97,26 @@ class LeaksTest(ToolTest):
         said = "leaks: Order: no class of the dump has this name: did you mean shop/Order?"
         self.expect(["--class=Order", "monday", "friday"], said=said, status=6)
 
-    def test_objects(self):
+    def test_objects(self) -> None:
         """Shares of objects, in which small ones count as much as large ones."""
         rows = self.found(cache(20), cache(80), "--objects")
         self.assertEqual(rows[0], ["120", "2160", "100%", "41", "161", "1", self.PATH])
 
-    def test_arrays(self):
+    def test_arrays(self) -> None:
         """By bytes, large arrays count more than many small ones of the catalog."""
-        for words in ([], ["--class", "byte[]"]):
+        cases: Tuple[List[str], ...] = ([], ["--class", "byte[]"])
+        for words in cases:
             rows = self.found(uploads(1), uploads(10), *words)
             self.assertEqual(rows[0][-1], "static shop/Upload.UPLOAD > shop/Upload.chunks")
 
-    def test_hidden_classes(self):
+    def test_hidden_classes(self) -> None:
         """Names of hidden classes differ, and BEFORE may lack a class."""
         for before in (lambdas(20, "00aa"), lambdas(0, "")):
             rows = self.found(before, lambdas(80, "00bb"))
             self.assertEqual(rows[0][-1], "static shop/Bus.LISTENER > shop/Bus$$Lambda.arg$1")
         self.assertEqual(rows[0][3], "0")
 
-    def test_threads(self):
+    def test_threads(self) -> None:
         """A local variable of a thread, also if the thread of BEFORE is another one."""
         path = 'thread "http-0" > local shop/Handler.handle'
         rows = self.found(handler(20), handler(80))
@@ -119,12 +125,12 @@ class LeaksTest(ToolTest):
         rows = self.found(handler(20, "http-7"), handler(80))
         self.assertEqual([(row[3], row[-1]) for row in rows[:2]], [("720", path), ("0", 'thread "http-0"')])
 
-    def test_together(self):
+    def test_together(self) -> None:
         """Static fields that hold the growth only together."""
         rows = self.found(journal(20), journal(80))
         self.assertEqual(rows[0][-1], "together static shop/Journal.EVENTS, static shop/Screen.SHOWN")
 
-    def test_executor(self):
+    def test_executor(self) -> None:
         """Who owns the queue, of which a worker thread knows, too."""
         rows = self.found(worker(20), worker(80))
         timer, queue = "static shop/Service.TIMER", "java/util/Executor.queue > java/util/Queue.table"
@@ -135,9 +141,9 @@ class LeaksTest(ToolTest):
             dump.instance(605, 10, 600)
             dump.root(10)
         both = f"together static shop/Screen.SHOWN, {timer}"
-        self.assertEqual(self.found(*owned_twice)[0][-1], f"{both} > {queue}")
+        self.assertEqual(self.found(owned_twice[0], owned_twice[1])[0][-1], f"{both} > {queue}")
 
-    def test_running_calls(self):
+    def test_running_calls(self) -> None:
         """Calls that are running do not hide what holds the growth, and what they hold is none, in whichever dump."""
         for first, last in ((cache(20), running(80)), (running(20), cache(80)), (running(20), running(80, ["a", "b"]))):
             rows = self.found(first, last)
@@ -153,7 +159,7 @@ class LeaksTest(ToolTest):
         self.assertIn(["120", "2160", "47%", "720", "2880", "1", self.PATH], rows)
         self.assertIn("Calls that are running do not count", self.ran("--help").out)
 
-    def test_order(self):
+    def test_order(self) -> None:
         """What grew comes before what moved, what grew at each step before what is large by chance, holders before
         what leaks itself. The number of holders that changed is shown, and the help has the reasons."""
         rows = self.found(swapped(20, False), swapped(80, True))
@@ -166,10 +172,10 @@ class LeaksTest(ToolTest):
         names = [columns_of(each)[-1] for each in lines]
         self.assertEqual((names[0], names[-1]), (self.PATH, "static shop/Pages.ALL"))
         payload = [columns_of(each) for each in self.ran("monday", "friday").out.splitlines()][-1]
-        self.assertEqual(payload[-2:], ("20 to 80", f"{self.PATH} > shop/Order.text"))
+        self.assertEqual(payload[-2:], ["20 to 80", f"{self.PATH} > shop/Order.text"])
         self.assertIn("accumulation point", self.ran("--help").out)
 
-    def test_kin(self):
+    def test_kin(self) -> None:
         """Fields of one class, or of one package, that hold enough only together."""
         rows = self.found(twofold(20), twofold(80))
         self.assertEqual(rows[0][-1], "together shop/Polls.publicKeys, shop/Selector.keys")
@@ -177,7 +183,7 @@ class LeaksTest(ToolTest):
         path = "together static shop/Caches.CACHE_0, static shop/Caches.CACHE_1, static shop/Caches.CACHE_2 .. and 5 more"
         self.assertEqual((rows[0][2], rows[0][-1]), ("100%", path))
 
-    def test_one_program(self):
+    def test_one_program(self) -> None:
         """The same dump twice, and services on one framework with other main classes."""
         shutil.copy("friday", "copy")
         for other in ("friday", "copy"):
@@ -188,7 +194,7 @@ class LeaksTest(ToolTest):
         said = "leaks: 5: another program? it has the main class shop/Stock, not the shop/Orders of 1"
         self.expect(["1", "5"], said=said, status=1)
 
-    def test_no_growth(self):
+    def test_no_growth(self) -> None:
         """The whole did not grow, or nothing did."""
         moved(10).write("before")
         moved(60).write("after")
@@ -203,7 +209,7 @@ class LeaksTest(ToolTest):
         more = "1 object more, 500 bytes more are unreachable: *waiting virtual threads hold them*: see grown *"
         self.expect(["friday", "lost"], said=f"{said}; {more}", status=3)
 
-    def test_share(self):
+    def test_share(self) -> None:
         """A share is above 100% if what the field does not hold shrank, and the help says so. The page has the same
         share, and beside it that of the heap, which is not."""
         before, after = cache(20), cache(80)
@@ -219,7 +225,7 @@ class LeaksTest(ToolTest):
         self.assertEqual(shares["Share of the growth"], ["200"])
         self.assertTrue(all(float(share) <= 100 for share in shares["Share of the heap"]), shares)
 
-    def test_several(self):
+    def test_several(self) -> None:
         """Further dumps, up to 30 and too many."""
         cache(50, minutes=6).write("tuesday")
         ended = self.ran("monday", "tuesday", "friday")
@@ -232,7 +238,7 @@ class LeaksTest(ToolTest):
         self.assertTrue(os.path.getsize("page.html"))
         self.expect(["monday", *["friday"] * 100], said="leaks: 101 dumps: at most 100", status=2)
 
-    def test_refused(self):
+    def test_refused(self) -> None:
         """Files that do not go together, or cannot be read."""
         pathlib.Path("cut").write_bytes(pathlib.Path("friday").read_bytes()[:-1])
         pathlib.Path("histogram").write_text(histogram((1, 16, "Order")))
@@ -252,14 +258,14 @@ class LeaksTest(ToolTest):
             self.expect(["--html", "page.html", *words], said=said, status=1)
             self.assertEqual(sorted(name for name in os.listdir() if "page" in name), [])
 
-    def test_words(self):
+    def test_words(self) -> None:
         """The help, wrong words, and one dump."""
         self.check_help("Shows what holds the objects that grew between heap dumps of one program: ")
         self.check_wrong_words([], ["--all", "monday", "friday"], ["monday", "friday", "--top", "0"], ["--class"])
         said = "leaks: one dump: holders monday shows what holds its objects"
         self.expect(["monday"], said=said, status=2)
 
-    def test_names_of_files(self):
+    def test_names_of_files(self) -> None:
         """Names that a tool or a shell may take for something else."""
         out = self.ran("monday", "friday").out
         for name in ("day=2", "two words", "*", "line\nbreak", os.fsdecode(b"\xff")):
@@ -269,7 +275,7 @@ class LeaksTest(ToolTest):
             shutil.copy("friday", name)
             self.assertEqual(self.ran("--", "monday", name).out, out, name)
 
-    def test_page(self):
+    def test_page(self) -> None:
         """The page has the figures of the lines. If it cannot be written, a line says so, and nothing is left of it."""
         out = self.ran("monday", "friday").out
         self.assertEqual(self.ran("--html", "page.html", "monday", "friday").out, out)
@@ -294,7 +300,7 @@ class LeaksTest(ToolTest):
         self.expect(["--html", "monday", "monday", "friday"], said=said, status=2)
         self.assertEqual(pathlib.Path("monday").read_bytes(), dump)
 
-    def test_output(self):
+    def test_output(self) -> None:
         """Output that cannot be written, and an interrupt: neither leaves a page."""
         self.check_output(["monday", "friday"], self.ran("monday", "friday").out)
         with open("/dev/full", "wb") as full:
@@ -304,7 +310,7 @@ class LeaksTest(ToolTest):
         self.check_interrupt("--html", "page.html", "monday", "friday")
         self.assertFalse(os.path.exists("page.html"))
 
-    def test_heapmark(self):
+    def test_heapmark(self) -> None:
         """A heapmark that fails later."""
         later = self.program('[ "$(wc -l < runs)" -lt 6 ] || kill -9 $$\nexec HEAPMARK "$@"')
         said = "leaks: *: run 6 on * failed: signal 9"
@@ -312,10 +318,17 @@ class LeaksTest(ToolTest):
         self.assertFalse(os.path.exists("page.html"))
         said = "leaks: /nowhere cannot be run: No such file or directory: the variable HEAPMARK names it"
         self.expect(["monday", "friday"], said=said, status=5, heapmark="/nowhere")
+        path = f"{os.path.dirname(sys.executable)}:/usr/bin:/bin"
+        tool = pathlib.Path("alone/leaks")
+        shutil.copytree(TOOLS / "heap_tools", "alone/heap_tools")
+        shutil.copy(TOOLS / "leaks", tool)
+        ended = self.ran("monday", "friday", tool=str(tool.resolve()), heapmark="", variables={"PATH": path})
+        said = "leaks: heapmark cannot be run: No such file or directory: build heapmark with tools/build, *HEAPMARK*"
+        self.assertTrue(fnmatch.fnmatchcase(ended.said.rstrip(), said), ended.said)
         said = "leaks: /bin/false: run 1 on monday failed: status 1: is it heapmark?"
         self.expect(["monday", "friday"], said=said, status=5, heapmark="/bin/false")
 
-    def test_terminal(self):
+    def test_terminal(self) -> None:
         """A terminal shows the growth and the heads of the columns, and how far the search is."""
         ended, seen = self.on_terminal("monday", "friday", stream="stdout")
         top, heads, first = seen.splitlines()[:3]

@@ -4,31 +4,38 @@ made at random, where each candidate is also cut alone."""
 import os
 import tempfile
 import unittest
+from typing import FrozenSet, Iterator, List, Sequence, Tuple
 from unittest import mock
 
-from heap_tools.candidates import FIELD, LOCAL, STATIC, THREAD, Candidate, Candidates
+from heap_tools.candidates import FIELD, LOCAL, STATIC, THREAD, Candidate, Candidates, joint_name
+from heap_tools.changed_copy import Changes
 from heap_tools.dump_runs import DumpRuns
 from heap_tools.heap_dump import HeapDump
 from heap_tools.heapmark import Heapmark
 from heap_tools.leak_lines import FEW, answer_of, by_holders
-from heap_tools.probe import EarlierProbe, GrowthProbe, Retained
+from heap_tools.probe import EarlierProbe, GrowthProbe, Probe, Retained
 from heap_tools.reports import Amount, Unit
 from heap_tools.running_calls import DumpSide, without_running_calls
 from heap_tools.search import NEXT, Search
+from heap_tools.search_progress import SILENCE, SearchProgress
 from tests.support.marker import MarkedRuns
 from tests.support.random_heaps import random_pair
 from tests.support.tool_test import HEAPMARK
 
 
-class Told:
-    """A probe that is told what holders hold: for each of `things`, ways to hold it, and its bytes. A way is a list of
-    names that hold it together. Notes what it is asked for."""
+#: For each thing the ways to hold it, and its bytes. A way is a list of names that hold it together.
+Things = List[Tuple[List[List[str]], int]]
 
-    def __init__(self, things):
-        self.things, self.asked, self._known = things, [], {}
+
+class Told(Probe):
+    """A probe that is told which `things` are held. Notes what it is asked for."""
+
+    def __init__(self, things: Things) -> None:
+        self.things, self._known = things, {}
+        self.asked: List[List[str]] = []
         self.unit, self.whole = Unit.BYTES, Amount(1000, 1000)
 
-    def _difference(self, holders):
+    def _difference(self, holders: Sequence[Candidate]) -> Retained:
         names = {holder.name for holder in holders}
         self.asked.append(sorted(names))
         size = sum(size for ways, size in self.things if any(names.issuperset(way) for way in ways))
@@ -42,12 +49,14 @@ class ToldEarlier(Told, EarlierProbe):
 class ToldGains(Told, GrowthProbe):
     """A later dump, of which 100 bytes are growth."""
 
-    def __init__(self, earlier, things):
+    earlier: ToldEarlier
+
+    def __init__(self, earlier: Things, things: Things) -> None:
         super().__init__(things)
         self.earlier, self.growth = ToldEarlier(earlier), Amount(100, 100)
 
 
-def field(name, count=1):
+def field(name: str, count: int = 1) -> Candidate:
     """Returns a field with `count` holders."""
     return Candidate(FIELD, name, count, {})
 
@@ -55,7 +64,7 @@ def field(name, count=1):
 class NamesTest(unittest.TestCase):
     """What holders of a later dump are called in an earlier one."""
 
-    def test_lookup(self):
+    def test_lookup(self) -> None:
         """Local variables and threads are listed once, however many are looked up."""
         dump = mock.Mock(classes={}, names={}, roots=[])
         holders = Candidates(dump)
@@ -71,14 +80,14 @@ class NamesTest(unittest.TestCase):
 class SearchTest(unittest.TestCase):
     """What is asked for in a search."""
 
-    def search(self, probe, fields, top=4, few=64):
+    def search(self, probe: Probe, fields: Sequence[Candidate], top: int = 4, few: int = 64) -> List[str]:
         """Searches `fields`, and returns the names of what was found."""
         found = Search(probe, 30, top, lambda held: (held.holders, str(held.candidates[0])), mock.Mock(), few)
         found.expect(fields)
         found.look_in_likely(fields)
         return sorted(str(held.candidates[0]) for held in found.found)
 
-    def test_shrinking_part(self):
+    def test_shrinking_part(self) -> None:
         """A part that shrank does not hide one that grew, and BEFORE is asked only about what holds enough alone."""
         fields = [field(f"A.{name}") for name in "abcd"]
         probe = ToldGains([([["A.a"]], 200), ([["A.b"]], 10)], [([["A.a"]], 50), ([["A.b"]], 80), ([["A.c"]], 20)])
@@ -87,7 +96,7 @@ class SearchTest(unittest.TestCase):
         self.assertEqual(self.search(probe, fields), ["A.b"])
         self.assertEqual(sorted(probe.earlier.asked), [["A.a"], ["A.b"]])
 
-    def test_few_first(self):
+    def test_few_first(self) -> None:
         """Own fields with many holders are not tried if fields of the JDK with few holders are enough."""
         chain = [field(f"java/A.{name}", 3) for name in "abcd"]
         many = [field(f"shop/Item.{number}", 9000) for number in range(20)]
@@ -97,15 +106,66 @@ class SearchTest(unittest.TestCase):
         probe = ToldGains([], [([[each.name] for each in chain[:2]], 100), ([[many[0].name]], 90)])
         self.assertEqual(self.search(probe, [*chain, *many]), ["java/A.a", "java/A.b", "shop/Item.0"])
 
-    def test_next(self):
+    def test_next(self) -> None:
         """After a field is found, those next to it are tried first; those farther away are found, too."""
         fields = [field(f"java/A.{number:03}") for number in range(500)]
-        for at, most in (([300, 301, 303], 30), ([0, 250, 499], 45), ([490, 498, 499], 40), ([7], 15), ([], 1)):
+        cases: List[Tuple[List[int], int]]
+        cases = [([300, 301, 303], 30), ([0, 250, 499], 45), ([490, 498, 499], 40), ([7], 15), ([], 1)]
+        for at, most in cases:
             names = [fields[number].name for number in at]
             probe = ToldGains([], [([[name] for name in names], 100)])
             self.assertEqual(self.search(probe, fields), names)
             self.assertLessEqual(len(probe.asked), most, at)
         self.assertLess(NEXT, 20)
+
+
+class KinTest(unittest.TestCase):
+    """What is found together."""
+
+    def found(self, things: Things, fields: Sequence[Candidate]) -> Tuple[List[str], int]:
+        """Searches `fields` with few holders, and returns what was found together, and how much was asked."""
+        probe = ToldGains([], things)
+        search = Search(probe, 30, 4, lambda held: held.holders, mock.Mock(), FEW)
+        probe.candidates = mock.Mock(statics=lambda: [], all_threads=lambda: field("threads"))
+        search.look_in_few_together(fields)
+        return [joint_name(held.candidates) for held in search.found], len(probe.asked)
+
+    def test_of_class(self) -> None:
+        """Those of one class, then those of one package, then any; of these only those that are needed."""
+        fields = [field(f"app/{owner}.{name}") for owner in ("A", "B", "lib/C") for name in "abc"]
+        for way in (["app/A.a", "app/A.c"], ["app/A.a", "app/B.b"], ["app/A.b", "app/lib/C.c"]):
+            found, asked = self.found([([way], 100)], fields)
+            self.assertEqual(found, [f"together {', '.join(way)}"])
+            self.assertLessEqual(asked, 30)
+
+    def test_little_each(self) -> None:
+        """Many that hold a little each are found as fields of one class, and not as others."""
+        fields = [field(f"app/A.{number}") for number in range(20)]
+        self.assertEqual(len(self.found([([[each.name]], 5) for each in fields], fields)[0]), 1)
+        others = [field(f"app/{number}/A.{number}") for number in range(20)]
+        self.assertEqual(self.found([([[each.name]], 5) for each in others], others)[0], [])
+
+    def test_names(self) -> None:
+        """Of many names only the first ones are in a line."""
+        names = [field(f"A.{name}") for name in "edcba"]
+        self.assertEqual(joint_name(names[:1]), "A.e")
+        self.assertEqual(joint_name(names[:4]), "together A.b, A.c, A.d, A.e")
+        self.assertEqual(joint_name(names), "together A.a, A.b, A.c .. and 2 more")
+
+
+class ProgressTest(unittest.TestCase):
+    """The line that says how far a search is."""
+
+    def test_pipe(self) -> None:
+        """If standard error is no terminal, a line comes each half minute, and none before."""
+        now = 0.0
+        said: List[str] = []
+        progress = SearchProgress(mock.Mock(tool="leaks", is_shown=False), mock.Mock(runs=6), lambda: now)
+        progress.note(10, 20, "A.b, 40%")
+        with mock.patch("heap_tools.search_progress.say", said.append):
+            for now in (1.0, SILENCE - 1.0, SILENCE + 1.0, SILENCE + 2.0, 2 * SILENCE + 2.0):
+                progress.show()
+        self.assertEqual(said, ["leaks: run 7, 10 of 20 fields left; found A.b, 40%"] * 2)
 
 
 #: How many pairs of dumps made at random are searched, and how many of them with heapmark, too.
@@ -116,24 +176,25 @@ AT_LEAST = 30
 class RandomTest(unittest.TestCase):
     """Searches in pairs of dumps that are made at random."""
 
-    def pairs(self, count):
+    def pairs(self, count: int) -> Iterator[Tuple[int, GrowthProbe]]:
         """Yields the first `count` numbers of pairs that grew, and what asks them."""
         seed = 0
         while count:
-            probe = self.probe([self.marked(each.bytes()) for each in random_pair(seed)])
+            first, last = (self.marked(each.bytes()) for each in random_pair(seed))
+            probe = self.probe(first, last)
             if probe.growth.bytes > 0:
                 count -= 1
                 yield seed, probe
             seed += 1
 
-    def marked(self, content):
+    def marked(self, content: bytes) -> MarkedRuns:
         """Returns a dump that is marked in this process."""
         with tempfile.TemporaryFile() as file:
             file.write(content)
             file.flush()
             return MarkedRuns(HeapDump(file))
 
-    def probe(self, both):
+    def probe(self, *both: DumpRuns) -> GrowthProbe:
         """Returns what asks two dumps about the growth of their bytes."""
         sides = [DumpSide.prepared(runs, False) for runs in both]
         growth = sides[1].base.reachable.bytes - sides[0].base.reachable.bytes
@@ -141,23 +202,23 @@ class RandomTest(unittest.TestCase):
         earlier = EarlierProbe(first.runs, first.candidates, None, Unit.BYTES, base=first.base)
         return GrowthProbe(earlier, last.runs, last.candidates, None, Unit.BYTES, base=last.base)
 
-    def candidates(self, probe):
+    def candidates(self, probe: Probe) -> List[Candidate]:
         """Returns all that can hold objects in the last dump."""
         of_dump = probe.candidates
         roots = [*of_dump.statics(), *of_dump.locals(), *of_dump.threads()]
         return [*roots, *of_dump.fields(probe.base)]
 
-    def searched(self, probe, top):
+    def searched(self, probe: Probe, top: int) -> Search:
         """Searches, and returns the search."""
         search = Search(probe, AT_LEAST, top, by_holders, mock.Mock(), FEW)
         search.find(probe.candidates.fields(probe.base))
         return search
 
-    def alone(self, search):
+    def alone(self, search: Search) -> List[str]:
         """Returns the names of those that were found to hold enough alone."""
         return sorted(str(held.candidates[0]) for held in search.found if len(held.candidates) == 1)
 
-    def test_all_found(self):
+    def test_all_found(self) -> None:
         """All that gained enough alone are found, and none too many. With a limit, those are left out beside which as
         many with fewer holders are found."""
         some = 0
@@ -174,7 +235,7 @@ class RandomTest(unittest.TestCase):
                     self.assertTrue(str(each) in found or before >= top, (seed, str(each)))
         self.assertGreater(some, PAIRS)
 
-    def test_paths(self):
+    def test_paths(self) -> None:
         """Each step of a path holds all that the next one does, object for object; no field is above a static one."""
         steps = 0
         for seed, probe in self.pairs(PAIRS // 2):
@@ -188,14 +249,15 @@ class RandomTest(unittest.TestCase):
                     steps += 1
         self.assertGreater(steps, PAIRS / 4)
 
-    def lost(self, probe, held):
+    def lost(self, probe: Probe, held: Retained) -> FrozenSet[int]:
         """Returns the objects that the candidates of `held` hold."""
-        changes = {}
+        changes: Changes = {}
         for each in held.candidates:
             changes.update(each.changes)
+        assert isinstance(probe.runs, MarkedRuns)
         return probe.runs.lost(changes)
 
-    def test_marker(self):
+    def test_marker(self) -> None:
         """heapmark finds what the marker of these tests does, with the same amounts."""
         for seed, probe in self.pairs(PAIRS_OF_HEAPMARK):
             with tempfile.TemporaryDirectory() as folder, mock.patch.dict(os.environ, HEAPMARK=HEAPMARK):
@@ -203,14 +265,14 @@ class RandomTest(unittest.TestCase):
                 for name, dump in zip(("before", "after"), random_pair(seed)):
                     dump.write(f"{folder}/{name}")
                     both.append(DumpRuns.of(Heapmark(), f"{folder}/{name}", "leaks"))
-                proved = self.probe(both)
+                proved = self.probe(*both)
                 lines = [self.lines(each) for each in (probe, proved)]
                 for runs in both:
                     runs.dump.file.close()
-            self.assertEqual(*lines, seed)
+            self.assertEqual(lines[0], lines[1], seed)
             self.assertEqual(probe.growth, proved.growth)
 
-    def lines(self, probe):
+    def lines(self, probe: GrowthProbe) -> List[Tuple[str, Amount, Amount, Amount, int]]:
         """Returns the lines of the answer, with their amounts."""
         lines = answer_of(probe, AT_LEAST, 8, mock.Mock()).lines
         return [(line.path(), line.held.amount, line.before, line.held.heap, line.held.holders) for line in lines]
