@@ -10,7 +10,7 @@ from heap_tools.page.treemap_picture import colour_of, name_in_full, treemap
 from heap_tools.page.words import figure, figure_in, from_to, with_sign
 
 
-def grown(leak: Leak, limits: Limits) -> Html:
+def grown_classes(leak: Leak, limits: Limits) -> Html:
     """Returns the table of the classes that grew."""
     if not leak.grown:
         return fill("paragraph", text="No class has more objects or more bytes in the last dump than in the first.")

@@ -105,7 +105,7 @@ def holder_row(it: HolderEntry, of_whole: str, limits: Limits) -> Html:
         kind=KINDS[it.kind].label,
         name=holder_name(it, limits),
         path=path_to(it, limits),
-        holders=holders_of(it),
+        holders=holder_count(it),
         objects=change_of(before.objects, after.objects, "object"),
         bytes=change_of(before.bytes, after.bytes, "byte"),
         of_growth=share(it.share, "growth"),
@@ -114,7 +114,7 @@ def holder_row(it: HolderEntry, of_whole: str, limits: Limits) -> Html:
     )
 
 
-def holders_of(it: HolderEntry) -> Html:
+def holder_count(it: HolderEntry) -> Html:
     """Returns the number of holders, and that of the first dump if it was another one."""
     now = figure(it.holders, "holder")
     return now if it.holders_before in (None, it.holders) else from_to(figure(it.holders_before or 0, "holder"), now)

@@ -5,7 +5,7 @@ from typing import Dict, Iterable, List
 from heap_tools import humanize
 from heap_tools.omissions import NEVER_SHOWN, unreachable_on_page
 from heap_tools.page.chart import HELD, REACHABLE, UNREACHABLE, chart
-from heap_tools.page.classes import grown, last
+from heap_tools.page.classes import grown_classes, last
 from heap_tools.page.holders import holder_name, holders, path_to
 from heap_tools.page.model import DumpEntry, Leak, Limits
 from heap_tools.page.tables import body, table
@@ -98,7 +98,7 @@ def whole_page(leak: Leak, limits: Limits) -> Html:
         tiles=tiles(leak),
         heap=heap(leak, limits),
         holders=holders(leak, limits),
-        grown=grown(leak, limits),
+        grown=grown_classes(leak, limits),
         last=last(leak, limits),
         omitted=omitted(leak, limits),
         making=making(leak, limits),

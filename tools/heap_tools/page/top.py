@@ -7,7 +7,7 @@ from heap_tools.omissions import large_unreachable
 from heap_tools.page.holders import KINDS, holder_name, whole_head
 from heap_tools.page.model import HolderEntry, Leak, Limits
 from heap_tools.page.templates import Html, escaped, fill, joined, name_of, plain
-from heap_tools.page.words import MINUS, PLUS, SAME, bare, figure, figure_in, from_to, full, moment, percent
+from heap_tools.page.words import MINUS, PLUS, ZERO, bare, figure, figure_in, from_to, full, moment, percent
 from heap_tools.page.words import percent_more, period, sign_of, solid, with_sign
 from heap_tools.reports import Unit
 
@@ -85,7 +85,7 @@ def lead(leak: Leak) -> Html:
 
 def verb_of(leak: Leak, unit: Unit) -> str:
     """Returns what the bytes or the objects of the reachable heap did."""
-    return {PLUS: "grew ", MINUS: "shrank ", SAME: "stayed "}[sign_of(unit.of(leak.rise))]
+    return {PLUS: "grew ", MINUS: "shrank ", ZERO: "stayed "}[sign_of(unit.of(leak.rise))]
 
 
 def from_first_to_last(leak: Leak, unit: Unit) -> Html:

@@ -9,7 +9,7 @@ from heap_tools.reports import Unit
 
 EPOCH = datetime.datetime(1970, 1, 1)
 #: The signs of a difference: above, below and at zero.
-PLUS, MINUS, SAME = "+", "−", "±"
+PLUS, MINUS, ZERO = "+", "−", "±"
 
 
 def solid(text: str) -> str:
@@ -47,7 +47,7 @@ def percent(share: float) -> str:
 
 def sign_of(number: float) -> str:
     """Returns the sign of a difference."""
-    return PLUS if number > 0 else MINUS if number < 0 else SAME
+    return PLUS if number > 0 else MINUS if number < 0 else ZERO
 
 
 def with_sign(number: int, unit: Unit) -> str:
