@@ -84,9 +84,9 @@ def share_of(amount: Amount, probe: Probe) -> page.HeldShare:
 
 def steps_from(path: str, lines: Sequence[Line], names: Sequence[str]) -> List[page.NextStep]:
     """Returns commands on the dump `path` that say more: of the first line, and of the first of the classes `names`, of
-    own classes if there is one."""
+    own classes if there is one. `held` has no word for all threads."""
     steps = []
-    if lines:
+    if lines and all(each.name for each in lines[0].held.candidates):
         fields = ", ".join(sorted(map(str, lines[0].held.candidates)))
         steps.append(page.NextStep("All that hangs by it, class by class", command_line("held", path, fields)))
     for name in [*filter(is_own, names), *names][:1]:

@@ -125,6 +125,8 @@ class PageTest(unittest.TestCase):
         """Threads whose names differ in a number hold together, in quotes as one does."""
         entry = dataclasses.replace(leak().holders[3], kind="threads", name="report-*")
         self.check_texts(leak(holders=[entry]), 'Threads "report-*" hold 8.3 MB, up from 4.0 kB')
+        every = dataclasses.replace(entry, name="")
+        self.check_texts(leak(holders=[every]), "Threads of all names hold 8.3 MB, up from 4.0 kB")
 
     def test_next_steps(self) -> None:
         """The commands that say more, unless they could not be pasted."""

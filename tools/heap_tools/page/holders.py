@@ -35,6 +35,8 @@ KINDS = {
 
 def holder_name(holder: HolderEntry, limits: Limits) -> Html:
     """Returns the name of what holds: of a thread in quotes, of all else as a name of Java, or several such names."""
+    if holder.kind == THREADS and not holder.name:
+        return escaped("of all names")
     if holder.kind in (THREAD, THREADS):
         return fill("plain_name", text=f'"{plain(holder.name, limits.name)}"')
     names = holder.name.split(", ") if holder.kind == TOGETHER else [holder.name]
