@@ -69,16 +69,17 @@ class Search:
         self.found.sort(key=self.order)
 
     def find_roots(self) -> None:
-        """Finds static fields, local variables and threads."""
+        """Finds static fields, local variables and threads; if none of the latter, threads of names that are alike."""
         candidates, statics = self.probe.candidates, self.probe.candidates.statics()
-        self.expect(statics)
         if self.is_enough(statics):
-            self.look_in_own_first(statics)
+            self.look_in_all(statics)
             self.look_together(statics)
         if self.is_enough([candidates.all_threads()]):
-            for group in candidates.locals(), candidates.threads(), candidates.threads_alike():
-                self.expect(group)
-                self.look_in_own_first(group)
+            known = len(self.found)
+            self.look_in_all(candidates.locals())
+            self.look_in_all(candidates.threads())
+            if len(self.found) == known:
+                self.look_in_all(candidates.threads_alike())
 
     def expect(self, group: Sequence[Candidate]) -> None:
         """Adds a group to what is to be tried."""
@@ -88,8 +89,9 @@ class Search:
         """Tests whether a group holds so much now that a part of it may have the share."""
         return bool(group) and self.probe.bound(group) >= self.at_least
 
-    def look_in_own_first(self, group: Sequence[Candidate]) -> None:
+    def look_in_all(self, group: Sequence[Candidate]) -> None:
         """Finds those of `group` that hold enough, of own classes first."""
+        self.expect(group)
         self.look_in([each for each in group if each.is_own])
         self.look_in([each for each in group if not each.is_own])
 
@@ -181,12 +183,18 @@ class Search:
         rest = self.unknown(fields)
         if self.percent(rest, self.at_least) >= self.at_least and self.look_in_kin(rest) or shares:
             return
-        of_dump = self.probe.candidates
-        rest = self.unknown([*of_dump.statics(), of_dump.all_threads(), *fields])
+        rest = self.unknown([*self.probe.candidates.statics(), *self.threads(), *fields])
         whole = self.percent(rest, self.at_least)
         needed = self.needed(rest, [], 0, MOST * whole) if whole >= self.at_least else []
         if 0 < len(needed) <= MOST_TOGETHER:
             self.found.append(self.probe.retained(needed))
+
+    def threads(self) -> List[Candidate]:
+        """Returns threads of names that are alike, and each other thread."""
+        candidates = self.probe.candidates
+        alike = candidates.threads_alike()
+        known = {place for each in alike for place in each.changes}
+        return [*alike, *(each for each in candidates.threads() if known.isdisjoint(each.changes))]
 
     def unknown(self, group: Sequence[Candidate]) -> List[Candidate]:
         """Returns those of `group` that are not known to hold enough alone, whether they gained it or not."""
