@@ -123,7 +123,11 @@ class HeldTest(ToolTest):
         ended = self.ran("threads.hprof", '        6   0   75%   1  thread "http-0"')
         self.assertIn(line(6, 0, "Message"), ended.out)
         self.assertIn(line(6, 0, "Message"), self.ran("threads.hprof", 'threads "http-*"').out)
-        kinds = ("local", "A.f", "local variable"), ("thread", '"http, 1"', "thread"), ("threads", '"a-*"', "group of threads")
+        kinds = (
+            ("local", "A.f", "local variable"),
+            ("thread", '"http, 1"', "thread"),
+            ("threads", '"a-*"', "group of threads"),
+        )
         for kind, name, noun in kinds:
             said = f"held: {kind} {name}: no {noun} of the dump has this name"
             self.expect(["threads.hprof", f"{kind} {name}"], said=said, status=6)

@@ -182,6 +182,26 @@ def many_caches(count: int) -> Service:
     return dump
 
 
+def baskets(count: int) -> Service:
+    """A static field has 80 baskets, each with a list of orders. One list has `count`, the others have one each."""
+    dump = Service()
+    dump.of_class(5, "shop/Order", fields=["text"])
+    dump.of_class(6, "shop/Baskets", {"ALL": 600})
+    dump.of_class(7, "shop/Basket", fields=["items"])
+    dump.array(600, 4, *range(601, 681))
+    at = 5000
+    for basket in range(601, 681):
+        orders = range(at + 1, at + 1 + (count if basket == 640 else 1))
+        dump.instance(basket, 7, at)
+        dump.array(at, 4, *orders)
+        for order in orders:
+            dump.instance(order, 5, order + 20000)
+            dump.values(order + 20000, BYTE, bytes(20))
+        at += 1 + len(orders)
+    dump.root(6)
+    return dump
+
+
 def of_main(name: str, minutes: int) -> Service:
     """A service whose main class is `name`."""
     dump = cache(20 + minutes, minutes)
