@@ -18,7 +18,7 @@ NEXT = 8
 MOST, MOST_TOGETHER = 0.9, 6
 
 #: What is tried as one: a candidate, or several that may hold something together.
-Unit = Sequence[Candidate]
+Tried = Sequence[Candidate]
 
 
 class Search:
@@ -142,11 +142,11 @@ class Search:
                 self.steady.append(held)
         return [candidate for each in rest for candidate in each], likely
 
-    def halved(self, units: List[Unit], likely: float) -> Tuple[Unit, List[Unit], float]:
+    def halved(self, units: List[Tried], likely: float) -> Tuple[Tried, List[Tried], float]:
         """Looks for one of `units` that holds enough, by halves. Returns it, or nothing, the units that are still to be
         tried, and what they are likely to hold. A group that is likely to hold enough is not asked: its parts will
         be."""
-        later: List[Unit] = []
+        later: List[Tried] = []
         whole = share = likely if likely >= self.at_least and len(units) > 1 else self.bound(units)
         while share >= self.at_least and len(units) > 1:
             left, right = units[: len(units) // 2], units[len(units) // 2 :]
@@ -162,7 +162,7 @@ class Search:
             return [], later, 0.0
         return units[0], later, whole - share
 
-    def bound(self, units: Sequence[Unit]) -> float:
+    def bound(self, units: Sequence[Tried]) -> float:
         """Returns the share that no part of `units` exceeds."""
         self.note()
         return self.probe.bound([candidate for unit in units for candidate in unit])
@@ -215,7 +215,7 @@ class Search:
         own = [each for each in rest if each.is_own]
         if own and self.percent([*own, *alone], least) >= least:
             rest = own
-        if self.look_in_kin(rest):
+        if self.look_in_kin(self.unknown(rest)):
             return
         needed = self.needed(rest, alone, base, least)
         if needed:
@@ -256,17 +256,17 @@ class Search:
         return left and left + right
 
 
-def by_class(group: Iterable[Candidate]) -> List[Unit]:
+def by_class(group: Iterable[Candidate]) -> List[Tried]:
     """Returns the fields of `group` by the class that declares them."""
     return _by(group, lambda each: each.name.rpartition(".")[0])
 
 
-def by_package(group: Iterable[Candidate]) -> List[Unit]:
+def by_package(group: Iterable[Candidate]) -> List[Tried]:
     """Returns the fields of `group` by the package of their class."""
     return _by(group, lambda each: package(each.name.rpartition(".")[0]))
 
 
-def _by(group: Iterable[Candidate], place: Callable[[Candidate], str]) -> List[Unit]:
+def _by(group: Iterable[Candidate], place: Callable[[Candidate], str]) -> List[Tried]:
     found: Dict[str, List[Candidate]] = {}
     for each in group:
         found.setdefault(place(each), []).append(each)

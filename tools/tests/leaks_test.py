@@ -16,6 +16,7 @@ from tests.support.services import (
     Service,
     baskets,
     cache,
+    emptied,
     handler,
     journal,
     lambdas,
@@ -167,6 +168,8 @@ class LeaksTest(ToolTest):
         self.assertEqual(
             [row[-1] for row in rows][:: len(rows) - 1], [self.PATH, "static shop/Stock.STORE > shop/Stock.green"]
         )
+        rows = self.found(emptied(0, 60, 100), emptied(60, 0, 1000))
+        self.assertEqual([row[-1] for row in rows[:2]], ["static shop/Tables.ORDERS", "static shop/Pages.ALL"])
         rows = self.found(noisy(20, 900), noisy(80, 9000))
         self.assertEqual(rows[0][-1], "static shop/Pages.ALL")
         noisy(50, 100, minutes=6).write("between")

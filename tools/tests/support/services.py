@@ -146,6 +146,22 @@ def swapped(count: int, is_green: bool) -> Service:
     return dump
 
 
+def emptied(orders: int, baskets: int, noise: int) -> Service:
+    """Two static fields of one class have orders and baskets; another class has a page of `noise` bytes."""
+    dump = Service()
+    dump.of_class(6, "shop/Tables", {"ORDERS": 5000, "BASKETS": 8000})
+    dump.orders(orders)
+    dump.of_class(7, "shop/Basket", fields=["text"])
+    dump.array(8000, 4, *range(8001, 8001 + baskets))
+    for number in range(8001, 8001 + baskets):
+        dump.instance(number, 7, number + 1000)
+        dump.values(number + 1000, BYTE, bytes(20))
+    dump.of_class(8, "shop/Pages", {"ALL": 800})
+    dump.values(800, BYTE, bytes(noise))
+    dump.root(6, 8)
+    return dump
+
+
 def noisy(count: int, noise: int, minutes: int = 0) -> Service:
     """Beside the orders, a static field holds pages of `noise` bytes, now many and now few."""
     dump = cache(count, minutes)
