@@ -119,7 +119,9 @@ class Ranks:
         single = [each for each in alike if len(each.candidates) == 1]
         if held not in single and any(self.probe.holds_all(held, each) for each in single):
             return Place.ECHO
-        share, best = self.share[id(held)], self._best(single or alike)
+        telling = [each for each in alike if not is_collection(each)]
+        share = self.share[id(held)]
+        best = self._best([each for each in single if each in telling] or telling or alike)
         if held is not best and (share < MOST * self.share[id(best)] or not self._is_below(best, held)):
             return Place.BESIDE
         if any(says_more(each, held) and abs(self.share[id(each)] - share) < SAME for each in alike):
