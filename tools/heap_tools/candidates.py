@@ -211,7 +211,7 @@ class Candidates:
 
     def threads_alike(self) -> List[Candidate]:
         """Returns the threads of which several have names of one pattern, by the pattern."""
-        return [each for each in self._threads_by(THREADS, pattern_of) if each.count > 1]
+        return [each for each in self._threads_by(THREADS, pattern_of) if each.count > 1 and each.name]
 
     def _threads_by(self, kind: str, called: Callable[[str], str]) -> List[Candidate]:
         """Returns the candidates of a kind that the threads are, by what their names are called."""

@@ -4,7 +4,7 @@ import os
 import re
 from typing import List, Optional, Tuple
 
-from heap_tools.candidates import LOCAL, THREAD, Candidates, Key
+from heap_tools.candidates import LOCAL, THREAD, THREADS, Candidates, Key
 from heap_tools.changed_copy import Changes, number_code
 from heap_tools.class_lookup import why_unknown
 from heap_tools.class_names import families, family, shown, spellings
@@ -12,13 +12,13 @@ from heap_tools.heap_dump import HeapDump
 from heap_tools.hprof_format import OBJECT
 
 #: What a line of `holders` calls by these words.
-NOUNS = {LOCAL: "local variable", THREAD: "thread"}
+NOUNS = {LOCAL: "local variable", THREAD: "thread", THREADS: "group of threads"}
 
 
 def root_of(text: str) -> Optional[Key]:
-    """Returns the kind and the name of the local variable or the thread that a line of holders or leaks ends with, or
+    """Returns the kind and the name of the local variable or the threads that a line of holders or leaks ends with, or
     None if it ends with something else. Names have no blanks, and those of threads no quotes."""
-    found = re.search(r"(?:^| > |  )(local|thread) (\S+|\"[^\"]*\")$", text)
+    found = re.search(r"(?:^| > |  )(local|threads?) (\S+|\"[^\"]*\")$", text)
     return (found[1], found[2].strip('"')) if found else None
 
 

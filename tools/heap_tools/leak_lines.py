@@ -1,7 +1,7 @@
 """The answer of `leaks`: the lines that show what holds the growth, in their order."""
 
 import enum
-from typing import Callable, Dict, List, NamedTuple, Sequence
+from typing import Callable, Dict, List, NamedTuple, Sequence, Set
 
 from heap_tools.candidates import FIELD, Candidate, joint_name
 from heap_tools.probe import EarlierProbe, GrowthProbe, Retained
@@ -54,7 +54,7 @@ class Doubt(enum.IntEnum):
     PAYLOAD = 2
     #: It grew between the first dump and the last, but not at most steps between.
     UNSTEADY = 3
-    #: What holds all that it holds gained little: so most of what it gained was held beside it before.
+    #: What holds all that it holds gained little of the same classes: what it gained was held beside it before.
     MOVED = 4
 
 
@@ -94,7 +94,7 @@ class Ranks:
     def __init__(self, search: Search, probe: GrowthProbe, between: Sequence[EarlierProbe]) -> None:
         self.probe, self.between = probe, between
         self.found, self.steady = search.found, search.steady
-        self.share: Dict[int, float] = {id(held): probe.share(held.candidates) for held in self.found}
+        self.share = {id(held): probe.share(held.candidates) for held in self.found}
         self._small = self._small_ones()
 
     def sorted(self) -> List[Retained]:
@@ -119,7 +119,9 @@ class Ranks:
         single = [each for each in alike if len(each.candidates) == 1]
         if held not in single and any(self.probe.holds_all(held, each) for each in single):
             return Place.ECHO
-        share, best = self.share[id(held)], self._best(single or alike)
+        telling = [each for each in alike if not is_collection(each)]
+        share = self.share[id(held)]
+        best = self._best([each for each in single if each in telling] or telling or alike)
         if held is not best and (share < MOST * self.share[id(best)] or not self._is_below(best, held)):
             return Place.BESIDE
         if any(says_more(each, held) and abs(self.share[id(each)] - share) < SAME for each in alike):
@@ -155,24 +157,33 @@ class Ranks:
         unit, now, was = self.probe.unit, held.holders, self.probe.earlier.holders(held.candidates)
         amount = unit.of(held.amount)
         before = unit.of(self.probe.earlier.retained(held.candidates).amount)
-        average = before / max(was, 1) if now <= FEW else amount / now
-        return now > was and 2 * (now - was) * average >= amount - before
+        average = before / was if was and now <= FEW else amount / now
+        return now > max(was, 1) and 2 * (now - was) * average >= amount - before
 
     def _has_moved(self, held: Retained) -> bool:
-        """Tests whether one that gained less than half as much holds all that `held` does."""
+        """Tests whether what holds all that `held` does gained little of what `held` did."""
         gain = self.share[id(held)]
         uppers = [each for each in self.steady if self.probe.share(each.candidates) < gain / 2]
-        return any(self.probe.holds_all(each, held) for each in uppers) or self._moved_within_its_class(held)
-
-    def _moved_within_its_class(self, held: Retained) -> bool:
-        """Tests whether the fields of a class together gained less than half of what `held`, one of them, did, which
-        held hardly anything before."""
-        if len(held.candidates) > 1 or 10 * self.probe.unit.of(self.probe.earlier.retained(held.candidates).amount) > (
-            self.probe.unit.of(held.amount)
-        ):
+        if any(self._gained_little(each.candidates, held) and self.probe.holds_all(each, held) for each in uppers):
+            return True
+        unit, before = self.probe.unit, self.probe.earlier.retained(held.candidates).amount
+        if len(held.candidates) > 1 or 10 * unit.of(before) > unit.of(held.amount):
             return False
+        # It held hardly anything before. Then another field of its class may have had the same objects.
         kin = kin_of(held.candidates[0], self.probe)
-        return len(kin) > 1 and self.probe.share(kin) < self.share[id(held)] / 2
+        return len(kin) > 1 and self._gained_little(kin, held)
+
+    def _gained_little(self, upper: Sequence[Candidate], held: Retained) -> bool:
+        """Tests whether `upper` gained less than half as much as `held` of each class of which `held` gained much."""
+        gains, of_upper = self._gains(held.candidates), self._gains(upper)
+        much = sum(gain for gain in gains.values() if gain > 0) / 10
+        large = {name: gain for name, gain in gains.items() if gain > 0 and gain >= much}
+        return bool(large) and all(2 * of_upper.get(name, 0) < gain for name, gain in large.items())
+
+    def _gains(self, candidates: Sequence[Candidate]) -> Dict[str, int]:
+        """Returns how much more candidates hold of each class than before."""
+        now, was = (each.retained(candidates).lost for each in (self.probe, self.probe.earlier))
+        return {name: self.probe.unit.of(amount.minus(was.get(name, Amount()))) for name, amount in now.items()}
 
     def _grew_at_most_steps(self, held: Retained) -> bool:
         """Tests whether `held` gained at most steps between the dumps that are asked."""
@@ -183,7 +194,7 @@ class Ranks:
         rises = sum(after > before for before, after in zip(series, series[1:]))
         return rises >= STEPS * (len(series) - 1)
 
-    def _small_ones(self) -> "set[int]":
+    def _small_ones(self) -> Set[int]:
         """Returns those beside which something else with few holders gained far more. What is beside has little in
         common with the other: a container that many share holds what each of them does."""
         few = [each for each in self.found if each.holders <= FEW and not self.is_payload(each)]

@@ -1,13 +1,14 @@
 """What `leaks` says beside its lines: which objects hold most, which threads there are more of, what is held by weak
 references alone, and what is outside the heap."""
 
-from typing import List, NamedTuple, Optional
+from typing import List, NamedTuple, Optional, Tuple
 
 from heap_tools.candidates import joint_name
 from heap_tools.comparison import Comparison
 from heap_tools.console import say
 from heap_tools.direct_buffers import more_direct_memory
 from heap_tools.humanize import counted
+from heap_tools.leak_lines import MOST as MOST_OF_LARGEST
 from heap_tools.leak_lines import Answer, Line
 from heap_tools.thread_counts import ThreadCount, grown_thread_counts
 from heap_tools.which_object import FEWEST, MOST, HoldingObject, objects_that_hold
@@ -28,7 +29,8 @@ class LineObjects(NamedTuple):
     def __str__(self) -> str:
         found = "; ".join(map(str, self.objects))
         field = joint_name(self.line.held.candidates)
-        return f"line {self.number}: {len(self.objects)} of {self.line.held.holders:,} {field} hold most: {found}"
+        hold = "holds" if len(self.objects) == 1 else "hold"
+        return f"line {self.number}: {len(self.objects)} of {self.line.held.holders:,} {field} {hold} most: {found}"
 
 
 class Notes(NamedTuple):
@@ -45,6 +47,23 @@ def notes_of(comparison: Comparison, answer: Answer, shows_values: bool) -> Note
     threads = grown_thread_counts(comparison.first.dump, comparison.last.dump)[:PATTERNS]
     sentences = [each for each in (comparison.weak_words(answer.probe), direct) if each]
     return Notes(line_objects(answer, shows_values), threads, sentences)
+
+
+def with_object_first(answer: Answer, notes: Notes) -> Tuple[Answer, Notes]:
+    """Returns the answer with the line first of which one object holds most, if that is an own field with as many
+    holders as before, and no line holds much more: it is as if the field had one holder, and is deeper than the others.
+    """
+    found = notes.objects
+    if not found or len(found.objects) > 1 or not leads(found.line, answer):
+        return answer, notes
+    lines = [found.line, *(each for each in answer.lines if each is not found.line)]
+    return answer._replace(lines=lines), notes._replace(objects=found._replace(number=1))
+
+
+def leads(line: Line, answer: Answer) -> bool:
+    """Tests whether a line may come first if one object of it holds most."""
+    largest = max(each.share for each in answer.lines)
+    return line.held.is_own and line.holders_before == line.held.holders and line.share >= MOST_OF_LARGEST * largest
 
 
 def line_objects(answer: Answer, shows_values: bool) -> Optional[LineObjects]:

@@ -18,7 +18,7 @@ NEXT = 8
 MOST, MOST_TOGETHER = 0.9, 6
 
 #: What is tried as one: a candidate, or several that may hold something together.
-Unit = Sequence[Candidate]
+Tried = Sequence[Candidate]
 
 
 class Search:
@@ -69,16 +69,17 @@ class Search:
         self.found.sort(key=self.order)
 
     def find_roots(self) -> None:
-        """Finds static fields, local variables and threads."""
+        """Finds static fields, local variables and threads; if none of the latter, threads of names that are alike."""
         candidates, statics = self.probe.candidates, self.probe.candidates.statics()
-        self.expect(statics)
         if self.is_enough(statics):
-            self.look_in_own_first(statics)
+            self.look_in_all(statics)
             self.look_together(statics)
         if self.is_enough([candidates.all_threads()]):
-            for group in candidates.locals(), candidates.threads(), candidates.threads_alike():
-                self.expect(group)
-                self.look_in_own_first(group)
+            known = len(self.found)
+            self.look_in_all(candidates.locals())
+            self.look_in_all(candidates.threads())
+            if len(self.found) == known:
+                self.look_in_all(candidates.threads_alike())
 
     def expect(self, group: Sequence[Candidate]) -> None:
         """Adds a group to what is to be tried."""
@@ -88,8 +89,9 @@ class Search:
         """Tests whether a group holds so much now that a part of it may have the share."""
         return bool(group) and self.probe.bound(group) >= self.at_least
 
-    def look_in_own_first(self, group: Sequence[Candidate]) -> None:
+    def look_in_all(self, group: Sequence[Candidate]) -> None:
         """Finds those of `group` that hold enough, of own classes first."""
+        self.expect(group)
         self.look_in([each for each in group if each.is_own])
         self.look_in([each for each in group if not each.is_own])
 
@@ -140,11 +142,11 @@ class Search:
                 self.steady.append(held)
         return [candidate for each in rest for candidate in each], likely
 
-    def halved(self, units: List[Unit], likely: float) -> Tuple[Unit, List[Unit], float]:
+    def halved(self, units: List[Tried], likely: float) -> Tuple[Tried, List[Tried], float]:
         """Looks for one of `units` that holds enough, by halves. Returns it, or nothing, the units that are still to be
         tried, and what they are likely to hold. A group that is likely to hold enough is not asked: its parts will
         be."""
-        later: List[Unit] = []
+        later: List[Tried] = []
         whole = share = likely if likely >= self.at_least and len(units) > 1 else self.bound(units)
         while share >= self.at_least and len(units) > 1:
             left, right = units[: len(units) // 2], units[len(units) // 2 :]
@@ -160,7 +162,7 @@ class Search:
             return [], later, 0.0
         return units[0], later, whole - share
 
-    def bound(self, units: Sequence[Unit]) -> float:
+    def bound(self, units: Sequence[Tried]) -> float:
         """Returns the share that no part of `units` exceeds."""
         self.note()
         return self.probe.bound([candidate for unit in units for candidate in unit])
@@ -181,12 +183,18 @@ class Search:
         rest = self.unknown(fields)
         if self.percent(rest, self.at_least) >= self.at_least and self.look_in_kin(rest) or shares:
             return
-        of_dump = self.probe.candidates
-        rest = self.unknown([*of_dump.statics(), of_dump.all_threads(), *fields])
+        rest = self.unknown([*self.probe.candidates.statics(), *self.threads(), *fields])
         whole = self.percent(rest, self.at_least)
         needed = self.needed(rest, [], 0, MOST * whole) if whole >= self.at_least else []
         if 0 < len(needed) <= MOST_TOGETHER:
             self.found.append(self.probe.retained(needed))
+
+    def threads(self) -> List[Candidate]:
+        """Returns threads of names that are alike, and each other thread."""
+        candidates = self.probe.candidates
+        alike = candidates.threads_alike()
+        known = {place for each in alike for place in each.changes}
+        return [*alike, *(each for each in candidates.threads() if known.isdisjoint(each.changes))]
 
     def unknown(self, group: Sequence[Candidate]) -> List[Candidate]:
         """Returns those of `group` that are not known to hold enough alone, whether they gained it or not."""
@@ -207,7 +215,7 @@ class Search:
         own = [each for each in rest if each.is_own]
         if own and self.percent([*own, *alone], least) >= least:
             rest = own
-        if self.look_in_kin(rest):
+        if self.look_in_kin(self.unknown(rest)):
             return
         needed = self.needed(rest, alone, base, least)
         if needed:
@@ -248,17 +256,17 @@ class Search:
         return left and left + right
 
 
-def by_class(group: Iterable[Candidate]) -> List[Unit]:
+def by_class(group: Iterable[Candidate]) -> List[Tried]:
     """Returns the fields of `group` by the class that declares them."""
     return _by(group, lambda each: each.name.rpartition(".")[0])
 
 
-def by_package(group: Iterable[Candidate]) -> List[Unit]:
+def by_package(group: Iterable[Candidate]) -> List[Tried]:
     """Returns the fields of `group` by the package of their class."""
     return _by(group, lambda each: package(each.name.rpartition(".")[0]))
 
 
-def _by(group: Iterable[Candidate], place: Callable[[Candidate], str]) -> List[Unit]:
+def _by(group: Iterable[Candidate], place: Callable[[Candidate], str]) -> List[Tried]:
     found: Dict[str, List[Candidate]] = {}
     for each in group:
         found.setdefault(place(each), []).append(each)

@@ -98,7 +98,7 @@ class GrownTest(ToolTest):
         self.expect(["early.hprof", "late.hprof"])
         self.expect(["late.hprof", "early.hprof"], said=later)
         self.expect(["early.hprof", "late.hprof", "early.hprof"], said=later)
-        other = self.program('for file; do :; done\ncase $file in *late.hprof) cat friday ;; *) cat monday ;; esac')
+        other = self.program("for file; do :; done\ncase $file in *late.hprof) cat friday ;; *) cat monday ;; esac")
         hours = an_hour((7, 70, "1.8", "New"), (3, 31, "0.8", "Twice"), (0, 69, "0", "Longer"))
         self.expect(["--per-hour", "early.hprof", "late.hprof"], hours, heapmark=other)
         hours = an_hour((7, 70, "18", "New"), (0, 69, "17", "Longer"), (3, 31, "7.8", "Twice"))

@@ -122,7 +122,13 @@ class HeldTest(ToolTest):
         self.expect(["threads.hprof", "local com/shop/Worker.take"], line(2, 0, "Message"))
         ended = self.ran("threads.hprof", '        6   0   75%   1  thread "http-0"')
         self.assertIn(line(6, 0, "Message"), ended.out)
-        for kind, name, noun in (("local", "A.f", "local variable"), ("thread", '"http, 1"', "thread")):
+        self.assertIn(line(6, 0, "Message"), self.ran("threads.hprof", 'threads "http-*"').out)
+        kinds = (
+            ("local", "A.f", "local variable"),
+            ("thread", '"http, 1"', "thread"),
+            ("threads", '"a-*"', "group of threads"),
+        )
+        for kind, name, noun in kinds:
             said = f"held: {kind} {name}: no {noun} of the dump has this name"
             self.expect(["threads.hprof", f"{kind} {name}"], said=said, status=6)
 
@@ -133,6 +139,9 @@ class HeldTest(ToolTest):
         handler(20).write("handler.hprof")
         self.assertEqual(self.ran("handler.hprof", "shop/Order.text").out.split()[:3], ["20", "400", "byte[]"])
         self.assertIn("Calls that are running do not count", self.ran("--help").out)
+        both = self.ran("handler.hprof", 'together static shop/Catalog.ALL, thread "http-0"')
+        self.assertIn(line(20, 160, "shop/Order"), both.out)
+        self.assertIn(line(100, 800, "shop/Product"), both.out)
         for text in ("  5  0  62%  0  5  2 to 30  ", "static A.b > "):
             said = f"held: {text}together a.b, c.d .. and 3 more"
             self.expect(["running.hprof", said[6:]], said="held: a.b: no class *\nheld: c.d: no class *", status=6)

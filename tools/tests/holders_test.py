@@ -10,6 +10,7 @@ from tests.support.dump_writer import BYTE, DumpWriter
 from tests.support.held_objects import DUMPS, shop
 from tests.support.tool_test import HEAPMARK, ToolTest, histogram
 
+
 def line(objects: int, size: int, share: int, holders: int, text: str) -> str:
     """Returns a line of the output."""
     return f"{objects:10} {size:14} {share:4}% {holders:9}  {text}\n"

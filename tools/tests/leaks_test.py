@@ -14,7 +14,9 @@ from tests.support.dump_writer import BYTE, DumpWriter, word
 from tests.support.services import (
     MINUTE,
     Service,
+    baskets,
     cache,
+    emptied,
     handler,
     journal,
     lambdas,
@@ -163,7 +165,11 @@ class LeaksTest(ToolTest):
         """What grew comes before what moved, what grew at each step before what is large by chance, holders before
         what leaks itself. The number of holders that changed is shown, and the help has the reasons."""
         rows = self.found(swapped(20, False), swapped(80, True))
-        self.assertEqual([row[-1] for row in rows][::len(rows) - 1], [self.PATH, "static shop/Stock.STORE > shop/Stock.green"])
+        self.assertEqual(
+            [row[-1] for row in rows][:: len(rows) - 1], [self.PATH, "static shop/Stock.STORE > shop/Stock.green"]
+        )
+        rows = self.found(emptied(0, 60, 100), emptied(60, 0, 1000))
+        self.assertEqual([row[-1] for row in rows[:2]], ["static shop/Tables.ORDERS", "static shop/Pages.ALL"])
         rows = self.found(noisy(20, 900), noisy(80, 9000))
         self.assertEqual(rows[0][-1], "static shop/Pages.ALL")
         noisy(50, 100, minutes=6).write("between")
@@ -175,12 +181,23 @@ class LeaksTest(ToolTest):
         self.assertEqual(payload[-2:], ["20 to 80", f"{self.PATH} > shop/Order.text"])
         self.assertIn("accumulation point", self.ran("--help").out)
 
+    def test_object_first(self) -> None:
+        """A field of which one object of many holds most comes before what is above it."""
+        baskets(20).write("before")
+        baskets(80).write("after")
+        ended = self.ran("before", "after")
+        path = ["80", "static shop/Baskets.ALL > shop/Basket.items"]
+        self.assertEqual(columns_of(ended.out.splitlines()[0])[-2:], path, ended.out + ended.said)
+        self.assertIn("leaks: line 1: 1 of 80 shop/Basket.items holds most: shop/Basket: ", ended.said)
+
     def test_kin(self) -> None:
         """Fields of one class, or of one package, that hold enough only together."""
         rows = self.found(twofold(20), twofold(80))
         self.assertEqual(rows[0][-1], "together shop/Polls.publicKeys, shop/Selector.keys")
         rows = self.found(many_caches(5), many_caches(20))
-        path = "together static shop/Caches.CACHE_0, static shop/Caches.CACHE_1, static shop/Caches.CACHE_2 .. and 5 more"
+        path = (
+            "together static shop/Caches.CACHE_0, static shop/Caches.CACHE_1, static shop/Caches.CACHE_2 .. and 5 more"
+        )
         self.assertEqual((rows[0][2], rows[0][-1]), ("100%", path))
 
     def test_one_program(self) -> None:

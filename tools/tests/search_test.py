@@ -7,7 +7,7 @@ import unittest
 from typing import FrozenSet, Iterator, List, Sequence, Tuple
 from unittest import mock
 
-from heap_tools.candidates import FIELD, LOCAL, STATIC, THREAD, Candidate, Candidates, joint_name
+from heap_tools.candidates import FIELD, LOCAL, STATIC, THREAD, THREADS, Candidate, Candidates, joint_name
 from heap_tools.changed_copy import Changes
 from heap_tools.dump_runs import DumpRuns
 from heap_tools.heap_dump import HeapDump
@@ -126,7 +126,7 @@ class KinTest(unittest.TestCase):
         """Searches `fields` with few holders, and returns what was found together, and how much was asked."""
         probe = ToldGains([], things)
         search = Search(probe, 30, 4, lambda held: held.holders, mock.Mock(), FEW)
-        probe.candidates = mock.Mock(statics=lambda: [], all_threads=lambda: field("threads"))
+        probe.candidates = mock.Mock(**{f"{kind}.return_value": [] for kind in ("statics", "threads", "threads_alike")})
         search.look_in_few_together(fields)
         return [joint_name(held.candidates) for held in search.found], len(probe.asked)
 
@@ -216,7 +216,8 @@ class RandomTest(unittest.TestCase):
 
     def alone(self, search: Search) -> List[str]:
         """Returns the names of those that were found to hold enough alone."""
-        return sorted(str(held.candidates[0]) for held in search.found if len(held.candidates) == 1)
+        found = [held.candidates[0] for held in search.found if len(held.candidates) == 1]
+        return sorted(str(each) for each in found if each.kind != THREADS)
 
     def test_all_found(self) -> None:
         """All that gained enough alone are found, and none too many. With a limit, those are left out beside which as

@@ -25,11 +25,20 @@ stand as they are, and dots in place of slashes. Without `$14+0x..` a hidden
 class means all of that name. A line of holders or leaks may be pasted, or what
 it ends with: `static A.x` and `together static A.x, static B.y` mean these
 fields, `A.x > B.y` means B.y, `local A.f` the local variables of a method, and
-`thread "NAME"` all that a thread of this name holds.
+`thread "NAME"` or `threads "NAME-*"` all that threads of such names hold.
 
 It runs heapmark on DUMP, and on DUMP with these fields declared as numbers, so
 that they lead nowhere, and shows where the reports differ, as grown does
-between XX
+between two dumps; grown --help says how names are shown and which heapmark
+runs. The roots of local variables and threads are null in their place. A line
+on standard error says if an entry of FIELDS names no field, or nothing hangs by
+FIELDS alone. A name that begins with a hyphen goes after `--`.
+
+Calls that are running do not count: both reports are also made without local
+variables, unless FIELDS names some, and if more hangs by FIELDS then, that is
+shown. What only local variables lead to, such as those of `main`, hangs by the
+FIELDS in it as they are.
+
 Exit status:
   0  done: what hangs by FIELDS, if anything, was printed
   1  DUMP cannot be read or was refused; nothing was printed
@@ -48,7 +57,7 @@ Example:
 def parser() -> Parser:
     """Returns the options and operands."""
     it = Parser("held", "[OPTIONS] <DUMP> <FIELDS>", ABOUT, NOTES)
-    it.operand("dump", "A heap dump, in a plain file: it is read twice")
+    it.operand("dump", "A heap dump, in a plain file: it is read several times")
     it.operand("fields", "The fields, 1 to 64 of the form Class.field with commas between; static fields, too")
     it.flag("--bytes", "Sort by bytes, not by objects")
     text = "Show only classes with more than N such objects; if there are any, the exit status is 3"
@@ -68,8 +77,9 @@ class Difference(NamedTuple):
 def difference(path: str, text: str) -> Difference:
     """Runs heapmark on the dump `path` as it is and without what `text` names. Says which entries name nothing."""
     heapmark, entries = Heapmark(), [text] if root_of(text) else entries_of(text)
-    if not root_of(text):
-        heapmark.check_fields(",".join(entries))
+    fields = [entry for entry in entries if not root_of(entry)]
+    if fields:
+        heapmark.check_fields(",".join(fields))
     runs = DumpRuns.of(heapmark, path, "held")
     changes: Changes = {}
     all_found = True

@@ -13,7 +13,7 @@ from heap_tools.console import Progress, is_terminal, say, write
 from heap_tools.faults import WRONG_USE, Fault
 from heap_tools.humanize import counted, duration, size
 from heap_tools.leak_lines import Answer, Line, answer_of
-from heap_tools.leak_notes import Notes, notes_of, say_notes
+from heap_tools.leak_notes import Notes, notes_of, say_notes, with_object_first
 from heap_tools.page_content import content_of, require_place, write_page
 from heap_tools.probe import GrowthProbe
 from heap_tools.reports import Unit
@@ -37,7 +37,7 @@ Lines with few holders come first, and of fields above one another the deepest
 that still has most of the growth: the accumulation point. Lines whose holders
 became more with the leak come later, and so do those that did not grow at each
 step, or whose owner gained little. Fields of the JDK come after own ones with
-the same share.
+the same share. If one object of many holds most of a field, that comes first.
 
 Calls that are running do not count: their local variables lead into containers
 that fields hold. So local variables lead nowhere if less than P percent of the
@@ -138,7 +138,8 @@ def compared(options: Namespace, words: Sequence[str]) -> Tuple[Comparison, Answ
         probe = comparison.probe()
         between = functools.partial(comparison.probes_between, probe)
         answer = answer_of(probe, options.at_least, options.top, comparison.progress, between)
-        return comparison, answer, notes_of(comparison, answer, not options.no_values)
+        notes = notes_of(comparison, answer, not options.no_values)
+        return (comparison, *with_object_first(answer, notes))
     finally:
         progress.clear()
 

@@ -146,6 +146,22 @@ def swapped(count: int, is_green: bool) -> Service:
     return dump
 
 
+def emptied(orders: int, baskets: int, noise: int) -> Service:
+    """Two static fields of one class have orders and baskets; another class has a page of `noise` bytes."""
+    dump = Service()
+    dump.of_class(6, "shop/Tables", {"ORDERS": 5000, "BASKETS": 8000})
+    dump.orders(orders)
+    dump.of_class(7, "shop/Basket", fields=["text"])
+    dump.array(8000, 4, *range(8001, 8001 + baskets))
+    for number in range(8001, 8001 + baskets):
+        dump.instance(number, 7, number + 1000)
+        dump.values(number + 1000, BYTE, bytes(20))
+    dump.of_class(8, "shop/Pages", {"ALL": 800})
+    dump.values(800, BYTE, bytes(noise))
+    dump.root(6, 8)
+    return dump
+
+
 def noisy(count: int, noise: int, minutes: int = 0) -> Service:
     """Beside the orders, a static field holds pages of `noise` bytes, now many and now few."""
     dump = cache(count, minutes)
@@ -178,6 +194,26 @@ def many_caches(count: int) -> Service:
         for order in orders:
             dump.instance(order, 5, order + 250)
             dump.values(order + 250, BYTE, bytes(20))
+    dump.root(6)
+    return dump
+
+
+def baskets(count: int) -> Service:
+    """A static field has 80 baskets, each with a list of orders. One list has `count`, the others have one each."""
+    dump = Service()
+    dump.of_class(5, "shop/Order", fields=["text"])
+    dump.of_class(6, "shop/Baskets", {"ALL": 600})
+    dump.of_class(7, "shop/Basket", fields=["items"])
+    dump.array(600, 4, *range(601, 681))
+    at = 5000
+    for basket in range(601, 681):
+        orders = range(at + 1, at + 1 + (count if basket == 640 else 1))
+        dump.instance(basket, 7, at)
+        dump.array(at, 4, *orders)
+        for order in orders:
+            dump.instance(order, 5, order + 20000)
+            dump.values(order + 20000, BYTE, bytes(20))
+        at += 1 + len(orders)
     dump.root(6)
     return dump
 
