@@ -24,9 +24,7 @@ def growths(reports: Sequence[Report], unit: Unit = Unit.OBJECTS, more_than: Opt
         found = [each for each in found if max(each.amount) > 0]
     else:
         found = [each for each in found if each.amount.objects > more_than]
-    return sorted(
-        found, key=lambda it: (min(it.steps) <= 0, -unit.of(it.amount), -unit.other.of(it.amount), it.name)
-    )
+    return sorted(found, key=lambda it: (min(it.steps) <= 0, -unit.of(it.amount), -unit.other.of(it.amount), it.name))
 
 
 def growth_of(name: str, reports: Sequence[Report], unit: Unit) -> ClassGrowth:

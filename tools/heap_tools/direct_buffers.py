@@ -34,7 +34,9 @@ def direct_memory(dump: HeapDump) -> DirectMemory:
 def _has_memory(objects: HeapObjects, instance: int) -> bool:
     """Tests whether a buffer is a direct one, and no view of another."""
     dump = objects.dump
-    lineage = [(dump.names[owner], place, field) for owner, place, field in objects.fields_of(objects.class_of(instance))]
+    lineage = [
+        (dump.names[owner], place, field) for owner, place, field in objects.fields_of(objects.class_of(instance))
+    ]
     attached = [place for owner, place, field in lineage if owner == BUFFER and field.name == ATTACHMENT]
     return bool(attached) and not any(dump.id(instance + place) for place in attached)
 

@@ -13,9 +13,7 @@ MUCH = 5
 def weak_growth(cut: Sequence[DumpSide], followed: Sequence[DumpSide], families: Optional[List[str]]) -> Amount:
     """Returns how much more of these families, or of all if they are None, only weak references hold in the last dump
     than in the first: `cut` are the two dumps without such references, `followed` the same with them."""
-    first, last = (
-        weak.base.total(families).minus(side.base.total(families)) for side, weak in zip(cut, followed)
-    )
+    first, last = (weak.base.total(families).minus(side.base.total(families)) for side, weak in zip(cut, followed))
     return last.minus(first)
 
 

@@ -81,7 +81,13 @@ class NamesTest(ToolTest):
     def test_printable(self) -> None:
         """Names of threads have one line, without codes of a terminal and marks of direction."""
         odd = ('a\n"b"\\\x1b[2J', r"a\x0a\x22b\x22\x5c\x1b[2J")
-        for text, spelt in (("http-ü 0", "http-ü 0"), odd, ("\u202e", r"\xe2\x80\xae"), ("\x85c", r"\xc2\x85c"), ("\u085c", r"\xe0\xa1\x9c")):
+        for text, spelt in (
+            ("http-ü 0", "http-ü 0"),
+            odd,
+            ("\u202e", r"\xe2\x80\xae"),
+            ("\x85c", r"\xc2\x85c"),
+            ("\u085c", r"\xe0\xa1\x9c"),
+        ):
             self.assertEqual(class_names.printable(text), spelt)
 
     def test_others(self) -> None:

@@ -26,7 +26,7 @@ TABLE = """    Crate              First check With tests Budget Edits All edits 
 #: Uses the processor for so many seconds, and prints a line.
 BURN = "import sys, time\nwhile time.process_time() < float(sys.argv[1]): pass\nprint(sys.argv[2])"
 #: A stand-in for rt. Its gate checks a crate and its tests, tries an edit, and makes a crate's library.
-RT = f'''#!/usr/bin/env python3
+RT = f"""#!/usr/bin/env python3
 import subprocess, sys
 BURN = [sys.executable, "-c", {BURN!r}]
 SAID = "fn low::heap::pop: no proof: `search` did not prove `returns`"
@@ -52,7 +52,7 @@ def main(words):
     with subprocess.Popen([*BURN, "1.6", "", "--crate-name", "high"], stdout=subprocess.DEVNULL) as process:
         process.wait(timeout=60)
     return 7
-'''
+"""
 WRITTEN = """    Crate              First check With tests Budget Edits All edits Budget
     low                          1          1      4     1         1      9
     high                         2          -      1

@@ -136,7 +136,9 @@ class ReadingTest(HprofTest):
         dump = Service()
         dump.objects(300, 301)
         dump.values(400, BYTE, bytes(3))
-        self.assertEqual([HeapObjects(self.read(dump)).count({name}) for name in ("shop/Order", "byte[]", "int[]")], [2, 1, 0])
+        self.assertEqual(
+            [HeapObjects(self.read(dump)).count({name}) for name in ("shop/Order", "byte[]", "int[]")], [2, 1, 0]
+        )
 
     def test_lasting_classes(self) -> None:
         """Classes of the loaders that the JDK keeps are never unloaded."""

@@ -53,7 +53,9 @@ def pythons() -> List[str]:
     for folder in os.environ.get("PATH", "").split(os.pathsep):
         found += glob.glob(f"{folder}/python3.[0-9]*")
     found += glob.glob(os.path.expanduser("~/.pyenv/versions/*/bin/python3"))
-    paths = {os.path.realpath(path) for path in found if re.search(r"python3(\.\d+)?$", path) and os.access(path, os.X_OK)}
+    paths = {
+        os.path.realpath(path) for path in found if re.search(r"python3(\.\d+)?$", path) and os.access(path, os.X_OK)
+    }
     versions = [(version_of(path), path) for path in sorted(paths)]
     return [path for version, path in sorted((it for it in versions if it[0] and it[0] >= NEEDED))]
 

@@ -65,7 +65,9 @@ class ProgramFactsTest(unittest.TestCase):
             ("", None),
         ]:
             with self.subTest(command):
-                self.assertEqual(self.facts_in(old_properties(command)), ProgramFacts(wanted, None, "HotSpot, Java 1.8"))
+                self.assertEqual(
+                    self.facts_in(old_properties(command)), ProgramFacts(wanted, None, "HotSpot, Java 1.8")
+                )
 
     def test_nothing(self) -> None:
         """A dump of no virtual machine says nothing."""

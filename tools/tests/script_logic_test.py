@@ -212,7 +212,7 @@ class CheckTest(ScriptTest):
     def test_faults(self) -> None:
         """A function without types and a mistake of a shell script are wrong, as long as the programs are here."""
         self.check.TOP = self.top
-        self.write("bench/clean.sh", "#!/bin/sh\necho \"$1\"\n")
+        self.write("bench/clean.sh", '#!/bin/sh\necho "$1"\n')
         self.write("dev/words", "#!/usr/bin/env python3\nimport clean\n\nclean.same(1)\n")
         self.write("dev/clean.py", "def same(number: int) -> int:\n    return number\n")
         for part, name, fault in (

@@ -55,7 +55,12 @@ class ToolTest(unittest.TestCase):
     ) -> Ended:
         """Runs the tool with these words, and returns how it ended."""
         environment = {**os.environ, "HEAPMARK": heapmark, **(variables or {})}
-        kept: Dict[str, Any] = {"stdin": subprocess.DEVNULL, "stdout": subprocess.PIPE, "stderr": subprocess.PIPE, **more}
+        kept: Dict[str, Any] = {
+            "stdin": subprocess.DEVNULL,
+            "stdout": subprocess.PIPE,
+            "stderr": subprocess.PIPE,
+            **more,
+        }
         command = [str(TOOLS / (tool or self.tool)), *words]
         ended = subprocess.run(command, env=environment, timeout=100, check=False, **kept)
         texts = ((each or b"").decode(errors="backslashreplace") for each in (ended.stdout, ended.stderr))
