@@ -67,10 +67,8 @@ class Comparison:
         growth = grown(sides, families, unit)
         before, after = self.direct
         if families is None and unit is Unit.BYTES and after.bytes - before.bytes > max(0, growth):
-            say(
-                f"leaks: {more_direct_memory(before, after)}: the heap grew by less; so the shares are of the objects of "
-                f"{BUFFER}"
-            )
+            asked = f"the heap grew by less; so the shares are of the objects of {BUFFER}"
+            say(f"leaks: {more_direct_memory(before, after)}: {asked}")
             families, unit = [BUFFER], Unit.OBJECTS
             growth = grown(sides, families, unit)
         if growth <= 0:

@@ -8,7 +8,7 @@ from heap_tools.humanize import counted
 
 #: The class of direct buffers. Views of the other types have no memory of their own.
 BUFFER = "java/nio/DirectByteBuffer"
-#: The number of bytes of a buffer, and what a view was made of: slices and duplicates name the buffer that has the memory.
+#: The number of bytes of a buffer, and what a view was made of: slices and duplicates name the buffer with the memory.
 CAPACITY, ATTACHMENT = "java/nio/Buffer.capacity", "att"
 
 

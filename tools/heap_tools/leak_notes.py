@@ -69,8 +69,9 @@ def leads(line: Line, answer: Answer) -> bool:
 def line_objects(answer: Answer, shows_values: bool) -> Optional[LineObjects]:
     """Returns the objects that hold most of a line about 2 to 100,000 of them: of the first line whose objects have
     names, else of the first one of which few objects hold most; None if many hold a little each. At most `TRIED` lines
-    are tried."""
+    are tried, of own classes first: their objects are named more often."""
     asked = [(at, it) for at, it in enumerate(answer.lines, 1) if FEWEST <= it.held.holders <= MOST]
+    asked.sort(key=lambda numbered: not numbered[1].held.is_own)
     nameless = None
     for number, line in asked[:TRIED]:
         found = objects_that_hold(answer.probe, line.held, shows_values)

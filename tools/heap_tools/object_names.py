@@ -1,4 +1,4 @@
-"""What names an object of a dump: a text in it, the key under which a map has it, the static field of a thread-local."""
+"""What names an object of a dump: a text in it, its key in a map, or the static field of a thread-local."""
 
 from typing import Dict, Iterable, List, NamedTuple, Optional, Sequence, Tuple
 
@@ -109,7 +109,7 @@ class ObjectNames:
         return int.from_bytes(self.dump.bytes[place : place + size], "big", signed=True)
 
     def _by_thread_local(self, places: Sequence[int]) -> Iterable[Tuple[int, Name]]:
-        """Yields the objects that are entries or values of a thread-local which a static field names, with the field."""
+        """Yields the entries and values of thread-locals that a static field names, with the field."""
         wanted = {self.dump.id(at + 1): at for at in places}
         entries = [(at, at) for at in places if self.dump.names.get(self.objects.class_of(at)) == ENTRY]
         for entry, place in self.objects.values_of([THREAD_LOCAL], set(wanted)):

@@ -1,4 +1,4 @@
-"""How many threads there are of each kind: by name, with the numbers in a name as one, and the stack most of them have."""
+"""How many threads there are of a name, with the numbers in it as one, and the stack that most of them have."""
 
 import re
 import collections

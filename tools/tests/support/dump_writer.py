@@ -1,4 +1,4 @@
-"""Writes heap dumps for tests: `DumpWriter` small ones, `Format` the parts of large ones. `Expected` is the report of one."""
+"""Writes heap dumps for tests: `DumpWriter` small ones, `Format` the parts of large ones. `Expected` is a report."""
 
 import builtins
 import pathlib
