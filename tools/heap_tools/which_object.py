@@ -15,7 +15,7 @@ FEWEST, MOST = 2, 100_000
 #: The share of what all hold, in percent, that one must hold to be named, and that those named must hold together.
 OF_ONE, OF_ALL = 20, 50
 #: The most runs of heapmark for one field.
-MOST_RUNS = 60
+MOST_RUNS = 30
 
 
 class HoldingObject(NamedTuple):
