@@ -13,6 +13,8 @@ import tempfile
 import unittest
 from typing import Counter
 
+from tests.support.services import cache
+
 TOP = pathlib.Path(__file__).resolve().parents[2]
 DATA = TOP / "crates/heapmark/data"
 DUMP = str(DATA / "two_objects.hprof")
@@ -113,11 +115,15 @@ class PackageTest(unittest.TestCase):
             self.assertEqual(ran(programs / name, "--help").stdout, ran(TOP / "tools" / name, "--help").stdout)
             self.assertEqual(ran(programs / name, "--version").stdout, f"{name} {number}\n")
         path = f"{os.path.dirname(sys.executable)}:/usr/bin:/bin"
+        before, after = (f"{self.room.name}/{name}.hprof" for name in ("monday", "friday"))
+        cache(20).write(before)
+        cache(80, minutes=12).write(after)
         for words, said in (
             (["grown", DUMP, DUMP], ""),
             (["held", DUMP, "A.b"], "held: A.b: A itself declares no such field"),
             (["holders", DUMP], "holders: "),
-            (["leaks", DUMP, DUMP], "leaks: reachable: 8 bytes, then 8: no growth"),
+            (["leaks", before, after], "leaks: "),
+            (["leaks", DUMP, DUMP], f"leaks: {DUMP}: the same file as {DUMP}"),
         ):
             ended = ran(programs / words[0], *words[1:], env={**self.environment, "PATH": path})
             self.assertTrue(ended.stderr.startswith(said) and ended.returncode != 5, ended.stderr)
