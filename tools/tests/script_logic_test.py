@@ -87,6 +87,7 @@ class NamesTest(ScriptTest):
         names.TOP = self.top
         self.write("crates/heap/src/lib.rt", "//! See `pop_all`, `pop_one` and heap/src/lost.rt.\nfn pop_all() {}\n")
         glossary = "- **claim**: one; also another.\n- **mark**: a bit, as `crates/NAME` says.\n- **mark**: two.\n"
+        glossary += "\n## In the tools\n\n- **mark**: three.\n"
         self.write("docs/GLOSSARY.md", glossary)
         self.write("docs/A.md", "# A head\n\nSee [b](B.md#more), [c](C.md) and\n[a](#a-head); `pop_all`, `popAll`.\n")
         self.write("docs/B.md", "# Less\n\n    `lost_word` of a block\n")
