@@ -245,6 +245,6 @@ def answer_of(
     paths, lines = ReferencePaths(probe, [*search.found, *search.steady]), []
     for held in search.first():
         before = probe.earlier.retained(held.candidates).amount
-        share = probe.percent(held.amount.minus(before))
+        share = probe.share(held.candidates)
         lines.append(Line(held, before, share, paths.above(held), probe.earlier.holders(held.candidates)))
     return Answer(lines, search, probe)

@@ -79,7 +79,7 @@ def holder_of(line: Line, probe: GrowthProbe) -> page.HolderEntry:
 
 def share_of(amount: Amount, probe: Probe) -> page.HeldShare:
     """Returns an amount, and its share of what is reachable in the dump of `probe`."""
-    return page.HeldShare(amount, 100 * probe.unit.of(amount) / max(1, probe.unit.of(probe.whole)))
+    return page.HeldShare(amount, probe.unit.percent(amount, probe.whole))
 
 
 def steps_from(path: str, lines: Sequence[Line], names: Sequence[str]) -> List[page.NextStep]:

@@ -34,9 +34,9 @@ class Retained(NamedTuple):
 
 
 class Probe:
-    """Asks a dump what candidates hold of `families`, or of all that is reachable if that is None. Shares are in
-    `unit`. Calls `before_run` before each run of heapmark. `base` is the report of `runs` without changes, if it is
-    known."""
+    """Asks a dump what candidates hold of `families`, or of all that is reachable if that is None: `whole` is how much
+    of it is reachable. Shares are in `unit`. Calls `before_run` before each run of heapmark. `base` is the report of
+    `runs` without changes, if it is known."""
 
     def __init__(
         self,
@@ -77,16 +77,12 @@ class Probe:
         """Returns the changes by which a candidate leads nowhere in this dump."""
         return candidate.changes
 
-    def percent(self, amount: Amount) -> float:
-        """Returns the share of an amount in percent."""
-        return 100 * self.unit.of(amount) / max(1, self.unit.of(self.whole))
-
     def bound(self, group: Sequence[Candidate]) -> float:
         """Returns a share in percent that the share of no part of `group` exceeds: that of what the group holds."""
-        return self.percent(self.retained(group).amount)
+        return self.unit.percent(self.retained(group).amount, self.whole)
 
     def share(self, group: Sequence[Candidate]) -> float:
-        """Returns the share of a group in percent."""
+        """Returns the share of `whole` that a group holds, in percent."""
         return self.bound(group)
 
     def holds_all(self, upper: Retained, lower: Retained) -> bool:
@@ -129,14 +125,14 @@ class GrowthProbe(Probe):
         self.earlier = earlier
         self.growth = self.whole.minus(earlier.whole)
 
-    def percent(self, amount: Amount) -> float:
-        """Returns the share of an amount in the growth, in percent."""
-        return 100 * self.unit.of(amount) / max(1, self.unit.of(self.growth))
+    def bound(self, group: Sequence[Candidate]) -> float:
+        """Returns a share of the growth in percent that no part of `group` exceeds: that of what the group holds."""
+        return self.unit.percent(self.retained(group).amount, self.growth)
 
     def gain(self, group: Sequence[Candidate]) -> Amount:
         """Returns what a group holds more than before."""
         return self.retained(group).amount.minus(self.earlier.retained(group).amount)
 
     def share(self, group: Sequence[Candidate]) -> float:
-        """Returns the share of the growth that a group gained."""
-        return self.percent(self.gain(group))
+        """Returns the share of the growth that a group gained, in percent."""
+        return self.unit.percent(self.gain(group), self.growth)

@@ -39,6 +39,10 @@ class Unit(enum.Enum):
         """Returns the figure of an amount in this unit."""
         return amount.objects if self is Unit.OBJECTS else amount.bytes
 
+    def percent(self, part: Amount, whole: Amount) -> float:
+        """Returns the share that `part` has of `whole` in this unit, in percent."""
+        return 100 * self.of(part) / max(1, self.of(whole))
+
     @property
     def other(self) -> "Unit":
         """The other unit."""

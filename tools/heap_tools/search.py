@@ -167,7 +167,7 @@ class Search:
         self.note()
         return self.probe.bound([candidate for unit in units for candidate in unit])
 
-    def percent(self, candidates: Sequence[Candidate], least: float) -> float:
+    def share_or_bound(self, candidates: Sequence[Candidate], least: float) -> float:
         """Returns the share of `candidates`, or a bound of it if that is below `least`."""
         bound = self.probe.bound(candidates) if candidates else 0.0
         return bound if bound < least else self.probe.share(candidates)
@@ -181,10 +181,10 @@ class Search:
         if max(shares, default=0) > 100 - self.at_least:
             return
         rest = self.unknown(fields)
-        if self.percent(rest, self.at_least) >= self.at_least and self.look_in_kin(rest) or shares:
+        if self.share_or_bound(rest, self.at_least) >= self.at_least and self.look_in_kin(rest) or shares:
             return
         rest = self.unknown([*self.probe.candidates.statics(), *self.threads(), *fields])
-        whole = self.percent(rest, self.at_least)
+        whole = self.share_or_bound(rest, self.at_least)
         needed = self.needed(rest, [], 0, MOST * whole) if whole >= self.at_least else []
         if 0 < len(needed) <= MOST_TOGETHER:
             self.found.append(self.probe.retained(needed))
@@ -203,23 +203,23 @@ class Search:
 
     def look_together(self, statics: Sequence[Candidate]) -> None:
         """Finds static fields that hold enough only together, those of own classes first."""
-        whole = self.percent(statics, self.at_least)
+        whole = self.share_or_bound(statics, self.at_least)
         alone = [each for held in self.found for each in held.candidates]
         best = max((self.probe.share(held.candidates) for held in self.found), default=0.0)
-        base = self.percent(alone, 0.0) if whole - best >= self.at_least else whole
+        base = self.share_or_bound(alone, 0.0) if whole - best >= self.at_least else whole
         if whole - base < self.at_least:
             return
         least = (base + whole) / 2
         known = {each.key for each in alone}
         rest = [each for each in statics if each.key not in known]
         own = [each for each in rest if each.is_own]
-        if own and self.percent([*own, *alone], least) >= least:
+        if own and self.share_or_bound([*own, *alone], least) >= least:
             rest = own
         if self.look_in_kin(self.unknown(rest)):
             return
         needed = self.needed(rest, alone, base, least)
         if needed:
-            is_enough = self.percent(needed, self.at_least) >= self.at_least
+            is_enough = self.share_or_bound(needed, self.at_least) >= self.at_least
             self.found.append(self.probe.retained(needed if is_enough else [*alone, *needed]))
 
     def look_in_kin(self, group: Sequence[Candidate]) -> bool:
@@ -245,7 +245,7 @@ class Search:
         half, little, bounds = len(group) // 2, (least - base) / 2 + 2 * base, 0.0
         parts = group[:half], group[half:]
         for part in parts:
-            bound = self.percent([*part, *others], least)
+            bound = self.share_or_bound([*part, *others], least)
             if bound >= least:
                 return self.needed(part, others, base, least)
             bounds += bound

@@ -70,7 +70,7 @@ class ObjectSearch:
 
     def _percent(self, amount: Amount) -> float:
         """Returns the share of an amount in what the field holds, in percent."""
-        return 100 * self.probe.unit.of(amount) / max(1, self.probe.unit.of(self.held.amount))
+        return self.probe.unit.percent(amount, self.held.amount)
 
     def _heaviest(self, values: Sequence[FieldValue]) -> List[Tuple[FieldValue, Amount]]:
         """Returns the instances that hold `OF_ONE` percent or more, the heaviest first, by halves."""

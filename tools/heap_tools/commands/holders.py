@@ -140,7 +140,7 @@ def print_found(search: Search) -> None:
     if is_terminal(sys.stdout) and search.found:
         lines.append(f"{'objects':>10} {'bytes':>14} share   holders  field\n")
     for held in search.first():
-        share, amount = search.probe.percent(held.amount), held.amount
+        share, amount = search.probe.share(held.candidates), held.amount
         line = f"{amount.objects:10} {amount.bytes:14} {share:4.0f}% {held.holders:9}  {joint_name(held.candidates)}\n"
         lines.append(line)
     write("".join(lines))
