@@ -19,7 +19,7 @@ from heap_tools.reports import Amount, Unit
 from heap_tools.running_calls import PASSING, Calls, DumpSide, without_running_calls
 from heap_tools.same_program import Taken, other_main, other_program, same_file, wrong_order
 from heap_tools.search_progress import SearchProgress
-from heap_tools.weak_growth import MUCH, weak_growth, weakly_held_words
+from heap_tools.weak_growth import MUCH_WEAKLY_HELD, weak_growth, weakly_held_words
 
 
 #: How many dumps between the first and the last are asked what the lines hold in them.
@@ -99,7 +99,7 @@ class Comparison:
     def weak_words(self, probe: GrowthProbe) -> str:
         """Returns a text on what grew and is held by weak references alone, empty if that is little."""
         held, whole = probe.unit.of(self.weakly_held), probe.unit.of(probe.growth)
-        return f"{weakly_held_words(self.weakly_held)}: see --weak" if 100 * held >= MUCH * whole else ""
+        return f"{weakly_held_words(self.weakly_held)}: see --weak" if 100 * held >= MUCH_WEAKLY_HELD * whole else ""
 
     def probes_between(self, probe: GrowthProbe) -> List[EarlierProbe]:
         """Returns what asks some dumps between the first and the last what `probe` asks these: at most `BETWEEN`."""

@@ -13,7 +13,7 @@ from heap_tools.search_progress import SearchProgress
 #: The number of holders up to which fields are searched first. Most lines that are printed have fewer.
 FEW = 64
 #: The part of the largest share that is most of it.
-MOST = 0.6
+MOST_OF_LARGEST = 0.6
 #: The part of the steps between dumps at which a leak grows.
 STEPS = 0.8
 #: Shares in percent that differ by less are the same.
@@ -122,7 +122,7 @@ class Ranks:
         telling = [each for each in alike if not is_collection(each)]
         share = self.share[id(held)]
         best = self._best([each for each in single if each in telling] or telling or alike)
-        if held is not best and (share < MOST * self.share[id(best)] or not self._is_below(best, held)):
+        if held is not best and (share < MOST_OF_LARGEST * self.share[id(best)] or not self._is_below(best, held)):
             return Place.BESIDE
         if any(says_more(each, held) and abs(self.share[id(each)] - share) < SAME for each in alike):
             return Place.ECHO
@@ -202,7 +202,7 @@ class Ranks:
 
     def _is_far_larger(self, other: Retained, held: Retained) -> bool:
         """Tests whether `other` gained far more than `held`, and holds less than half of what it holds."""
-        if MOST * self.share[id(other)] <= self.share[id(held)]:
+        if MOST_OF_LARGEST * self.share[id(other)] <= self.share[id(held)]:
             return False
         both, unit = self.probe.retained([*other.candidates, *held.candidates]), self.probe.unit
         return unit.of(both.amount) >= unit.of(other.amount) + unit.of(held.amount) / 2

@@ -8,10 +8,10 @@ from heap_tools.comparison import Comparison
 from heap_tools.console import say
 from heap_tools.direct_buffers import more_direct_memory
 from heap_tools.humanize import counted
-from heap_tools.leak_lines import MOST as MOST_OF_LARGEST
+from heap_tools.leak_lines import MOST_OF_LARGEST
 from heap_tools.leak_lines import Answer, Line
 from heap_tools.thread_counts import ThreadCount, grown_thread_counts
-from heap_tools.which_object import FEWEST, MOST, HoldingObject, objects_that_hold
+from heap_tools.which_object import FEWEST_OBJECTS, MOST_OBJECTS, HoldingObject, objects_that_hold
 
 #: How many patterns of names of threads are said.
 PATTERNS = 3
@@ -70,7 +70,7 @@ def line_objects(answer: Answer, shows_values: bool) -> Optional[LineObjects]:
     """Returns the objects that hold most of a line about 2 to 100,000 of them: of the first line whose objects have
     names, else of the first one of which few objects hold most; None if many hold a little each. At most `TRIED` lines
     are tried, of own classes first: their objects are named more often."""
-    asked = [(at, it) for at, it in enumerate(answer.lines, 1) if FEWEST <= it.held.holders <= MOST]
+    asked = [(at, it) for at, it in enumerate(answer.lines, 1) if FEWEST_OBJECTS <= it.held.holders <= MOST_OBJECTS]
     asked.sort(key=lambda numbered: not numbered[1].held.is_own)
     nameless = None
     for number, line in asked[:TRIED]:

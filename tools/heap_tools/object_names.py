@@ -7,7 +7,7 @@ from heap_tools.class_names import printable
 from heap_tools.heap_dump import HeapDump
 from heap_tools.heap_objects import HeapObjects
 
-STRING = "java/lang/String"
+STRING_CLASS = "java/lang/String"
 #: The fields of a text that names an object, the likeliest first. An object with one text only is named by that.
 NAMING = ("name", "id", "key", "destination", "topic", "queue", "title", "label", "path", "url")
 #: The fields of the nodes of maps: the object, and its key.

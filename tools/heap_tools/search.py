@@ -15,7 +15,7 @@ from heap_tools.search_progress import SearchProgress
 #: How many fields are tried first after one is found: those that come next have as many holders, or some more.
 NEXT = 8
 #: The part of what several hold together that those of them that are needed must hold, and how many these may be.
-MOST, MOST_TOGETHER = 0.9, 6
+PART_NEEDED, MOST_NEEDED = 0.9, 6
 
 #: What is tried as one: a candidate, or several that may hold something together.
 Tried = Sequence[Candidate]
@@ -185,8 +185,8 @@ class Search:
             return
         rest = self.unknown([*self.probe.candidates.statics(), *self.threads(), *fields])
         whole = self.share_or_bound(rest, self.at_least)
-        needed = self.needed(rest, [], 0, MOST * whole) if whole >= self.at_least else []
-        if 0 < len(needed) <= MOST_TOGETHER:
+        needed = self.needed(rest, [], 0, PART_NEEDED * whole) if whole >= self.at_least else []
+        if 0 < len(needed) <= MOST_NEEDED:
             self.found.append(self.probe.retained(needed))
 
     def threads(self) -> List[Candidate]:
@@ -231,7 +231,7 @@ class Search:
             while units:
                 unit, units, likely = self.halved(units, likely)
                 if unit and self.probe.share(unit) >= self.at_least:
-                    least = MOST * self.probe.share(unit)
+                    least = PART_NEEDED * self.probe.share(unit)
                     self.found.append(self.probe.retained(self.needed(list(unit), [], 0, least) or unit))
             if len(self.found) > known:
                 return True

@@ -7,7 +7,7 @@ from heap_tools.reports import Amount
 from heap_tools.running_calls import DumpSide
 
 #: The share of the growth, in percent, from which on it is said what is held by weak references alone.
-MUCH = 5
+MUCH_WEAKLY_HELD = 5
 
 
 def weak_growth(cut: Sequence[DumpSide], followed: Sequence[DumpSide], families: Optional[List[str]]) -> Amount:

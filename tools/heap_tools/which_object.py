@@ -11,7 +11,7 @@ from heap_tools.probe import Probe, Retained
 from heap_tools.reports import Amount
 
 #: Of how many holders it is asked which of them hold most.
-FEWEST, MOST = 2, 100_000
+FEWEST_OBJECTS, MOST_OBJECTS = 2, 100_000
 #: The share of what all hold, in percent, that one must hold to be named, and that those named must hold together.
 OF_ONE, OF_ALL = 20, 50
 #: The most runs of heapmark for one field.
@@ -50,7 +50,7 @@ class ObjectSearch:
         """Returns the objects that hold most, those that hold most of all first. Returns nothing if many hold a little
         each, or if the line is not about 2 to 100,000 instances."""
         is_field = len(self.held.candidates) == 1 and self.field.kind == FIELD
-        if not is_field or not FEWEST <= self.field.count <= MOST:
+        if not is_field or not FEWEST_OBJECTS <= self.field.count <= MOST_OBJECTS:
             return []
         objects = HeapObjects(self.probe.runs.dump)
         values = [each for each in objects.values_of([self.field.name]) if objects.dump.id(each.value)]

@@ -70,7 +70,7 @@ Example:
   $ holders friday.hprof 'com/acme/Cache$Order'
 """
 #: The share of unreachable bytes, in percent of the reachable ones, that a line says if no class is given.
-MUCH = 10
+MUCH_UNREACHABLE = 10
 
 
 def parser() -> Parser:
@@ -167,7 +167,7 @@ def say_remainder(search: Search) -> None:
     if not search.found:
         say(f"holders: no field, local variable or thread alone holds {at_least}% of {what}{why_none(search)}")
     unreachable = probe.runs.report.unreachable.bytes
-    if not probe.families and 100 * unreachable >= MUCH * probe.whole.bytes and unreachable:
+    if not probe.families and 100 * unreachable >= MUCH_UNREACHABLE * probe.whole.bytes and unreachable:
         say(f"holders: {counted(unreachable, 'byte')} more are unreachable: {WHY_UNREACHABLE}")
     cost = f"{counted(search.all, 'field')}, {counted(probe.runs.heapmark.runs, 'run')} of heapmark"
     say(f"holders: threads or the virtual machine hold {rest:,} of {what} without any static field; {cost}")

@@ -109,7 +109,7 @@ def width_of(lines: Sequence[Line]) -> int:
     return max([9, *(len(holders_of(line)) for line in lines)])
 
 
-def heads(comparison: Comparison, probe: GrowthProbe, width: int) -> str:
+def lines_above(comparison: Comparison, probe: GrowthProbe, width: int) -> str:
     """Returns what stands above the lines on a terminal: how much the heap grew, and the heads of the columns."""
     was, now = (size(each.runs.report.total(probe.families).bytes) for each in (probe.earlier, probe))
     what = probe.families[0] if probe.families and len(probe.families) == 1 else "reachable"
@@ -154,8 +154,9 @@ def main(words: Sequence[str]) -> int:
     if options.html is not None:
         require_place(options.html)
     comparison, answer, notes = compared(options, words)
-    top = heads(comparison, answer.probe, width_of(answer.lines)) if is_terminal(sys.stdout) and answer.lines else ""
-    write(top + printed(answer.lines, answer.probe.unit))
+    has_heads = is_terminal(sys.stdout) and answer.lines
+    above = lines_above(comparison, answer.probe, width_of(answer.lines)) if has_heads else ""
+    write(above + printed(answer.lines, answer.probe.unit))
     if options.html is not None:
         write_page(options.html, content_of(comparison, answer, notes))
     say_notes(notes)

@@ -11,7 +11,7 @@ from heap_tools.page.words import change_of, figure, from_to, percent, with_sign
 
 
 #: How many fields are named that lead somewhere only together.
-MOST_TOGETHER = 4
+SHOWN_TOGETHER = 4
 
 
 @dataclass(frozen=True)
@@ -58,7 +58,7 @@ def path_to(holder: HolderEntry, limits: Limits) -> Html:
 
 def step_name(names: Sequence[str], limits: Limits) -> Html:
     """Returns a step of a path: a field, or the fields that lead there only together."""
-    number = len(names) if len(names) <= MOST_TOGETHER else MOST_TOGETHER - 1
+    number = len(names) if len(names) <= SHOWN_TOGETHER else SHOWN_TOGETHER - 1
     shown = [breakable(plain(name, limits.name)) for name in names[:number]]
     if len(names) > number:
         shown.append(escaped(f"{len(names) - len(shown):,} more"))
