@@ -1,7 +1,7 @@
 #!/usr/bin/env bash
 # Tests whether the first line of tools/leaks names what holds a leak, on programs that leak beside a steady catalog.
 #
-# usage: bench/leaks.sh [-h] [NAME..]
+# usage: bench/leaks.sh [NAME..]
 #
 # NAME..: programs of the table below, or folders of bench/java/leaks, whose programs are all meant; all if none is
 # given. Each dumps itself before and after its leak grew. The catalog is about three times as large as the leak in the
@@ -27,7 +27,6 @@
 # out. SCALE: how many times as large as usual catalog and leak are (1); with 26, the last dump has some 600 MB.
 set -euo pipefail
 
-case ${1:-} in -h | --help) sed -n '2,/^set /{s/^# \{0,1\}//p}' "$0" && exit ;; esac
 top=$(cd "$(dirname "$0")/.." && pwd)
 # shellcheck source=bench/machine.sh
 . "$top/bench/machine.sh"

@@ -1,0 +1,95 @@
+"""Tests that pages name what exists, and say the numbers and versions that are written elsewhere."""
+
+from __future__ import annotations
+
+import math
+import pathlib
+import re
+import sys
+import unittest
+from collections import Counter
+
+from heap_tools import VERSION
+
+TOP = pathlib.Path(__file__).resolve().parents[2]
+sys.path.insert(0, str(TOP / "dev"))
+import crate_list
+
+#: The numbers below twenty, and the tens, in words.
+ONES = "zero one two three four five six seven eight nine ten eleven twelve thirteen fourteen fifteen sixteen seventeen"
+TENS = "- - twenty thirty forty fifty sixty seventy eighty ninety"
+
+
+def read(name: str) -> str:
+    """Returns the text of a file of the repository."""
+    return (TOP / name).read_text(encoding="utf-8")
+
+
+def section(page: str, head: str) -> str:
+    """Returns the section `head` of a page, with the sections in it."""
+    marks = head.split()[0]
+    found = re.search(rf"^{re.escape(head)}$.*?(?=^{'#?' * (len(marks) - 1)}# |\Z)", read(page), re.M | re.S)
+    assert found, f"{page} has no section {head}"
+    return found[0]
+
+
+def in_words(number: int) -> str:
+    """Returns a number below a hundred in words."""
+    ones, (tens, rest) = [*ONES.split(), "eighteen", "nineteen"], divmod(number, 10)
+    return ones[number] if number < 20 else TENS.split()[tens] + (f"-{ones[rest]}" if rest else "")
+
+
+def files(folder: str) -> list[str]:
+    """Returns the names of the files in a folder that are no pages, without what Python keeps."""
+    return sorted(path.name for path in (TOP / folder).iterdir() if path.is_file() and path.suffix not in (".md", ".pyc"))
+
+
+class PagesTest(unittest.TestCase):
+    """README, CONTRIBUTING, ARCHITECTURE, the page of bench/, crates.txt, CHANGELOG"""
+
+    def require_names(self, names: list[str], text: str) -> None:
+        """Requires that each name is in the text."""
+        self.assertGreater(len(names), 3)
+        for name in names:
+            with self.subTest(name):
+                self.assertTrue(re.search(rf"(?<![\w-]){re.escape(name)}(?![\w-]|\.\w)", text), f"{name} is not there")
+
+    def test_map(self) -> None:
+        """ARCHITECTURE has each module of the tools, each tool and each script."""
+        text = section("docs/ARCHITECTURE.md", "## Tools")
+        for folder in ("tools/heap_tools", "tools/heap_tools/commands", "tools/heap_tools/page", "tools", "dev"):
+            self.require_names([name for name in files(folder) if name not in ("__init__.py", "py.typed")], text)
+        for folder in ("tools/heap_tools", "tools/heap_tools/commands", "tools/heap_tools/page", "dev"):
+            for name in re.findall(r"`(\w+\.py)`", text):
+                self.assertTrue(list((TOP / "tools").rglob(name)) or (TOP / "dev" / name).exists(), name)
+
+    def test_bench(self) -> None:
+        """The page of bench/ has each file there."""
+        self.require_names(files("bench"), read("bench/README.md"))
+
+    def test_services(self) -> None:
+        """Each service that leaks is in the table of bench/leaks.sh, and the page has their numbers."""
+        rows = re.findall(r"^(\w+)/(\w+) \d+ \d", read("bench/leaks.sh"), re.M)
+        sources = (TOP / "bench/java/leaks").glob("*/?*Service.java")
+        self.assertEqual(sorted(rows), sorted((path.parent.name, path.stem) for path in sources))
+        page = read("bench/README.md")
+        for folder, count in Counter(folder for folder, _ in rows).items():
+            self.assertIn(f"\n- `{folder}`: {in_words(count)} ", page)
+        self.assertIn(f"{in_words(len(rows))} [services that leak]", page)
+
+    def test_crates(self) -> None:
+        """The head of crates.txt names each library of the kit, and those of the crates that it speaks of."""
+        text = read(crate_list.PAGE)
+        uses = crate_list.read(text)
+        head = "".join(line for line in text.splitlines(True) if line.startswith("#"))
+        self.require_names(sorted({used for each in uses.values() for used in each} - uses.keys()), head)
+
+    def test_version(self) -> None:
+        """The newest version of CHANGELOG is that of the tools and of heapmark."""
+        self.assertEqual(re.findall(r"^## \[([0-9.]+)\] - \d{4}-\d\d-\d\d$", read("CHANGELOG.md"), re.M)[0], VERSION)
+
+    def test_minutes(self) -> None:
+        """The README's minutes of the first build are those of GATE."""
+        measured = [float(it) for it in re.findall(r"\*\*([0-9.]+)\*\*", section("docs/GATE.md", "## The first build"))]
+        span = f"{math.floor(min(measured))} to {math.ceil(max(measured))} minutes"
+        self.assertIn(f"`tools/build` takes {span}", read("README.md"))
