@@ -20,8 +20,8 @@ from heap_tools.program_facts import facts_of
 from heap_tools.reports import Amount
 
 
-def content_of(comparison: Comparison, answer: Answer, notes: Notes) -> page.Leak:
-    """Returns what the page of `--html` shows."""
+def content_of(comparison: Comparison, answer: Answer, notes: Notes, shows_values: bool) -> page.Leak:
+    """Returns what the page of `--html` shows. `shows_values`: of the program, too, what values of the dump say."""
     probe = answer.probe
     of_class = probe.families[0] if probe.families and len(probe.families) == 1 else None
     reports = [runs.report for runs in comparison.dumps]
@@ -37,7 +37,7 @@ def content_of(comparison: Comparison, answer: Answer, notes: Notes) -> page.Lea
         by=probe.unit,
         of_class=of_class,
         is_of_grown=bool(probe.families) and of_class is None,
-        program=program_of(comparison.last),
+        program=program_of(comparison.last, shows_values),
         next_steps=steps_from(comparison.last.path, answer.lines, [of_class] if of_class else names),
         objects=objects_of(notes),
         threads=[page.ThreadGroupEntry(it.pattern, it.before, it.after, it.frames) for it in notes.threads],
@@ -60,9 +60,9 @@ def dump_of(runs: DumpRuns) -> page.DumpEntry:
     return page.DumpEntry(runs.path, size, made, report.reachable, report.unreachable, report.unresolved)
 
 
-def program_of(runs: DumpRuns) -> page.ProgramEntry:
+def program_of(runs: DumpRuns, shows_values: bool) -> page.ProgramEntry:
     """Returns what the page shows of the program that a dump is of."""
-    facts = facts_of(runs.dump)
+    facts = facts_of(runs.dump, shows_values)
     return page.ProgramEntry(facts.name, facts.process, facts.machine)
 
 

@@ -33,13 +33,16 @@ class ProgramFacts(NamedTuple):
     machine: Optional[str] = None
 
 
-def facts_of(dump: HeapDump) -> ProgramFacts:
+def facts_of(dump: HeapDump, shows_values: bool = True) -> ProgramFacts:
     """Returns what a dump says of its program. Of the command line only the first word is taken: others may be
-    passwords. Walks over all objects some ten times."""
+    passwords. Without `shows_values` only the name of a class of the dump is taken: all else is a value in the dump.
+    Walks over all objects some ten times."""
     objects = HeapObjects(dump)
     known = properties(objects, {COMMAND, MACHINE, JAVA_VERSION})
     command, machine, version = (printable(known.get(key, "")) for key in (COMMAND, MACHINE, JAVA_VERSION))
     name = command.split(" ")[0]
+    if not shows_values:
+        return ProgramFacts(name if name.replace(".", "/") in dump.names.values() else main_class(objects))
     if name.endswith(".jar"):
         name = name.rpartition("/")[2]
     shown = ", ".join(filter(None, [machine, version and f"Java {version}"]))

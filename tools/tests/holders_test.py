@@ -165,6 +165,33 @@ class HoldersTest(ToolTest):
         lines = line(1, 0, 100, 1, "shop/Queue.tasks") + line(1, 0, 100, 1, "static java/util/Timer.QUEUE")
         self.expect(["own.hprof", "Task"], lines, "*")
 
+    def test_thread_after_own_field(self) -> None:
+        """A thread comes after the own field by which it holds nearly all, before one by which it holds less, and
+        before fields of the JDK."""
+        for waiting, names in (
+            (40, ["shop/Mailer.waiting", 'thread "mailer"', "java/lang/Thread.target"]),
+            (37, ['thread "mailer"', "shop/Mailer.waiting", "java/lang/Thread.target"]),
+        ):
+            dump = DumpWriter()
+            dump.of_class(1, "java/lang/Thread", fields=["name", "target"])
+            dump.of_class(2, "java/lang/String", fields=["value", "coder"])
+            dump.of_class(3, "shop/Mailer", fields=["waiting", "sent"])
+            dump.of_class(4, "[Lshop/Letter;")
+            dump.of_class(5, "shop/Letter")
+            dump.thread(1, 700, [(3, "run")])
+            dump.instance(700, 1, 701, 600)
+            dump.instance(701, 2, 702, b"\0")
+            dump.values(702, BYTE, b"mailer")
+            dump.instance(600, 3, 601, 602)
+            letters = range(1000, 1040)
+            dump.array(601, 4, *letters[:waiting])
+            dump.array(602, 4, *letters[waiting:])
+            for letter in letters:
+                dump.instance(letter, 5)
+            dump.write("mailer.hprof")
+            lines = self.ran("mailer.hprof", "shop/Letter").out.splitlines()
+            self.assertEqual([each.split(None, 4)[4] for each in lines], names)
+
     def test_files(self) -> None:
         """Names of files that a tool may take for something else, and files that cannot be read many times."""
         dump, said = pathlib.Path("shop.hprof").read_bytes(), without_statics(5, 25, "objects of Order")

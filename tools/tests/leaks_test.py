@@ -23,6 +23,7 @@ from tests.support.services import (
     many_caches,
     moved,
     noisy,
+    of_customer,
     of_main,
     running,
     swapped,
@@ -189,6 +190,23 @@ class LeaksTest(ToolTest):
         path = ["80", "static shop/Baskets.ALL > shop/Basket.items"]
         self.assertEqual(columns_of(ended.out.splitlines()[0])[-2:], path, ended.out + ended.said)
         self.assertIn("leaks: line 1: 1 of 80 shop/Basket.items holds most: shop/Basket: ", ended.said)
+
+    def test_no_values(self) -> None:
+        """With --no-values, neither the output nor the page has a text or a number that the dumps have in fields, such
+        as the name of an object, an argument of the program, or a property."""
+        of_customer(20).write("before")
+        of_customer(80, 12).write("after")
+        shown = {}
+        for words in [], ["--no-values"]:
+            ended = self.ran("--html", "page.html", *words, "before", "after")
+            self.assertEqual(ended.status, 0, ended.said)
+            shown[len(words)] = ended.out + ended.said + pathlib.Path("page.html").read_text(encoding="utf-8")
+        for text in "of alice 640", "HotSpot", "Java 1.8":
+            self.assertEqual([text in shown[number] for number in (0, 1)], [True, False], text)
+        self.assertEqual([text for text in ("alice", "hush", "password") if text in shown[1]], [])
+        self.assertIn("(its field name)", shown[1])
+        self.assertIn("shop.Baskets</code>", shown[1].replace("<wbr>", ""))
+        self.assertIn("Show no text or number that the dump has in fields", " ".join(self.ran("--help").out.split()))
 
     def test_kin(self) -> None:
         """Fields of one class, or of one package, that hold enough only together."""

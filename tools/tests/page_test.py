@@ -115,6 +115,13 @@ class PageTest(unittest.TestCase):
         self.assertEqual(ids, ["heap", "holders", "grown", "last", "omitted", "terms", "making"])
         self.assertEqual([target[1:] for target in outline.values("href")], ids)
 
+    def test_line_numbers(self) -> None:
+        """The lines have the numbers by which the objects and the terminal name them."""
+        outline = self.outline(full_leak())
+        self.assertEqual(len(re.findall('<span class="line-number">', page.html_of(full_leak()))), len(leak().holders))
+        for number, wanted in enumerate(["static field", "field", "local variable", "thread", "field"], 1):
+            self.assertIn(f"{number} {wanted} ", outline.text())
+
     def test_holders_before(self) -> None:
         """The number of holders in the first dump is before that of the last, if it is another one."""
         first = leak().holders[0]

@@ -8,6 +8,7 @@ import unittest
 from heap_tools.heap_dump import HeapDump
 from heap_tools.program_facts import ProgramFacts, facts_of
 from tests.support.dump_writer import BYTE, DumpWriter, word
+from tests.support.services import add_properties
 from tests.support.tool_test import TOP
 
 MACHINE = "OpenJDK 64-Bit Server VM, Java"
@@ -16,13 +17,13 @@ MACHINE = "OpenJDK 64-Bit Server VM, Java"
 class ProgramFactsTest(unittest.TestCase):
     """Dumps of virtual machines, and one that says nothing."""
 
-    def facts_in(self, content: bytes) -> ProgramFacts:
+    def facts_in(self, content: bytes, shows_values: bool = True) -> ProgramFacts:
         """Returns what a dump with this content says."""
         with tempfile.TemporaryDirectory() as room:
             path = pathlib.Path(room, "app.hprof")
             path.write_bytes(content)
             with path.open("rb") as file:
-                return facts_of(HeapDump(file))
+                return facts_of(HeapDump(file), shows_values)
 
     def test_virtual_machines(self) -> None:
         """The program and the virtual machine, by the tables of the properties of each version."""
@@ -69,6 +70,19 @@ class ProgramFactsTest(unittest.TestCase):
                     self.facts_in(old_properties(command)), ProgramFacts(wanted, None, "HotSpot, Java 1.8")
                 )
 
+    def test_without_values(self) -> None:
+        """Without values a class of the dump names the program, and no property, argument or file does."""
+        for command, wanted in [
+            ("java.util.Properties --password=secret", "java.util.Properties"),
+            ("shop.Application --password=secret", None),
+            ("/home/alice/shop.jar", None),
+            ("", None),
+        ]:
+            with self.subTest(command):
+                self.assertEqual(self.facts_in(old_properties(command), False), ProgramFacts(wanted))
+        content = lzma.decompress((TOP / "bench/real/jdk21.hprof.xz").read_bytes())
+        self.assertEqual(self.facts_in(content, False), ProgramFacts("SmallVirtual"))
+
     def test_nothing(self) -> None:
         """A dump of no virtual machine says nothing."""
         content = (TOP / "crates/heapmark/data/two_objects.hprof").read_bytes()
@@ -76,24 +90,9 @@ class ProgramFactsTest(unittest.TestCase):
 
 
 def old_properties(command: str) -> bytes:
-    """Returns a dump with properties as JDK 8 has them: a table of one chain, whose last entry leads to its first."""
+    """Returns a dump with the properties of a program that was started by `command`."""
     dump = DumpWriter()
-    dump.of_class(1, "java/lang/System", {"props": 600})
-    dump.of_class(2, "java/util/Hashtable", fields=["table"])
-    dump.of_class(3, "java/util/Properties", superclass=2)
-    dump.of_class(4, "[Ljava/util/Hashtable$Entry;")
-    dump.of_class(5, "java/util/Hashtable$Entry", fields=["intHash", "key", "value", "next"])
-    dump.of_class(7, "java/lang/String", fields=["value", "coder"])
-    dump.instance(600, 3, 601)
-    dump.array(601, 4, 0, 610)
-    pairs = [("java.vm.name", "HotSpot"), ("java.version", "1.8"), ("sun.java.command", command)]
-    for number, pair in enumerate(pairs):
-        following = 610 + (number + 1) % len(pairs)
-        dump.instance(610 + number, 5, word(0), 700 + 4 * number, 702 + 4 * number, following)
-        for at, text in zip((700 + 4 * number, 702 + 4 * number), pair):
-            dump.instance(at, 7, at + 1, b"\0")
-            dump.values(at + 1, BYTE, text.encode())
-    dump.root(1)
+    add_properties(dump, command)
     return dump.bytes()
 
 

@@ -21,7 +21,7 @@ from heap_tools.reports import Unit
 ABOUT = """
 Shows what holds the objects that grew between heap dumps of one program: for
 each field, static field, local variable or thread that holds much of the
-growth, a line. The first line is the answer: the one with the fewest holders.
+growth, a line. The first line is the answer.
 """
 NOTES = """
 The columns are the objects and the bytes that are held in the last dump and
@@ -84,7 +84,7 @@ def parser() -> Parser:
     it.option("--top", "N", "Show at most N lines [default: 4]", type=number(1), default=4)
     it.option("--html", "FILE", "Also write a page for a browser, with charts, to FILE")
     it.flag("--weak", "Follow soft, weak, final and phantom references, too")
-    it.flag("--no-values", "Name no object by a text of the dump: only by its class")
+    it.flag("--no-values", "Show no text or number that the dump has in fields, except the names of threads")
     return it
 
 
@@ -158,7 +158,7 @@ def main(words: Sequence[str]) -> int:
     above = lines_above(comparison, answer.probe, width_of(answer.lines)) if has_heads else ""
     write(above + printed(answer.lines, answer.probe.unit))
     if options.html is not None:
-        write_page(options.html, content_of(comparison, answer, notes))
+        write_page(options.html, content_of(comparison, answer, notes, not options.no_values))
     say_notes(notes)
     say_remainder(answer, comparison)
     cost = f"{counted(answer.search.all, 'field')}, {counted(comparison.heapmark.runs, 'run')} of heapmark"

@@ -82,14 +82,14 @@ def holder_table(leak: Leak, limits: Limits) -> Html:
     growth = with_sign(leak.by.of(leak.growth), leak.by)
     is_less = leak.is_of_all and leak.growth != leak.rise
     about = (
-        "Without one of these, much of what grew would be unreachable. Those with the fewest holders come first: the "
-        f"first line is the answer. The share of the growth is of that of {leak.whole}, {growth}, as on the terminal"
+        "Without one of these, much of what grew would be unreachable. The first line is the answer; the others are "
+        f"above it, below it or beside it. The share of the growth is of that of {leak.whole}, {growth}, as on the terminal"
         f"{', without what only weak references or running calls hold' if is_less else ''}. "
         f"The {whole_head(leak).lower()} is of {leak.whole} in the first dump and in the last."
     )
     heads = {"Held by": "name", "Holders": "number", "Objects": "number", "Bytes": "number"}
     heads.update({"Share of the growth": "shares", whole_head(leak): "number"})
-    rows = body(holder_row(it, whole_head(leak), limits) for it in shown)
+    rows = body(holder_row(line, it, whole_head(leak), limits) for line, it in enumerate(shown, 1))
     parts = [fill("about", text=about), table("holders", "What holds the growth", heads, [rows])]
     return joined([*parts, left_out(len(leak.holders) - len(shown), "row")], "\n")
 
@@ -99,11 +99,12 @@ def whole_head(leak: Leak) -> str:
     return f"Share of {'the heap' if leak.is_of_all else 'the class' if leak.of_class else 'these classes'}"
 
 
-def holder_row(it: HolderEntry, of_whole: str, limits: Limits) -> Html:
-    """Returns the row of a holder."""
+def holder_row(line: int, it: HolderEntry, of_whole: str, limits: Limits) -> Html:
+    """Returns the row of a holder, which is the line of this number."""
     before, after = it.before.amount, it.after.amount
     return fill(
         "holder_row",
+        line=line,
         kind=KINDS[it.kind].label,
         name=holder_name(it, limits),
         path=path_to(it, limits),

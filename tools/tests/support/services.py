@@ -198,17 +198,18 @@ def many_caches(count: int) -> Service:
     return dump
 
 
-def baskets(count: int) -> Service:
-    """A static field has 80 baskets, each with a list of orders. One list has `count`, the others have one each."""
-    dump = Service()
+def baskets(count: int, fields: Sequence[str] = ("items",), minutes: int = 0) -> Service:
+    """A static field has 80 baskets, each with a list of orders. One list has `count`, the others have one each. If
+    `fields` has two, the second one of basket n names the object 80,000 + 2 n."""
+    dump = Service(minutes)
     dump.of_class(5, "shop/Order", fields=["text"])
     dump.of_class(6, "shop/Baskets", {"ALL": 600})
-    dump.of_class(7, "shop/Basket", fields=["items"])
+    dump.of_class(7, "shop/Basket", fields=fields)
     dump.array(600, 4, *range(601, 681))
     at = 5000
     for basket in range(601, 681):
         orders = range(at + 1, at + 1 + (count if basket == 640 else 1))
-        dump.instance(basket, 7, at)
+        dump.instance(basket, 7, *[at, 80000 + 2 * basket][: len(fields)])
         dump.array(at, 4, *orders)
         for order in orders:
             dump.instance(order, 5, order + 20000)
@@ -225,4 +226,38 @@ def of_main(name: str, minutes: int) -> Service:
     dump.of_class(9, "java/lang/Thread")
     dump.thread(1, 700, [(9, "sleep"), (8, "main")])
     dump.instance(700, 9)
+    return dump
+
+
+def add_properties(dump: DumpWriter, command: str) -> None:
+    """Writes properties as JDK 8 has them: a table of one chain, whose last entry leads to its first."""
+    dump.of_class(51, "java/lang/System", {"props": 90600})
+    dump.of_class(52, "java/util/Hashtable", fields=["table"])
+    dump.of_class(53, "java/util/Properties", superclass=52)
+    dump.of_class(54, "[Ljava/util/Hashtable$Entry;")
+    dump.of_class(55, "java/util/Hashtable$Entry", fields=["intHash", "key", "value", "next"])
+    dump.of_class(57, "java/lang/String", fields=["value", "coder"])
+    dump.instance(90600, 53, 90601)
+    dump.array(90601, 54, 0, 90610)
+    pairs = [("java.vm.name", "HotSpot"), ("java.version", "1.8"), ("sun.java.command", command)]
+    for number, pair in enumerate(pairs):
+        entry, key, value = 90610 + number, 90700 + 4 * number, 90702 + 4 * number
+        dump.instance(entry, 55, word(0), key, value, 90610 + (number + 1) % len(pairs))
+        for at, text in zip((key, value), pair):
+            add_text(dump, at, text)
+    dump.root(51)
+
+
+def add_text(dump: DumpWriter, number: int, text: str) -> None:
+    """Writes a text with this identifier and the next one."""
+    dump.instance(number, 57, number + 1, b"\0")
+    dump.values(number + 1, BYTE, text.encode())
+
+
+def of_customer(count: int, minutes: int = 0) -> Service:
+    """Baskets as in `baskets`, each with a name. The program was started with an argument."""
+    dump = baskets(count, ["items", "name"], minutes)
+    add_properties(dump, "shop.Baskets --password=hush")
+    for basket in range(601, 681):
+        add_text(dump, 80000 + 2 * basket, f"of alice {basket}")
     return dump
