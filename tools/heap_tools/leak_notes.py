@@ -8,8 +8,7 @@ from heap_tools.comparison import Comparison
 from heap_tools.console import say
 from heap_tools.direct_buffers import more_direct_memory
 from heap_tools.humanize import counted
-from heap_tools.leak_lines import MOST_OF_LARGEST
-from heap_tools.leak_lines import Answer, Line
+from heap_tools.leak_lines import MOST_OF_LARGEST, Answer, Line
 from heap_tools.thread_counts import ThreadCount, grown_thread_counts
 from heap_tools.which_object import FEWEST_OBJECTS, MOST_OBJECTS, HoldingObject, objects_that_hold
 
