@@ -294,6 +294,10 @@ class LeaksTest(ToolTest):
         said = "leaks: reachable: 6,508 bytes, then 6,508: no growth"
         cache(80, minutes=15).write("later")
         self.expect(["friday", "later"], said=said, status=3)
+        loaded = cache(80, minutes=16)
+        loaded.of_class(9, "shop/Late")
+        loaded.write("loaded")
+        self.expect(["friday", "loaded"], said=said, status=3)
         lost = cache(80, minutes=20)
         lost.values(9000, BYTE, bytes(500))
         lost.write("lost")
