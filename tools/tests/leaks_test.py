@@ -296,6 +296,7 @@ class LeaksTest(ToolTest):
         self.expect(["friday", "later"], said=said, status=3)
         loaded = cache(80, minutes=16)
         loaded.of_class(9, "shop/Late")
+        loaded.root(9)
         loaded.write("loaded")
         self.expect(["friday", "loaded"], said=said, status=3)
         lost = cache(80, minutes=20)
