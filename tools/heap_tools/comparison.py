@@ -6,7 +6,7 @@ from typing import List, Optional, Sequence
 
 from heap_tools.class_growth import growths
 from heap_tools.class_lookup import family_of
-from heap_tools.class_names import family
+from heap_tools.class_names import CLASSES, family
 from heap_tools.console import Progress, say
 from heap_tools.direct_buffers import BUFFER, direct_memory, more_direct_memory
 from heap_tools.dump_runs import DumpRuns
@@ -131,7 +131,7 @@ class Comparison:
         was, now = (unit.of(side.base.total(families)) for side in sides)
         text = f"{what}: {counted(was, unit.noun)}, then {now:,}: no growth"
         found = [each.name for each in growths([side.base for side in sides]) if each.amount.objects > 0]
-        wanted = families or [name for name in found if not name.startswith("<")]
+        wanted = families or [name for name in found if name != CLASSES]
         more = [name for name in found if name in wanted]
         if not more:
             raise Fault(NOTHING, text + (f"; {self.why_missing()}" if max(self.more_unreachable()) > 0 else ""))

@@ -21,6 +21,14 @@ def plural(number: int, noun: str) -> str:
     return noun if abs(number) == 1 else f"{noun}es" if noun.endswith("s") else f"{noun}s"
 
 
+def more_are(objects: int, amount: int) -> str:
+    """Returns how many objects and bytes more there are, with the verb: `1 object more is`. What is not above 0 is left
+    out."""
+    parts = [f"{counted(number, noun)} more" for number, noun in ((objects, "object"), (amount, "byte")) if number > 0]
+    is_one = len(parts) == 1 and parts[0].startswith("1 ")
+    return f"{', '.join(parts)} {'is' if is_one else 'are'}"
+
+
 def duration(milliseconds: float) -> str:
     """Returns how long something took, in its two largest units."""
     seconds = round(milliseconds / 1000)

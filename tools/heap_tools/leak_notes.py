@@ -1,7 +1,8 @@
 """What `leaks` says beside its lines: which objects hold most, which threads there are more of, what is held by weak
 references alone, and what is outside the heap."""
 
-from typing import List, NamedTuple, Optional, Tuple
+import re
+from typing import List, NamedTuple, Optional, Sequence, Tuple
 
 from heap_tools.candidates import joint_name
 from heap_tools.comparison import Comparison
@@ -44,8 +45,19 @@ def notes_of(comparison: Comparison, answer: Answer, shows_values: bool) -> Note
     """Returns what is to be said beside the lines of an answer."""
     direct = more_direct_memory(*comparison.direct)
     threads = grown_thread_counts(comparison.first.dump, comparison.last.dump)[:PATTERNS]
-    sentences = [each for each in (comparison.weak_words(answer.probe), direct) if each]
+    every = (comparison.weak_words(answer.probe), direct, captured_words(answer.lines))
+    sentences = [each for each in every if each]
     return Notes(line_objects(answer, shows_values), threads, sentences)
+
+
+def captured_words(lines: Sequence[Line]) -> str:
+    """Returns what fields of lambdas in the lines are, empty if there are none: their names say nothing."""
+    names = [each.name for line in lines for held in [*line.above, line.held] for each in held.candidates]
+    captured = [name for name in names if re.search(r"\$\$Lambda\.arg\$[0-9]+$", name)]
+    if not captured:
+        return ""
+    where = captured[0].partition("$$Lambda")[0]
+    return f"field {captured[0]} is a variable that a lambda in {where} captured: arg$1 is the first one, or `this`"
 
 
 def with_object_first(answer: Answer, notes: Notes) -> Tuple[Answer, Notes]:

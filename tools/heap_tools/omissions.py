@@ -2,7 +2,7 @@
 
 from typing import List, Optional
 
-from heap_tools.humanize import counted, size
+from heap_tools.humanize import more_are, size
 from heap_tools.reports import Amount
 
 #: What dumps omit of virtual threads that wait, by the version of the JDK.
@@ -29,12 +29,8 @@ MUCH_OF_MORE, MUCH_OF_HEAP = 20, 1
 
 
 def more_unreachable(more: Amount) -> str:
-    """Returns how much more is unreachable in a later dump, and why. `more` is above 0 in one figure at least; the
-    other one is left out if it is not."""
-    figures = (more.objects, "object"), (more.bytes, "byte")
-    parts = [f"{counted(number, noun)} more" for number, noun in figures if number > 0]
-    is_one = len(parts) == 1 and parts[0].startswith("1 ")
-    return f"{', '.join(parts)} {'is' if is_one else 'are'} unreachable: {WHY_UNREACHABLE}"
+    """Returns how much more is unreachable in a later dump, and why. `more` is above 0 in one figure at least."""
+    return f"{more_are(*more)} unreachable: {WHY_UNREACHABLE}"
 
 
 def on_page(more: Amount) -> List[str]:

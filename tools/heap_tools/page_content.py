@@ -17,7 +17,7 @@ from heap_tools.leak_notes import Notes
 from heap_tools.omissions import on_page
 from heap_tools.probe import GrowthProbe, Probe
 from heap_tools.program_facts import facts_of
-from heap_tools.reports import Amount
+from heap_tools.reports import Amount, Report, Unit
 
 
 def content_of(comparison: Comparison, answer: Answer, notes: Notes, shows_values: bool) -> page.Leak:
@@ -25,10 +25,11 @@ def content_of(comparison: Comparison, answer: Answer, notes: Notes, shows_value
     probe = answer.probe
     of_class = probe.families[0] if probe.families and len(probe.families) == 1 else None
     reports = [runs.report for runs in comparison.dumps]
-    names = [each.name for each in growths(reports, probe.unit) if each.name != CLASSES]
+    grown = grown_classes(reports, probe.unit)
+    names = [of_class] if of_class else [each.name for each in grown]
     return page.Leak(
         dumps=[dump_of(runs) for runs in comparison.dumps],
-        grown=[page.GrownClass(name, [report.amount(name) for report in reports]) for name in names],
+        grown=grown,
         holders=[holder_of(line, probe) for line in answer.lines],
         last=reports[-1].families,
         growth=probe.growth,
@@ -38,11 +39,18 @@ def content_of(comparison: Comparison, answer: Answer, notes: Notes, shows_value
         of_class=of_class,
         is_of_grown=bool(probe.families) and of_class is None,
         program=program_of(comparison.last, shows_values),
-        next_steps=steps_from(comparison.last.path, answer.lines, [of_class] if of_class else names),
+        next_steps=steps_from(comparison.last.path, answer.lines, names),
         objects=objects_of(notes),
         threads=[page.ThreadGroupEntry(it.pattern, it.before, it.after, it.frames) for it in notes.threads],
         notes=[f"{sentence[0].upper()}{sentence[1:]}." for sentence in notes.sentences],
     )
+
+
+def grown_classes(reports: Sequence[Report], unit: Unit) -> List[page.GrownClass]:
+    """Returns the classes that grew between the first report and the last, with their amounts in each. Class objects
+    are no class of the program, and are left out."""
+    names = [each.name for each in growths(reports, unit) if each.name != CLASSES]
+    return [page.GrownClass(name, [report.amount(name) for report in reports]) for name in names]
 
 
 def objects_of(notes: Notes) -> List[page.ObjectEntry]:

@@ -2,7 +2,7 @@
 
 from typing import List, Optional, Sequence
 
-from heap_tools.humanize import counted
+from heap_tools.humanize import more_are
 from heap_tools.reports import Amount
 from heap_tools.running_calls import DumpSide
 
@@ -18,8 +18,5 @@ def weak_growth(cut: Sequence[DumpSide], followed: Sequence[DumpSide], families:
 
 
 def weakly_held_words(growth: Amount) -> str:
-    """Returns in words how much more is held by weak references alone."""
-    return (
-        f"{counted(growth.bytes, 'byte')} more ({counted(growth.objects, 'object')}) are held by soft, weak, final or "
-        "phantom references alone"
-    )
+    """Returns in words how much more is held by weak references alone. `growth` is above 0 in one figure at least."""
+    return f"{more_are(*growth)} held by soft, weak, final or phantom references alone"

@@ -4,18 +4,21 @@ import tempfile
 import unittest
 from typing import List
 
-from heap_tools.candidates import FIELD, GROUP, LOADED_CLASSES, LOCAL, STATIC, THREAD, Candidate, Candidates
+from heap_tools.candidates import FIELD, GROUP, LOADED_CLASSES, LOCAL, STATIC, THREAD, THREADS, WEAK, Candidate
+from heap_tools.candidates import Candidates, joint_name
+from heap_tools.dump_runs import DumpRuns
 from heap_tools.heap_dump import HeapDump
+from heap_tools.heapmark import Heapmark
 from heap_tools.reports import Amount, Report, Row
 from tests.support.dump_writer import BYTE, DumpWriter, word
 
-#: The tag of a root that a thread's native stack names.
-NATIVE_STACK = 0x04
+#: The tags of roots that name a thread. Only the first names a frame.
+JAVA_FRAME, NATIVE_STACK, THREAD_BLOCK, THREAD_OBJECT = 0x03, 0x04, 0x06, 0x08
 
 
 class Application(DumpWriter):
-    """A thread with a name, in a group that lists it, and a loader that lists its classes. A native stack and a frame
-    of the thread name an order each."""
+    """A thread with a name, in a group that lists it, and a loader that lists its classes. A frame, a native stack and
+    a block of the thread name an order each."""
 
     def __init__(self) -> None:
         super().__init__()
@@ -24,6 +27,7 @@ class Application(DumpWriter):
         self.of_class(3, "java/lang/Thread", fields=["name", "group"])
         self.of_class(4, "java/lang/String", fields=["value", "coder"])
         self.of_class(5, "shop/Order", {"FIRST": 300, "NONE": 0}, fields=["next"])
+        self.of_class(6, "java/lang/ref/Reference", fields=["referent"])
         self.thread(1, 200, [(5, "sell")])
         self.instance(200, 3, 201, 203)
         self.instance(201, 4, 202, b"\0")
@@ -34,6 +38,7 @@ class Application(DumpWriter):
         self.instance(301, 5, 0)
         self.local(1, 0, 300)
         self.heap += self.form.root(NATIVE_STACK, 301) + word(1)
+        self.heap += self.form.root(THREAD_BLOCK, 301) + word(1)
         self.root(204)
 
 
@@ -65,6 +70,8 @@ class CandidatesTest(unittest.TestCase):
         wanted = ["java/lang/String.value", "java/lang/Thread.group", "java/lang/Thread.name", "shop/Order.next"]
         self.assertEqual(fields, wanted)
         self.assertEqual(known.fields(Report()), [])
+        followed = self.candidates(Application(), follows_weak=True)
+        self.assertEqual(self.named(followed.fields(self.report(known.dump))), sorted([*wanted, WEAK]))
 
     def test_statics(self) -> None:
         """Static fields that are not null."""
@@ -75,13 +82,88 @@ class CandidatesTest(unittest.TestCase):
         known = self.candidates(Application())
         (local,), (thread,) = known.locals(), known.threads()
         self.assertEqual((str(local), str(thread)), ("local shop/Order.sell", 'thread "seller"'))
-        self.assertEqual((len(local.changes), len(thread.changes)), (1, 3))
+        self.assertEqual((len(local.changes), len(thread.changes)), (1, 4))
         self.assertEqual(known.all_threads().changes, thread.changes)
+        frames = {root.kind: root.frame for root in known.dump.roots}
+        self.assertEqual(frames, {JAVA_FRAME: 0, NATIVE_STACK: None, THREAD_BLOCK: None, THREAD_OBJECT: None})
+
+    def test_threads_alike(self) -> None:
+        """Several threads of one pattern are one candidate; a single one and those without a name are none."""
+        for names, wanted in (
+            ([b"report-1", b"report-22", b"main"], [("report-*", 2)]),
+            ([b"report-1", b"main"], []),
+            ([b"", b"", b"main"], []),
+        ):
+            dump = Application()
+            for number, name in enumerate(names, 2):
+                dump.thread(number, 400 + 3 * number)
+                dump.instance(400 + 3 * number, 3, 401 + 3 * number, 203)
+                dump.instance(401 + 3 * number, 4, 402 + 3 * number, b"\0")
+                dump.values(402 + 3 * number, BYTE, name)
+            found = self.candidates(dump).threads_alike()
+            self.assertEqual([(each.name, each.count) for each in found], wanted)
+
+    def test_running(self) -> None:
+        """Local variables of all methods, or of those of the JDK."""
+        dump = Application()
+        dump.of_class(7, "java/lang/Object")
+        dump.thread(2, 200, [(7, "wait")])
+        dump.local(2, 0, 300)
+        known = self.candidates(dump)
+        self.assertEqual(self.named(known.locals()), ["local java/lang/Object.wait", "local shop/Order.sell"])
+        of_jdk, of_order = (each.changes for each in known.locals())
+        self.assertEqual(known.running(only_jdk=True), of_jdk)
+        self.assertEqual(known.running(only_jdk=False), {**of_jdk, **of_order})
+
+    def test_holders(self) -> None:
+        """Of static fields those that are not null hold, of fields the instances of the class and of those below it."""
+        dump = Application()
+        dump.of_class(7, "shop/Rush", fields=["until"], superclass=5)
+        known = self.candidates(dump)
+        report = Report([Row("shop/Order", Amount(3, 24)), Row("shop/Rush", Amount(4, 64))])
+        for key, wanted in (
+            ((STATIC, "shop/Order.FIRST"), 1),
+            ((STATIC, "shop/Order.NONE"), 0),
+            ((FIELD, "shop/Order.next"), 7),
+            ((FIELD, "shop/Rush.until"), 4),
+            ((FIELD, "shop/Order.lost"), 0),
+            ((LOCAL, "shop/Order.sell"), 1),
+            ((THREAD, "nobody"), 0),
+            ((THREADS, ""), 1),
+        ):
+            self.assertEqual(known.holders(key, report), wanted, key)
+
+    def test_order(self) -> None:
+        """A field of the JDK weighs as nearly twice as many holders. What the virtual machine keeps comes last."""
+        weights = [Candidate(FIELD, f"{owner}.all", 5, {}).weight for owner in ("shop/Order", "java/util/ArrayList")]
+        self.assertEqual(weights, [5, 9])
+        self.assertEqual(Candidate(FIELD, "java/util/ArrayList.all", 1, {}).weight, 1)
+        dump = Application()
+        dump.of_class(7, "shop/A", {"<init_lock>": 300, "ALL": 301})
+        statics = ["static shop/A.ALL", "static shop/Order.FIRST", "static shop/A.<init_lock>"]
+        self.assertEqual(self.named(self.candidates(dump).statics()), statics)
+
+    def test_joint_name(self) -> None:
+        """Of many names the first ones are shown; never only one more."""
+        candidates = [Candidate(STATIC, f"A.{name}", 1, {}) for name in "edcba"]
+        for count, wanted in (
+            (1, "static A.e"),
+            (2, "together static A.d, static A.e"),
+            (4, "together static A.b, static A.c, static A.d, static A.e"),
+            (5, "together static A.a, static A.b, static A.c .. and 2 more"),
+        ):
+            self.assertEqual(joint_name(candidates[:count]), wanted)
 
     def test_prepared(self) -> None:
         """The list of a group's threads is cut by name, as weak references are unless they are followed."""
-        known = self.candidates(Application())
-        self.assertEqual(len(known.changes((FIELD, GROUP))), 1)
+        for follows_weak in (False, True):
+            known = self.candidates(Application(), follows_weak)
+            runs = known.prepared(DumpRuns(Heapmark(), "dump", Report(), known.dump, {}, ()))
+            group, weak = known.changes((FIELD, GROUP)), known.changes((FIELD, WEAK))
+            self.assertEqual((len(group), len(weak)), (1, 1))
+            self.assertEqual(runs.cut, group if follows_weak else {**group, **weak})
+            self.assertEqual(runs.roots, known.dump.lasting_classes())
+            self.assertIn(5, runs.roots)
         for kind in (STATIC, FIELD, LOCAL, THREAD):
             self.assertEqual(known.changes((kind, "other")), {})
 

@@ -57,6 +57,49 @@ def odd_names(count: int) -> DumpWriter:
     return dump
 
 
+class FunctionsTest(unittest.TestCase):
+    """What is known of a class by its name."""
+
+    def test_family(self) -> None:
+        """The counter and the address of a hidden class are cut off, once: one in another's name stays."""
+        for name, wanted in (
+            ("A$$Lambda$14+0x0f", "A$$Lambda"),
+            ("A$$Lambda+0x0f", "A$$Lambda"),
+            ("[LA$$Lambda$14+0x0f;", "[LA$$Lambda;"),
+            ("A+0x0f$$Lambda$1+0x0e", "A$$Lambda$1+0x0e"),
+            ("A$14", "A$14"),
+            ("A+0", "A+0"),
+        ):
+            self.assertEqual(class_names.family(name), wanted)
+
+    def test_own(self) -> None:
+        """Classes of the JDK, arrays of them and of numbers, and class objects are not own."""
+        jdk = "java/lang/String javax/A jdk/internal/A sun/nio/ch/A com/sun/A netscape/A org/ietf/jgss/A org/w3c/dom/A"
+        for name in f"{jdk} org/xml/sax/A [Ljava/lang/String; [[Lsun/A; byte[] [[I <class>".split():
+            self.assertFalse(class_names.is_own(name), name)
+        for name in "A shop/A [Lshop/A; [[LA; javafx/A java org/xml/A com/sunny/A <classes> ?0x7f".split():
+            self.assertTrue(class_names.is_own(name), name)
+
+    def test_alike(self) -> None:
+        """Classes whose simple name is the last of what a user wrote, of packages and of outer classes."""
+        known = ["shop/Order", "bank/Order", "shop/Order$Line", "shop/Reorder", "Order"]
+        for text, wanted in (
+            ("Order", ["bank/Order", "shop/Order"]),
+            ("shop.Order[]", ["bank/Order", "shop/Order"]),
+            ("Line", ["shop/Order$Line"]),
+            ("Lost", []),
+        ):
+            self.assertEqual(class_names.alike(text, known), wanted, text)
+
+    def test_spelled_apart(self) -> None:
+        """No two texts are spelled alike, and none has a quote, a backslash or a control character as it is."""
+        texts = ["\x85c", "\u085c", "\\x85c", '"', "\\x22", "'", "\n", "Größe", "\udce9"]
+        spelled = [class_names.printable(text) for text in texts]
+        self.assertEqual(len(set(spelled)), len(texts))
+        for text in spelled:
+            self.assertNotRegex(text, r'["\n\x85]|\\(?!x[0-9a-f]{2})')
+
+
 class NamesTest(ToolTest):
     """The names of a dump with odd classes."""
 

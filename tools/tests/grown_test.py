@@ -256,6 +256,8 @@ class GrownTest(ToolTest):
         write("mixed", *own, (9, 90, "java/lang/String"), (9, 90, "byte[]"), (1, 2, "<class>"))
         self.expect(["--own", "none", "mixed"], grew(*own))
         self.expect(["--own", "--top=1", "none", "mixed"], grew(own[0]))
+        self.expect(["--own", "--more-than=2", "none", "mixed"], grew(own[0]), status=3)
+        self.expect(["--own", "--more-than=3", "none", "mixed"])
 
     def test_more_than(self) -> None:
         """A limit, for a script."""

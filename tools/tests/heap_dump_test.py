@@ -9,7 +9,7 @@ from heap_tools import heap_dump, hprof_format, parallel
 from heap_tools.changed_copy import NEAR, write_copy
 from heap_tools.faults import Fault
 from heap_tools.heap_objects import FEWEST_SEGMENTS, HeapObjects
-from tests.support.dump_writer import BYTE, DumpWriter, word
+from tests.support.dump_writer import BYTE, ROOT_THREAD_OBJECT, STRING, DumpWriter, word
 
 
 class HprofTest(unittest.TestCase):
@@ -106,6 +106,23 @@ class ReadingTest(HprofTest):
         reference = hprof_format.OBJECT
         wanted = [("FIRST", reference, True, False), ("NONE", reference, True, True), ("next", reference, False, False)]
         self.assertEqual(fields, wanted)
+
+    def test_two_strings(self) -> None:
+        """Of two strings with one identifier the first counts, as for heapmark."""
+        dump = Service()
+        dump.record(STRING, dump.form.spell([dump.text("shop/Order")]), b"shop/Later")
+        self.assertEqual(self.read(dump).names[3], "shop/Order")
+
+    def test_no_traces(self) -> None:
+        """Threads without traces are met in whatever segment, since nothing says how many there are."""
+        dump = Service()
+        for part in ([300], [301], [302]):
+            dump.cut()
+            dump.objects(*part)
+            if part == [301]:
+                dump.heap += dump.form.root(ROOT_THREAD_OBJECT, 200) + word(1) + word(0)
+            dump.objects(part[0] + 10)
+        self.assertEqual([root.thread for root in self.read(dump).roots], [1])
 
     def test_records(self) -> None:
         """The records one after the other, which are the whole dump but for its header; and the names of all fields."""

@@ -41,6 +41,18 @@ class HumanizeTest(unittest.TestCase):
             with self.subTest(wanted):
                 self.assertEqual(humanize.counted(number, noun), wanted)
 
+    def test_more_are(self) -> None:
+        """What is not more is left out, and one is no plural."""
+        for objects, size, wanted in [
+            (2, 24, "2 objects more, 24 bytes more are"),
+            (1, 24, "1 object more, 24 bytes more are"),
+            (1, 0, "1 object more is"),
+            (-124, 1, "1 byte more is"),
+            (1_200, -8, "1,200 objects more are"),
+        ]:
+            with self.subTest(wanted):
+                self.assertEqual(humanize.more_are(objects, size), wanted)
+
     def test_duration(self) -> None:
         """How long something took, in two units."""
         table = {

@@ -15,8 +15,10 @@ from tests.support.services import (
     MINUTE,
     Service,
     baskets,
+    buffers,
     cache,
     emptied,
+    finalizers,
     handler,
     journal,
     lambdas,
@@ -53,6 +55,7 @@ class LeaksTest(ToolTest):
     COST = "leaks: * fields, * runs of heapmark, * s"
     CUT = "leaks: cut: ends too early: still being written, or cut (refused 3 Truncated at [0-9]*)"
     PATH = "static shop/Service.CACHE > shop/Cache.table"
+    FINALIZER = "static java/lang/ref/Finalizer.unfinalized"
 
     def setUp(self) -> None:
         super().setUp()
@@ -113,11 +116,14 @@ class LeaksTest(ToolTest):
             self.assertEqual(rows[0][-1], "static shop/Upload.UPLOAD > shop/Upload.chunks")
 
     def test_hidden_classes(self) -> None:
-        """Names of hidden classes differ, and BEFORE may lack a class."""
+        """Names of hidden classes differ, and BEFORE may lack a class. What their fields are is said."""
         for before in (lambdas(20, "00aa"), lambdas(0, "")):
             rows = self.found(before, lambdas(80, "00bb"))
             self.assertEqual(rows[0][-1], "static shop/Bus.LISTENER > shop/Bus$$Lambda.arg$1")
         self.assertEqual(rows[0][3], "0")
+        said = self.ran("before", "after").said
+        self.assertIn("leaks: field shop/Bus$$Lambda.arg$1 is a variable that a lambda in shop/Bus captured: ", said)
+        self.assertNotIn("lambda", self.ran("monday", "friday").said)
 
     def test_threads(self) -> None:
         """A local variable of a thread, also if the thread of BEFORE is another one."""
@@ -191,16 +197,66 @@ class LeaksTest(ToolTest):
         self.assertEqual(columns_of(ended.out.splitlines()[0])[-2:], path, ended.out + ended.said)
         self.assertIn("leaks: line 1: 1 of 80 shop/Basket.items holds most: shop/Basket: ", ended.said)
 
+    def test_finalizers(self) -> None:
+        """What grew and only final references hold is the answer if it is most of the growth, also of a class; else it
+        is said beside the lines, and on the page."""
+        finalizers(20, 20).write("before")
+        finalizers(80, 80, 12).write("after")
+        alone = "120 objects more, 6,480 bytes more are held by soft, weak, final or phantom references alone"
+        ended = self.ran("before", "after")
+        self.assertIn(f"leaks: {alone}: most of the growth; so these references are followed\n", ended.said)
+        # Of 10,080 bytes, streams and their finalizers are 7,920.
+        row = columns_of(ended.out.splitlines()[0])
+        self.assertEqual(row[:5] + row[6:], ["180", "7920", "79%", "2640", "10560", self.FINALIZER])
+        self.assertNotIn("Cache", ended.out)
+        ended = self.ran("--class", "shop/Stream", "before", "after")
+        row = columns_of(ended.out.splitlines()[0])
+        self.assertEqual((row[:5], row[6]), (["60", "480", "100%", "160", "640"], self.FINALIZER), ended.said)
+        finalizers(80, 400, 12).write("after")
+        ended = self.ran("--html", "page.html", "before", "after")
+        self.assertIn(f"leaks: {alone}: see --weak\n", ended.said)
+        self.assertEqual(columns_of(ended.out.splitlines()[0])[-1], self.PATH)
+        self.assertIn(f"{alone}: see --weak.", pathlib.Path("page.html").read_text(encoding="utf-8"))
+
+    def test_direct_buffers(self) -> None:
+        """Bytes outside the heap are said if they grew, and what holds the buffers is asked if the heap grew by
+        less."""
+        asked = ": the heap grew by less; so the shares are of the objects of java/nio/DirectByteBuffer"
+        for orders, words, first in (21, asked, "Pool.BUFFERS"), (800, "", self.PATH.rpartition("shop/")[2]):
+            pathlib.Path("before").write_bytes(buffers(10, 20))
+            pathlib.Path("after").write_bytes(buffers(60, orders, 12))
+            ended = self.ran("before", "after")
+            said = "direct buffers have 2,000 bytes more outside the heap (50 buffers more): 400, then 2,400"
+            self.assertIn(f"leaks: {said}{words}\n", ended.said)
+            self.assertTrue(columns_of(ended.out.splitlines()[0])[-1].endswith(f"shop/{first}"), ended.out)
+
+    def test_paths_are_true(self) -> None:
+        """In `A > B`, held says that all that B holds hangs by A, and a static field is below nothing."""
+        pairs = [(make(20), make(80)) for make in (cache, handler, worker, running, twofold, baskets)]
+        pairs += [(lambdas(20, "00aa"), lambdas(80, "00bb")), (finalizers(20, 20), finalizers(80, 80))]
+        steps = 0
+        for before, after in pairs:
+            for row in self.found(before, after, "--at-least=10"):
+                path = row[-1].split(" > ")
+                self.assertFalse(any(" static " in f" {step}" for step in path[1:]), path)
+                held = [self.ran("after", step, tool="held").out for step in path]
+                amounts = [{name: int(number) for number, _, name in map(str.split, out.splitlines())} for out in held]
+                for upper, lower in zip(amounts, amounts[1:]):
+                    less = [name for name, number in lower.items() if upper.get(name, 0) < number]
+                    self.assertEqual(less, [], path)
+                    steps += 1
+        self.assertGreater(steps, 8)
+
     def test_no_values(self) -> None:
         """With --no-values, neither the output nor the page has a text or a number that the dumps have in fields, such
         as the name of an object, an argument of the program, or a property."""
         of_customer(20).write("before")
         of_customer(80, 12).write("after")
-        shown = {}
-        for words in [], ["--no-values"]:
-            ended = self.ran("--html", "page.html", *words, "before", "after")
+        shown: List[str] = []
+        for option in "--top=4", "--no-values":
+            ended = self.ran("--html", "page.html", option, "before", "after")
             self.assertEqual(ended.status, 0, ended.said)
-            shown[len(words)] = ended.out + ended.said + pathlib.Path("page.html").read_text(encoding="utf-8")
+            shown.append(ended.out + ended.said + pathlib.Path("page.html").read_text(encoding="utf-8"))
         for text in "of alice 640", "HotSpot", "Java 1.8":
             self.assertEqual([text in shown[number] for number in (0, 1)], [True, False], text)
         self.assertEqual([text for text in ("alice", "hush", "password") if text in shown[1]], [])
@@ -238,6 +294,11 @@ class LeaksTest(ToolTest):
         said = "leaks: reachable: 6,508 bytes, then 6,508: no growth"
         cache(80, minutes=15).write("later")
         self.expect(["friday", "later"], said=said, status=3)
+        loaded = cache(80, minutes=16)
+        loaded.of_class(9, "shop/Late")
+        loaded.root(9)
+        loaded.write("loaded")
+        self.expect(["friday", "loaded"], said=said, status=3)
         lost = cache(80, minutes=20)
         lost.values(9000, BYTE, bytes(500))
         lost.write("lost")

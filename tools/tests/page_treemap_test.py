@@ -1,8 +1,10 @@
 """The treemap of the last heap: its groups, and its boxes."""
 
 import unittest
+from typing import List, Tuple
 
 from heap_tools.page import treemap
+from heap_tools.reports import Amount
 from tests.support import page_sample
 
 
@@ -31,6 +33,25 @@ class TreemapTest(unittest.TestCase):
         for name, short in table.items():
             with self.subTest(name):
                 self.assertEqual(treemap.short_name(name), short)
+
+    def test_number_alone(self) -> None:
+        """Small ones are shown as one, unless there is only one; so are those for which there is no room."""
+        cases: List[Tuple[List[int], int, int]] = [
+            ([100, 50, 9], 5, 3),
+            ([100, 50, 9, 9], 5, 2),
+            ([100, 50, 40], 2, 1),
+            ([100, 50, 40], 3, 3),
+            ([9, 9], 5, 0),
+            ([], 5, 0),
+        ]
+        for sizes, most, wanted in cases:
+            self.assertEqual(treemap.number_alone(sizes, most, 10), wanted, sizes)
+
+    def test_small(self) -> None:
+        """A package or class of less than a 500th is not shown alone."""
+        sizes = {"a/a/a/A": 9_950, "b/b/b/B": 21, "c/c/c/C": 19, "d/d/d/D": 10}
+        groups = treemap.groups_of({name: Amount(1, size) for name, size in sizes.items()}, 9, 9)
+        self.assertEqual([group.name for group in groups], ["a/a/a", "b/b/b", None])
 
     def test_groups_lose_nothing(self) -> None:
         """The groups have all objects, bytes and classes."""

@@ -40,8 +40,8 @@ def in_words(number: int) -> str:
 
 
 def files(folder: str) -> list[str]:
-    """Returns the names of the files in a folder that are no pages, without what Python keeps."""
-    return sorted(path.name for path in (TOP / folder).iterdir() if path.is_file() and path.suffix not in (".md", ".pyc"))
+    """Returns the names of the files in a folder that are no pages."""
+    return sorted(path.name for path in (TOP / folder).iterdir() if path.is_file() and path.suffix != ".md")
 
 
 class PagesTest(unittest.TestCase):

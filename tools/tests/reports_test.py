@@ -25,6 +25,11 @@ class ReportsTest(unittest.TestCase):
         for text in (report((HUGE, HUGE, "byte[]")), histogram((HUGE, HUGE, "[B (java.base@17)"))):
             self.assertEqual(self.read(text).amount("byte[]"), Amount(HUGE, HUGE))
 
+    def test_longest_names(self) -> None:
+        """A name of a class has at most 65,535 bytes, of which a report may show each by four."""
+        name = 65_535 * "\\x5c"
+        self.assertEqual(self.read(report((1, 10, name))).amount(name), Amount(1, 10))
+
     def test_families(self) -> None:
         """Classes of one name are added together, and so are hidden classes but for their numbers."""
         found = self.read(report((1, 10, "A"), (2, 20, "A"), (3, 30, "B$$Lambda$1+0x0a"), (4, 40, "B$$Lambda$2+0x0b")))

@@ -83,7 +83,7 @@ def holder_table(leak: Leak, limits: Limits) -> Html:
     is_less = leak.is_of_all and leak.growth != leak.rise
     about = (
         "Without one of these, much of what grew would be unreachable. The first line is the answer; the others are "
-        f"above it, below it or beside it. The share of the growth is of that of {leak.whole}, {growth}, as on the terminal"
+        f"above, below or beside it. The share of the growth is of that of {leak.whole}, {growth}, as on the terminal"
         f"{', without what only weak references or running calls hold' if is_less else ''}. "
         f"The {whole_head(leak).lower()} is of {leak.whole} in the first dump and in the last."
     )

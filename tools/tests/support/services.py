@@ -261,3 +261,32 @@ def of_customer(count: int, minutes: int = 0) -> Service:
     for basket in range(601, 681):
         add_text(dump, 80000 + 2 * basket, f"of alice {basket}")
     return dump
+
+
+def finalizers(streams: int, orders: int, minutes: int = 0) -> Service:
+    """Beside a cache of orders, a chain of finalizers: only they name the streams, each with 100 bytes."""
+    dump = cache(orders, minutes)
+    dump.of_class(10, "java/lang/ref/Reference", fields=["referent"])
+    dump.of_class(11, "java/lang/ref/FinalReference", superclass=10)
+    dump.of_class(12, "java/lang/ref/Finalizer", {"unfinalized": 20000}, fields=["next", "prev"], superclass=11)
+    dump.of_class(13, "shop/Stream", fields=["buffer"])
+    for number in range(streams):
+        finalizer, stream = 20000 + number, 30000 + number
+        dump.instance(finalizer, 12, finalizer + 1 if number + 1 < streams else 0, 0, stream)
+        dump.instance(stream, 13, stream + 10000)
+        dump.values(stream + 10000, BYTE, bytes(100))
+    dump.root(12)
+    return dump
+
+
+def buffers(count: int, orders: int, minutes: int = 0) -> bytes:
+    """Returns a dump with `count` direct buffers of 40 bytes each in a pool, beside a cache of orders."""
+    dump = cache(orders, minutes)
+    dump.of_class(10, "java/nio/Buffer", fields=["int_____"])
+    dump.of_class(11, "java/nio/DirectByteBuffer", fields=["att"], superclass=10)
+    dump.of_class(12, "shop/Pool", {"BUFFERS": 20000})
+    dump.array(20000, 4, *range(20001, 20001 + count))
+    for buffer in range(20001, 20001 + count):
+        dump.instance(buffer, 11, 0, word(40))
+    dump.root(12)
+    return dump.bytes().replace(b"int_____", b"capacity")
