@@ -150,8 +150,6 @@ class Heapmark:
             ended = f"signal {-ran.status}"
         elif ran.status > 0:
             ended = ": ".join([f"status {ran.status}", *ran.said[:1]])
-            if self.runs == 1:
-                ended += ": is it heapmark?"
         else:
             report = read_report(ran.out.splitlines(), self.program)
             if report:
@@ -159,6 +157,8 @@ class Heapmark:
                     say(line)
                 return report
             ended = "no report"
+        if self.runs == 1 and ran.status >= 0:
+            ended += ": is it heapmark?"
         raise LaterFault(NO_HEAPMARK, f"{self.program}: run {self.runs} on {path} failed: {ended}")
 
 

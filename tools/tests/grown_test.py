@@ -259,6 +259,19 @@ class GrownTest(ToolTest):
         self.expect(["--own", "--more-than=2", "none", "mixed"], grew(own[0]), status=3)
         self.expect(["--own", "--more-than=3", "none", "mixed"])
 
+    def test_nothing(self) -> None:
+        """If nothing grew, nothing is printed; a terminal says so, and whether it is the same file."""
+        shutil.copy("friday", "copy")
+        for words, why in (
+            (["friday", "friday"], "friday: the same file as friday"),
+            (["friday", "copy"], "copy: the same file as friday"),
+            (["friday", "none"], "no class has more objects or bytes in none than in friday"),
+            (["--more-than=9", "monday", "friday"], "no such class has more objects or bytes in friday than in monday"),
+        ):
+            self.expect(words)
+            ended, seen = self.on_terminal(*words)
+            self.assertEqual((ended.status, ended.out, seen), (0, "", f"grown: {why}\n"))
+
     def test_more_than(self) -> None:
         """A limit, for a script."""
         new = (7, 70, "New")

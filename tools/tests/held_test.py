@@ -182,6 +182,8 @@ class HeldTest(ToolTest):
         self.expect(["/dev/null", VALUE], said="held: /dev/null: no plain file*", status=1)
         for fields in ("referent", os.fsdecode(b"a.\377"), ""):
             self.expect(["cache.hprof", fields], said="held: *: no list of *", status=2)
+        said = "held: cut.hprof: a file: leaks cache.hprof cut.hprof shows what holds that which grew"
+        self.expect(["cache.hprof", "cut.hprof"], said=said, status=2)
         right = ["cache.hprof", VALUE]
         self.check_wrong_words([], right[:1], [*right, VALUE], ["--number", *right], [*right, "--more-than"])
         self.check_help("Shows what hangs by some fields of a heap dump: ")

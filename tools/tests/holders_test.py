@@ -245,8 +245,9 @@ class HoldersTest(ToolTest):
             (f"{later}exit 1\nexec HEAPMARK $@", "run 3 on shop.hprof failed: status 1"),
             (f"{later}kill -9 $$\nexec HEAPMARK $@", "run 3 on shop.hprof failed: signal 9"),
             ("kill -15 $$", "run 1 on shop.hprof failed: signal 15"),
-            ("echo 1 2 3", "run 1 on shop.hprof failed: no report"),
-            ("printf '\\377\\n'", "run 1 on shop.hprof failed: no report"),
+            ("echo 1 2 3", "run 1 on shop.hprof failed: no report: is it heapmark?"),
+            ("printf '\\377\\n'", "run 1 on shop.hprof failed: no report: is it heapmark?"),
+            ("exit 1", "run 1 on shop.hprof failed: status 1: is it heapmark?"),
         ):
             self.expect(["shop.hprof"], said=f"holders: *: {ended}", status=5, heapmark=self.program(text))
         self.expect(["shop.hprof"], said="holders: /nowhere cannot be run: No such *", status=5, heapmark="/nowhere")

@@ -8,7 +8,7 @@ import resource
 import shutil
 import sys
 import unittest
-from typing import List, Tuple, Union
+from typing import Callable, List, Tuple, Union
 
 from tests.support.dump_writer import BYTE, DumpWriter, word
 from tests.support.services import (
@@ -232,7 +232,8 @@ class LeaksTest(ToolTest):
 
     def test_paths_are_true(self) -> None:
         """In `A > B`, held says that all that B holds hangs by A, and a static field is below nothing."""
-        pairs = [(make(20), make(80)) for make in (cache, handler, worker, running, twofold, baskets)]
+        makers: Tuple[Callable[[int], Service], ...] = (cache, handler, worker, running, twofold, baskets)
+        pairs = [(make(20), make(80)) for make in makers]
         pairs += [(lambdas(20, "00aa"), lambdas(80, "00bb")), (finalizers(20, 20), finalizers(80, 80))]
         steps = 0
         for before, after in pairs:

@@ -1,16 +1,18 @@
 """grown: which classes grew between dumps, reports or histograms of one program."""
 
+import os
+import sys
 from typing import NoReturn, Sequence
 
 from heap_tools import command_line
 from heap_tools.class_growth import growths, lines_to_print
 from heap_tools.class_names import is_own
 from heap_tools.command_line import Parser, number
-from heap_tools.console import say, write
+from heap_tools.console import is_terminal, say, write
 from heap_tools.faults import MORE
 from heap_tools.omissions import more_unreachable
 from heap_tools.reports import Report, Unit
-from heap_tools.same_program import Taken, other_program, wrong_order
+from heap_tools.same_program import Taken, other_program, same_file, wrong_order
 from heap_tools.snapshots import Snapshot, hours_between, read_snapshots
 
 ABOUT = """
@@ -79,6 +81,14 @@ def say_order(snapshots: Sequence[Snapshot]) -> None:
         say(f"grown: {why}")
 
 
+def say_nothing(files: Sequence[Snapshot], is_limited: bool) -> None:
+    """Says on a terminal that nothing is printed. `is_limited`: options may be why."""
+    first, last = files[0].path, files[-1].path
+    same = same_file([first, last]) if os.path.isfile(first) and os.path.isfile(last) else None
+    why = same or f"no {'such ' * is_limited}class has more objects or bytes in {last} than in {first}"
+    say(f"grown: {why}")
+
+
 def say_unreachable(first: Report, last: Report) -> None:
     """Says so if more objects or bytes are unreachable in the last file than in the first."""
     more = last.unreachable.minus(first.unreachable)
@@ -106,6 +116,8 @@ def main(words: Sequence[str]) -> int:
     try:
         write(lines_to_print(found[: options.top], unit, hours))
     finally:
+        if not found and is_terminal(sys.stderr):
+            say_nothing(snapshots, options.own or options.more_than is not None)
         say_order(snapshots)
         say_unreachable(first.report, last.report)
         say_programs(first, last)

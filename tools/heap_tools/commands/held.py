@@ -8,8 +8,8 @@ from heap_tools.changed_copy import Changes
 from heap_tools.class_growth import growths, lines_to_print
 from heap_tools.command_line import Parser, number
 from heap_tools.console import say, write
-from heap_tools.dump_runs import DumpRuns
-from heap_tools.faults import MORE, NO_SUCH_NAME, UNREADABLE, Fault
+from heap_tools.dump_runs import DumpRuns, is_dump
+from heap_tools.faults import MORE, NO_SUCH_NAME, UNREADABLE, WRONG_USE, Fault
 from heap_tools.field_list import changes_of, entries_of, root_of
 from heap_tools.heapmark import Heapmark, LaterFault
 from heap_tools.reports import Report, Unit
@@ -114,6 +114,9 @@ def largest(runs: DumpRuns, changes: Changes) -> Tuple[Report, Report]:
 def main(words: Sequence[str]) -> int:
     """Does what the words of the command line ask for, and returns the exit status."""
     options = parser().read(words)
+    if is_dump(options.fields):
+        text = f"{options.fields}: a file: leaks {options.dump} {options.fields} shows what holds that which grew"
+        raise Fault(WRONG_USE, text)
     without, whole, all_found = difference(options.dump, options.fields)
     if not without:
         return NO_SUCH_NAME
