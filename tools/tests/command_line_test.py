@@ -5,10 +5,10 @@ import os
 import subprocess
 import sys
 import unittest
-from typing import Tuple
+from typing import Any, Dict, Tuple
 
 from heap_tools import console
-from tests.support.tool_test import TOOLS
+from tests.support.tool_test import TOOLS, heed_signals
 
 
 class EndTest(unittest.TestCase):
@@ -18,7 +18,8 @@ class EndTest(unittest.TestCase):
         """Runs a tool whose `main` has this body. Returns its status and its messages."""
         text = f"import errno, os, signal\nfrom heap_tools import command_line\ndef main(words):\n    {body}\n"
         words = [sys.executable, "-c", f"{text}command_line.run('tool', main)"]
-        ended = subprocess.run(words, cwd=TOOLS, stdout=subprocess.PIPE, stderr=subprocess.PIPE, check=False)
+        pipes: Dict[str, Any] = {"stdout": subprocess.PIPE, "stderr": subprocess.PIPE, "preexec_fn": heed_signals}
+        ended = subprocess.run(words, cwd=TOOLS, check=False, **pipes)
         return ended.returncode, ended.stderr.decode()
 
     def test_faults(self) -> None:
@@ -33,7 +34,7 @@ class EndTest(unittest.TestCase):
     def test_signals(self) -> None:
         """Each signal ends the tool with one line, also if more of them come."""
         for name in ("SIGINT", "SIGTERM", "SIGHUP"):
-            body = f"signal.signal(signal.SIGINT, signal.default_int_handler); os.kill(os.getpid(), signal.{name})"
+            body = f"os.kill(os.getpid(), signal.{name})"
             self.assertEqual(self.ended(body), (130, "tool: interrupted\n"), name)
 
     def test_early(self) -> None:

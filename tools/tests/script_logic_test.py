@@ -67,14 +67,19 @@ class QuotesTest(ScriptTest):
         self.write("crates/heap/src/lib.rt", source)
         self.write("crates/heap/specs/A.antt", "-- At its entry.\nis_at : Type\n")
         self.write("crates/heap/README.md", "As in `src/lib.rt`:\n\n```rust\nfn pop(a: u8) {}\n```\n")
-        text = "See `crates/heap/specs/A.antt`:\n\n    -- At its entry.\n    is_at : Type\n\nMore.\n"
+        text = "See `crates/heap/specs/A.antt`:\n\n    -- At its entry.\n\n    is_at : Type\n\nMore.\n"
         page = self.write("docs/PAGE.md", text)
-        self.assertEqual(self.ended(quotes), (0, ["3 quotations, 0 that do not stand"]))
+        self.write("tools/heap_tools/a.py", 'def main() -> None:\n    it.flag("--all")\n')
+        text = "1. As in `tools/heap_tools/a.py`:\n\n   ```python\n   it.flag(\"--all\")\n   ```\n"
+        change = "A change of `specs/A.antt`:\n\n```diff\n-is_at : Type\n+is_in : Type\n```\n"
+        self.write("CONTRIBUTING.md", text + change)
+        self.assertEqual(self.ended(quotes), (0, ["4 quotations, 0 that do not stand"]))
+        self.write("CONTRIBUTING.md", text.replace("all", "each"))
         page.write_text(page.read_text().replace("entry", "place"))
         self.write("crates/heap/README.md", "As in `src/lost.rt`:\n\n```rust\nfn pop(a: u8) {}\n```\n")
         self.write("crates/heap/src/lib.rt", "//! No code of `src/lib.rt`:\n//! more words.\n\nfn pop() {}\n")
         status, lines = self.ended(quotes)
-        self.assertEqual((status, lines[-1]), (1, "3 quotations, 3 that do not stand"))
+        self.assertEqual((status, lines[-1]), (1, "4 quotations, 4 that do not stand"))
         self.assertIn("docs/PAGE.md: what is quoted from crates/heap/specs/A.antt does not stand there", lines)
 
 
@@ -216,6 +221,7 @@ class CheckTest(ScriptTest):
         self.write("bench/clean.sh", '#!/bin/sh\necho "$1"\n')
         self.write("dev/words", "#!/usr/bin/env python3\nimport clean\n\nclean.same(1)\n")
         self.write("dev/clean.py", "def same(number: int) -> int:\n    return number\n")
+        self.write("tools/heap_tools/__init__.py", "")
         for part, name, fault in (
             (self.check.types, "mypy", "#!/usr/bin/env python3\ndef same(number):\n    return number\n"),
             (self.check.shell, "shellcheck", "#!/bin/sh\nrm $1\n"),
@@ -229,6 +235,18 @@ class CheckTest(ScriptTest):
                 part("", str(self.top))
             self.assertIn("tools/faulty:2", str(wrong.exception))
             (self.top / "tools/faulty").unlink()
+
+    def test_old_python(self) -> None:
+        """What the oldest Python does not have is wrong in what is installed."""
+        self.check.TOP = self.top
+        self.write("tools/heap_tools/__init__.py", '"a".removeprefix("b")\n')
+        if not shutil.which("mypy"):
+            self.skipTest("mypy is not here")
+        try:
+            said = self.check.types("", str(self.top))
+        except self.check.Wrong as wrong:
+            said = str(wrong)
+        self.assertRegex(said, 'tools/heap_tools/__init__.py:1: .*"removeprefix"|does not know Python 3.7')
 
 
 class RealDumpsTest(ScriptTest):
