@@ -27,6 +27,7 @@ from tests.support.services import (
     noisy,
     of_customer,
     of_main,
+    reporters,
     running,
     swapped,
     twofold,
@@ -133,6 +134,15 @@ class LeaksTest(ToolTest):
         self.assertEqual([row[3] for row in rows[:2]], ["720", "743"])
         rows = self.found(handler(20, "http-7"), handler(80))
         self.assertEqual([(row[3], row[-1]) for row in rows[:2]], [("720", path), ("0", 'thread "http-0"')])
+
+    def test_threads_of_a_pattern(self) -> None:
+        """Of which threads there are more, and in which method, is said; no line is about threads of no name."""
+        rows = self.found(reporters(2), reporters(12))
+        self.assertEqual((rows[0][5], rows[0][6]), ("2 to 12", "local shop/Reporter.run"))
+        for row in rows:
+            self.assertNotRegex(row[6], "(^| )threads?($| [^\"])")
+        said = self.ran("before", "after").said
+        self.assertIn('leaks: 10 threads more: threads "report-*": 2, then 12; most are in shop/Reporter.run\n', said)
 
     def test_together(self) -> None:
         """Static fields that hold the growth only together."""

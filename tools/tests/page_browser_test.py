@@ -2,11 +2,10 @@
 
 import pathlib
 import re
-import shutil
-import subprocess
 import tempfile
 import unittest
-from typing import List
+import zlib
+from typing import List, Tuple
 
 from heap_tools.class_names import shown
 from heap_tools.page import templates
@@ -93,16 +92,33 @@ def hostile_dump(count: int) -> DumpWriter:
 
 
 def lowest_text(pdf: bytes) -> List[float]:
-    """Returns where the lowest text of each page ends, 1 being the foot. Returns nothing if pdftotext is missing."""
-    if not shutil.which("pdftotext"):
-        return []
-    command = ["pdftotext", "-bbox", "-", "-"]
-    text = subprocess.run(command, input=pdf, stdout=subprocess.PIPE, check=True).stdout.decode()
+    """Returns where the lowest text of each page of a PDF of Chromium begins, 1 being the foot."""
+    objects = dict(re.findall(rb"\n(\d+) 0 obj\n(.*?)\nendobj", pdf, re.S))
     ends = []
-    for sheet in re.findall(r"<page (.*?)</page>", text, re.S):
-        height = float(re.findall(r'height="([\d.]+)"', sheet)[0])
-        ends.append(max(float(end) for end in re.findall(r'yMax="([\d.]+)"', sheet)) / height)
+    for each in objects.values():
+        content = re.search(rb"/Contents (\d+) 0 R", each)
+        if content:
+            packed = objects[content[1]].partition(b"stream")[2].lstrip(b"\r\n")
+            heights = [1 - at / A4[1] for at in heights_of_text(zlib.decompressobj().decompress(packed))]
+            ends.append(max(at for at in heights if at < 1))
     return ends
+
+
+def heights_of_text(content: bytes) -> List[float]:
+    """Returns the heights of the texts of a page above its foot, in points. Nothing on it is turned."""
+    scale, shift, found = 1.0, 0.0, []
+    kept: List[Tuple[float, float]] = []
+    for line in content.split(b"\n"):
+        *numbers, word = line.split() or [b""]
+        if word == b"q":
+            kept.append((scale, shift))
+        elif word == b"Q":
+            scale, shift = kept.pop()
+        elif word == b"cm":
+            scale, shift = scale * float(numbers[3]), scale * float(numbers[5]) + shift
+        elif word == b"Tm":
+            found.append(scale * float(numbers[5]) + shift)
+    return found
 
 
 class BrowserTest(InBrowser):
@@ -156,8 +172,10 @@ class BrowserTest(InBrowser):
             self.assertTrue(printed.startswith(b"%PDF-"))
             sides = re.findall(rb"/MediaBox \[0 0 ([\d.]+) ([\d.]+)\]", printed)
             self.assertEqual({(round(float(width)), round(float(height))) for width, height in sides}, {A4})
-            for ends in lowest_text(printed)[:-1]:
-                self.assertGreater(ends, 0.7)
+            ends = lowest_text(printed)
+            self.assertEqual(len(ends), len(sides))
+            for end in ends[:-1]:
+                self.assertGreater(end, 0.7)
 
     def test_hostile_names(self) -> None:
         """The browser shows hostile names as text."""

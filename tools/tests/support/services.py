@@ -290,3 +290,18 @@ def buffers(count: int, orders: int, minutes: int = 0) -> bytes:
         dump.instance(buffer, 11, 0, word(40))
     dump.root(12)
     return dump.bytes().replace(b"int_____", b"capacity")
+
+
+def reporters(count: int, minutes: int = 0) -> Service:
+    """Each of `count` threads `report-n` has 100 bytes in a local variable of its method."""
+    dump = Service(minutes)
+    dump.of_class(6, "java/lang/Thread", fields=["name"])
+    dump.of_class(8, "shop/Reporter")
+    dump.of_class(57, "java/lang/String", fields=["value", "coder"])
+    for number in range(1, count + 1):
+        dump.thread(number, 70000 + number, [(8, "run")])
+        dump.instance(70000 + number, 6, 80000 + 2 * number)
+        add_text(dump, 80000 + 2 * number, f"report-{number}")
+        dump.values(75000 + number, BYTE, bytes(100))
+        dump.local(number, 0, 75000 + number)
+    return dump
