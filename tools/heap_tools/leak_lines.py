@@ -241,9 +241,9 @@ def answer_of(
     """Searches the dumps for what holds `at_least` percent of the growth, and returns at most `top` lines."""
     search = Search(probe, at_least, top, by_holders, progress, FEW)
     search.find(probe.candidates.fields(probe.base))
-    search.found = Ranks(search, probe, probes_between() if search.found else []).sorted()
-    paths, lines = ReferencePaths(probe, [*search.found, *search.steady]), []
-    for held in search.first():
+    ranked = Ranks(search, probe, probes_between() if search.found else []).sorted()
+    paths, lines = ReferencePaths(probe, [*ranked, *search.steady]), []
+    for held in ranked[:top]:
         before = probe.earlier.retained(held.candidates).amount
         share = probe.share(held.candidates)
         lines.append(Line(held, before, share, paths.above(held), probe.earlier.holders(held.candidates)))
