@@ -12,6 +12,17 @@ from heap_tools.heap_objects import FEWEST_SEGMENTS, HeapObjects
 from tests.support.dump_writer import BYTE, ROOT_THREAD_OBJECT, STRING, DumpWriter, word
 
 
+#: The code of the type `char`.
+CHAR = 5
+#: Texts, each with its coder and its array: bytes, two of them for each letter, or, with `CHAR`, letters.
+TEXTS = (
+    ("Gr\u00f6\u00dfe", 0, b"Gr\xf6\xdfe"),
+    ("5 \u20ac", 1, b"5\0 \0\xac\x20"),
+    ("5 \u20ac", CHAR, b"\0005\0 \x20\xac"),
+    ("", 0, b""),
+)
+
+
 class HprofTest(unittest.TestCase):
     """A test that reads and copies dumps."""
 
@@ -147,6 +158,19 @@ class ReadingTest(HprofTest):
                 dump.cut()
                 dump.objects(300)
             self.assertEqual(HeapObjects(self.read(dump)).thread_names(), {1: "main", 2: "http-\u00e9", 3: ""})
+
+    def test_texts(self) -> None:
+        """Strings of a byte or of two for each letter, and of letters, as up to JDK 8. Other objects have no text."""
+        dump = Service()
+        for at, (text, coder, content) in enumerate(TEXTS):
+            dump.instance(500 + at, 2, 600 + at, bytes([coder]))
+            code, letter = (CHAR, 2) if coder == CHAR else (BYTE, 1)
+            dump.heap += dump.form.primitive_head(600 + at, code, len(content) // letter) + content
+        dump.instance(590, 2, 0, b"\0")
+        dump.objects(300)
+        found = HeapObjects(self.read(dump)).texts([*range(500, 500 + len(TEXTS)), 590, 300, 599])
+        wanted = {500 + at: text for at, (text, _, _) in enumerate(TEXTS)}
+        self.assertEqual(found, {**wanted, 590: "", 300: ""})
 
     def test_count(self) -> None:
         """Objects by class, whether or not they are reachable."""

@@ -1,0 +1,75 @@
+"""Tests when the local variables of running calls lead nowhere."""
+
+import unittest
+from typing import Any, Dict, List, Optional, Tuple
+
+from heap_tools.reports import Amount, Report, Row, Unit
+from heap_tools.running_calls import Calls, DumpSide, without_running_calls
+
+#: Places of the local variables of methods of the JDK, and of others.
+OF_JDK, OF_OTHERS = 1, 2
+
+
+class Runs:
+    """Stands in for the runs on a dump with 1,000 orders, of which so many are lost with each place that is cut."""
+
+    def __init__(self, lost: Dict[int, int], cut: Tuple[int, ...] = ()) -> None:
+        self.lost, self.cut = lost, cut
+
+    def with_cut(self, changes: Dict[int, bytes]) -> "Runs":
+        """Returns the runs with these places cut."""
+        return Runs(self.lost, tuple(changes))
+
+    def base(self) -> Report:
+        """Returns the report without what is lost."""
+        orders = Amount(1_000, 10).minus(Amount(sum(self.lost[place] for place in self.cut)))
+        return Report([Row("Order", orders)], reachable=Amount(9_999, 9_999))
+
+
+class Locals:
+    """Stands in for the candidates of a dump."""
+
+    def running(self, only_jdk: bool) -> Dict[int, bytes]:
+        """Returns the places of local variables."""
+        return {OF_JDK: b""} if only_jdk else {OF_JDK: b"", OF_OTHERS: b""}
+
+
+class RunningCallsTest(unittest.TestCase):
+    """without_running_calls"""
+
+    def side(self, of_jdk: int, of_others: int) -> DumpSide:
+        """Returns a dump in which local variables hold so many orders."""
+        runs: Any = Runs({OF_JDK: of_jdk, OF_OTHERS: of_others})
+        candidates: Any = Locals()
+        return DumpSide(runs, candidates, runs.base())
+
+    def test_bound(self) -> None:
+        """All are cut, or those of the JDK, if that loses at most the given part in each dump."""
+        cases: List[Tuple[List[Tuple[int, int]], Optional[Calls]]] = [
+            ([(0, 0)], Calls.ALL),
+            ([(25, 25)], Calls.ALL),
+            ([(25, 26)], Calls.OF_JDK),
+            ([(50, 400)], Calls.OF_JDK),
+            ([(51, 0)], None),
+            ([(0, 0), (0, 51)], Calls.OF_JDK),
+            ([(51, 0), (0, 0)], None),
+        ]
+        for dumps, wanted in cases:
+            sides = [self.side(*lost) for lost in dumps]
+            cut, calls = without_running_calls(sides, ["Order"], Unit.OBJECTS, 1_000)
+            self.assertEqual(calls, wanted, dumps)
+            for side, (of_jdk, of_others) in zip(cut, dumps):
+                lost = {Calls.ALL: of_jdk + of_others, Calls.OF_JDK: of_jdk, None: 0}[wanted]
+                self.assertEqual(side.base.amount("Order").objects, 1_000 - lost)
+
+    def test_percent(self) -> None:
+        """Another part may be given, and the whole may be that of bytes or of all classes."""
+        sides = [self.side(100, 200)]
+        for percent, wanted in ((29.0, Calls.OF_JDK), (30.0, Calls.ALL), (9.0, None)):
+            self.assertEqual(without_running_calls(sides, ["Order"], Unit.OBJECTS, 1_000, percent)[1], wanted)
+        self.assertEqual(without_running_calls(sides, ["Order"], Unit.BYTES, 10)[1], Calls.ALL)
+        self.assertEqual(without_running_calls(sides, None, Unit.OBJECTS, 9_999)[1], Calls.ALL)
+
+
+if __name__ == "__main__":
+    unittest.main()
