@@ -103,11 +103,8 @@ class Comparison:
 
     def probes_between(self, probe: GrowthProbe) -> List[EarlierProbe]:
         """Returns what asks some dumps between the first and the last what `probe` asks these: at most `BETWEEN`."""
-        between = self.dumps[1:-1]
-        count = min(len(between), BETWEEN)
-        chosen = [between[(2 * number + 1) * len(between) // (2 * count)] for number in range(count)]
         found = []
-        for runs in chosen:
+        for runs in spread(self.dumps[1:-1], BETWEEN):
             side = DumpSide.prepared(runs, self.follows_weak)
             if self.omitted_calls:
                 side = side.without(self.omitted_calls)
@@ -137,6 +134,12 @@ class Comparison:
             raise Fault(NOTHING, text + (f"; {self.why_missing()}" if max(self.more_unreachable()) > 0 else ""))
         say(f"leaks: {text}; so the shares are of the objects of {'it' if families else 'the classes that grew'}")
         return more
+
+
+def spread(dumps: Sequence[DumpRuns], most: int) -> List[DumpRuns]:
+    """Returns at most `most` of `dumps`, as far apart from each other as from the ends."""
+    count = min(len(dumps), most)
+    return [dumps[(2 * number + 1) * len(dumps) // (2 * count)] for number in range(count)]
 
 
 def grown(sides: Sequence[DumpSide], families: Optional[List[str]], unit: Unit) -> int:
