@@ -19,6 +19,9 @@ WEAK = "java/lang/ref/Reference.referent"
 #: The list of the threads of a group, up to JDK 18, and that of the classes of a loader.
 GROUP, LOADED_CLASSES = "java/lang/ThreadGroup.threads", "java/lang/ClassLoader.classes"
 
+#: The classes that collections of the JDK, of libraries and of users inherit from.
+COLLECTIONS = {"java/util/AbstractCollection", "java/util/AbstractMap", "java/util/Dictionary"}
+
 #: A kind and a name: what a candidate is called in another dump of the program, too.
 Key = Tuple[str, str]
 
@@ -27,13 +30,15 @@ Key = Tuple[str, str]
 class Candidate:
     """A field of all classes of one name, a local variable of all methods of one name, or all threads of one name.
     `count` is the number of its holders: of the instances that have the field, or of the threads. `changes` are those
-    of the dump that make it lead nowhere. `classes` are the families of the instances."""
+    of the dump that make it lead nowhere. `classes` are the families of the instances. `is_collection`: it is a field
+    of a collection, which says nothing of what it is for."""
 
     kind: str
     name: str
     count: int
     changes: Changes = field(repr=False)
     classes: FrozenSet[str] = frozenset()
+    is_collection: bool = False
 
     @property
     def key(self) -> Key:
@@ -156,8 +161,20 @@ class Candidates:
             classes = self._classes_with(fields)
             count = self._count(classes, report)
             if count > 0:
-                found.append(Candidate(kind, name, count, self._field_changes(fields), classes))
+                is_collection = all(self._is_collection(each.class_id) for each in fields)
+                found.append(Candidate(kind, name, count, self._field_changes(fields), classes, is_collection))
         return sorted(found, key=lambda each: (each.count, each.name))
+
+    def _is_collection(self, class_id: int) -> bool:
+        """Tests whether a class is of the JDK's package of collections, or inherits from one of its collections."""
+        names, classes = self.dump.names, self.dump.classes
+        if names[class_id].startswith("java/util/"):
+            return True
+        while class_id in classes:
+            if names[class_id] in COLLECTIONS:
+                return True
+            class_id = classes[class_id].superclass
+        return False
 
     def _classes_with(self, fields: Iterable[DumpedField]) -> FrozenSet[str]:
         """Returns the families of the classes whose instances have one of these fields."""

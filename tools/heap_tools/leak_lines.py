@@ -3,7 +3,7 @@
 import enum
 from typing import Callable, Dict, List, NamedTuple, Sequence, Set
 
-from heap_tools.candidates import FIELD, Candidate, joint_name
+from heap_tools.candidates import Candidate, joint_name
 from heap_tools.probe import EarlierProbe, GrowthProbe, Retained
 from heap_tools.reference_paths import ReferencePaths
 from heap_tools.reports import Amount
@@ -72,8 +72,9 @@ class Place(enum.IntEnum):
 
 class Rank(NamedTuple):
     """What lines are sorted by, the smallest first. In the main place `size` is what the line holds in all, so that the
-    deepest comes first: the accumulation point. Of what leaks the topmost comes first, in other places the largest
-    share. `tier` is 0 for all with few holders, else their number."""
+    deepest comes first: the accumulation point. In other places the largest share comes first. `tier` is 0 for all with
+    few holders, else their number. Of what leaks the topmost comes first, however many holders it has: it has as many
+    as what it holds."""
 
     doubt: Doubt
     tier: int
@@ -109,10 +110,18 @@ class Ranks:
         alike = [each for each in self.found if tier_of(each) == tier and doubts[id(each)] == doubt]
         place = self.place(held, alike)
         if doubt == Doubt.PAYLOAD:
-            return Rank(doubt, tier, place, held.weight, -held.heap.bytes, joint_name(held.candidates))
+            weight = self._least_weight(held, [each for each in self.found if doubts[id(each)] == doubt])
+            tier = 0 if weight <= FEW else weight
+            return Rank(doubt, tier, place, weight, -held.heap.bytes, joint_name(held.candidates))
         if place == Place.BESIDE:
             return Rank(doubt, tier, place, held.weight, -self.share[id(held)], joint_name(held.candidates))
         return Rank(doubt, tier, place, 0, held.heap.bytes, joint_name(held.candidates))
+
+    def _least_weight(self, held: Retained, payloads: List[Retained]) -> int:
+        """Returns the least weight of `held`, which is one of `payloads`, and of those of them that it holds. What a
+        collection holds says more than the collection."""
+        held_too = [] if is_collection(held) else [each for each in payloads if self.probe.holds_all(held, each)]
+        return min([held.weight, *(each.weight for each in held_too)])
 
     def place(self, held: Retained, alike: List[Retained]) -> Place:
         """Returns the place of `held` among those with as many holders and the same doubt."""
@@ -215,8 +224,8 @@ def says_more(held: Retained, other: Retained) -> bool:
 
 
 def is_collection(held: Retained) -> bool:
-    """Tests whether what holds is fields of the JDK's collections."""
-    return all(each.kind == FIELD and each.name.startswith("java/util/") for each in held.candidates)
+    """Tests whether what holds is fields of collections: of the JDK's, or of classes that inherit from them."""
+    return all(each.is_collection for each in held.candidates)
 
 
 def kin_of(candidate: Candidate, probe: GrowthProbe) -> List[Candidate]:

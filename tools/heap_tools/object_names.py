@@ -1,11 +1,12 @@
-"""What names an object of a dump: a text in it, its key in a map, or the static field of a thread-local."""
+"""What names an object of a dump: a text in it, its key in a map, the static field of a thread-local, or what names an
+object that leads to it."""
 
-from typing import Dict, Iterable, List, NamedTuple, Optional, Sequence, Tuple
+from typing import Dict, Iterable, List, NamedTuple, Optional, Sequence, Set, Tuple
 
 from heap_tools import hprof_format as hprof
-from heap_tools.class_names import printable
+from heap_tools.class_names import family, printable
 from heap_tools.heap_dump import HeapDump
-from heap_tools.heap_objects import HeapObjects
+from heap_tools.heap_objects import HeapObjects, Referrer
 
 STRING_CLASS = "java/lang/String"
 #: The fields of a text that names an object, the likeliest first. An object with one text only is named by that.
@@ -19,11 +20,16 @@ MAP_NODES = (
     ("java/util/WeakHashMap$Entry.value", "java/lang/ref/Reference", "referent"),
     ("java/util/concurrent/ConcurrentSkipListMap$Node.val", "java/util/concurrent/ConcurrentSkipListMap$Node", "key"),
 )
+NODE_CLASSES = frozenset(node for _, node, key in MAP_NODES if key == "key")
 #: The entries of a thread's map of thread-locals: the field of the value. The thread-local itself is the referent.
 ENTRY = "java/lang/ThreadLocal$ThreadLocalMap$Entry"
 THREAD_LOCAL = f"{ENTRY}.value"
 #: The classes of boxed numbers, whose value a key may be.
 BOXES = {"java/lang/Integer": 4, "java/lang/Long": 8, "java/lang/Short": 2, "java/lang/Byte": 1}
+#: How many references above an object its owners are looked for, and how many of them are looked at for each object.
+STEPS, MOST_OWNERS = 3, 12
+#: How many names of owners are shown.
+OWNER_NAMES = 2
 #: How many characters of a text are shown.
 LONGEST_TEXT = 60
 
@@ -44,6 +50,17 @@ def shown_text(text: str) -> str:
     return f'"{printable(cut)}"'
 
 
+def is_naming(field: str) -> bool:
+    """Tests whether a field is called as what names an object is."""
+    return field in NAMING or field.endswith("Name")
+
+
+def best_of(named: Dict[str, str]) -> Optional[str]:
+    """Returns which of the fields with these texts names their object, or None."""
+    likely = [field for field in NAMING if field in named] or [field for field in named if is_naming(field)]
+    return next(iter(likely or (named if len(named) == 1 else ())), None)
+
+
 class ObjectNames:
     """Looks up what names objects of `dump`. `shows_values`: texts of the dump are shown; if not, only the fields that
     have them are named."""
@@ -51,13 +68,93 @@ class ObjectNames:
     def __init__(self, dump: HeapDump, shows_values: bool = True) -> None:
         self.dump, self.objects, self.shows_values = dump, HeapObjects(dump), shows_values
 
-    def names_of(self, places: Sequence[int]) -> Dict[int, List[Name]]:
-        """Returns the names of the objects at these places, at most a few of each. Walks over all objects some
-        times."""
+    def names_of(self, places: Sequence[int], others: Sequence[int] = ()) -> Dict[int, List[Name]]:
+        """Returns the names of the objects at these places, at most a few of each. If an object has none, those of its
+        owners count that the objects at `others` do not have, too. Walks over all objects some times."""
         found: Dict[int, List[Name]] = {at: [] for at in places}
         for at, name in [*self._by_text(places), *self._by_key(places), *self._by_thread_local(places)]:
             found[at].append(name)
+        nameless = [at for at in places if not found[at]]
+        if nameless:
+            found.update(self._by_owner(nameless, others))
         return found
+
+    def _by_owner(self, places: Sequence[int], others: Sequence[int]) -> Dict[int, List[Name]]:
+        """Returns the names of the nearest owners that have any. A name that another object has too names nothing."""
+        owners = self._owners([*places, *others])
+        keyed = self._keyed_names({owner for steps in owners.values() for step in steps for owner in step})
+        names = {at: [{name for owner in step for name in keyed[owner]} for step in steps] for at, steps in owners.items()}
+        found = {}
+        for at in places:
+            of_others = {name for other in names if other != at for step in names[other] for name in step}
+            telling = (sorted(step - of_others) for step in names[at])
+            nearest: List[Tuple[str, str]] = next(filter(None, telling), [])
+            found[at] = [Name(how, self._text(text) if text else "") for how, text in nearest[:OWNER_NAMES]]
+        return found
+
+    def _owners(self, places: Sequence[int]) -> Dict[int, List[List[Referrer]]]:
+        """Returns what leads to the object at each of these places, one reference above it, two, and so on."""
+        owners: Dict[int, List[List[Referrer]]] = {at: [] for at in places}
+        seen = {at: {self.dump.id(at + 1)} for at in places}
+        above = {at: set(ids) for at, ids in seen.items()}
+        for _ in range(STEPS):
+            referrers: Dict[int, List[Referrer]] = {}
+            for each in self.objects.referrers_of({target for targets in above.values() for target in targets}):
+                referrers.setdefault(each.target, []).append(each)
+            for at in places:
+                step = [each for target in above[at] for each in referrers.get(target, ())]
+                # What has many owners is shared: they say nothing of it.
+                step = step if len(step) <= MOST_OWNERS else []
+                owners[at].append(step)
+                above[at] = {self.dump.id(each.place + 1) for each in step} - seen[at]
+                seen[at] |= above[at]
+        return owners
+
+    def _keyed_names(self, owners: Iterable[Referrer]) -> Dict[Referrer, Set[Tuple[str, str]]]:
+        """Returns what names each of these owners: in words, and the text. Walks over all objects three times."""
+        targets = {each: self._naming_targets(each) for each in owners}
+        places = self.objects.places_of({target for found in targets.values() for target in found.values()})
+        inner = {target: self._inner_texts(at) for target, at in places.items()}
+        strings = {target for found in targets.values() for target in found.values()}
+        strings.update(text for found in inner.values() for text in found.values())
+        texts = self.objects.texts(strings)
+        names: Dict[Referrer, Set[Tuple[str, str]]] = {}
+        for owner, found in targets.items():
+            class_name = family(self.dump.names.get(self.objects.class_of(owner.place), ""))
+            static = self._static_of(owner)
+            names[owner] = {(static, "")} if static else set()
+            own = {field: texts[target] for field, target in found.items() if texts.get(target)}
+            best = best_of(own)
+            if best is not None:
+                how = "the map's key" if class_name in NODE_CLASSES else f"of {class_name}, its field {best}"
+                names[owner].add((how, own[best]))
+            for field, target in found.items():
+                for name, text in inner.get(target, {}).items():
+                    if texts.get(text):
+                        names[owner].add((f"of {class_name}, its field {field}.{name}", texts[text]))
+        return names
+
+    def _naming_targets(self, owner: Referrer) -> Dict[str, int]:
+        """Returns the objects that may name an owner, by the fields of it: of the node of a map only its key."""
+        if self.dump.bytes[owner.place] != hprof.INSTANCE:
+            return {}
+        found = self._references(owner.place)
+        if self.dump.names.get(self.objects.class_of(owner.place)) in NODE_CLASSES:
+            found = {field: target for field, target in found.items() if field == "key"}
+        return {field: target for field, target in found.items() if target != owner.target}
+
+    def _inner_texts(self, at: int) -> Dict[str, int]:
+        """Returns the objects in those fields of the object at `at` that are called like names. The name of a thread
+        says nothing of what refers to it."""
+        if self.dump.bytes[at] != hprof.INSTANCE or self.objects.place_of_value(at, "java/lang/Thread", "name"):
+            return {}
+        return {field: target for field, target in self._references(at).items() if is_naming(field)}
+
+    def _static_of(self, owner: Referrer) -> str:
+        """Returns the static field by which a class owns an object, empty if the owner is no class."""
+        if self.dump.bytes[owner.place] != hprof.CLASS_DUMP:
+            return ""
+        return f"static {self.dump.names[self.dump.id(owner.place + 1)]}.{owner.field}"
 
     def _text(self, text: str) -> str:
         return shown_text(text) if self.shows_values else ""
@@ -68,9 +165,7 @@ class ObjectNames:
         texts = self.objects.texts({target for of_object in fields.values() for target in of_object.values()})
         for at, of_object in fields.items():
             named = {field: texts[target] for field, target in of_object.items() if texts.get(target)}
-            best = next((name for name in NAMING if name in named), None)
-            if best is None and len(named) == 1:
-                best = next(iter(named))
+            best = best_of(named)
             if best is not None:
                 yield at, Name(f"its field {best}", self._text(named[best]))
 

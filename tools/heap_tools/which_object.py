@@ -14,6 +14,8 @@ from heap_tools.reports import Amount
 FEWEST_OBJECTS, MOST_OBJECTS = 2, 100_000
 #: The share of what all hold, in percent, that one must hold to be named, and that those named must hold together.
 OF_ONE, OF_ALL = 20, 50
+#: With how many other objects the names of those are compared.
+OTHERS = 3
 #: The most runs of heapmark for one field.
 MOST_RUNS = 30
 
@@ -57,7 +59,9 @@ class ObjectSearch:
         found = self._heaviest(values)
         if sum(self._percent(amount) for _, amount in found) < OF_ALL:
             return []
-        names = ObjectNames(objects.dump, shows_values).names_of([value.instance for value, _ in found])
+        heavy = [value.instance for value, _ in found]
+        others = [value.instance for value in values if value.instance not in heavy][:OTHERS]
+        names = ObjectNames(objects.dump, shows_values).names_of(heavy, others)
         return [
             HoldingObject(
                 family(objects.dump.names[objects.class_of(value.instance)]),

@@ -22,11 +22,13 @@ from tests.support.services import (
     handler,
     journal,
     lambdas,
+    library_map,
     many_caches,
     moved,
     noisy,
     of_customer,
     of_main,
+    referents,
     reporters,
     running,
     swapped,
@@ -197,6 +199,18 @@ class LeaksTest(ToolTest):
         payload = [columns_of(each) for each in self.ran("monday", "friday").out.splitlines()][-1]
         self.assertEqual(payload[-2:], ["20 to 80", f"{self.PATH} > shop/Order.text"])
         self.assertIn("accumulation point", self.ran("--help").out)
+
+    def test_collections(self) -> None:
+        """The field of an own class comes before that of a map which inherits from a collection of the JDK's."""
+        names = [row[-1] for row in self.found(library_map(20), library_map(80))]
+        top = "static shop/Service.STORE"
+        self.assertEqual(names[:3], [f"{top} > shop/Store.map", top, f"{top} > shop/Store.map > lib/LargeMap.segments"])
+
+    def test_topmost_of_what_leaks(self) -> None:
+        """Of fields whose holders became more, the topmost comes first, though it has more holders."""
+        rows = self.found(referents(20), referents(80))
+        top = "lib/Reference.referent"
+        self.assertEqual([row[-2:] for row in rows], [["50 to 110", top], ["20 to 80", f"{top} > shop/Page.text"]])
 
     def test_object_first(self) -> None:
         """A field of which one object of many holds most comes before what is above it."""

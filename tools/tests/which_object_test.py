@@ -3,12 +3,13 @@
 import os
 import pathlib
 import unittest
-from typing import List
+from typing import List, Sequence
 from unittest import mock
 
 from heap_tools.candidates import Candidates
 from heap_tools.dump_runs import DumpRuns
 from heap_tools.heap_dump import HeapDump
+from heap_tools.heap_objects import HeapObjects
 from heap_tools.heapmark import Heapmark
 from heap_tools.object_names import ObjectNames, shown_text
 from heap_tools.probe import Probe
@@ -92,14 +93,16 @@ class WhichObjectTest(ToolTest):
 class NamesTest(ToolTest):
     """What names an object."""
 
-    def names(self, dump: DumpWriter, *numbers: int, shows_values: bool = True) -> List[List[str]]:
-        """Returns the names of the objects with these identifiers."""
+    def names(
+        self, dump: DumpWriter, *numbers: int, shows_values: bool = True, others: Sequence[int] = ()
+    ) -> List[List[str]]:
+        """Returns the names of the objects with these identifiers, beside those with the identifiers `others`."""
         pathlib.Path("dump").write_bytes(dump.bytes().replace(b"int__", b"value"))
         file = open("dump", "rb")
         self.addCleanup(file.close)
         names = ObjectNames(HeapDump(file), shows_values)
-        places = names.objects.places_of(numbers)
-        found = names.names_of([places[number] for number in numbers])
+        places = names.objects.places_of([*numbers, *others])
+        found = names.names_of([places[number] for number in numbers], [places[number] for number in others])
         return [[str(each) for each in found[places[number]]] for number in numbers]
 
     def test_keys(self) -> None:
@@ -123,6 +126,51 @@ class NamesTest(ToolTest):
         dump.instance(62_000, 7, 1000, 210)
         local = "the thread-local static shop/Queues.LOCAL"
         self.assertEqual(self.names(dump, 1000, 62_000), [['its field name "queue 0"', local], [local]])
+
+    def test_owners(self) -> None:
+        """An object without a name has that of the nearest object that leads to it, unless others have it, too."""
+        dump = Queues([])
+        dump.of_class(20, "shop/Atom", fields=["state"])
+        dump.of_class(21, "shop/Var", fields=["root", "symbol", "space", "thread"])
+        dump.of_class(22, "shop/Symbol", fields=["name"])
+        dump.of_class(23, "java/lang/Thread", fields=["name"])
+        dump.of_class(24, "shop/Box", fields=["atom"])
+        dump.of_class(25, "[Lshop/Box;")
+        dump.of_class(26, "shop/Shelf", {"BOXES": 340}, fields=["boxes", "labelName"])
+        for number, text in enumerate(("sessions", "carts", "shop", "main")):
+            dump.string(60_000 + number, text)
+            dump.instance(320 + number, 23 if text == "main" else 22, 60_000 + number)
+        for number in range(2):
+            dump.instance(300 + number, 20, 0)
+            dump.instance(310 + number, 21, 300 + number, 320 + number, 322, 323 if number else 0)
+        dump.instance(302, 20, 0)
+        dump.instance(330, 24, 302)
+        dump.array(340, 25, 0, 330)
+        dump.instance(341, 26, 340, 60_002)
+        symbols = [[f'of shop/Var, its field symbol.name "{name}"'] for name in ("sessions", "carts")]
+        self.assertEqual(self.names(dump, 300, others=[301]), symbols[:1])
+        self.assertEqual(self.names(dump, 301, others=[300]), symbols[1:])
+        hidden = self.names(dump, 300, others=[301], shows_values=False)
+        self.assertEqual(hidden, [["of shop/Var, its field symbol.name"]])
+        shelf = 'of shop/Shelf, its field labelName "shop"'
+        self.assertEqual(self.names(dump, 302, others=[301]), [[shelf, "static shop/Shelf.BOXES"]])
+
+    def test_references(self) -> None:
+        """Bytes that look like an identifier are no reference if they are in a number or across values."""
+        dump = Queues([])
+        dump.of_class(20, "shop/Atom", fields=["state"])
+        dump.of_class(21, "shop/Pair", {"LAST": 300}, fields=["first", "second", "intCount"])
+        dump.of_class(22, "[Lshop/Atom;")
+        dump.instance(300, 20, 0)
+        dump.instance(310, 21, 301, 300, word(300))
+        dump.values(311, BYTE, dump.form.spell([300]) * 3)
+        dump.array(312, 22, 301, 300, 300)
+        dump.write("dump")
+        with open("dump", "rb") as file:
+            read = HeapDump(file)
+            objects = HeapObjects(read)
+            found = [(read.id(each.place + 1), each.field) for each in objects.referrers_of([300])]
+        self.assertEqual(sorted(found), [(21, "LAST"), (310, "second"), (312, ""), (312, "")])
 
     def test_one_text(self) -> None:
         """The only text of an object names it, whatever its field is called; of several, a likely one."""

@@ -305,3 +305,29 @@ def reporters(count: int, minutes: int = 0) -> Service:
         dump.values(75000 + number, BYTE, bytes(100))
         dump.local(number, 0, 75000 + number)
     return dump
+
+
+def library_map(count: int) -> Service:
+    """A static field has a store, whose field is a map of a library: that has the orders, and inherits from a map of
+    the JDK's."""
+    dump = Service()
+    dump.of_class(6, "shop/Service", {"STORE": 600})
+    dump.of_class(7, "shop/Store", fields=["map"])
+    dump.of_class(8, "java/util/AbstractMap")
+    dump.of_class(9, "lib/LargeMap", fields=["segments"], superclass=8)
+    dump.instance(600, 7, 601)
+    dump.instance(601, 9, 5000)
+    dump.orders(count)
+    dump.root(6)
+    return dump
+
+
+def referents(count: int) -> Service:
+    """There are 30 references more than orders, and each is a root. Of `count` of them the referent is an order."""
+    dump = Service()
+    dump.orders(count, name="shop/Page")
+    dump.of_class(6, "lib/Reference", fields=["referent"])
+    for number in range(600, 630 + count):
+        dump.instance(number, 6, number - 600 + 5001 if number < 600 + count else 0)
+        dump.root(number)
+    return dump
