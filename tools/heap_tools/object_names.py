@@ -27,7 +27,7 @@ THREAD_LOCAL = f"{ENTRY}.value"
 #: The classes of boxed numbers, whose value a key may be.
 BOXES = {"java/lang/Integer": 4, "java/lang/Long": 8, "java/lang/Short": 2, "java/lang/Byte": 1}
 #: How many references above an object its owners are looked for, and how many of them are looked at for each object.
-STEPS, MOST_OWNERS = 3, 12
+STEPS_ABOVE, MOST_OWNERS = 3, 12
 #: How many names of owners are shown.
 OWNER_NAMES = 2
 #: How many characters of a text are shown.
@@ -97,7 +97,7 @@ class ObjectNames:
         owners: Dict[int, List[List[Referrer]]] = {at: [] for at in places}
         seen = {at: {self.dump.id(at + 1)} for at in places}
         above = {at: set(ids) for at, ids in seen.items()}
-        for _ in range(STEPS):
+        for _ in range(STEPS_ABOVE):
             referrers: Dict[int, List[Referrer]] = {}
             for each in self.objects.referrers_of({target for targets in above.values() for target in targets}):
                 referrers.setdefault(each.target, []).append(each)
