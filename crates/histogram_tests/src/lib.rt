@@ -2,8 +2,8 @@
 //! use only its public functions. This crate exports nothing.
 //!
 //! `reading` has readers that end, fail or never end, `writing` the worked reports (`reports`) and writers that fail,
-//! `names` the names in a report, `error_texts` the texts of the errors, `memory` each allocation that fails, and
-//! `parts` what is counted in parts. `graphs` makes the graph of a dump.
+//! `names` the names in a report, `error_texts` the texts of the errors, `memory` each allocation that fails, `peaks`
+//! the memory in use, and `parts` what is counted in parts. `graphs` makes the graph of a dump.
 
 #![tactic(auto)]
 
@@ -17,6 +17,8 @@ mod memory;
 mod names;
 #[cfg(test)]
 mod parts;
+#[cfg(test)]
+mod peaks;
 #[cfg(test)]
 mod reading;
 #[cfg(test)]

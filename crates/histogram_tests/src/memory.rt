@@ -84,7 +84,7 @@ fn rows_of_two_objects<T: Threads + Wait + Sync>(rt: &T, alloc: Global) -> Optio
 }
 
 #[test]
-fn rows_or_want_of_memory(rt: HostRuntime) {
+fn rows_or_out_of_memory(rt: HostRuntime) {
     let requests = rows_of_two_objects(&rt, rt.alloc());
     // The list of lines, and a name for each of two lines.
     assert_eq!(rt; requests, Some(3));
@@ -116,7 +116,7 @@ fn written_in_turn(alloc: Global) -> Option<u64> {
 }
 
 #[test]
-fn want_of_memory_writes_nothing(rt: HostRuntime) {
+fn nothing_is_written_if_an_allocation_fails(rt: HostRuntime) {
     let requests = written_in_turn(rt.alloc());
     assert!(rt; requests.is_some_and(|requests| requests > 0));
 }
@@ -163,7 +163,7 @@ fn reads_block_in_turn(alloc: Global, case: Case) -> bool {
 }
 
 #[test]
-fn want_of_memory_is_no_read_fault(rt: HostRuntime) {
+fn out_of_memory_is_no_read_fault(rt: HostRuntime) {
     for case in FEW {
         assert!(rt; reads_in_turn(rt.alloc(), b"heap", case), "{case:?}");
     }
