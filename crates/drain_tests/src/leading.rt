@@ -242,7 +242,8 @@ fn a_leader_without_buffers_drains(rt: HostRuntime) -> Result<(), Fail> {
 }
 
 /// The least time that a worker waits for another, in milliseconds. Its naps add up to 300. If all were as short as the
-/// first ones they would add up to 50, and to 130 with what the system adds to each. A busy machine only lengthens them.
+/// first ones they would add up to 50, and to 130 with what the system adds to each. A busy machine only lengthens
+/// them.
 const LEAST_WAIT: u64 = 250;
 
 /// Marks the wide array with two workers, of which only the first has a pair when the second is started.

@@ -98,7 +98,7 @@ fn requests_to_mark_array<T: Threads + Wait + Sync>(
 }
 
 #[test]
-fn want_of_memory_starts_no_thread(rt: HostRuntime) -> Result<(), Fail> {
+fn no_thread_is_started_if_an_allocation_fails(rt: HostRuntime) -> Result<(), Fail> {
     let requests = requests_to_mark_array(&rt, rt.alloc())?;
     // The words, the slots, six buffers, two blocks of the table, the list of threads, that of returned workers, that
     // of tallies, and three tallies.
@@ -153,7 +153,7 @@ fn array_told<T: Threads + Wait + Sync>(
 }
 
 #[test]
-fn a_marking_answers_without_memory(rt: HostRuntime) -> Result<(), Fail> {
+fn a_marked_graph_allocates_nothing(rt: HostRuntime) -> Result<(), Fail> {
     let told = array_told(&rt, rt.alloc())?;
     assert_eq!(rt; told, Ok((0, (true, false, 62, (61, 240), 0), 0)));
     Ok(())
