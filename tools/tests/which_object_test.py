@@ -20,9 +20,10 @@ from tests.support.tool_test import HEAPMARK, ToolTest
 
 
 class Queues(DumpWriter):
-    """A static field names an array of queues. Queue `n` has the identifier 1000 + n, a name, and an array of bytes."""
+    """A static field names an array of queues. Queue `n` has the identifier 1000 + n, a name, and an array of bytes.
+    The queues `sharing` have one array."""
 
-    def __init__(self, sizes: List[int], id_size: int = 8) -> None:
+    def __init__(self, sizes: List[int], id_size: int = 8, sharing: Sequence[int] = ()) -> None:
         super().__init__(id_size)
         self.of_class(1, "shop/Queues", {"ALL": 200, "LOCAL": 210})
         self.of_class(2, "[Lshop/Queue;")
@@ -36,7 +37,8 @@ class Queues(DumpWriter):
         self.array(200, 2, *range(1000, 1000 + len(sizes)))
         self.instance(210, 9)
         for number, size in enumerate(sizes):
-            self.instance(1000 + number, 4, word(size), 20_000 + number, 30_000 + number)
+            content = 30_000 + (sharing[0] if number in sharing else number)
+            self.instance(1000 + number, 4, word(size), 20_000 + number, content)
             self.string(20_000 + number, f"queue {number}")
             self.values(30_000 + number, BYTE, bytes(size))
         self.root(1)
@@ -76,6 +78,18 @@ class WhichObjectTest(ToolTest):
         found = self.search(Queues([3] * 20 + [1000, 3, 9000, 3, 7000])).find(shows_values=False)
         self.assertEqual([each.amount.bytes for each in found], [9000, 7000])
         self.assertEqual([str(name) for each in found for name in each.names], ["its field name"] * 2)
+
+    def test_sharing(self) -> None:
+        """What two hold only together names neither of them."""
+        found = self.search(Queues([60, 9_000, 4_000, 0, 10], sharing=[2, 3])).find()
+        self.assertEqual([each.amount.bytes for each in found], [9_000])
+        self.assertEqual(self.search(Queues([60, 900, 9_000, 0, 10], sharing=[2, 3])).find(), [])
+
+    def test_most(self) -> None:
+        """Those that are named hold at least half of what all do."""
+        for size, wanted in ((6_000, []), (7_100, [7_100])):
+            found = self.search(Queues([100] * 35 + [size] + [100] * 35)).find()
+            self.assertEqual([each.amount.bytes for each in found], wanted)
 
     def test_spread(self) -> None:
         """Where many hold a little each, none is named, and few runs say so."""
