@@ -1,8 +1,6 @@
 #!/usr/bin/env python3
 """Tests the figures and the path of the first line of tools/leaks by another marker, on two or more dumps.
 
-usage: bench/leak_figures.py PLAIN BEFORE AFTER..
-
 PLAIN is the plain marker, built as bench/README.md says. heapmark is the binary of crates/heapmark/out, or what the
 variable HEAPMARK names. tools/leaks runs with heapmark. Then copies of the first dump and of the last one are written
 to files: as leaks asks them (weak references, and calls that are running, cut as it says), and without the fields of
@@ -15,6 +13,9 @@ Prints a line: `same` or what differs, the first line's field, and how many runs
 a figure or a step of the path is wrong.
 """
 
+from __future__ import annotations
+
+import argparse
 import contextlib
 import io
 import os
@@ -22,37 +23,47 @@ import pathlib
 import subprocess
 import sys
 import tempfile
+from collections.abc import Sequence
 
 TOP = pathlib.Path(__file__).resolve().parent.parent
 sys.dont_write_bytecode = True
 sys.path.insert(0, str(TOP / "tools"))
 os.environ.setdefault("HEAPMARK", str(TOP / "crates/heapmark/out/heapmark"))
 
-from heap_tools.candidates import joint_name  # noqa: E402
-from heap_tools.changed_copy import write_copy  # noqa: E402
+from heap_tools.candidates import Candidate, joint_name  # noqa: E402
+from heap_tools.changed_copy import Changes, write_copy  # noqa: E402
 from heap_tools.commands import held, leaks  # noqa: E402
+from heap_tools.dump_runs import DumpRuns  # noqa: E402
 from heap_tools.faults import Fault  # noqa: E402
-from heap_tools.reports import read_report  # noqa: E402
+from heap_tools.leak_lines import Line  # noqa: E402
+from heap_tools.probe import GrowthProbe, Probe  # noqa: E402
+from heap_tools.reports import Amount, Report, read_report  # noqa: E402
+
+#: What a line shows: what was held before and after, and the share of the growth in percent.
+Figures = tuple[Amount, Amount, int]
 
 
-def report_of(plain, runs, changes):
+def report_of(plain: str, runs: DumpRuns, changes: Changes) -> Report:
     """Returns the plain marker's report of a copy of the dump with these changes."""
     with tempfile.NamedTemporaryFile(dir=os.environ.get("TMPDIR")) as file:
         write_copy(runs.dump, open(file.name, "wb", 0), {**runs.cut, **changes}, runs.roots)
         ran = subprocess.run([plain, file.name], stdout=subprocess.PIPE, stderr=subprocess.DEVNULL, check=True)
-    return read_report(ran.stdout.splitlines(), plain)
+    report = read_report(ran.stdout.splitlines(), plain)
+    assert report, f"{plain}: no report"
+    return report
 
 
-def changes_of(probe, candidates):
+def changes_of(probe: Probe, candidates: Sequence[Candidate]) -> Changes:
     """Returns the changes of the dump of `probe` by which these candidates lead nowhere."""
     return {place: new for each in candidates for place, new in probe.changes(each).items()}
 
 
-def figures(plain, probe, line):
+def figures(plain: str, probe: GrowthProbe, line: Line) -> tuple[Figures, Figures]:
     """Returns what the line shows, and the same by the plain marker."""
     totals = []
     for each in (probe.earlier, probe):
-        base, without = (report_of(plain, each.runs, cut) for cut in ({}, changes_of(each, line.held.candidates)))
+        base = report_of(plain, each.runs, {})
+        without = report_of(plain, each.runs, changes_of(each, line.held.candidates))
         totals.append((base.total(probe.families), base.total(probe.families).minus(without.total(probe.families))))
     (was, before), (now, after) = totals
     unit = probe.unit
@@ -60,9 +71,10 @@ def figures(plain, probe, line):
     return (line.before, line.held.amount, round(line.share)), (before, after, round(share))
 
 
-def wrong_steps(plain, probe, line):
+def wrong_steps(plain: str, probe: GrowthProbe, line: Line) -> list[str]:
     """Returns the steps of the line's path of which the upper one does not hold all that the lower one does."""
-    path, found = [*line.above, line.held], []
+    found: list[str] = []
+    path = [*line.above, line.held]
     for upper, lower in zip(path, path[1:]):
         alone, both = (
             report_of(plain, probe.runs, changes_of(probe, candidates)).reachable
@@ -73,7 +85,7 @@ def wrong_steps(plain, probe, line):
     return found
 
 
-def hangs_by(path, candidates):
+def hangs_by(path: str, candidates: Sequence[Candidate]) -> int:
     """Returns the bytes that held says hang by these candidates."""
     if any(each.kind in ("local", "thread", "threads") for each in candidates):
         texts = [str(each) for each in candidates]
@@ -87,12 +99,15 @@ def hangs_by(path, candidates):
     return max(found)
 
 
-def main():
+def main() -> int:
     """Does what the top of this file says, and returns the exit status."""
-    if len(sys.argv) < 4 or sys.argv[1] in ("-h", "--help"):
-        sys.stdout.write(__doc__)
-        return 0 if sys.argv[1:2] in (["-h"], ["--help"]) else 2
-    plain, words = sys.argv[1], sys.argv[2:]
+    parser = argparse.ArgumentParser(description=__doc__, formatter_class=argparse.RawDescriptionHelpFormatter)
+    parser.add_argument("plain", metavar="PLAIN", help="the plain marker, built")
+    parser.add_argument("dumps", metavar="DUMP", nargs="+", help="two or more dumps, the earliest first")
+    given = parser.parse_args()
+    if len(given.dumps) < 2:
+        parser.error("two dumps or more")
+    plain, words = given.plain, given.dumps
     with contextlib.redirect_stderr(io.StringIO()):
         comparison, answer, _ = leaks.compared(leaks.parser().read(words), words)
     if not answer.lines:
@@ -111,8 +126,8 @@ def main():
             continue
         if sizes[0] < sizes[1]:
             notes.append(f"held alone: {sizes[0]:,} bytes by {joint_name(upper.candidates)}, {sizes[1]:,} below it")
-    print("; ".join(["DIFFERS: " + "; ".join(wrong) if wrong else "same", f"{comparison.heapmark.runs} runs", *notes,
-                     line.path()]))
+    verdict = "DIFFERS: " + "; ".join(wrong) if wrong else "same"
+    print("; ".join([verdict, f"{comparison.heapmark.runs} runs", *notes, line.path()]))
     return 1 if wrong else 0
 
 

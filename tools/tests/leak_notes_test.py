@@ -39,7 +39,7 @@ class LeakNotesTest(unittest.TestCase):
     def found(self, answer: Answer, **by_name: Any) -> Any:
         """Returns what is found if it is known of each line which objects hold most, and the lines that were tried."""
         known = {id(each.held): by_name.get(key) for key, each in zip(("own", "top", "node", "list"), LINES)}
-        with mock.patch("heap_tools.leak_notes.objects_that_hold") as asked:
+        with mock.patch("heap_tools.leak_notes.objects_to_show") as asked:
             asked.side_effect = lambda probe, held, shows_values: known[id(held)]
             found = line_objects(answer, True)
         return found, [str(call[0][1].candidates[0]) for call in asked.call_args_list]
