@@ -19,8 +19,9 @@ WEAK = "java/lang/ref/Reference.referent"
 #: The list of the threads of a group, up to JDK 18, and that of the classes of a loader.
 GROUP, LOADED_CLASSES = "java/lang/ThreadGroup.threads", "java/lang/ClassLoader.classes"
 
-#: The classes that collections of the JDK, of libraries and of users inherit from.
+#: The classes that collections of the JDK, of libraries and of users inherit from, and what names of others end with.
 COLLECTIONS = {"java/util/AbstractCollection", "java/util/AbstractMap", "java/util/Dictionary"}
+CALLED_COLLECTIONS = ("Map", "List", "Set")
 
 #: A kind and a name: what a candidate is called in another dump of the program, too.
 Key = Tuple[str, str]
@@ -166,9 +167,11 @@ class Candidates:
         return sorted(found, key=lambda each: (each.count, each.name))
 
     def _is_collection(self, class_id: int) -> bool:
-        """Tests whether a class is of the JDK's package of collections, or inherits from one of its collections."""
+        """Tests whether a class is of the JDK's package of collections, inherits from one of its collections, or is
+        called like one, or within one."""
         names, classes = self.dump.names, self.dump.classes
-        if names[class_id].startswith("java/util/"):
+        name = names[class_id]
+        if name.startswith("java/util/") or any(part.endswith(CALLED_COLLECTIONS) for part in name.split("$")):
             return True
         while class_id in classes:
             if names[class_id] in COLLECTIONS:

@@ -11,7 +11,7 @@ from heap_tools.direct_buffers import more_direct_memory
 from heap_tools.humanize import counted
 from heap_tools.leak_lines import MOST_OF_LARGEST, Answer, Line
 from heap_tools.thread_counts import ThreadCount, grown_thread_counts
-from heap_tools.which_object import FEWEST_OBJECTS, MOST_OBJECTS, HoldingObject, objects_that_hold
+from heap_tools.which_object import FEWEST_OBJECTS, MOST_OBJECTS, HoldingObject, objects_to_show
 
 #: How many patterns of names of threads are said.
 PATTERNS = 3
@@ -29,7 +29,7 @@ class LineObjects(NamedTuple):
     def __str__(self) -> str:
         found = "; ".join(map(str, self.objects))
         field = joint_name(self.line.held.candidates)
-        hold = "holds" if len(self.objects) == 1 else "hold"
+        hold = "gained" if self.objects[0].has_gained else "holds" if len(self.objects) == 1 else "hold"
         return f"line {self.number}: {len(self.objects)} of {self.line.held.holders:,} {field} {hold} most: {found}"
 
 
@@ -85,7 +85,7 @@ def line_objects(answer: Answer, shows_values: bool) -> Optional[LineObjects]:
     asked.sort(key=lambda numbered: not numbered[1].held.is_own)
     nameless = None
     for number, line in asked[:TRIED]:
-        found = objects_that_hold(answer.probe, line.held, shows_values)
+        found = objects_to_show(answer.probe, line.held, shows_values)
         if found and any(each.names for each in found):
             return LineObjects(number, line, found)
         if found and nameless is None:

@@ -1,6 +1,7 @@
 """What names an object of a dump: a text in it, its key in a map, the static field of a thread-local, or what names an
 object that leads to it."""
 
+import re
 from typing import Dict, Iterable, List, NamedTuple, Optional, Sequence, Set, Tuple
 
 from heap_tools import hprof_format as hprof
@@ -55,6 +56,11 @@ def is_naming(field: str) -> bool:
     return field in NAMING or field.endswith("Name")
 
 
+def last_field(how: str) -> str:
+    """Returns the last field of those that name an object."""
+    return re.split("[ .]", how)[-1]
+
+
 def best_of(named: Dict[str, str]) -> Optional[str]:
     """Returns which of the fields with these texts names their object, or None."""
     likely = [field for field in NAMING if field in named] or [field for field in named if is_naming(field)]
@@ -87,7 +93,7 @@ class ObjectNames:
         found = {}
         for at in places:
             of_others = {name for other in names if other != at for step in names[other] for name in step}
-            telling = (sorted(step - of_others) for step in names[at])
+            telling = (sorted(step - of_others, key=lambda name: (not is_naming(last_field(name[0])), name)) for step in names[at])
             nearest: List[Tuple[str, str]] = next(filter(None, telling), [])
             found[at] = [Name(how, self._text(text) if text else "") for how, text in nearest[:OWNER_NAMES]]
         return found

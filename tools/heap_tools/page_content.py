@@ -25,7 +25,7 @@ def content_of(comparison: Comparison, answer: Answer, notes: Notes, shows_value
     probe = answer.probe
     of_class = probe.families[0] if probe.families and len(probe.families) == 1 else None
     reports = [runs.report for runs in comparison.dumps]
-    grown = grown_classes(reports, probe.unit)
+    grown = growth_entries(reports, probe.unit)
     names = [of_class] if of_class else [each.name for each in grown]
     return page.Leak(
         dumps=[dump_of(runs) for runs in comparison.dumps],
@@ -46,7 +46,7 @@ def content_of(comparison: Comparison, answer: Answer, notes: Notes, shows_value
     )
 
 
-def grown_classes(reports: Sequence[Report], unit: Unit) -> List[page.GrownClass]:
+def growth_entries(reports: Sequence[Report], unit: Unit) -> List[page.GrownClass]:
     """Returns the classes that grew between the first report and the last, with their amounts in each. Class objects
     are no class of the program, and are left out."""
     names = [each.name for each in growths(reports, unit) if each.name != CLASSES]

@@ -172,6 +172,10 @@ class Search:
         bound = self.probe.bound(candidates) if candidates else 0.0
         return bound if bound < least else self.probe.share(candidates)
 
+    def has_share(self, candidates: Sequence[Candidate]) -> bool:
+        """Tests whether `candidates` have the share that each line must have."""
+        return self.share_or_bound(candidates, self.at_least) >= self.at_least
+
     # What holds enough only together
 
     def look_in_few_together(self, fields: Sequence[Candidate]) -> None:
@@ -185,8 +189,9 @@ class Search:
             return
         rest = self.unknown([*self.probe.candidates.statics(), *self.threads(), *fields])
         whole = self.share_or_bound(rest, self.at_least)
-        needed = self.needed(rest, [], 0, PART_NEEDED * whole) if whole >= self.at_least else []
-        if 0 < len(needed) <= MOST_NEEDED:
+        least = max(PART_NEEDED * whole, self.at_least)
+        needed = self.needed(rest, [], 0, least) if whole >= self.at_least else []
+        if len(needed) <= MOST_NEEDED and self.has_share(needed):
             self.found.append(self.probe.retained(needed))
 
     def threads(self) -> List[Candidate]:
@@ -209,7 +214,7 @@ class Search:
         base = self.share_or_bound(alone, 0.0) if whole - best >= self.at_least else whole
         if whole - base < self.at_least:
             return
-        least = (base + whole) / 2
+        least = max((base + whole) / 2, self.at_least)
         known = {each.key for each in alone}
         rest = [each for each in statics if each.key not in known]
         own = [each for each in rest if each.is_own]
@@ -218,9 +223,9 @@ class Search:
         if self.look_in_kin(self.unknown(rest)):
             return
         needed = self.needed(rest, alone, base, least)
-        if needed:
-            is_enough = self.share_or_bound(needed, self.at_least) >= self.at_least
-            self.found.append(self.probe.retained(needed if is_enough else [*alone, *needed]))
+        together = needed if self.has_share(needed) else [*alone, *needed]
+        if needed and self.has_share(together):
+            self.found.append(self.probe.retained(together))
 
     def look_in_kin(self, group: Sequence[Candidate]) -> bool:
         """Finds those of `group` that hold enough only together, of one class or else of one package. Returns whether
@@ -231,8 +236,9 @@ class Search:
             while units:
                 unit, units, likely = self.halved(units, likely)
                 if unit and self.probe.share(unit) >= self.at_least:
-                    least = PART_NEEDED * self.probe.share(unit)
-                    self.found.append(self.probe.retained(self.needed(list(unit), [], 0, least) or unit))
+                    least = max(PART_NEEDED * self.probe.share(unit), self.at_least)
+                    needed = self.needed(list(unit), [], 0, least)
+                    self.found.append(self.probe.retained(needed if self.has_share(needed) else unit))
             if len(self.found) > known:
                 return True
         return False

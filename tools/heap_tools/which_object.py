@@ -7,7 +7,7 @@ from heap_tools.changed_copy import Changes
 from heap_tools.class_names import family
 from heap_tools.heap_objects import FieldValue, HeapObjects
 from heap_tools.object_names import Name, ObjectNames
-from heap_tools.probe import Probe, Retained
+from heap_tools.probe import GrowthProbe, Probe, Retained
 from heap_tools.reports import Amount
 
 #: Of how many holders it is asked which of them hold most.
@@ -22,12 +22,13 @@ MOST_RUNS = 30
 
 class HoldingObject(NamedTuple):
     """An object that holds much of what a field holds: its class, what names it, what it holds, and the share of that
-    in percent."""
+    in percent. `has_gained`: the share is that of what it gained in what the field gained."""
 
     class_name: str
     names: List[Name]
     amount: Amount
     percent: float
+    has_gained: bool = False
 
     @property
     def named_by(self) -> str:
@@ -40,15 +41,17 @@ class HoldingObject(NamedTuple):
 
 class ObjectSearch:
     """Looks for the instances that hold most of what `held`, one field of instances, holds in the dump that `probe`
-    asks. A group holds at least what each of it does, so groups that hold too little are not looked into."""
+    asks. Shares are in percent of `whole`. A group holds at least what each of it does, so groups that hold too little
+    are not looked into."""
 
-    def __init__(self, probe: Probe, held: Retained) -> None:
+    def __init__(self, probe: Probe, held: Retained, whole: Optional[Amount] = None) -> None:
         self.probe, self.held = probe, held
+        self.whole = held.amount if whole is None else whole
         self.field: Candidate = held.candidates[0]
         self.runs = 0
         self._known: Dict[Tuple[int, ...], Amount] = {}
 
-    def find(self, shows_values: bool = True) -> List[HoldingObject]:
+    def find(self) -> List[HoldingObject]:
         """Returns the objects that hold most, those that hold most of all first. Returns nothing if many hold a little
         each, or if the line is not about 2 to 100,000 instances."""
         is_field = len(self.held.candidates) == 1 and self.field.kind == FIELD
@@ -61,25 +64,25 @@ class ObjectSearch:
             return []
         heavy = [value.instance for value, _ in found]
         others = [value.instance for value in values if value.instance not in heavy][:OTHERS]
-        names = ObjectNames(objects.dump, shows_values).names_of(heavy, others)
+        names = ObjectNames(objects.dump).names_of(heavy, others)
         return [
             HoldingObject(
                 family(objects.dump.names[objects.class_of(value.instance)]),
                 names[value.instance],
                 amount,
-                self._percent(amount),
+                self.probe.unit.percent(amount, self.held.amount),
             )
             for value, amount in found
         ]
 
     def _percent(self, amount: Amount) -> float:
-        """Returns the share of an amount in what the field holds, in percent."""
-        return self.probe.unit.percent(amount, self.held.amount)
+        """Returns the share of an amount in percent."""
+        return self.probe.unit.percent(amount, self.whole)
 
     def _heaviest(self, values: Sequence[FieldValue]) -> List[Tuple[FieldValue, Amount]]:
         """Returns the instances that hold `OF_ONE` percent or more, the heaviest first, by halves."""
         found: List[Tuple[FieldValue, Amount]] = []
-        groups: List[Tuple[float, Sequence[FieldValue]]] = [(100.0, values)]
+        groups: List[Tuple[float, Sequence[FieldValue]]] = [(self._percent(self.held.amount), values)]
         while groups and self.runs < MOST_RUNS:
             groups.sort(key=lambda group: -group[0])
             bound, group = groups.pop(0)
@@ -107,7 +110,34 @@ class ObjectSearch:
         return self._known[key]
 
 
-def objects_that_hold(probe: Probe, held: Retained, shows_values: bool) -> Optional[List[HoldingObject]]:
-    """Returns the objects that hold most of what `held` holds, or None if that is no question about instances."""
-    found = ObjectSearch(probe, held).find(shows_values)
-    return found or None
+def objects_that_grew(probe: GrowthProbe, held: Retained) -> List[HoldingObject]:
+    """Returns the objects that hold most of what the field `held` holds, if it is they that gained most: none if that
+    is no question about instances, if many gained a little each, or if it is not known which did. What an object held
+    before is at most what all did. If that leaves it open, the earlier dump is asked, too, what the objects with the
+    same names held."""
+    before, gain, unit = probe.earlier.retained(held.candidates), probe.gain(held.candidates), probe.unit
+    found = ObjectSearch(probe, held, gain).find()
+    was = unit.percent(before.amount, gain)
+    sure = [each for each in found if unit.percent(each.amount, gain) - was >= OF_ONE]
+    if sure and sum(unit.percent(each.amount, gain) for each in sure) - was >= OF_ALL:
+        return sure
+    known = ObjectSearch(probe.earlier, before, gain).find() if found else []
+    shares = [min(100.0, unit.percent(gained(each, known), gain)) for each in found]
+    gains = [each._replace(percent=share, has_gained=True) for each, share in zip(found, shares)]
+    gains = sorted((each for each in gains if each.percent >= OF_ONE), key=lambda each: -each.percent)
+    return gains if sum(each.percent for each in gains) >= OF_ALL else []
+
+
+def gained(found: HoldingObject, known: Sequence[HoldingObject]) -> Amount:
+    """Returns what an object holds more than that of its class that had one of its names before: nothing if it has no
+    name."""
+    same = [each for each in known if each.class_name == found.class_name and set(each.names) & set(found.names)]
+    return found.amount.minus(same[0].amount if same else Amount()) if found.names else Amount()
+
+
+def objects_to_show(probe: GrowthProbe, held: Retained, shows_values: bool) -> List[HoldingObject]:
+    """Returns the objects that gained most of what `held` did, without texts of the dump unless `shows_values`."""
+    found = objects_that_grew(probe, held)
+    if shows_values:
+        return found
+    return [each._replace(names=[name._replace(text="") for name in each.names]) for each in found]

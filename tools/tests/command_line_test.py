@@ -1,5 +1,6 @@
 """Tests how a tool ends, and the lines that it writes on standard error."""
 
+import argparse
 import contextlib
 import os
 import subprocess
@@ -8,6 +9,7 @@ import unittest
 from typing import Any, Dict, Tuple
 
 from heap_tools import console
+from heap_tools.command_line import number
 from tests.support.tool_test import TOOLS, heed_signals
 
 
@@ -45,6 +47,18 @@ class EndTest(unittest.TestCase):
             words = [sys.executable, "-c", f"__file__ = {str(TOOLS / tool)!r}\n{text}"]
             ended = subprocess.run(words, stdout=subprocess.PIPE, stderr=subprocess.PIPE, check=False)
             self.assertEqual((ended.returncode, ended.stderr.decode()), (130, f"{tool}: interrupted\n"))
+
+
+class NumberTest(unittest.TestCase):
+    """Numbers of a command line."""
+
+    def test_number(self) -> None:
+        """A number has digits only, and is neither too small nor too large."""
+        read = number(1, 100)
+        self.assertEqual([read(text) for text in ("1", "007", "100")], [1, 7, 100])
+        for text in ("0", "101", "-1", "+1", "1.0", " 1", "1_0", "", "\u0661", "9" * 20):
+            self.assertRaises(argparse.ArgumentTypeError, read, text)
+        self.assertEqual(number()("9" * 19), 10**19 - 1)
 
 
 class LineTest(unittest.TestCase):

@@ -180,6 +180,18 @@ class LeaksTest(ToolTest):
         self.assertIn(["120", "2160", "47%", "720", "2880", "1", self.PATH], rows)
         self.assertIn("Calls that are running do not count", self.ran("--help").out)
 
+    def test_calls_that_hold_little(self) -> None:
+        """A call that holds less than a line must have does not keep others from being cut."""
+        for size, is_cut in ((500, True), (2000, False)):
+            last = running(80)
+            last.values(950, BYTE, bytes(size))
+            last.thread(9, 709, [(8, "load")])
+            last.instance(709, 9)
+            last.local(9, 0, 950)
+            names = [row[-1] for row in self.found(cache(20), last)]
+            self.assertEqual(self.PATH in names, is_cut, names)
+            self.assertEqual("local shop/Service.load" in " ".join(names), not is_cut, names)
+
     def test_order(self) -> None:
         """What grew comes before what moved, what grew at each step before what is large by chance, holders before
         what leaks itself. The number of holders that changed is shown, and the help has the reasons."""

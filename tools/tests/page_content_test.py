@@ -5,7 +5,7 @@ from typing import List, Tuple
 
 from heap_tools.candidates import FIELD, STATIC, THREADS, Candidate
 from heap_tools.leak_lines import Line
-from heap_tools.page_content import command_line, grown_classes, steps_from
+from heap_tools.page_content import command_line, growth_entries, steps_from
 from heap_tools.probe import Retained
 from heap_tools.reports import Amount, Report, Row, Unit
 
@@ -30,7 +30,7 @@ class ContentTest(unittest.TestCase):
         last = report(Row("<class>", Amount(99, 50)), Row("A", Amount(4, 32)), Row("B", Amount(3, 9)))
         last.families["C"] = Amount(9, 18)
         for unit, wanted in ((Unit.BYTES, ["A", "C"]), (Unit.OBJECTS, ["C", "A"])):
-            found = grown_classes([first, report(), last], unit)
+            found = growth_entries([first, report(), last], unit)
             self.assertEqual([each.name for each in found], wanted)
             of_a = next(each for each in found if each.name == "A")
             self.assertEqual(of_a.amounts, [Amount(1, 8), Amount(), Amount(4, 32)])

@@ -145,6 +145,12 @@ class KinTest(unittest.TestCase):
         others = [field(f"app/{number}/A.{number}") for number in range(20)]
         self.assertEqual(self.found([([[each.name]], 5) for each in others], others)[0], [])
 
+    def test_no_line_has_less(self) -> None:
+        """One of several that hold enough together is no line if it has not the share, though it holds most of it."""
+        fields = [field(f"app/A.{name}") for name in "ab"]
+        found, _ = self.found([([["app/A.a"]], 28), ([["app/A.b"]], 3)], fields)
+        self.assertEqual(found, ["together app/A.a, app/A.b"])
+
     def test_names(self) -> None:
         """Of many names only the first ones are in a line."""
         names = [field(f"A.{name}") for name in "edcba"]
@@ -225,7 +231,9 @@ class RandomTest(unittest.TestCase):
         some = 0
         for seed, probe in self.pairs(PAIRS):
             every = [each for each in self.candidates(probe) if probe.share([each]) >= AT_LEAST]
-            self.assertEqual(self.alone(self.searched(probe, 1000)), sorted(map(str, every)), seed)
+            search = self.searched(probe, 1000)
+            self.assertEqual(self.alone(search), sorted(map(str, every)), seed)
+            self.assertTrue(all(probe.share(held.candidates) >= AT_LEAST for held in search.found), seed)
             some += len(every)
             for top in (1, 4):
                 search = self.searched(probe, top)

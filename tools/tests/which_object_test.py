@@ -1,5 +1,6 @@
 """Tests which objects of many are said to hold most of what a field holds, and what names them."""
 
+import fnmatch
 import os
 import pathlib
 import unittest
@@ -20,9 +21,10 @@ from tests.support.tool_test import HEAPMARK, ToolTest
 
 
 class Queues(DumpWriter):
-    """A static field names an array of queues. Queue `n` has the identifier 1000 + n, a name, and an array of bytes."""
+    """A static field names an array of queues. Queue `n` has the identifier 1000 + n, a name, and an array of bytes.
+    The queues `sharing` have one array."""
 
-    def __init__(self, sizes: List[int], id_size: int = 8) -> None:
+    def __init__(self, sizes: List[int], id_size: int = 8, sharing: Sequence[int] = ()) -> None:
         super().__init__(id_size)
         self.of_class(1, "shop/Queues", {"ALL": 200, "LOCAL": 210})
         self.of_class(2, "[Lshop/Queue;")
@@ -36,7 +38,8 @@ class Queues(DumpWriter):
         self.array(200, 2, *range(1000, 1000 + len(sizes)))
         self.instance(210, 9)
         for number, size in enumerate(sizes):
-            self.instance(1000 + number, 4, word(size), 20_000 + number, 30_000 + number)
+            content = 30_000 + (sharing[0] if number in sharing else number)
+            self.instance(1000 + number, 4, word(size), 20_000 + number, content)
             self.string(20_000 + number, f"queue {number}")
             self.values(30_000 + number, BYTE, bytes(size))
         self.root(1)
@@ -72,10 +75,23 @@ class WhichObjectTest(ToolTest):
             self.assertLessEqual(search.runs, 2 * 9 + 1)
 
     def test_few(self) -> None:
-        """Several that hold much are found, the heaviest first; without values, only the field is said."""
-        found = self.search(Queues([3] * 20 + [1000, 3, 9000, 3, 7000])).find(shows_values=False)
+        """Several that hold much are found, the heaviest first."""
+        found = self.search(Queues([3] * 20 + [1000, 3, 9000, 3, 7000])).find()
         self.assertEqual([each.amount.bytes for each in found], [9000, 7000])
-        self.assertEqual([str(name) for each in found for name in each.names], ["its field name"] * 2)
+        names = ['its field name "queue 22"', 'its field name "queue 24"']
+        self.assertEqual([str(name) for each in found for name in each.names], names)
+
+    def test_sharing(self) -> None:
+        """What two hold only together names neither of them."""
+        found = self.search(Queues([60, 9_000, 4_000, 0, 10], sharing=[2, 3])).find()
+        self.assertEqual([each.amount.bytes for each in found], [9_000])
+        self.assertEqual(self.search(Queues([60, 900, 9_000, 0, 10], sharing=[2, 3])).find(), [])
+
+    def test_most(self) -> None:
+        """Those that are named hold at least half of what all do."""
+        for size, wanted in ((6_000, []), (7_100, [7_100])):
+            found = self.search(Queues([100] * 35 + [size] + [100] * 35)).find()
+            self.assertEqual([each.amount.bytes for each in found], wanted)
 
     def test_spread(self) -> None:
         """Where many hold a little each, none is named, and few runs say so."""
@@ -88,6 +104,37 @@ class WhichObjectTest(ToolTest):
         """One instance is no question."""
         search = self.search(Queues([100]))
         self.assertEqual((search.find(), search.runs), ([], 0))
+
+
+class GrowthTest(ToolTest):
+    """Which objects gained most of what a field gained."""
+
+    tool = "leaks"
+
+    def said(self, before: List[int], after: List[int], *words: str) -> str:
+        """Writes two dumps of queues, and returns the line on objects that leaks prints, or nothing."""
+        Queues(before).write("before")
+        Queues(after).write("after")
+        ended = self.ran("before", "after", *words)
+        return next((line for line in ended.said.splitlines() if "shop/Queue.content" in line), "")
+
+    def test_gained(self) -> None:
+        """Of several the one that grew, not those that hold more; its name shows which it was before."""
+        line = "leaks: line *: 1 of 4 shop/Queue.content gained most: shop/Queue (its field name"
+        said = self.said([9000, 100, 8000, 10], [9000, 3100, 8000, 10])
+        self.assertTrue(fnmatch.fnmatchcase(said, f'{line} "queue 1"): 100%'), said)
+        said = self.said([9000, 100, 8000, 10], [9000, 3100, 8000, 10], "--no-values")
+        self.assertTrue(fnmatch.fnmatchcase(said, f"{line}): 100%"), said)
+
+    def test_holds(self) -> None:
+        """What is larger now than all were before has grown: the earlier dump is not asked."""
+        said = self.said([90, 100, 80, 10], [90, 9000, 80, 10])
+        line = 'leaks: line *: 1 of 4 shop/Queue.content holds most: shop/Queue (its field name "queue 1"): 98%'
+        self.assertTrue(fnmatch.fnmatchcase(said, line), said)
+
+    def test_open(self) -> None:
+        """If many gained a little each, none is named, though one holds most."""
+        self.assertEqual(self.said([9000] + [100] * 40, [9000] + [200] * 40), "")
 
 
 class NamesTest(ToolTest):

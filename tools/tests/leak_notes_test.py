@@ -1,0 +1,82 @@
+"""Tests of which lines of leaks it is asked which objects hold most, and which of them then comes first."""
+
+import unittest
+from typing import Any, List
+from unittest import mock
+
+from heap_tools.candidates import FIELD, Candidate
+from heap_tools.leak_lines import Answer, Line
+from heap_tools.leak_notes import LineObjects, Notes, line_objects, with_object_first
+from heap_tools.object_names import Name
+from heap_tools.probe import Retained
+from heap_tools.reports import Amount
+from heap_tools.which_object import HoldingObject
+
+
+def line(name: str, holders: int, share: float = 90.0, before: int = 9) -> Line:
+    """Returns a line about a field with so many holders."""
+    held = Retained([Candidate(FIELD, name, holders, {})], Amount(9, 90), Amount(9, 90), {})
+    return Line(held, Amount(), share, [], before)
+
+
+def holding(*names: str) -> List[HoldingObject]:
+    """Returns an object with these names."""
+    return [HoldingObject("shop/Basket", [Name("its field name", name) for name in names], Amount(1, 80), 88.0)]
+
+
+OWN, TOP = line("shop/Basket.items", 9), line("java/util/HashMap.table", 9)
+NODE, LIST = line("java/util/HashMap$Node.value", 70), line("java/util/ArrayList.elementData", 80)
+
+
+class LeakNotesTest(unittest.TestCase):
+    """line_objects and with_object_first"""
+
+    def answer(self, *lines: Line) -> Answer:
+        """Returns an answer with these lines."""
+        nothing: Any = None
+        return Answer(list(lines), nothing, mock.Mock())
+
+    def found(self, answer: Answer, **by_name: Any) -> Any:
+        """Returns what is found if it is known of each line which objects hold most, and the lines that were tried."""
+        known = {id(each.held): by_name.get(key) for key, each in zip(("own", "top", "node", "list"), LINES)}
+        with mock.patch("heap_tools.leak_notes.objects_to_show") as asked:
+            asked.side_effect = lambda probe, held, shows_values: known[id(held)]
+            found = line_objects(answer, True)
+        return found, [str(call[0][1].candidates[0]) for call in asked.call_args_list]
+
+    def test_own_first(self) -> None:
+        """Two lines are tried, of own classes first, and only those about several holders."""
+        found, tried = self.found(self.answer(TOP, NODE, OWN))
+        self.assertEqual((found, tried), (None, ["shop/Basket.items", "java/util/HashMap.table"]))
+        found, tried = self.found(self.answer(line("shop/A.b", 1), line("shop/A.c", 100_001), NODE, LIST))
+        self.assertEqual(tried, ["java/util/HashMap$Node.value", "java/util/ArrayList.elementData"])
+
+    def test_names_first(self) -> None:
+        """The first line whose objects have names counts, else the first one that has objects."""
+        named, nameless = holding("one"), holding()
+        found, _ = self.found(self.answer(TOP, NODE), top=nameless, node=named)
+        self.assertEqual(found, LineObjects(2, NODE, named))
+        found, _ = self.found(self.answer(TOP, NODE), top=nameless, node=nameless)
+        self.assertEqual(found, LineObjects(1, TOP, nameless))
+
+    def test_with_object_first(self) -> None:
+        """The line comes first of which one object holds most, if it is own, about as many as before, and large."""
+        for of, objects, comes_first in (
+            (OWN, holding("one"), True),
+            (OWN, holding("one") * 2, False),
+            (NODE, holding("one"), False),
+            (line("shop/Basket.items", 9, share=54.0), holding("one"), True),
+            (line("shop/Basket.items", 9, share=53.0), holding("one"), False),
+            (line("shop/Basket.items", 9, before=8), holding("one"), False),
+        ):
+            notes = Notes(LineObjects(2, of, objects), [], [])
+            answer, after = with_object_first(self.answer(TOP, of), notes)
+            self.assertEqual(answer.lines, [of, TOP] if comes_first else [TOP, of])
+            assert after.objects
+            self.assertEqual(after.objects.number, 1 if comes_first else 2)
+
+
+LINES = (OWN, TOP, NODE, LIST)
+
+if __name__ == "__main__":
+    unittest.main()
