@@ -1,6 +1,6 @@
 -- What a run says of the bytes of its reader, said of the file whose bytes these are.
-use Rattle.std.proofs.Common.{IfSome, IsErrAnd, List, None, Option, Some, ap, arith, codes, inl, inr, option_and_then}
-use Rattle.std.proofs.Common.{refl, subst, sym, ℕ, ◌+◌, ◌≡◌, ◌≢◌, ◌≤◌, ◌↔◌, ◌⊎◌}
+use Rattle.std.proofs.Common.{IfSome, IsErrAnd, IsSomeAnd, List, None, Option, Some, ap, arith, codes, inl, inr}
+use Rattle.std.proofs.Common.{option_and_then, refl, subst, sym, ℕ, ⊎_elim, ◌+◌, ◌≡◌, ◌≢◌, ◌≤◌, ◌↔◌, ◌⊎◌}
 use Rattle.command_line.specs.Line.{AreGiven, text_given}
 use Rattle.command_line.specs.declared.parsed_arguments.Arguments.{Arguments}
 use Rattle.heap_graph.specs.Skips.{SkipEntry}
@@ -8,14 +8,15 @@ use Rattle.heap_graph.specs.declared.skip.refusal.SkipRefusal.{SkipRefusal}
 use Rattle.heap_graph.specs.declared.skip.refusal.SkipRefusal.TheVariants as skipping
 use Rattle.heapmark.specs.Answer.{IsAcceptedText, IsRefusalOf, IsRunRefusal, RefusesFirstFault, WritesReport}
 use Rattle.heapmark.specs.Answer.{bytes_read}
+use Rattle.heapmark.specs.BadOptions.{GivesTooFewBuffers, HasBadOptions}
 use Rattle.heapmark.specs.OfFile.{IsReason, PrintsReason, PrintsReasonFirst, WritesReportOfBytes, WritesReportOfFile}
-use Rattle.heapmark.specs.OfFile.{AppendsSome, bytes_of_file}
+use Rattle.heapmark.specs.OfFile.{AppendsSome, HasUnreadFile, bytes_of_file}
 use Rattle.heapmark.specs.RefusalCodes.{bad_options_refusal, skip_refusal}
 use Rattle.heapmark.specs.RefusalText.{refusal_line}
 use Rattle.heapmark.specs.RunRefusals.{out_of_memory, read_fault}
-use Rattle.heapmark.specs.SkippedFields.{IsSkipListOf}
+use Rattle.heapmark.specs.SkippedFields.{HasBadList, IsSkipListOf}
 use Rattle.heapmark.specs.declared.refusal.Refusal.{Refusal}
-use Rattle.heapmark.specs.working.NoReport.{list_of}
+use Rattle.heapmark.specs.working.NoReport.{HasTooFewBuffers, list_of}
 use Rattle.heapmark.proofs.Codes.{run_unplaced}
 use Rattle.heapmark.proofs.PrintedLine.{no_more}
 use Rattle.histogram.specs.Counting.{AppendsBeginning}
@@ -127,53 +128,86 @@ of_words bytes_at words a old new given report =
     (sym (named bytes_at words a given))
     (subst (λ list. IfSome (bytes_at a.file.now) (λ bytes. WritesReportOfBytes list bytes old new)) given.skip report)
 
-pub told_of_words : (bytes_at : List ℕ → Option (List ℕ)) (words : List (List ℕ)) (a : Arguments) (before after : ℕ)
-    (refusal : Refusal) (old new : Option (List ℕ)) → AreGiven words a
-    → IsReason (bytes_at a.file.now) before after refusal → AppendsBeginning old new (refusal_line refusal)
-    → PrintsReason (bytes_of_file bytes_at words) before after old new
-told_of_words bytes_at words a before after refusal old new given reason line = record {
+-- the arguments' options are bad, so those of the words are
+bad_of_words : (words : List (List ℕ)) (a : Arguments) → AreGiven words a → HasTooFewBuffers a ⊎ HasBadList (list_of a)
+    → HasBadOptions words
+bad_of_words words a given bad = ⊎_elim
+    (λ (few : HasTooFewBuffers a). inl (record {
+      workers = a.workers;
+      buffers = a.buffers;
+      workers_given = given.workers;
+      buffers_given = given.buffers;
+      too_few = few;
+    }))
+    (λ (none : HasBadList (list_of a)). inr (subst HasBadList given.skip none))
+    bad
+
+unread_of_words : (is_unread : List ℕ → Type 0) (words : List (List ℕ)) (a : Arguments) → AreGiven words a
+    → is_unread a.file.now → HasUnreadFile is_unread words
+unread_of_words is_unread words a given unread =
+    subst (λ (file : Option (List ℕ)). IsSomeAnd file is_unread) (sym given.file) unread
+
+pub told_of_words : (bytes_at : List ℕ → Option (List ℕ)) (is_unread : List ℕ → Type 0) (words : List (List ℕ))
+    (a : Arguments) (before after : ℕ) (refusal : Refusal) (old new : Option (List ℕ)) → AreGiven words a
+    → IsReason (bytes_at a.file.now) before after refusal
+    → (refusal.code ≡ 21 → HasTooFewBuffers a ⊎ HasBadList (list_of a))
+    → (refusal.code ≡ 19 → is_unread a.file.now) → AppendsBeginning old new (refusal_line refusal)
+    → PrintsReason bytes_at is_unread words before after old new
+told_of_words bytes_at is_unread words a before after refusal old new given reason bad unread line = record {
   refusal = refusal;
   reason = subst (λ known. IsReason known before after refusal) (sym (named bytes_at words a given)) reason;
+  options = λ code. bad_of_words words a given (bad code);
+  unread = λ code. unread_of_words is_unread words a given (unread code);
   line = line;
 }
 
 -- out of memory is a reason for any file
-pub told_starved : (known : Option (List ℕ)) (before after : ℕ) (old new : Option (List ℕ)) → after ≡ before
-    → AppendsBeginning old new (refusal_line out_of_memory) → PrintsReason known before after old new
-told_starved known before after old new same line = record {
+pub told_starved : (bytes_at : List ℕ → Option (List ℕ)) (is_unread : List ℕ → Type 0) (words : List (List ℕ))
+    (before after : ℕ) (old new : Option (List ℕ)) → after ≡ before
+    → AppendsBeginning old new (refusal_line out_of_memory)
+    → PrintsReason bytes_at is_unread words before after old new
+told_starved bytes_at is_unread words before after old new same line = record {
   refusal = out_of_memory;
-  reason = subst (λ failures. IsReason known before failures out_of_memory) (sym same) (starved_unread known before);
+  reason = subst (λ failures. IsReason (bytes_of_file bytes_at words) before failures out_of_memory) (sym same)
+      (starved_unread (bytes_of_file bytes_at words) before);
+  options = λ code. absurd (omega (arith, code));
+  unread = λ code. absurd (omega (arith, code));
   line = line;
 }
 
 -- the refusal's line is the only one, or the first
 
-pub only : (known : Option (List ℕ)) (before after : ℕ) (old new : Option (List ℕ))
-    → PrintsReason known before after old new → PrintsReasonFirst known before after old new
-only known before after old new printed = record { between = new; first = printed; more = no_more new }
+pub only : (bytes_at : List ℕ → Option (List ℕ)) (is_unread : List ℕ → Type 0) (words : List (List ℕ))
+    (before after : ℕ) (old new : Option (List ℕ)) → PrintsReason bytes_at is_unread words before after old new
+    → PrintsReasonFirst bytes_at is_unread words before after old new
+only bytes_at is_unread words before after old new printed =
+    record { between = new; first = printed; more = no_more new }
 
-pub then_more : (known : Option (List ℕ)) (before after : ℕ) (old between new : Option (List ℕ))
-    → PrintsReason known before after old between → AppendsSome between new
-    → PrintsReasonFirst known before after old new
-then_more known before after old between new printed more =
+pub then_more : (bytes_at : List ℕ → Option (List ℕ)) (is_unread : List ℕ → Type 0) (words : List (List ℕ))
+    (before after : ℕ) (old between new : Option (List ℕ))
+    → PrintsReason bytes_at is_unread words before after old between → AppendsSome between new
+    → PrintsReasonFirst bytes_at is_unread words before after old new
+then_more bytes_at is_unread words before after old between new printed more =
     record { between = between; first = printed; more = more }
 
 -- without memory for the words, out of memory is the reason, whatever they are
 
-pub told_unread : (words : Option (List (List ℕ))) (bytes_at : List ℕ → Option (List ℕ)) (before after : ℕ)
-    (old new : Option (List ℕ)) → after ≡ before → AppendsBeginning old new (refusal_line out_of_memory)
-    → IfSome words (λ given. PrintsReason (bytes_of_file bytes_at given) before after old new)
-told_unread None bytes_at before after old new same line = tt
-told_unread (Some given) bytes_at before after old new same line =
-    told_starved (bytes_of_file bytes_at given) before after old new same line
+pub told_unread : (known : Option (List (List ℕ))) (bytes_at : List ℕ → Option (List ℕ)) (is_unread : List ℕ → Type 0)
+    (before after : ℕ) (old new : Option (List ℕ)) → after ≡ before
+    → AppendsBeginning old new (refusal_line out_of_memory)
+    → IfSome known (λ words. PrintsReason bytes_at is_unread words before after old new)
+told_unread None bytes_at is_unread before after old new same line = tt
+told_unread (Some words) bytes_at is_unread before after old new same line =
+    told_starved bytes_at is_unread words before after old new same line
 
-pub told_first_unread : (words : Option (List (List ℕ))) (bytes_at : List ℕ → Option (List ℕ)) (before after : ℕ)
-    (old new : Option (List ℕ)) → after ≡ before → AppendsBeginning old new (refusal_line out_of_memory)
-    → IfSome words (λ given. PrintsReasonFirst (bytes_of_file bytes_at given) before after old new)
-told_first_unread None bytes_at before after old new same line = tt
-told_first_unread (Some given) bytes_at before after old new same line =
-    only (bytes_of_file bytes_at given) before after old new
-    (told_starved (bytes_of_file bytes_at given) before after old new same line)
+pub told_first_unread : (known : Option (List (List ℕ))) (bytes_at : List ℕ → Option (List ℕ))
+    (is_unread : List ℕ → Type 0) (before after : ℕ) (old new : Option (List ℕ)) → after ≡ before
+    → AppendsBeginning old new (refusal_line out_of_memory)
+    → IfSome known (λ words. PrintsReasonFirst bytes_at is_unread words before after old new)
+told_first_unread None bytes_at is_unread before after old new same line = tt
+told_first_unread (Some words) bytes_at is_unread before after old new same line =
+    only bytes_at is_unread words before after old new
+    (told_starved bytes_at is_unread words before after old new same line)
 
 -- a fact of the words that the program gets is one of the words that are known
 pub of_known : (known : Option (List (List ℕ))) (words : List (List ℕ)) (P : List (List ℕ) → Type 0)

@@ -1,4 +1,5 @@
 pub mod Answer
+pub mod BadOptions
 pub mod Headline
 pub mod OfFile
 pub mod RefusalCodes

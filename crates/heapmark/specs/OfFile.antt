@@ -1,12 +1,13 @@
 -- What the program writes and prints for the file that the words of its command line name, if a contract can name the
 -- bytes of the file.
-use Rattle.std.specs.Prelude.{IfSome, List, Option, codes, option_and_then, ℕ, ◌+◌, ◌≡◌, ◌≤◌, ◌↔◌, ◌⊎◌}
+use Rattle.std.specs.Prelude.{IfSome, IsSomeAnd, List, Option, codes, option_and_then, ℕ, ◌+◌, ◌≡◌, ◌≤◌, ◌↔◌, ◌⊎◌}
 use Rattle.std.specs.Io.KnownBytes.{Appends}
 use Rattle.command_line.specs.Line.{text_given}
 use Rattle.heap_graph.specs.Skips.{SkipEntry}
 use Rattle.heapmark.specs.Answer.{IsAcceptedText, IsRefusalOf, IsRunRefusal, RefusesFirstFault, WritesReport}
 use Rattle.heapmark.specs.Answer.{bytes_read}
 use Rattle.heapmark.specs.RefusalCodes.{bad_options_refusal}
+use Rattle.heapmark.specs.BadOptions.{HasBadOptions}
 use Rattle.heapmark.specs.RefusalText.{refusal_line}
 use Rattle.heapmark.specs.SkippedFields.{IsSkipListOf}
 use Rattle.heapmark.specs.declared.refusal.Refusal.{Refusal}
@@ -44,10 +45,19 @@ pub record IsReason (known : Option (List ℕ)) (before after : ℕ) (refusal : 
   -- the writer failed just if the code is 20
   pub write_fault : (refusal.code ≡ 20) ↔ (after ≡ before + 1)
 
--- The line of such a refusal was printed, or a beginning of it if standard error failed, and nothing else.
-pub record PrintsReason (known : Option (List ℕ)) (before after : ℕ) (old new : Option (List ℕ)) : Type 0 where
+-- `words` name a file that could not be opened or read. `is_unread` says which dumps could not be opened or read.
+abbrev pub HasUnreadFile : (List ℕ → Type 0) → List (List ℕ) → Type 0
+HasUnreadFile is_unread words = IsSomeAnd (text_given (codes "file") words) is_unread
+
+-- The line of a refusal was printed, or a beginning of it if standard error failed, and nothing else. The refusal is a
+-- reason to have no report of the file that `words` name.
+pub record PrintsReason (bytes_at : List ℕ → Option (List ℕ)) (is_unread : List ℕ → Type 0) (words : List (List ℕ))
+    (before after : ℕ) (old new : Option (List ℕ)) : Type 0 where
   pub refusal : Refusal
-  pub reason : IsReason known before after refusal
+  pub reason : IsReason (bytes_of_file bytes_at words) before after refusal
+  -- options are refused only if they are bad, and a file only if it could not be opened or read
+  pub options : refusal.code ≡ 21 → HasBadOptions words
+  pub unread : refusal.code ≡ 19 → HasUnreadFile is_unread words
   pub line : AppendsBeginning old new (refusal_line refusal)
 
 -- known bytes stay at the front
@@ -55,7 +65,8 @@ abbrev pub AppendsSome : Option (List ℕ) → Option (List ℕ) → Type 0
 AppendsSome old new = (bytes : List ℕ) × Appends old new bytes
 
 -- Such a line was printed first. Nothing of it is lost, whatever was printed after it.
-pub record PrintsReasonFirst (known : Option (List ℕ)) (before after : ℕ) (old new : Option (List ℕ)) : Type 0 where
+pub record PrintsReasonFirst (bytes_at : List ℕ → Option (List ℕ)) (is_unread : List ℕ → Type 0)
+    (words : List (List ℕ)) (before after : ℕ) (old new : Option (List ℕ)) : Type 0 where
   pub between : Option (List ℕ)
-  pub first : PrintsReason known before after old between
+  pub first : PrintsReason bytes_at is_unread words before after old between
   pub more : AppendsSome between new

@@ -7,7 +7,7 @@ ghost use Rattle.clap.specs.Words.{kind_of};
 ghost use Rattle.command_line.specs.Line.{AreInRange, AsksAboutProgram, GivesNumber, IsTaken, IsWrong};
 ghost use Rattle.command_line.specs.Line.{text_given, texts_of};
 ghost use Rattle.heapmark.specs.OfFile.{IsReason, PrintsReason, PrintsReasonFirst, WritesReportOfBytes};
-ghost use Rattle.heapmark.specs.OfFile.{AppendsSome, WritesReportOfFile, bytes_of_file};
+ghost use Rattle.heapmark.specs.OfFile.{AppendsSome, WritesReportOfFile};
 ghost use Rattle.heapmark.specs.RefusalText.{refusal_line};
 ghost use Rattle.heapmark.specs.RunRefusals.{out_of_memory};
 ghost use Rattle.heapmark.specs.StatusOf.{IsStatusOf};
@@ -82,8 +82,9 @@ pub fn program<T: Dumps + AllocGlobal + Threads + Wait + Sync, W: Write, E: Writ
     ensures flushed { result ≡ 0 → (AsksAboutProgram (texts_of words.now) → ⊥) → is_flushed out.new ≡ true }
     ensures silent { result ≡ 0 → Keeps (E.contents err.old) (E.contents err.new) }
 
-    // At 1 a refusal was printed in one line. If it reports a fault, this is the first fault of the file.
-    ensures told { result ≡ 1 → PrintsReason (bytes_of_file (T.bytes_at rt.now) (texts_of words.now))
+    // At 1 a refusal was printed in one line. If it reports a fault, this is the first fault of the file. Options are
+    // refused only if they are bad, and the file only if it could not be opened or read.
+    ensures told { result ≡ 1 → PrintsReason (T.bytes_at rt.now) (T.is_unread rt.now) (texts_of words.now)
         (failures_of out.old) (failures_of out.new) (E.contents err.old) (E.contents err.new) }
 
     // Too few buffers for the workers are refused, with nothing written.
@@ -125,7 +126,7 @@ pub fn program_at_terminal<T: Dumps + AllocGlobal + Threads + Wait + Sync, W: Wr
     ensures of_file { result ≡ 0 → (AsksAboutProgram (texts_of words.now) → ⊥)
         → WritesReportOfFile (T.bytes_at rt.now) (texts_of words.now)
         (W.contents (inner_of out.old)) (W.contents (inner_of out.new)) }
-    ensures told { result ≡ 1 → PrintsReasonFirst (bytes_of_file (T.bytes_at rt.now) (texts_of words.now))
+    ensures told { result ≡ 1 → PrintsReasonFirst (T.bytes_at rt.now) (T.is_unread rt.now) (texts_of words.now)
         (failures_of out.old) (failures_of out.new) (E.contents err.old) (E.contents err.new) }
     ensures silent { result ≡ 0 → Keeps (E.contents err.old) (E.contents err.new) }
 {
@@ -152,7 +153,7 @@ fn answer_line<'a, T: Dumps + AllocGlobal + Threads + Wait + Sync, W: Write, E: 
     ensures of_file { result.0 ≡ 0 → (AsksAboutProgram (texts_of words.entry.now) → ⊥)
         → WritesReportOfFile (T.bytes_at rt.now) (texts_of words.entry.now)
         (W.contents (inner_of out.old)) (W.contents (inner_of out.new)) }
-    ensures told { result.0 ≡ 1 → PrintsReason (bytes_of_file (T.bytes_at rt.now) (texts_of words.entry.now))
+    ensures told { result.0 ≡ 1 → PrintsReason (T.bytes_at rt.now) (T.is_unread rt.now) (texts_of words.entry.now)
         (failures_of out.old) (failures_of out.new) (E.contents err.old) (E.contents err.new) }
 {
     match arguments(rt.alloc(), words) {
@@ -279,7 +280,10 @@ fn report_file<T: Dumps + AllocGlobal + Threads + Wait + Sync, W: Write>(
     requires ranges { AreInRange arguments.now }
     ensures too_few { HasTooFewBuffers arguments.now → result ≡ Err bad_options }
     ensures bad_list { HasBadList (list_of arguments.now) → (result ≡ Err bad_options) ⊎ (result ≡ Err starved) }
-    ensures enough { result ≡ Err bad_options → HasTooFewBuffers arguments.now ⊎ HasBadList (list_of arguments.now) }
+    ensures enough { IfErr result (λ reason. (refusal_of reason).code ≡ 21
+        → HasTooFewBuffers arguments.now ⊎ HasBadList (list_of arguments.now)) }
+    ensures unread { IfErr result (λ reason. (refusal_of reason).code ≡ 19
+        → T.is_unread rt.now arguments.now.file.now) }
     ensures not_run { HasTooFewBuffers arguments.now ⊎ HasBadList (list_of arguments.now)
         → failures_of out.new ≡ failures_of out.old }
     ensures of_file { OnOk result (IfSome (T.bytes_at rt.now arguments.now.file.now) (λ bytes.
@@ -312,8 +316,8 @@ fn report_file<T: Dumps + AllocGlobal + Threads + Wait + Sync, W: Write>(
     match run(rt, rt.alloc(), &mut reader, out, &options, &skip, &NoGate) {
         Ok(()) => Ok(()),
         Err(refusal) => {
-            let length = reader.into_inner().stream_position();
-            Err(NoReport::Stopped(refusal, length.ok()))
+            let length = rt.position(arguments.file, reader);
+            Err(NoReport::Stopped(refusal, length))
         }
     }
 }

@@ -1,6 +1,6 @@
 //! Where the program finds the dump that its command line names.
 
-ghost use Rattle.std.specs.Prelude.{◌≡◌, ◌+◌, ◌-◌, ◌^◌, ◌<◌, ◌≤◌, IfOk};
+ghost use Rattle.std.specs.Prelude.{◌≡◌, ◌≢◌, ◌+◌, ◌-◌, ◌^◌, ◌<◌, ◌≤◌, IfOk};
 ghost use Rattle.histogram.specs.Counting.{failures_of};
 
 use histogram::Counted;
@@ -15,11 +15,15 @@ use std::{fs, io};
 /// `Dumps` cannot treat a file otherwise than such a dump. So what its contract says of known bytes shows that it also
 /// reads the right file.
 pub trait Dumps {
-    ghost use Rattle.std.specs.Prelude.{◌≡◌, IfOk, IfSome, List, Option, Some, ℕ};
+    ghost use Rattle.std.specs.Prelude.{◌≡◌, ◌≢◌, IfErr, IfOk, IfSome, List, Option, Some, ℕ};
     ghost use Rattle.histogram.specs.Counting.{failures_of, inner_of};
 
     /// The bytes of the dump with a name, if a contract can name them.
     ghost bytes_at: { Self → List ℕ → Option (List ℕ) };
+
+    /// That the dump with a name could not be opened or read. A function that takes any `Dumps` learns this only from a
+    /// call that failed.
+    ghost is_unread: { Self → List ℕ → Type 0 };
 
     /// An open dump.
     type Dump: Read + Seek + Drop;
@@ -28,7 +32,13 @@ pub trait Dumps {
     fn open_dump(&self, name: &str) -> io::Result<Counted<Self::Dump>>
         ensures unfailed { IfOk result (λ reader. failures_of reader ≡ 0) }
         ensures bytes { IfOk result (λ reader. IfSome (bytes_at self.now name.now) (λ bytes.
-            Self.Dump.remaining (inner_of reader) ≡ Some bytes)) };
+            Self.Dump.remaining (inner_of reader) ≡ Some bytes)) }
+        ensures unread { IfErr result (λ _. is_unread self.now name.now) };
+
+    /// Returns the position of `reader`, an open dump with the name `name`: the number of bytes that were read from it.
+    /// Returns `None` if the system reports no position, as for a pipe.
+    fn position(&self, name: &str, reader: Counted<Self::Dump>) -> Option<u64>
+        ensures { failures_of reader ≢ 0 → is_unread self.now name.now };
 
     /// Opens the dump `name`, which was read before, a second time. `Err` with `Unsupported` if the first reading may
     /// have taken its bytes, as from a pipe.
@@ -45,10 +55,19 @@ impl<T: Files> Dumps for T {
 
     ghost bytes_at = { λ _ _. None };
 
+    // A contract cannot say which calls of the system fail.
+    ghost is_unread = { λ _ _. Unit };
+
     type Dump = T::File;
 
     fn open_dump(&self, name: &str) -> io::Result<Counted<T::File>> {
         open(self, name)
+    }
+
+    fn position(&self, _name: &str, reader: Counted<T::File>) -> Option<u64>
+        ensures { failures_of reader ≢ 0 → Unit }
+    {
+        reader.into_inner().stream_position().ok()
     }
 
     fn reopen_dump(&self, name: &str) -> io::Result<Counted<T::File>> {

@@ -10,8 +10,8 @@
 //!   report which entries of `--skip` name no field of the dump.
 //! - `main` passes the system to `process`, and nothing else.
 //!
-//! All but `main` take the words as any `CommandWords` and the files as any `Dumps`. So their clauses can say what they
-//! do for known words and known bytes, and they can only read a file.
+//! `process` takes the words as any `CommandWords`, and it and `program` take the files as any `Dumps`. So their
+//! clauses can say what they do for known words and known bytes, and they can only read a file.
 //!
 //! The headline is defined in `specs/Headline.antt`, what it says of the program in `specs/OfFile.antt`, the refusals
 //! in `specs/RunRefusals.antt`. The README of the repository has them in words, and `docs/ARCHITECTURE.md` says where
@@ -21,7 +21,7 @@
 ghost use Rattle.std.specs.Prelude.{◌≡◌, ◌-◌, ◌^◌, ◌<◌, IfOk, IfSome, false, map, string_bytes};
 ghost use Rattle.std.specs.Io.KnownBytes.{Keeps};
 ghost use Rattle.command_line.specs.Line.{AsksAboutProgram, texts_of};
-ghost use Rattle.heapmark.specs.OfFile.{PrintsReason, PrintsReasonFirst, WritesReportOfFile, bytes_of_file};
+ghost use Rattle.heapmark.specs.OfFile.{PrintsReason, PrintsReasonFirst, WritesReportOfFile};
 ghost use Rattle.heapmark.specs.StatusOf.{IsStatusOf};
 ghost use Rattle.heapmark.specs.working.Answered.{IsAnswered};
 ghost use Rattle.heapmark.specs.working.StatusOfSome.{IsStatusOfSome};
@@ -87,10 +87,10 @@ where
         → WritesReportOfFile (T.bytes_at rt.now) words
         (W.contents (inner_of out.old)) (W.contents (inner_of out.new))) }
     ensures told { result ≡ 1 → IfSome (L.words line.now) (λ words.
-        PrintsReasonFirst (bytes_of_file (T.bytes_at rt.now) words)
+        PrintsReasonFirst (T.bytes_at rt.now) (T.is_unread rt.now) words
         (failures_of out.old) (failures_of out.new) (E.contents err.old) (E.contents err.new)) }
     ensures told_only { result ≡ 1 → is_terminal ≡ false → IfSome (L.words line.now) (λ words.
-        PrintsReason (bytes_of_file (T.bytes_at rt.now) words)
+        PrintsReason (T.bytes_at rt.now) (T.is_unread rt.now) words
         (failures_of out.old) (failures_of out.new) (E.contents err.old) (E.contents err.new)) }
 
     // At 0, if standard error is no terminal, no refusal was printed. So `process` turns no other status of `start`
@@ -127,8 +127,8 @@ where
     W: Write,
     E: Write,
     requires { failures_of out.old < 2 ^ 64 - 1 }
-    ensures { IsAnswered (L.words line.now) (T.bytes_at rt.now) is_terminal result W.contents out.old out.new
-        (E.contents err.old) (E.contents err.new) }
+    ensures { IsAnswered (L.words line.now) (T.bytes_at rt.now) (T.is_unread rt.now) is_terminal result
+        W.contents out.old out.new (E.contents err.old) (E.contents err.new) }
 {
     let texts = match line.texts(rt.alloc()) {
         Ok(texts) => texts,

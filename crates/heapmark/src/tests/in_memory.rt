@@ -1,8 +1,9 @@
 //! The program and the process on a dump in memory, for the words of a command line in memory. Contracts can name these
 //! bytes and words.
 
-ghost use Rattle.std.specs.Prelude.{◌≡◌, IfOk, map, string_bytes};
+ghost use Rattle.std.specs.Prelude.{◌≡◌, ◌≢◌, IfOk, map, string_bytes};
 ghost use Rattle.command_line.specs.Line.{texts_of};
+ghost use Rattle.histogram.specs.Counting.{failures_of};
 
 use super::dumps::{Sample, TWO_OBJECTS_REPORT};
 use super::memory::SUPERCLASS_SKIPPED_REPORT;
@@ -11,7 +12,7 @@ use super::skips::REFERENCES;
 use crate::{CommandWords, Counted, Dumps, process};
 use std::alloc::{Alloc, AllocError, Global};
 use std::io;
-use std::io::Cursor;
+use std::io::{Cursor, Seek};
 use std::sync::Wait;
 use std::thread::Threads;
 
@@ -43,6 +44,8 @@ impl<'a, T> Dumps for InMemory<'a, T> {
     // No other name opens a dump.
     ghost bytes_at = { λ dumps _. Some dumps.bytes.now };
 
+    ghost is_unread = { λ _ _. Unit };
+
     type Dump = Cursor<&'a [u8]>;
 
     fn open_dump(&self, name: &str) -> io::Result<Counted<Cursor<&'a [u8]>>> {
@@ -51,6 +54,12 @@ impl<'a, T> Dumps for InMemory<'a, T> {
         } else {
             Err(io::Error::from(io::ErrorKind::NotFound))
         }
+    }
+
+    fn position(&self, _name: &str, reader: Counted<Cursor<&'a [u8]>>) -> Option<u64>
+        ensures { failures_of reader.entry ≢ 0 → Unit }
+    {
+        reader.into_inner().stream_position().ok()
     }
 
     fn reopen_dump(&self, name: &str) -> io::Result<Counted<Cursor<&'a [u8]>>> {
