@@ -36,25 +36,33 @@ pub(crate) fn dump_of(alloc: Global, heap: &[u8]) -> Result<Vec<u8>, AllocError>
     Ok(dump)
 }
 
-/// Appends class 0x100, an array of that class, which is the root, and the 60 instances that the array refers to.
-fn put_wide_array(heap: &mut Vec<u8>) -> Result<(), AllocError> {
+/// Appends class 0x100, an array of that class, which is the root, and the `instances` instances that the array refers
+/// to.
+fn put_array_of(heap: &mut Vec<u8>, instances: u32) -> Result<(), AllocError> {
     put_class(heap)?;
     // Array 0x200 of that class.
-    heap.extend_from_slice(&[0x22, 0, 0, 2, 0, 0, 0, 0, 0, 0, 0, 0, 60, 0, 0, 1, 0])?;
-    for id in 0..60u8 {
-        heap.extend_from_slice(&[0, 0, 3, id])?;
+    heap.extend_from_slice(&[0x22, 0, 0, 2, 0, 0, 0, 0, 0])?;
+    heap.extend_from_slice(&instances.to_be_bytes())?;
+    heap.extend_from_slice(&[0, 0, 1, 0])?;
+    for number in 0..instances {
+        heap.extend_from_slice(&number.wrapping_add(0x300).to_be_bytes())?;
     }
-    for id in 0..60u8 {
-        put_instance(heap, 0x300 + u32::from(id))?;
+    for number in 0..instances {
+        put_instance(heap, number.wrapping_add(0x300))?;
     }
     heap.extend_from_slice(&[0xff, 0, 0, 2, 0])
 }
 
-/// Returns a dump of 62 objects: a class, an array, which is the root, and the 60 instances that the array refers to.
-pub(crate) fn wide_array(alloc: Global) -> Result<Vec<u8>, AllocError> {
+/// Returns a dump of a class, an array, which is the root, and the `instances` instances that the array refers to.
+pub(crate) fn array_of(alloc: Global, instances: u32) -> Result<Vec<u8>, AllocError> {
     let mut heap = Vec::new(alloc);
-    put_wide_array(&mut heap)?;
+    put_array_of(&mut heap, instances)?;
     dump_of(alloc, heap.as_slice())
+}
+
+/// Returns the dump of 62 objects that [`array_of`] makes of 60 instances.
+pub(crate) fn wide_array(alloc: Global) -> Result<Vec<u8>, AllocError> {
+    array_of(alloc, 60)
 }
 
 /// Returns the graph of `dump`, which has to be accepted.

@@ -3,8 +3,8 @@
 //!
 //! `dumps` has the dumps that are marked, `faults` the faults of markings. `refused_threads` refuses threads, and
 //! `several_refused_workers` stops several workers. `gate_calls` and `leading` test who calls the hook before a scan,
-//! and when. `memory` has failing allocations. `tallies` and `sums` test what is counted, `sums` at its bounds. `texts`
-//! tests the texts of the faults.
+//! and when. `memory` has failing allocations, `peaks` the memory of a marking. `tallies` and `sums` test what is
+//! counted, `sums` at its bounds. `texts` tests the texts of the faults.
 
 #![tactic(auto)]
 
@@ -18,6 +18,8 @@ mod gate_calls;
 mod leading;
 #[cfg(test)]
 mod memory;
+#[cfg(test)]
+mod peaks;
 #[cfg(test)]
 mod refused_threads;
 #[cfg(test)]
