@@ -219,7 +219,7 @@ fn requests_in_parts<T: Threads + Sync>(rt: &T, alloc: Global, ids: &[u32]) -> O
 }
 
 #[test]
-fn parts_or_want_of_memory(rt: HostRuntime) -> Result<(), Fail> {
+fn parts_or_out_of_memory(rt: HostRuntime) -> Result<(), Fail> {
     for order in [(3, 5), (15, 15)] {
         for odd in [4, MOST] {
             let ids = ids_of(rt.alloc(), order, MOST, odd)?;

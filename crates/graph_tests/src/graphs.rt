@@ -15,18 +15,29 @@ pub fn dump_of(alloc: Global, id_size: u32, heap: &[u8]) -> Result<Bytes, AllocE
     Ok(file)
 }
 
-/// Reads the dump `bytes`, which is whole, and builds its graph, both on `heap`. Returns `OutOfMemory` also if the dump
-/// is not read.
+/// Reads the dump `bytes`, which is whole, on `reading`, and builds its graph on `heap`. Returns `OutOfMemory` also if
+/// the dump is not read.
+fn build_apart<'a, T: Threads + Sync, A: Allocator + Copy + Send + Sync>(
+    team: &Team<'_, T>,
+    reading: A,
+    heap: A,
+    bytes: &'a [u8],
+    skip: &'a Skip<'_, Global>,
+) -> Result<Graph<'a, A>, LinkRefusal> {
+    match read(team, reading, bytes) {
+        Ok(dump) => Graph::build(team, heap, bytes, dump, skip),
+        Err(_) => Err(LinkRefusal::OutOfMemory),
+    }
+}
+
+/// Like [`build_apart`], with `heap` for both.
 pub fn build<'a, T: Threads + Sync, A: Allocator + Copy + Send + Sync>(
     team: &Team<'_, T>,
     heap: A,
     bytes: &'a [u8],
     skip: &'a Skip<'_, Global>,
 ) -> Result<Graph<'a, A>, LinkRefusal> {
-    match read(team, heap, bytes) {
-        Ok(dump) => Graph::build(team, heap, bytes, dump, skip),
-        Err(_) => Err(LinkRefusal::OutOfMemory),
-    }
+    build_apart(team, heap, heap, bytes, skip)
 }
 
 /// Like [`build`], for a team of four. Returns `None` if no graph is built.
@@ -47,18 +58,29 @@ fn len_of<A: Allocator>(built: &Result<Graph<'_, A>, LinkRefusal>) -> Result<u32
     }
 }
 
-/// Like [`build`], but returns only the number of objects of the graph.
+/// Like [`build_apart`], but returns only the number of objects of the graph.
+pub fn count_apart<T: Threads + Sync, A: Allocator + Copy + Send + Sync>(
+    team: &Team<'_, T>,
+    reading: A,
+    heap: A,
+    bytes: &[u8],
+    skip: &Skip<'_, Global>,
+) -> Result<u32, LinkRefusal> {
+    let built = build_apart(team, reading, heap, bytes, skip);
+    let objects = len_of(&built);
+    // `drop` is proved once. Without it, each function that lets a graph go is checked together with all parts of one.
+    drop(built);
+    objects
+}
+
+/// Like [`count_apart`], with `heap` for both.
 pub fn count_objects<T: Threads + Sync, A: Allocator + Copy + Send + Sync>(
     team: &Team<'_, T>,
     heap: A,
     bytes: &[u8],
     skip: &Skip<'_, Global>,
 ) -> Result<u32, LinkRefusal> {
-    let built = build(team, heap, bytes, skip);
-    let objects = len_of(&built);
-    // `drop` is proved once. Without it, each function that lets a graph go is checked together with all parts of one.
-    drop(built);
-    objects
+    count_apart(team, heap, heap, bytes, skip)
 }
 
 /// Like [`gives`], for a borrowed walk.

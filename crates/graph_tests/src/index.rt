@@ -4,9 +4,10 @@
 //! whole identifiers, and `joining` of lists that are gathered apart. `beside` compares an index with a search one by
 //! one, which goes through the list of identifiers. `lists` does so for a table of lists while each allocation fails in
 //! turn, and `random_lists` for many random lists. `guessed` tests that nearly all look-ups need no search if
-//! identifiers are evenly spread.
+//! identifiers are evenly spread. `costs` bounds the bytes of an index while it is made, and what its look-ups read.
 
 mod beside;
+mod costs;
 mod guessed;
 mod joining;
 mod lists;

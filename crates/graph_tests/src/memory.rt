@@ -187,7 +187,7 @@ fn first_wrong_referring<T: Threads + Sync>(
 }
 
 #[test]
-fn worked_graphs_or_want_of_memory(rt: HostRuntime) {
+fn worked_graphs_or_out_of_memory(rt: HostRuntime) {
     let alloc = rt.alloc();
     for wrong in [
         first_wrong_rooted(&rt, alloc),
@@ -229,7 +229,7 @@ fn first_wrong_skipped<T: Threads + Sync>(
 }
 
 #[test]
-fn graphs_without_fields_or_want_of_memory(rt: HostRuntime) {
+fn graphs_without_fields_or_out_of_memory(rt: HostRuntime) {
     let alloc = rt.alloc();
     for wrong in [
         first_wrong_referent(&rt, alloc),
@@ -257,7 +257,7 @@ fn requests_to_refuse_short<T: Threads + Sync>(
 }
 
 #[test]
-fn a_fault_or_want_of_memory(rt: HostRuntime) -> Result<(), Fail> {
+fn a_fault_or_out_of_memory(rt: HostRuntime) -> Result<(), Fail> {
     let requests = requests_to_refuse_short(&rt, rt.alloc())?;
     assert!(rt; requests.is_some_and(|requests| requests > 4));
     Ok(())

@@ -18,7 +18,7 @@ const BYTE: u8 = 8;
 
 /// How the identifiers of a dump's objects follow one another.
 #[derive(Clone, Copy, Debug)]
-enum Order {
+pub enum Order {
     /// Each object is the neighbour of the one before it.
     Ascending,
     /// In no order, each granule taken.
@@ -75,7 +75,7 @@ fn objects(alloc: Global, order: Order, count: u32) -> Result<Bytes, AllocError>
 }
 
 /// Returns a dump of `count` objects in `order`.
-fn dump(alloc: Global, order: Order, count: u32) -> Result<Bytes, AllocError> {
+pub fn dump(alloc: Global, order: Order, count: u32) -> Result<Bytes, AllocError> {
     let heap = objects(alloc, order, count)?;
     dump_of(alloc, 8, &heap.bytes)
 }

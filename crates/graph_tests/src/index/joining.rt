@@ -87,7 +87,7 @@ impl Joining<'_> {
 /// Lists are cut at each place, and each allocation fails in turn. If an index is made even so, the index agrees with a
 /// search one by one.
 #[test]
-fn joined_as_one_by_one_or_want_of_memory(rt: HostRuntime) {
+fn joined_as_one_by_one_or_out_of_memory(rt: HostRuntime) {
     for ids in LISTS {
         for at in 0..=ids.len() {
             for shift in [0, 3] {

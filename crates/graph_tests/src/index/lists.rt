@@ -116,7 +116,7 @@ fn is_right(heap: &LimitedHeap<Global>, ids: &[u64]) -> bool {
 
 /// Each allocation fails in turn. If an index is made even so, the index agrees with a search one by one.
 #[test]
-fn as_one_by_one_or_want_of_memory(rt: HostRuntime) {
+fn as_one_by_one_or_out_of_memory(rt: HostRuntime) {
     for ids in LISTS {
         let requests = requests_of(rt.alloc(), |heap| is_right(heap, ids));
         assert!(rt; requests.is_some(), "{} identifiers", ids.len());
@@ -135,7 +135,7 @@ fn neighbours(alloc: Global, first: u64, step: u64, count: usize) -> Result<Vec<
 }
 
 #[test]
-fn neighbours_or_want_of_memory(rt: HostRuntime) -> Result<(), Fail> {
+fn neighbours_or_out_of_memory(rt: HostRuntime) -> Result<(), Fail> {
     for (first, step, count) in NEIGHBOURS {
         let ids = neighbours(rt.alloc(), first, step, count)?;
         let requests = requests_of(rt.alloc(), |heap| is_right(heap, &ids));
