@@ -108,6 +108,8 @@ load/SpringService 17 2 libspring-context-java spring3-*,commons-logging
 load/JettyService 17 2 libjetty9-java,libservlet-api-java jetty9-server,jetty9-util,jetty9-http,jetty9-io,servlet-api
     org/eclipse/jetty/server/handler/HandlerCollection._handlers
         | org/eclipse/jetty/util/component/ContainerLifeCycle._beans | static load/JettyService.VERSIONS
+        | static org/eclipse/jetty/server/ShutdownMonitor$Holder.instance | threads "qtp*" | thread "qtp*"
+        | thread "Connector-Scheduler-*"
 load/HsqldbService 17 2 libhsqldb-java hsqldb
     org/hsqldb/SessionManager.sessionMap
 load/DerbyService 17 2 libderby-java derby

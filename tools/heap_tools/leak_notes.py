@@ -9,7 +9,7 @@ from heap_tools.comparison import Comparison
 from heap_tools.console import say
 from heap_tools.direct_buffers import more_direct_memory
 from heap_tools.humanize import counted
-from heap_tools.leak_lines import MOST_OF_LARGEST, Answer, Line
+from heap_tools.leak_lines import FEW, MOST_OF_LARGEST, Answer, Line, is_collection
 from heap_tools.thread_counts import ThreadCount, grown_thread_counts
 from heap_tools.which_object import FEWEST_OBJECTS, MOST_OBJECTS, HoldingObject, objects_to_show
 
@@ -77,11 +77,19 @@ def leads(line: Line, answer: Answer) -> bool:
     return line.held.is_own and line.holders_before == line.held.holders and line.share >= MOST_OF_LARGEST * largest
 
 
+def may_tell(line: Line) -> bool:
+    """Tests whether the objects of a line after the first may say more than the first line: not those that came with
+    the leak, and not many collections."""
+    is_few = line.held.holders <= FEW or not is_collection(line.held)
+    return is_few and line.held.holders <= line.holders_before
+
+
 def line_objects(answer: Answer, shows_values: bool) -> Optional[LineObjects]:
     """Returns the objects that hold most of a line about 2 to 100,000 of them: of the first line whose objects have
     names, else of the first one of which few objects hold most; None if many hold a little each. At most `TRIED` lines
     are tried, of own classes first: their objects are named more often."""
-    asked = [(at, it) for at, it in enumerate(answer.lines, 1) if FEWEST_OBJECTS <= it.held.holders <= MOST_OBJECTS]
+    several = [(at, it) for at, it in enumerate(answer.lines, 1) if FEWEST_OBJECTS <= it.held.holders <= MOST_OBJECTS]
+    asked = [(at, it) for at, it in several if at == 1 or may_tell(it)]
     asked.sort(key=lambda numbered: not numbered[1].held.is_own)
     nameless = None
     for number, line in asked[:TRIED]:

@@ -56,9 +56,9 @@ def is_naming(field: str) -> bool:
     return field in NAMING or field.endswith("Name")
 
 
-def last_field(how: str) -> str:
-    """Returns the last field of those that name an object."""
-    return re.split("[ .]", how)[-1]
+def likeliest_first(name: Tuple[str, str]) -> Tuple[bool, Tuple[str, str]]:
+    """Returns what names of owners are sorted by: those come first whose last field is called as what names is."""
+    return not is_naming(re.split("[ .]", name[0])[-1]), name
 
 
 def best_of(named: Dict[str, str]) -> Optional[str]:
@@ -89,11 +89,13 @@ class ObjectNames:
         """Returns the names of the nearest owners that have any. A name that another object has too names nothing."""
         owners = self._owners([*places, *others])
         keyed = self._keyed_names({owner for steps in owners.values() for step in steps for owner in step})
-        names = {at: [{name for owner in step for name in keyed[owner]} for step in steps] for at, steps in owners.items()}
+        names: Dict[int, List[Set[Tuple[str, str]]]] = {}
+        for at, steps in owners.items():
+            names[at] = [{name for owner in step for name in keyed[owner]} for step in steps]
         found = {}
         for at in places:
             of_others = {name for other in names if other != at for step in names[other] for name in step}
-            telling = (sorted(step - of_others, key=lambda name: (not is_naming(last_field(name[0])), name)) for step in names[at])
+            telling = (sorted(step - of_others, key=likeliest_first) for step in names[at])
             nearest: List[Tuple[str, str]] = next(filter(None, telling), [])
             found[at] = [Name(how, self._text(text) if text else "") for how, text in nearest[:OWNER_NAMES]]
         return found

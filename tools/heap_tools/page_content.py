@@ -58,7 +58,8 @@ def objects_of(notes: Notes) -> List[page.ObjectEntry]:
     if not notes.objects:
         return []
     number, found = notes.objects.number, notes.objects.objects
-    return [page.ObjectEntry(number, it.class_name, it.named_by, it.amount.bytes, it.percent) for it in found]
+    parts = [(it.class_name, it.named_by, it.amount.bytes, it.percent, it.has_gained) for it in found]
+    return [page.ObjectEntry(number, *each) for each in parts]
 
 
 def dump_of(runs: DumpRuns) -> page.DumpEntry:

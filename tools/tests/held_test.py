@@ -112,6 +112,21 @@ class HeldTest(ToolTest):
             self.expect(["static.hprof", "Cache.int_value"], said=numbers, status=6)
         self.assertNotEqual(INT, LONG)
 
+    def test_thread_group(self) -> None:
+        """The list of a group's threads does not hold them beside their roots."""
+        dump = handler(20)
+        dump.of_class(30, "java/lang/ThreadGroup", fields=["threads"])
+        dump.of_class(31, "[Ljava/lang/Thread;")
+        dump.of_class(32, "shop/Server", {"GROUP": 900})
+        dump.instance(900, 30, 901)
+        dump.array(901, 31, 700)
+        dump.root(32)
+        dump.write("group.hprof")
+        for words in ('thread "http-0"', 'threads "http-*"'):
+            names = [each.split()[-1] for each in self.ran("group.hprof", words).out.splitlines()]
+            self.assertIn("java/lang/Thread", names)
+            self.assertIn("shop/Order", names)
+
     def test_threads(self) -> None:
         """Local variables and threads, as lines of holders and leaks have them."""
         threads().write("threads.hprof")

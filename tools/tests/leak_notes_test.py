@@ -25,7 +25,8 @@ def holding(*names: str) -> List[HoldingObject]:
 
 
 OWN, TOP = line("shop/Basket.items", 9), line("java/util/HashMap.table", 9)
-NODE, LIST = line("java/util/HashMap$Node.value", 70), line("java/util/ArrayList.elementData", 80)
+NODE = line("java/util/HashMap$Node.value", 70, before=70)
+LIST = line("java/util/ArrayList.elementData", 80, before=80)
 
 
 class LeakNotesTest(unittest.TestCase):
@@ -50,6 +51,21 @@ class LeakNotesTest(unittest.TestCase):
         self.assertEqual((found, tried), (None, ["shop/Basket.items", "java/util/HashMap.table"]))
         found, tried = self.found(self.answer(line("shop/A.b", 1), line("shop/A.c", 100_001), NODE, LIST))
         self.assertEqual(tried, ["java/util/HashMap$Node.value", "java/util/ArrayList.elementData"])
+
+    def test_what_leaks(self) -> None:
+        """Of lines after the first, those are left out whose holders became more, or are many collections."""
+        leaking, many = line("shop/Order.text", 9, before=8), line("java/util/HashMap.table", 90, before=90)
+        many.held.candidates[0].__dict__["is_collection"] = True
+        known = (leaking.held, many.held)
+        for answer, wanted in (
+            (self.answer(TOP, leaking, many), []),
+            (self.answer(leaking), [leaking]),
+            (self.answer(many), [many]),
+        ):
+            with mock.patch("heap_tools.leak_notes.objects_to_show", return_value=[]) as asked:
+                line_objects(answer, True)
+            tried = [call[0][1] for call in asked.call_args_list]
+            self.assertEqual([each for each in tried if each in known], [each.held for each in wanted])
 
     def test_names_first(self) -> None:
         """The first line whose objects have names counts, else the first one that has objects."""

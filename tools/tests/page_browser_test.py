@@ -5,7 +5,7 @@ import re
 import tempfile
 import unittest
 import zlib
-from typing import List, Tuple
+from typing import List, Sequence, Tuple
 
 from heap_tools.class_names import shown
 from heap_tools.page import templates
@@ -13,6 +13,7 @@ from tests.support import page_sample
 from tests.support.dump_writer import DumpWriter
 from tests.support.hostile_names import HOSTILE_CLASSES, SCRIPT, hostile_leak
 from tests.support.in_browser import CUT, LOW_CONTRAST, SCROLLING, InBrowser
+from tests.support.picture import picture_of
 from tests.support.services import cache
 from tests.support.tool_test import ToolTest
 
@@ -22,6 +23,11 @@ new Promise(done => {
   document.addEventListener('securitypolicyviolation', event => done(event.effectiveDirective));
   document.body.append(Object.assign(document.createElement('%s'), {%s}));
 })
+"""
+#: Returns the colour of the name in the headline.
+ACCENT = """
+(it => getComputedStyle(it.lastChild.nodeType === 3 ? it : it.lastElementChild).color.match(/[0-9.]+/g).map(Number))(
+  document.querySelector('h1 .name'))
 """
 #: The sides of A4 in points.
 A4 = (595, 842)
@@ -73,6 +79,11 @@ class ToolPageTest(InBrowser, ToolTest):
         for name in HOSTILE_CLASSES:
             self.assertIn(templates.plain(shown(name.encode()), 240), grown)
         self.assertIn(shown(f"{SCRIPT}.{SCRIPT}".encode()), " ".join(self.texts("#holders tbody th")))
+
+
+def is_near(one: Sequence[int], other: Sequence[int], most: int) -> bool:
+    """Tests whether no part of two colours differs by more than `most`."""
+    return all(abs(first - second) <= most for first, second in zip(one, other))
 
 
 def hostile_dump(count: int) -> DumpWriter:
@@ -146,6 +157,26 @@ class BrowserTest(InBrowser):
         for leak in page_sample.bare_leak(), page_sample.full_leak():
             self.open_page_of(leak)
             self.check_screens()
+
+    def test_pictures(self) -> None:
+        """In pictures of the page the edges are empty, its inside nowhere for long, and the answer is at the top; light
+        and dark differ in nothing but colours."""
+        self.open_page_of(page_sample.full_leak())
+        for width, scale, top in (1280, 0.125, 180), (390, 0.25, 260):
+            heights = set()
+            for dark in False, True:
+                self.browser.show(width, dark)
+                rows = picture_of(self.browser.picture(scale)).rows
+                heights.add(len(rows))
+                ground, accent = rows[0][0], (self.browser.value(ACCENT))
+                self.assertEqual(max(ground) < 60, dark, ground)
+                edges = {row[x] for row in rows for x in (0, 1, -2, -1)}
+                self.assertTrue(all(is_near(edge, ground, 8) for edge in edges), (width, ground, edges))
+                named = [number for number, row in enumerate(rows) if any(is_near(each, accent, 80) for each in row)]
+                self.assertLess(named[0] / scale, top)
+                empty = "".join("x" if not all(is_near(each, ground, 2) for each in row) else " " for row in rows)
+                self.assertLess(max(map(len, empty.split("x"))) / scale, 80, width)
+            self.assertEqual(len(heights), 1)
 
     def test_wide_table_scrolls(self) -> None:
         """Between the two widths a table may be wider than its place: then a shadow shows that it scrolls."""

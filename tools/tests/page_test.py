@@ -115,6 +115,14 @@ class PageTest(unittest.TestCase):
         self.assertEqual(ids, ["heap", "holders", "grown", "last", "omitted", "terms", "making"])
         self.assertEqual([target[1:] for target in outline.values("href")], ids)
 
+    def test_what_objects_gained(self) -> None:
+        """The shares of objects are those of what all hold, or of what all gained."""
+        it = full_leak()
+        self.check_texts(it, "these hold the most by it", "shares are of what all objects with the field hold.")
+        gained = [dataclasses.replace(each, has_gained=True) for each in it.objects]
+        wanted = "these gained the most by it", "shares are of what all objects with the field gained."
+        self.check_texts(dataclasses.replace(it, objects=gained), *wanted)
+
     def test_line_numbers(self) -> None:
         """The lines have the numbers by which the objects and the terminal name them."""
         outline = self.outline(full_leak())

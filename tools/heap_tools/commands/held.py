@@ -3,7 +3,7 @@
 from typing import NamedTuple, NoReturn, Optional, Sequence, Tuple
 
 from heap_tools import command_line
-from heap_tools.candidates import Candidates
+from heap_tools.candidates import FIELD, GROUP, Candidates
 from heap_tools.changed_copy import Changes
 from heap_tools.class_growth import growths, lines_to_print
 from heap_tools.command_line import Parser, number
@@ -25,7 +25,8 @@ stand as they are, and dots in place of slashes. Without `$14+0x..` a hidden
 class means all of that name. A line of holders or leaks may be pasted, or what
 it ends with: `static A.x` and `together static A.x, static B.y` mean these
 fields, `A.x > B.y` means B.y, `local A.f` the local variables of a method, and
-`thread "NAME"` or `threads "NAME-*"` all that threads of such names hold.
+`thread "NAME"` or `threads "NAME-*"` all that threads of such names hold, not
+counting the list of their group (JDK 17).
 
 It runs heapmark on DUMP, and on DUMP with these fields declared as numbers, so
 that they lead nowhere, and shows where the reports differ, as grown does
@@ -81,6 +82,9 @@ def difference(path: str, text: str) -> Difference:
     if fields:
         heapmark.check_fields(",".join(fields))
     runs = DumpRuns.of(heapmark, path, "held")
+    if any(root_of(entry) for entry in entries):
+        # Each thread is a root: the list of a group's threads holds nothing that leaks counts.
+        runs = runs.with_cut(Candidates(runs.dump).changes((FIELD, GROUP)))
     changes: Changes = {}
     all_found = True
     for entry in entries:
@@ -102,7 +106,7 @@ def largest(runs: DumpRuns, changes: Changes) -> Tuple[Report, Report]:
     without local variables if `changes` make the larger difference then. A call that runs hides what fields hold, by
     its local variables; but fields below the local variables of a call, such as those of a server in `main`, hold
     nothing without it."""
-    plain = runs.without(changes), runs.report
+    plain = runs.without(changes), runs.base()
     calls = Candidates(runs.dump).running(only_jdk=False)
     if calls.keys() <= changes.keys() or not calls.keys().isdisjoint(changes.keys()):
         return plain

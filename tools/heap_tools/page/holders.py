@@ -128,9 +128,10 @@ def object_table(leak: Leak, limits: Limits) -> Html:
     if not leak.objects:
         return Html()
     shown = leak.objects[: limits.holders]
+    verb = "gained" if shown[0].has_gained else "hold"
     about = (
-        "Of the objects that have the field of a line above, these hold the most by it in the last dump. Shares are of "
-        "what all of them hold."
+        f"Of the objects that have the field of a line above, these {verb} the most by it. Bytes are those that they "
+        f"hold by it in the last dump; shares are of what all objects with the field {verb}."
     )
     heads = {"Object": "name", "Field of": "number", "Bytes": "number", "Share of the line": "shares"}
     parts = [fill("subhead", text="Which objects"), fill("about", text=about)]

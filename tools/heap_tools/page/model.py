@@ -73,13 +73,14 @@ class HolderEntry:
 class ObjectEntry:
     """One of the objects that have the field of a holder. `line`: the number of the holder in `Leak.holders`, the first
     is 1. `name`: what tells it from the others, empty if nothing does. `bytes`: what it holds through the field in the
-    last dump, which is `percent` of what all of them do."""
+    last dump, which is `percent` of what all of them do. `has_gained`: what it gained is `percent` of what all did."""
 
     line: int
     class_name: str
     name: str
     bytes: int
     percent: float
+    has_gained: bool = False
 
 
 @dataclass(frozen=True)

@@ -182,9 +182,11 @@ class Chromium:
         parts = [(node.get("role", {}), node.get("name", {})) for node in nodes if not node.get("ignored")]
         return [(role.get("value"), name.get("value", "")) for role, name in parts]
 
-    def picture(self) -> bytes:
-        """Returns a picture of the whole page, as PNG."""
-        shot = self.call("Page.captureScreenshot", format="png", captureBeyondViewport=True)
+    def picture(self, scale: float = 1) -> bytes:
+        """Returns a picture of the whole page, as PNG, a pixel of which is 1 / `scale` pixels of the window."""
+        box = self.value("(it => [it.clientWidth, it.scrollHeight])(document.documentElement)")
+        clip = {"x": 0, "y": 0, "width": box[0], "height": box[1], "scale": scale}
+        shot = self.call("Page.captureScreenshot", format="png", captureBeyondViewport=True, clip=clip)
         return base64.b64decode(shot["data"])
 
     def printed(self) -> bytes:

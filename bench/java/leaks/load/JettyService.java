@@ -15,7 +15,9 @@ import org.eclipse.jetty.util.log.StdErrLog;
 
 /**
  * Deploys a new version of its application into Jetty at each change, and removes none of the old ones. The collection
- * has each version twice: among its handlers, and among its beans. In each dump, requests are in the first version.
+ * has each version twice: among its handlers, and among its beans. Several ways lead to the collection, none of which
+ * holds it alone: the static field, and the server, which its own threads and the monitor of its shutdown have. In each
+ * dump, requests are in the first version.
  */
 final class JettyService {
     static final int CHANGES_A_DAY = 80;
