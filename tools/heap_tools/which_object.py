@@ -122,17 +122,21 @@ def objects_that_grew(probe: GrowthProbe, held: Retained) -> List[HoldingObject]
     if sure and sum(unit.percent(each.amount, gain) for each in sure) - was >= OF_ALL:
         return sure
     known = ObjectSearch(probe.earlier, before, gain).find() if found else []
-    shares = [min(100.0, unit.percent(gained(each, known), gain)) for each in found]
+    # If the earlier dump shows no heavy object, each held less than half of the gain.
+    half = Amount(gain.objects // 2, gain.bytes // 2)
+    largest = max((each.amount for each in known), key=unit.of, default=half)
+    shares = [min(100.0, unit.percent(gained(each, known, largest), gain)) for each in found]
     gains = [each._replace(percent=share, has_gained=True) for each, share in zip(found, shares)]
     gains = sorted((each for each in gains if each.percent >= OF_ONE), key=lambda each: -each.percent)
     return gains if sum(each.percent for each in gains) >= OF_ALL else []
 
 
-def gained(found: HoldingObject, known: Sequence[HoldingObject]) -> Amount:
-    """Returns what an object holds more than that of its class that had one of its names before: nothing if it has no
-    name."""
+def gained(found: HoldingObject, known: Sequence[HoldingObject], largest: Amount) -> Amount:
+    """Returns what an object holds more than that of its class that had one of its names before. One without a name may
+    have been the `largest`."""
     same = [each for each in known if each.class_name == found.class_name and set(each.names) & set(found.names)]
-    return found.amount.minus(same[0].amount if same else Amount()) if found.names else Amount()
+    before = same[0].amount if same else Amount() if found.names else largest
+    return found.amount.minus(before)
 
 
 def objects_to_show(probe: GrowthProbe, held: Retained, shows_values: bool) -> List[HoldingObject]:

@@ -231,7 +231,7 @@ class LeaksTest(ToolTest):
         ended = self.ran("before", "after")
         path = ["80", "static shop/Baskets.ALL > shop/Basket.items"]
         self.assertEqual(columns_of(ended.out.splitlines()[0])[-2:], path, ended.out + ended.said)
-        self.assertIn("leaks: line 1: 1 of 80 shop/Basket.items holds most: shop/Basket: ", ended.said)
+        self.assertIn("leaks: line 1: 1 of 80 shop/Basket.items gained most: shop/Basket: ", ended.said)
 
     def test_finalizers(self) -> None:
         """What grew and only final references hold is the answer if it is most of the growth, also of a class; else it
