@@ -154,6 +154,15 @@ class HeldTest(ToolTest):
         handler(20).write("handler.hprof")
         self.assertEqual(self.ran("handler.hprof", "shop/Order.text").out.split()[:3], ["20", "400", "byte[]"])
         self.assertIn("Calls that are running do not count", self.ran("--help").out)
+        # Another thread is in a call whose local variable leads to the same orders as a thread's own.
+        busy = handler(20)
+        busy.of_class(9, "shop/Service")
+        busy.thread(2, 710, [(9, "run")])
+        busy.local(2, 0, 5000)
+        busy.instance(710, 6, 0)
+        busy.write("busy.hprof")
+        for words in ('thread "http-0"', 'threads "http-*"', "local shop/Handler.handle"):
+            self.assertIn(line(20, 160, "shop/Order"), self.ran("busy.hprof", words).out, words)
         both = self.ran("handler.hprof", 'together static shop/Catalog.ALL, thread "http-0"')
         self.assertIn(line(20, 160, "shop/Order"), both.out)
         self.assertIn(line(100, 800, "shop/Product"), both.out)

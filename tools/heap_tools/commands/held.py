@@ -35,10 +35,10 @@ runs. The roots of local variables and threads are null in their place. A line
 on standard error says if an entry of FIELDS names no field, or nothing hangs by
 FIELDS alone. A name that begins with a hyphen goes after `--`.
 
-Calls that are running do not count: both reports are also made without local
-variables, unless FIELDS names some, and if more hangs by FIELDS then, that is
-shown. What only local variables lead to, such as those of `main`, hangs by the
-FIELDS in it as they are.
+Calls that are running do not count: both reports are also made without the
+local variables that FIELDS does not name, and if more hangs by FIELDS then,
+that is shown. What only local variables lead to, such as those of `main`, hangs
+by the FIELDS in it as they are.
 
 Exit status:
   0  done: what hangs by FIELDS, if anything, was printed
@@ -103,12 +103,13 @@ def difference(path: str, text: str) -> Difference:
 
 def largest(runs: DumpRuns, changes: Changes) -> Tuple[Report, Report]:
     """Returns the report of the dump with `changes` and the one without them, both of the dump as it is, or both
-    without local variables if `changes` make the larger difference then. A call that runs hides what fields hold, by
-    its local variables; but fields below the local variables of a call, such as those of a server in `main`, hold
-    nothing without it."""
+    without the local variables that are not in `changes` if these make the larger difference then. A call that runs
+    hides what others hold, by its local variables; but fields below the local variables of a call, such as those of a
+    server in `main`, hold nothing without it."""
     plain = runs.without(changes), runs.base()
-    calls = Candidates(runs.dump).running(only_jdk=False)
-    if calls.keys() <= changes.keys() or not calls.keys().isdisjoint(changes.keys()):
+    every = Candidates(runs.dump).running(only_jdk=False)
+    calls = {place: new for place, new in every.items() if place not in changes}
+    if not calls:
         return plain
     idle = runs.with_cut(calls)
     silent = idle.without(changes), idle.base()
