@@ -36,11 +36,12 @@ holds all that B does.
 Lines with few holders come first, and of fields above one another the deepest
 that still has most of the growth: the accumulation point. Lines whose holders
 became more with the leak come later, of those above one another the topmost
-first, and so do lines that did not grow at each step, or whose owner gained
-little. Fields of the JDK come after own ones with the same share, and so do
-those of collections: of the JDK's, and of classes that inherit from them. If
-one object of many holds most of a field, that comes first. Such an object is
-named by a text in it, its key in a map, or by those of what leads to it.
+first, and so do lines that did not grow at four of five steps between dumps, or
+whose owner gained little. Fields of the JDK come after own ones with the same
+share, and so do those of collections: of the JDK's, of classes that inherit
+from them, and of classes whose names end with Map, List or Set. If one object
+of many gained most of a field, that comes first. Such an object is named by a
+text in it, its key in a map, or by those of what leads to it.
 
 Calls that are running do not count: their local variables lead into containers
 that fields hold. So local variables lead nowhere if less than P percent of the
