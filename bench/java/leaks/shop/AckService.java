@@ -34,6 +34,8 @@ final class AckService {
             DELIVERIES.submit(() -> deliver(number, begun));
         }
         begun.await();
+        // A thread that has begun, but does not wait yet, is still on a carrier, and holds the executor as a root.
+        Thread.sleep(2_000);
     }
 
     public static void main(String[] words) throws Exception {
