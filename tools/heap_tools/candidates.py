@@ -134,14 +134,16 @@ class Candidates:
         code = number_code(self.dump)
         return {each.place: code for each in fields}
 
+    def not_counted(self) -> Changes:
+        """Returns the changes by which that leads nowhere which does not count: weak references, unless they are
+        followed, and the list of a group's threads, since each thread is a root."""
+        weak = {} if self._follows_weak else self.changes((FIELD, WEAK))
+        return {**self.changes((FIELD, GROUP)), **weak}
+
     def prepared(self, runs: DumpRuns) -> DumpRuns:
-        """Returns `runs` on copies that follow weak references only if that is asked for. Two lists hold what is held
-        anyway, and do not count: that of a group's threads, since each thread is a root, and that of a loader's
-        classes. So classes that are never unloaded become roots, too."""
-        cut = dict(self.changes((FIELD, GROUP)))
-        if not self._follows_weak:
-            cut.update(self.changes((FIELD, WEAK)))
-        return runs.with_cut(cut, self.dump.lasting_classes())
+        """Returns `runs` on copies without what does not count. The list of a loader's classes holds what is held
+        anyway, too: so classes that are never unloaded become roots."""
+        return runs.with_cut(self.not_counted(), self.dump.lasting_classes())
 
     def statics(self) -> List[Candidate]:
         """Returns the static fields that are not null. Those that the virtual machine keeps with a class, such as

@@ -7,7 +7,7 @@ import unittest
 
 from tests.support.dump_writer import INT, LONG, DumpWriter
 from tests.support.held_objects import threads
-from tests.support.services import handler, running
+from tests.support.services import finalizers, handler, running
 from tests.support.tool_test import ToolTest, report
 
 KEY, VALUE = "Cache$Entry.key", "Cache$Entry.value"
@@ -111,6 +111,17 @@ class HeldTest(ToolTest):
             numbers = "held: Cache.int_value: this field holds numbers, no references"
             self.expect(["static.hprof", "Cache.int_value"], said=numbers, status=6)
         self.assertNotEqual(INT, LONG)
+
+    def test_weak_references(self) -> None:
+        """What a finalizer names, too, hangs by a field, unless weak references are followed."""
+        dump = finalizers(1, 20)
+        dump.of_class(14, "shop/Server", {"STREAM": 30000})
+        dump.root(14)
+        dump.write("weak.hprof")
+        self.assertIn(line(1, 8, "shop/Stream"), self.ran("weak.hprof", "shop/Server.STREAM").out)
+        self.assertEqual(self.ran("weak.hprof", "--weak", "shop/Server.STREAM").out, "")
+        named = self.ran("weak.hprof", "java/lang/ref/Reference.referent,shop/Server.STREAM")
+        self.assertIn(line(1, 8, "shop/Stream"), named.out)
 
     def test_thread_group(self) -> None:
         """The list of a group's threads does not hold them beside their roots."""

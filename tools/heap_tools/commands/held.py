@@ -3,7 +3,7 @@
 from typing import NamedTuple, NoReturn, Optional, Sequence, Tuple
 
 from heap_tools import command_line
-from heap_tools.candidates import FIELD, GROUP, Candidates
+from heap_tools.candidates import FIELD, GROUP, WEAK, Candidates
 from heap_tools.changed_copy import Changes
 from heap_tools.class_growth import growths, lines_to_print
 from heap_tools.command_line import Parser, number
@@ -25,8 +25,7 @@ stand as they are, and dots in place of slashes. Without `$14+0x..` a hidden
 class means all of that name. A line of holders or leaks may be pasted, or what
 it ends with: `static A.x` and `together static A.x, static B.y` mean these
 fields, `A.x > B.y` means B.y, `local A.f` the local variables of a method, and
-`thread "NAME"` or `threads "NAME-*"` all that threads of such names hold, not
-counting the list of their group (JDK 17).
+`thread "NAME"` or `threads "NAME-*"` all that threads of such names hold.
 
 It runs heapmark on DUMP, and on DUMP with these fields declared as numbers, so
 that they lead nowhere, and shows where the reports differ, as grown does
@@ -34,6 +33,10 @@ between two dumps; grown --help says how names are shown and which heapmark
 runs. The roots of local variables and threads are null in their place. A line
 on standard error says if an entry of FIELDS names no field, or nothing hangs by
 FIELDS alone. A name that begins with a hyphen goes after `--`.
+
+As for holders and leaks, soft, weak, final and phantom references lead nowhere,
+unless --weak is given or FIELDS names java/lang/ref/Reference.referent. Nor
+does the list of a group's threads (JDK 17), which are roots themselves.
 
 Calls that are running do not count: both reports are also made without the
 local variables that FIELDS does not name, and if more hangs by FIELDS then,
@@ -63,6 +66,7 @@ def parser() -> Parser:
     it.flag("--bytes", "Sort by bytes, not by objects")
     text = "Show only classes with more than N such objects; if there are any, the exit status is 3"
     it.option("--more-than", "N", text, type=number())
+    it.flag("--weak", "Follow soft, weak, final and phantom references, too")
     return it
 
 
@@ -75,16 +79,15 @@ class Difference(NamedTuple):
     all_found: bool
 
 
-def difference(path: str, text: str) -> Difference:
-    """Runs heapmark on the dump `path` as it is and without what `text` names. Says which entries name nothing."""
+def difference(path: str, text: str, follows_weak: bool = False) -> Difference:
+    """Runs heapmark on the dump `path`, and on it without what `text` names. Says which entries name nothing."""
     heapmark, entries = Heapmark(), [text] if root_of(text) else entries_of(text)
     fields = [entry for entry in entries if not root_of(entry)]
     if fields:
         heapmark.check_fields(",".join(fields))
     runs = DumpRuns.of(heapmark, path, "held")
-    if any(root_of(entry) for entry in entries):
-        # Each thread is a root: the list of a group's threads holds nothing that leaks counts.
-        runs = runs.with_cut(Candidates(runs.dump).changes((FIELD, GROUP)))
+    candidates = Candidates(runs.dump, follows_weak or any(entry.strip().endswith(WEAK) for entry in entries))
+    runs = runs.with_cut(candidates.not_counted())
     changes: Changes = {}
     all_found = True
     for entry in entries:
@@ -102,10 +105,10 @@ def difference(path: str, text: str) -> Difference:
 
 
 def largest(runs: DumpRuns, changes: Changes) -> Tuple[Report, Report]:
-    """Returns the report of the dump with `changes` and the one without them, both of the dump as it is, or both
-    without the local variables that are not in `changes` if these make the larger difference then. A call that runs
-    hides what others hold, by its local variables; but fields below the local variables of a call, such as those of a
-    server in `main`, hold nothing without it."""
+    """Returns the report of the dump with `changes` and the one without them, or both without the local variables that
+    are not in `changes` if these make the larger difference then. A call that runs hides what others hold, by its local
+    variables; but fields below the local variables of a call, such as those of a server in `main`, hold nothing without
+    it."""
     plain = runs.without(changes), runs.base()
     every = Candidates(runs.dump).running(only_jdk=False)
     calls = {place: new for place, new in every.items() if place not in changes}
@@ -122,7 +125,7 @@ def main(words: Sequence[str]) -> int:
     if is_dump(options.fields):
         text = f"{options.fields}: a file: leaks {options.dump} {options.fields} shows what holds that which grew"
         raise Fault(WRONG_USE, text)
-    without, whole, all_found = difference(options.dump, options.fields)
+    without, whole, all_found = difference(options.dump, options.fields, options.weak)
     if not without:
         return NO_SUCH_NAME
     unit = Unit.BYTES if options.bytes else Unit.OBJECTS
