@@ -156,18 +156,9 @@ class Ranks:
             return Doubt.MOVED
         if not self._grew_at_most_steps(held):
             return Doubt.UNSTEADY
-        if self.is_payload(held):
+        if is_payload(held, self.probe):
             return Doubt.PAYLOAD
         return Doubt.SMALL if id(held) in self._small else Doubt.NONE
-
-    def is_payload(self, held: Retained) -> bool:
-        """Tests whether the holders that came since the first dump explain half of what was gained or more, each by
-        what a holder holds on average: before if there are few, since some may have come by chance."""
-        unit, now, was = self.probe.unit, held.holders, self.probe.earlier.holders(held.candidates)
-        amount = unit.of(held.amount)
-        before = unit.of(self.probe.earlier.retained(held.candidates).amount)
-        average = before / was if was and now <= FEW else amount / now
-        return now > max(was, 1) and 2 * (now - was) * average >= amount - before
 
     def _has_moved(self, held: Retained) -> bool:
         """Tests whether what holds all that `held` does gained little of what `held` did."""
@@ -206,7 +197,7 @@ class Ranks:
     def _small_ones(self) -> Set[int]:
         """Returns those beside which something else with few holders gained far more. What is beside has little in
         common with the other: a container that many share holds what each of them does."""
-        few = [each for each in self.found if each.holders <= FEW and not self.is_payload(each)]
+        few = [each for each in self.found if each.holders <= FEW and not is_payload(each, self.probe)]
         return {id(held) for held in few if any(self._is_far_larger(each, held) for each in few)}
 
     def _is_far_larger(self, other: Retained, held: Retained) -> bool:
@@ -215,6 +206,19 @@ class Ranks:
             return False
         both, unit = self.probe.retained([*other.candidates, *held.candidates]), self.probe.unit
         return unit.of(both.amount) >= unit.of(other.amount) + unit.of(held.amount) / 2
+
+
+def is_payload(held: Retained, probe: GrowthProbe) -> bool:
+    """Tests whether the holders that came since the first dump explain half of what was gained or more."""
+    before, was = probe.earlier.retained(held.candidates).amount, probe.earlier.holders(held.candidates)
+    return explain_gain(held.holders, was, probe.unit.of(held.amount), probe.unit.of(before))
+
+
+def explain_gain(now: int, was: int, amount: int, before: int) -> bool:
+    """Tests whether holders, `now` and `was` before, explain half of the gain from `before` to `amount` or more, each
+    that came by what a holder holds on average: before if there are few, since some may have come by chance."""
+    average = before / was if was and now <= FEW else amount / now
+    return now > max(was, 1) and 2 * (now - was) * average >= amount - before
 
 
 def says_more(held: Retained, other: Retained) -> bool:

@@ -9,7 +9,7 @@ from heap_tools.comparison import Comparison
 from heap_tools.console import say
 from heap_tools.direct_buffers import more_direct_memory
 from heap_tools.humanize import counted
-from heap_tools.leak_lines import FEW, MOST_OF_LARGEST, Answer, Line, is_collection
+from heap_tools.leak_lines import FEW, MOST_OF_LARGEST, Answer, Line, explain_gain, is_collection
 from heap_tools.thread_counts import ThreadCount, grown_thread_counts
 from heap_tools.which_object import FEWEST_OBJECTS, MOST_OBJECTS, HoldingObject, objects_to_show
 
@@ -61,9 +61,9 @@ def captured_words(lines: Sequence[Line]) -> str:
 
 
 def with_object_first(answer: Answer, notes: Notes) -> Tuple[Answer, Notes]:
-    """Returns the answer with the line first of which one object holds most, if that is an own field with as many
-    holders as before, and no line holds much more: it is as if the field had one holder, and is deeper than the others.
-    """
+    """Returns the answer with the line first of which one object holds most, if that is an own field whose new holders,
+    if any, do not explain the growth, and no line holds much more: it is as if the field had one holder, and is deeper
+    than the others."""
     found = notes.objects
     if not found or len(found.objects) > 1 or not leads(found.line, answer):
         return answer, notes
@@ -74,14 +74,20 @@ def with_object_first(answer: Answer, notes: Notes) -> Tuple[Answer, Notes]:
 def leads(line: Line, answer: Answer) -> bool:
     """Tests whether a line may come first if one object of it holds most."""
     largest = max(each.share for each in answer.lines)
-    return line.held.is_own and line.holders_before == line.held.holders and line.share >= MOST_OF_LARGEST * largest
+    return line.held.is_own and not came_with_leak(line, answer) and line.share >= MOST_OF_LARGEST * largest
 
 
-def may_tell(line: Line) -> bool:
+def came_with_leak(line: Line, answer: Answer) -> bool:
+    """Tests whether the holders of a line that came since the first dump explain what was gained."""
+    amount, before = (answer.probe.unit.of(each) for each in (line.held.amount, line.before))
+    return explain_gain(line.held.holders, line.holders_before, amount, before)
+
+
+def may_tell(line: Line, answer: Answer) -> bool:
     """Tests whether the objects of a line after the first may say more than the first line: not those that came with
     the leak, and not many collections."""
     is_few = line.held.holders <= FEW or not is_collection(line.held)
-    return is_few and line.held.holders <= line.holders_before
+    return is_few and not came_with_leak(line, answer)
 
 
 def line_objects(answer: Answer, shows_values: bool) -> Optional[LineObjects]:
@@ -89,7 +95,7 @@ def line_objects(answer: Answer, shows_values: bool) -> Optional[LineObjects]:
     names, else of the first one of which few objects hold most; None if many hold a little each. At most `TRIED` lines
     are tried, of own classes first: their objects are named more often."""
     several = [(at, it) for at, it in enumerate(answer.lines, 1) if FEWEST_OBJECTS <= it.held.holders <= MOST_OBJECTS]
-    asked = [(at, it) for at, it in several if at == 1 or may_tell(it)]
+    asked = [(at, it) for at, it in several if at == 1 or may_tell(it, answer)]
     asked.sort(key=lambda numbered: not numbered[1].held.is_own)
     nameless = None
     for number, line in asked[:TRIED]:

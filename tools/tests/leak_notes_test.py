@@ -1,7 +1,7 @@
 """Tests of which lines of leaks it is asked which objects hold most, and which of them then comes first."""
 
 import unittest
-from typing import Any, List
+from typing import Any, List, Tuple
 from unittest import mock
 
 from heap_tools.candidates import FIELD, Candidate
@@ -9,14 +9,16 @@ from heap_tools.leak_lines import Answer, Line
 from heap_tools.leak_notes import LineObjects, Notes, line_objects, with_object_first
 from heap_tools.object_names import Name
 from heap_tools.probe import Retained
-from heap_tools.reports import Amount
+from heap_tools.reports import Amount, Unit
 from heap_tools.which_object import HoldingObject
 
 
 def line(name: str, holders: int, share: float = 90.0, before: int = 9) -> Line:
-    """Returns a line about a field with so many holders."""
+    """Returns a line about a field with so many holders: nine hold 90 bytes now, and as many as there were held ten
+    bytes each before, or none."""
     held = Retained([Candidate(FIELD, name, holders, {})], Amount(9, 90), Amount(9, 90), {})
-    return Line(held, Amount(), share, [], before)
+    was = Amount(before, 10 * before) if before < 9 else Amount()
+    return Line(held, was, share, [], before)
 
 
 def holding(*names: str) -> List[HoldingObject]:
@@ -35,7 +37,7 @@ class LeakNotesTest(unittest.TestCase):
     def answer(self, *lines: Line) -> Answer:
         """Returns an answer with these lines."""
         nothing: Any = None
-        return Answer(list(lines), nothing, mock.Mock())
+        return Answer(list(lines), nothing, mock.Mock(unit=Unit.BYTES))
 
     def found(self, answer: Answer, **by_name: Any) -> Any:
         """Returns what is found if it is known of each line which objects hold most, and the lines that were tried."""
@@ -57,11 +59,12 @@ class LeakNotesTest(unittest.TestCase):
         leaking, many = line("shop/Order.text", 9, before=8), line("java/util/HashMap.table", 90, before=90)
         many.held.candidates[0].__dict__["is_collection"] = True
         known = (leaking.held, many.held)
-        for answer, wanted in (
+        cases: List[Tuple[Answer, List[Line]]] = [
             (self.answer(TOP, leaking, many), []),
             (self.answer(leaking), [leaking]),
             (self.answer(many), [many]),
-        ):
+        ]
+        for answer, wanted in cases:
             with mock.patch("heap_tools.leak_notes.objects_to_show", return_value=[]) as asked:
                 line_objects(answer, True)
             tried = [call[0][1] for call in asked.call_args_list]
@@ -84,6 +87,7 @@ class LeakNotesTest(unittest.TestCase):
             (line("shop/Basket.items", 9, share=54.0), holding("one"), True),
             (line("shop/Basket.items", 9, share=53.0), holding("one"), False),
             (line("shop/Basket.items", 9, before=8), holding("one"), False),
+            (line("shop/Basket.items", 9, before=8)._replace(before=Amount(8, 8)), holding("one"), True),
         ):
             notes = Notes(LineObjects(2, of, objects), [], [])
             answer, after = with_object_first(self.answer(TOP, of), notes)
