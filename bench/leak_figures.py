@@ -7,7 +7,7 @@ to files: as leaks asks them (weak references, and calls that are running, cut a
 the first line. PLAIN reads the copies, and its totals must give what the line shows: the objects and bytes more, the
 share, and what was held before and after. For each step `A > B` of the line's path, a copy without A must lose no more
 if B is cut, too. Then `held` is asked what hangs by A, in the dump as it is: at least what hangs by B, or a line says
-what hangs by each; that may differ, since held follows weak references, and cuts no roots that count for nothing.
+what hangs by each.
 
 Prints a line: `same` or what differs, the first line's field, and how many runs of heapmark it took. Exit status 1 if
 a figure or a step of the path is wrong.
@@ -85,7 +85,7 @@ def wrong_steps(plain: str, probe: GrowthProbe, line: Line) -> list[str]:
     return found
 
 
-def hangs_by(path: str, candidates: Sequence[Candidate]) -> int:
+def hangs_by(path: str, candidates: Sequence[Candidate], follows_weak: bool) -> int:
     """Returns the bytes that held says hang by these candidates."""
     if any(each.kind in ("local", "thread", "threads") for each in candidates):
         texts = [str(each) for each in candidates]
@@ -94,7 +94,7 @@ def hangs_by(path: str, candidates: Sequence[Candidate]) -> int:
     found = []
     for text in texts:
         with contextlib.redirect_stderr(io.StringIO()):
-            difference = held.difference(path, text)
+            difference = held.difference(path, text, follows_weak)
         found.append(difference.whole.reachable.bytes - difference.without.reachable.bytes if difference.without else 0)
     return max(found)
 
@@ -120,7 +120,7 @@ def main() -> int:
     path, notes = [*line.above, line.held], []
     for upper, lower in zip(path, path[1:]):
         try:
-            sizes = [hangs_by(words[-1], each.candidates) for each in (upper, lower)]
+            sizes = [hangs_by(words[-1], each.candidates, comparison.follows_weak) for each in (upper, lower)]
         except Fault as fault:
             notes.append(f"held: {fault}")
             continue

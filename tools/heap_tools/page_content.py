@@ -39,7 +39,7 @@ def content_of(comparison: Comparison, answer: Answer, notes: Notes, shows_value
         of_class=of_class,
         is_of_grown=bool(probe.families) and of_class is None,
         program=program_of(comparison.last, shows_values),
-        next_steps=steps_from(comparison.last.path, answer.lines, names),
+        next_steps=steps_from(comparison.last.path, answer.lines, names, comparison.follows_weak),
         objects=objects_of(notes),
         threads=[page.ThreadGroupEntry(it.pattern, it.before, it.after, it.frames) for it in notes.threads],
         notes=[f"{sentence[0].upper()}{sentence[1:]}." for sentence in notes.sentences],
@@ -91,23 +91,24 @@ def share_of(amount: Amount, probe: Probe) -> page.HeldShare:
     return page.HeldShare(amount, probe.unit.percent(amount, probe.whole))
 
 
-def steps_from(path: str, lines: Sequence[Line], names: Sequence[str]) -> List[page.NextStep]:
+def steps_from(path: str, lines: Sequence[Line], names: Sequence[str], follows_weak: bool) -> List[page.NextStep]:
     """Returns commands on the dump `path` that say more: of the first line, and of the first of the classes `names`, of
-    own classes if there is one. `held` has no word for all threads."""
-    steps = []
+    own classes if there is one. They follow weak references if the lines do. `held` has no word for all threads."""
+    steps, options = [], ["--weak"] * follows_weak
     if lines and all(each.name for each in lines[0].held.candidates):
         fields = ", ".join(sorted(map(str, lines[0].held.candidates)))
-        steps.append(page.NextStep("All that hangs by it, class by class", command_line("held", path, fields)))
+        command = command_line(["held", *options], path, fields)
+        steps.append(page.NextStep("All that hangs by it, class by class", command))
     for name in [*filter(is_own, names), *names][:1]:
         purpose = f"What holds objects of {name}, also if it did not grow"
-        steps.append(page.NextStep(purpose, command_line("holders", path, name)))
+        steps.append(page.NextStep(purpose, command_line(["holders", *options], path, name)))
     return steps
 
 
-def command_line(*words: str) -> str:
-    """Returns a command as a shell reads it, with the words after the first as operands."""
-    is_option = any(word.startswith("-") for word in words)
-    return " ".join(map(shlex.quote, [words[0], "--", *words[1:]] if is_option else words))
+def command_line(command: Sequence[str], *operands: str) -> str:
+    """Returns a command, with its options, and its operands as a shell reads them."""
+    ends = ["--"] * any(operand.startswith("-") for operand in operands)
+    return " ".join(map(shlex.quote, [*command, *ends, *operands]))
 
 
 def making_of(comparison: Comparison) -> page.Making:

@@ -270,13 +270,15 @@ class LeaksTest(ToolTest):
         """In `A > B`, held says that all that B holds hangs by A, and a static field is below nothing."""
         makers: Tuple[Callable[[int], Service], ...] = (cache, handler, worker, running, twofold, baskets)
         pairs = [(make(20), make(80)) for make in makers]
-        pairs += [(lambdas(20, "00aa"), lambdas(80, "00bb")), (finalizers(20, 20), finalizers(80, 80))]
+        weakly_held = [finalizers(80, 80)]
+        pairs += [(lambdas(20, "00aa"), lambdas(80, "00bb")), (finalizers(20, 20), weakly_held[0])]
         steps = 0
         for before, after in pairs:
             for row in self.found(before, after, "--at-least=10"):
                 path = row[-1].split(" > ")
                 self.assertFalse(any(" static " in f" {step}" for step in path[1:]), path)
-                held = [self.ran("after", step, tool="held").out for step in path]
+                options = ["--weak"] * (after in weakly_held)
+                held = [self.ran(*options, "after", step, tool="held").out for step in path]
                 amounts = [{name: int(number) for number, _, name in map(str.split, out.splitlines())} for out in held]
                 for upper, lower in zip(amounts, amounts[1:]):
                     less = [name for name, number in lower.items() if upper.get(name, 0) < number]

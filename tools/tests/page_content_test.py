@@ -49,8 +49,10 @@ class ContentTest(unittest.TestCase):
             ([], [], []),
         ]
         for lines, names, wanted in cases:
-            self.assertEqual([each.command for each in steps_from("-d", lines, names)], wanted)
-        self.assertEqual(command_line("held", "two words", "A.b"), "held 'two words' A.b")
+            self.assertEqual([each.command for each in steps_from("-d", lines, names, False)], wanted)
+        weak = [each.command for each in steps_from("d", [line(static)], classes, True)]
+        self.assertEqual(weak, ["held --weak d 'static shop/Cache.ALL'", "holders --weak d shop/Order"])
+        self.assertEqual(command_line(["held"], "two words", "A.b"), "held 'two words' A.b")
 
 
 if __name__ == "__main__":
