@@ -91,6 +91,15 @@ pub fn wide_array(alloc: Global) -> Result<Bytes, AllocError> {
     with_heap(alloc, NAMES_OF_WIDE, &heap)
 }
 
+/// Returns the dump of [`wide_array`] with three more roots, which are instances of the array. It has the same report.
+pub fn wide_array_of_roots(alloc: Global) -> Result<Bytes, AllocError> {
+    let elements: Vec<u64> = (0x301..0x341u64).collect(alloc)?;
+    let mut heap = Bytes::new(alloc, 4);
+    put_wide(&mut heap, elements.as_slice())?;
+    heap.subs(&[Sub::Root(0x301), Sub::Root(0x302), Sub::Root(0x303)])?;
+    with_heap(alloc, NAMES_OF_WIDE, &heap)
+}
+
 /// The report of [`wide_array`].
 pub const WIDE_ARRAY_REPORT: &str = "         1             256  [LL;
         64               0  L

@@ -2,7 +2,9 @@
 //! it, and the report is the same in each run.
 
 use super::dumps::Sample::{Roots, WideArray};
-use super::dumps::{EIGHT_ROOTS_REPORT, SEVEN_ROOTS_REPORT, Sample, WIDE_ARRAY_REPORT, wide_array};
+use super::dumps::{
+    EIGHT_ROOTS_REPORT, SEVEN_ROOTS_REPORT, Sample, WIDE_ARRAY_REPORT, wide_array_of_roots,
+};
 use super::{Answered, is_answered, length_of, run_with};
 use crate::{Gate, Options, Skip};
 use std::alloc::Global;
@@ -12,102 +14,140 @@ use std::thread;
 use std::thread::Threads;
 use std::time::{Clock, Duration};
 
-/// The number of runs with two workers on the array. A worker that finds no work leaves after some 0.4 s, even if not
-/// all are idle, so on a busy machine one may leave too soon.
-const RUNS: u32 = 10;
+/// The most runs with two workers on the array. A worker that finds no work leaves after some 0.4 s, even if not all
+/// are idle. So on a busy machine it may leave before the other has shared, and then there is one more run.
+const RUNS: u32 = 5;
 
-/// How many times at most the worker that has shared work tests whether the other has come, 1 ms apart.
-const TURNS: u32 = 500;
+/// The most times that a held worker tests whether what it waits for has come, 1 ms apart.
+const TURNS: u32 = 2_000;
 
 /// The number of runs on each dump.
 const RUNS_OF_MANY: u32 = 200;
 
-/// A gate. It holds the worker that takes the root, for 5 ms, so that the other worker finds nothing to do. Then the
-/// worker shares what the root refers to. At its next scan the gate holds it until the other has come, for half a
-/// second at most.
+/// The number of the array. The two classes have lower numbers, and the array's elements higher ones.
+const ARRAY: u32 = 2;
+
+/// The number of roots in each of the two buffers that the leader shares.
+const ROOTS_OF_A_WORKER: u64 = 2;
+
+/// A gate for two workers, each of which gets some of the roots: it holds the first scan of each until the other has
+/// come. It holds the scan of the array until the other worker has scanned its roots, and for 10 ms more, so that the
+/// other finds no work and waits. Then the worker shares what the array refers to. At its next scan the gate holds it
+/// until the other has come once more.
 #[derive(Drop)]
 struct Late<C: Clock> {
     clock: C,
-    /// A bit for each of the two workers, set once it has come.
-    come: AtomicU64,
+    /// The number of scans of worker 0.
+    first: AtomicU64,
+    /// The number of scans of worker 1.
+    second: AtomicU64,
+    /// The number of the worker whose next scan is held, and 1 more; 0 if there is none.
+    held: AtomicU64,
+    /// 1 if the other worker came after the array was scanned.
+    met: AtomicU64,
 }
 
 impl<C: Clock> Late<C> {
-    fn has_met(&self) -> bool {
-        self.come.load(Ordering::SeqCst) == 3
+    fn new(clock: C) -> Self {
+        Late {
+            clock,
+            first: AtomicU64::new(0),
+            second: AtomicU64::new(0),
+            held: AtomicU64::new(0),
+            met: AtomicU64::new(0),
+        }
     }
 
-    fn wait_for_the_other(&self) {
+    /// Waits until `scans` is at least `least`, and returns whether it is.
+    fn sees(&self, scans: &AtomicU64, least: u64) -> bool {
         for _ in 0..TURNS {
-            if self.has_met() {
-                return;
+            if scans.load(Ordering::SeqCst) >= least {
+                return true;
             }
             thread::sleep(&self.clock, Duration::from_millis(1));
+        }
+        false
+    }
+
+    /// Waits until the other worker, which has made `scans` scans, has no work.
+    fn hold_the_array(&self, worker: u32, scans: &AtomicU64) {
+        if self.sees(scans, ROOTS_OF_A_WORKER) {
+            thread::sleep(&self.clock, Duration::from_millis(10));
+            self.held.store(u64::from(worker) + 1, Ordering::SeqCst);
+        }
+    }
+
+    /// Waits until the other worker, which has made `scans` scans, has scanned more than its roots.
+    fn hold_the_next(&self, scans: &AtomicU64) {
+        self.held.store(0, Ordering::SeqCst);
+        if self.sees(scans, ROOTS_OF_A_WORKER + 1) {
+            self.met.store(1, Ordering::SeqCst);
         }
     }
 }
 
 impl<C: Clock + Sync> Gate for Late<C> {
-    fn before_scan(&self, worker: u32, _object: u32) {
-        if worker > 1 {
-            return;
+    fn before_scan(&self, worker: u32, object: u32) {
+        let (own, other) = match worker {
+            0 => (&self.first, &self.second),
+            1 => (&self.second, &self.first),
+            _ => return,
+        };
+        if own.fetch_add(1, Ordering::SeqCst) == 0 {
+            self.sees(other, 1);
         }
-        if self.come.fetch_or(1 << (worker % 2), Ordering::SeqCst) == 0 {
-            thread::sleep(&self.clock, Duration::from_millis(5));
-        } else {
-            self.wait_for_the_other();
+        if object == ARRAY {
+            self.hold_the_array(worker, other);
+        } else if self.held.load(Ordering::SeqCst) == u64::from(worker) + 1 {
+            self.hold_the_next(other);
         }
     }
 }
 
-/// Returns the result of a run on `bytes`, and whether the two workers have met.
+/// Runs on `bytes` with two workers. Returns the result, and whether a worker that waited came once more.
 fn run_late_on<T: Clock + Threads + Wait + Sync>(
     rt: &T,
     alloc: Global,
     options: &Options,
     bytes: &[u8],
 ) -> (Answered, bool) {
-    let gate = Late {
-        clock: rt,
-        come: AtomicU64::new(0),
-    };
+    let gate = Late::new(rt);
     let (skip, written) = (Skip::none(alloc), Vec::new(alloc));
     let (outcome, written) = run_with(rt, alloc, options, &skip, &gate, bytes, written);
     let length = length_of(written.as_slice(), WIDE_ARRAY_REPORT);
-    ((outcome, length), gate.has_met())
+    let met = gate.met.load(Ordering::SeqCst) == 1;
+    ((outcome, length), met)
 }
 
-/// Like [`run_late_on`], for a run on the array.
+/// Like [`run_late_on`], for a run on the array with [`ROOTS_OF_A_WORKER`] objects in a buffer.
 fn run_late<T: Clock + Threads + Wait + Sync>(rt: &T, alloc: Global) -> Option<(Answered, bool)> {
     let Ok(options) = Options::new(2, 2, 1024, 0) else {
         return None;
     };
-    match wide_array(alloc) {
+    match wide_array_of_roots(alloc) {
         Ok(dump) => Some(run_late_on(rt, alloc, &options, dump.bytes.as_slice())),
         Err(_) => None,
     }
 }
 
-/// Returns the number of runs in which the two workers have met, or `None` if a run does not write the report.
-fn runs_that_met<T: Clock + Threads + Wait + Sync>(rt: &T, alloc: Global) -> Option<u32> {
-    let mut met: u32 = 0;
+/// Runs until a worker that waited has come once more, up to [`RUNS`] times. Returns whether one has, or `None` if a
+/// run does not write the report.
+fn is_met<T: Clock + Threads + Wait + Sync>(rt: &T, alloc: Global) -> Option<bool> {
     for _ in 0..RUNS {
         let (told, has_met) = run_late(rt, alloc)?;
         if told != (Ok(()), Some(WIDE_ARRAY_REPORT.len())) {
             return None;
         }
-        met = met.saturating_add(u32::from(has_met));
+        if has_met {
+            return Some(true);
+        }
     }
-    Some(met)
+    Some(false)
 }
 
 #[test]
 fn a_worker_stays_until_another_has_made_work(rt: HostRuntime) {
-    let met = runs_that_met(&rt, rt.alloc());
-    assert!(rt;
-        met.is_some_and(|met| met > RUNS / 2),
-        "the second worker came in {met:?} runs of {RUNS}"
-    );
+    assert_eq!(rt; is_met(&rt, rt.alloc()), Some(true));
 }
 
 /// A dump, workers, objects in a buffer, buffers, and the report. With the fewest buffers some workers get no pair.

@@ -199,16 +199,16 @@ fn all_are_told<T: Abort + Threads + Wait + Sync>(rt: &T, alloc: Global, rows: &
 }
 
 #[test]
-fn want_of_memory_is_told_at_each_request(rt: HostRuntime) {
+fn a_failed_allocation_is_reported_at_each_request(rt: HostRuntime) {
     all_are_told(&rt, rt.alloc(), &FEW);
 }
 
 #[test]
-fn want_of_memory_is_told_with_the_buffers_of_the_program(rt: HostRuntime) {
+fn a_failed_allocation_is_reported_with_the_buffers_of_the_program(rt: HostRuntime) {
     all_are_told(&rt, rt.alloc(), &OF_THE_PROGRAM);
 }
 
 #[test]
-fn want_of_memory_is_told_with_a_list(rt: HostRuntime) {
+fn a_failed_allocation_is_reported_with_a_list(rt: HostRuntime) {
     all_are_told(&rt, rt.alloc(), &WITH_A_LIST);
 }
