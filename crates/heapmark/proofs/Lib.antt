@@ -4,3 +4,4 @@ pub mod Faults
 pub mod OfFile
 mod OfMarking
 pub mod PrintedLine
+pub mod UnmetLines

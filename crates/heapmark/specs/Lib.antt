@@ -5,6 +5,8 @@ pub mod OfFile
 pub mod RefusalCodes
 pub mod RefusalText
 pub mod RunRefusals
+pub mod ShownText
 pub mod SkippedFields
 pub mod StatusOf
+pub mod UnmetEntries
 pub mod working

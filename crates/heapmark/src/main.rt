@@ -23,6 +23,7 @@ ghost use Rattle.std.specs.Io.KnownBytes.{Keeps};
 ghost use Rattle.command_line.specs.Line.{AsksAboutProgram, texts_of};
 ghost use Rattle.heapmark.specs.OfFile.{PrintsReason, PrintsReasonFirst, WritesReportOfFile};
 ghost use Rattle.heapmark.specs.StatusOf.{IsStatusOf};
+ghost use Rattle.heapmark.specs.UnmetEntries.{PrintsOnlyUnmet};
 ghost use Rattle.heapmark.specs.working.Answered.{IsAnswered};
 ghost use Rattle.heapmark.specs.working.StatusOfSome.{IsStatusOfSome};
 ghost use Rattle.histogram.specs.Counting.{failures_of, inner_of};
@@ -69,6 +70,7 @@ fn main(rt: HostRuntime) -> ExitCode {
 
 /// Calls `start`, and returns its exit status. After a report, if standard error is a terminal (`is_terminal`), also
 /// prints which entries of `--skip` name no field of the dump.
+#[tactic(auto, using(crate::proofs::UnmetLines::after_kept, crate::proofs::UnmetLines::none_kept))]
 fn process<T, L, W, E>(rt: &T, line: &L, out: &mut Counted<W>, err: &mut E, is_terminal: bool) -> u8
 where
     T: Dumps + AllocGlobal + Threads + Wait + Sync,
@@ -96,6 +98,9 @@ where
     // At 0, if standard error is no terminal, no refusal was printed. So `process` turns no other status of `start`
     // into 0.
     ensures silent { result ≡ 0 → is_terminal ≡ false → Keeps (E.contents err.old) (E.contents err.new) }
+
+    // At a terminal, at most lines about entries of `--skip` that name no field of the dump were printed.
+    ensures unmet { result ≡ 0 → PrintsOnlyUnmet (E.contents err.old) (E.contents err.new) }
 {
     let status = start(rt, line, out, err, is_terminal);
     if status == DONE && is_terminal {
@@ -105,11 +110,13 @@ where
 }
 
 /// Prints which entries of `--skip` name no field of the dump. Prints nothing if the command line cannot be read again.
+#[tactic(auto, using(crate::proofs::UnmetLines::none))]
 fn look_again<T, L, E>(rt: &T, line: &L, err: &mut E)
 where
     T: Dumps + AllocGlobal + Threads + Sync,
     L: CommandWords,
     E: Write,
+    ensures { PrintsOnlyUnmet (E.contents err.old) (E.contents err.new) }
 {
     let Ok(texts) = line.texts(rt.alloc()) else {
         return;

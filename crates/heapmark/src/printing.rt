@@ -30,7 +30,7 @@ pub(crate) fn print_line<E: io::Write, D: Display>(err: &mut E, text: &D)
 
 /// Writes `bytes` on `err` until it fails or takes nothing.
 #[tactic(auto, using(crate::proofs::PrintedLine::kept, crate::proofs::PrintedLine::begun))]
-fn write_beginning<E: io::Write>(err: &mut E, bytes: &[u8])
+pub(crate) fn write_beginning<E: io::Write>(err: &mut E, bytes: &[u8])
     ensures { AppendsBeginning (E.contents err.old) (E.contents err.new) bytes.now }
 {
     let mut at = 0;
