@@ -4,7 +4,7 @@ use Rattle.std.specs.Io.KnownBytes.{Keeps}
 use Rattle.heapmark.specs.ShownText.{shown_text}
 use Rattle.histogram.specs.Counting.{AppendsBeginning}
 
--- The line about an entry. The entry is shown without its control characters, so the only newline, 10, ends the line.
+-- The line about an entry. Its control characters are shown escaped, so the only newline, 10, ends the line.
 abbrev pub unmet_line : List ℕ → List ℕ
 unmet_line entry =
     codes "heapmark: --skip " ++ shown_text entry
@@ -18,6 +18,6 @@ PrintsUnmet [] old new = Keeps old new
 PrintsUnmet (entry ∷ earlier) old new =
     (between : Option (List ℕ)) × PrintsUnmet earlier old between × AppendsBeginning between new (unmet_line entry)
 
--- nothing was printed but lines about some entries
+-- nothing was printed but lines about some entries, whichever these are
 abbrev pub PrintsOnlyUnmet : Option (List ℕ) → Option (List ℕ) → Type 0
 PrintsOnlyUnmet old new = (entries : List (List ℕ)) × PrintsUnmet entries old new

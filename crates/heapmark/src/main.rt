@@ -99,7 +99,8 @@ where
     // into 0.
     ensures silent { result ≡ 0 → is_terminal ≡ false → Keeps (E.contents err.old) (E.contents err.new) }
 
-    // At a terminal, at most lines about entries of `--skip` that name no field of the dump were printed.
+    // At 0, nothing was printed but lines that say of an entry that it names no field of the dump. The clause does not
+    // say which entries: neither that they are of `--skip`, nor that no class declares them.
     ensures unmet { result ≡ 0 → PrintsOnlyUnmet (E.contents err.old) (E.contents err.new) }
 {
     let status = start(rt, line, out, err, is_terminal);
