@@ -46,7 +46,7 @@ impl<'d, A: Allocator> Objects<'d, A> {
         };
         match self.fates[number as usize] {
             Fate::Endless => return Some(LinkRule::SuperChain),
-            _ => return None,
+            Fate::Unknown | Fate::OnPath | Fate::Whole(_) | Fate::Broken => return None,
         }
     }
 
@@ -69,7 +69,7 @@ impl<'d, A: Allocator> Objects<'d, A> {
                 }
                 return None;
             }
-            _ => return None,
+            Fate::Unknown | Fate::OnPath | Fate::Broken | Fate::Endless => return None,
         }
     }
 
