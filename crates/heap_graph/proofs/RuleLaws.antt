@@ -5,7 +5,7 @@ use Rattle.heap_graph.proofs.Words.{LacksClass, Layout, LinkRule, List, NeverEnd
 use Rattle.heap_graph.proofs.Words.{SubRecord, SuperChain, TableEntry, UnknownClass, ZeroObject, [], ap, arith}
 use Rattle.heap_graph.proofs.Words.{class_dump, class_named, code_of, get_or, get_or_from_slice_get, ids_of, inl, inr}
 use Rattle.heap_graph.proofs.Words.{instance_dump, layout_size, length, object_array_dump, position, refl, slice_get}
-use Rattle.heap_graph.proofs.Words.{subst, sym, ℕ, ⊎_elim, ◌<◌, ◌==◌, ◌^◌, ◌∙◌, ◌≡◌, ◌≤◌}
+use Rattle.heap_graph.proofs.Words.{subst, sym, ℕ, ⊎_elim, ◌<◌, ◌==◌, ◌^◌, ◌∙◌, ◌≡◌, ◌≤◌, ◌⊎◌}
 use Rattle.heap_graph.specs.declared.classes.fate.Fate.TheVariants as fates
 use Rattle.heap_graph.proofs.ChainLaws.{chain_ends, cut_ends, cut_is_no_chain, one_chain, some_none}
 use Rattle.heap_graph.proofs.ClassTableLaws.{found, named_at, numbered, same_count}
@@ -19,6 +19,24 @@ pub record IsFateFound (s : ℕ) (heap : List SubRecord) (ids : List ℕ) (fates
   pub class : Class
   pub named : class_named heap id ≡ Some class
   pub below : k < length fates
+
+-- one of the other fates is not endless, and one of those that are not whole is not whole
+
+pub not_endless : (f : Fate)
+    → (f ≡ fates.Unknown) ⊎ (f ≡ fates.OnPath) ⊎ ((l : Layout) × (f ≡ fates.Whole l)) ⊎ (f ≡ fates.Broken)
+    → f ≡ fates.Endless → ⊥
+not_endless f (inl is) e = let wrong : fates.Unknown ≡ fates.Endless = sym is ∙ e in cc
+not_endless f (inr (inl is)) e = let wrong : fates.OnPath ≡ fates.Endless = sym is ∙ e in cc
+not_endless f (inr (inr (inl is))) e = let wrong : fates.Whole is.0 ≡ fates.Endless = sym is.1 ∙ e in cc
+not_endless f (inr (inr (inr is))) e = let wrong : fates.Broken ≡ fates.Endless = sym is ∙ e in cc
+
+pub not_whole : (f : Fate)
+    → (f ≡ fates.Unknown) ⊎ (f ≡ fates.OnPath) ⊎ (f ≡ fates.Broken) ⊎ (f ≡ fates.Endless)
+    → (l : Layout) → f ≡ fates.Whole l → ⊥
+not_whole f (inl is) l e = let wrong : fates.Unknown ≡ fates.Whole l = sym is ∙ e in cc
+not_whole f (inr (inl is)) l e = let wrong : fates.OnPath ≡ fates.Whole l = sym is ∙ e in cc
+not_whole f (inr (inr (inl is))) l e = let wrong : fates.Broken ≡ fates.Whole l = sym is ∙ e in cc
+not_whole f (inr (inr (inr is))) l e = let wrong : fates.Endless ≡ fates.Whole l = sym is ∙ e in cc
 
 module _ (s : ℕ) (heap : List SubRecord) (ids : List ℕ) (id : ℕ) where
   -- ---- what a known fate rules out

@@ -2,7 +2,7 @@
 use Rattle.heap_graph.proofs.Words.{None, arith, class_named, common_steps, length, refl, subst, sym, ℕ, ◌<◌, ◌≡◌}
 use Rattle.heap_graph.proofs.ClassTableLaws.{not_found}
 use Rattle.heap_graph.proofs.RuleLaws.{class_bad, class_fine, endless_super, ends, fate_found, fate_read, fine_super}
-use Rattle.heap_graph.proofs.RuleLaws.{missing_super, no_super}
+use Rattle.heap_graph.proofs.RuleLaws.{missing_super, no_super, not_endless}
 use Rattle.heap_graph.specs.declared.classes.fate.Fate.TheVariants as fates
 use Rattle.heap_graph.proofs.objects.Objects.class_rule.Goals as goal
 
@@ -33,9 +33,10 @@ returns-in-Endless g c = λ heap dump told st.
     (c.superclass-superclass.ensures dump st) c.index.ensures c.in-Endless.is in
     class_bad c.args.self.now.view.id_size heap dump (endless_super heap dump.super it.says)
 
-pub returns-in_default : goal.returns-in_default
-returns-in_default g c = λ heap dump told st.
+pub returns-in-Unknown : goal.returns-in-Unknown
+returns-in-Unknown g c = λ heap dump told st.
     let it = fate_read _ heap _ _ _ _ _ _ _ told c.in-Some.ensures (c.superclass-superclass.ensures dump st)
     c.index.ensures refl in
     class_fine c.args.self.now.view.id_size heap dump (fine_super heap dump.super it.class it.named
-    (ends _ heap _ dump.super _ it.settled c.in_default.not-Endless it.says))
+    (ends _ heap _ dump.super _ it.settled (not_endless _ c.in-Unknown.is)
+    it.says))

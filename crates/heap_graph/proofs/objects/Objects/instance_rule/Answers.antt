@@ -3,7 +3,7 @@ use Rattle.heap_graph.proofs.Words.{None, ap, arith, bounds, class_named, common
 use Rattle.heap_graph.proofs.Words.{◌<◌, ◌≡◌}
 use Rattle.heap_graph.proofs.ClassTableLaws.{not_found}
 use Rattle.heap_graph.proofs.RuleLaws.{fate_found, fate_read, instance_fine, instance_unknown, instance_wrong, no_chain}
-use Rattle.heap_graph.proofs.RuleLaws.{size_right, size_wrong}
+use Rattle.heap_graph.proofs.RuleLaws.{not_whole, size_right, size_wrong}
 use Rattle.heap_graph.specs.declared.classes.fate.Fate.TheVariants as fates
 use Rattle.heap_graph.proofs.objects.Objects.instance_rule.Goals as goal
 
@@ -38,9 +38,10 @@ returns-in-Whole g c = λ heap i told st.
     (size_right _ heap _ i.class (length i.values) c.in-Whole.layout it.says (bounds st.is.formed).values
     (omega (arith, c.has_size.ensures.right c.if-not-has_size.false, ap length (c.instance_values.ensures i st))))
 
-pub returns-in_default : goal.returns-in_default
-returns-in_default g c = λ heap i told st.
+pub returns-in-Unknown : goal.returns-in-Unknown
+returns-in-Unknown g c = λ heap i told st.
     let it = fate_read _ heap _ _ _ _ _ _ _ told c.in-Some.ensures (c.instance_class.ensures i st) c.index.ensures
     refl in
     instance_fine _ heap i it.class it.named
-    (λ chain is. absurd (no_chain _ heap _ i.class _ chain it.settled c.in_default.not-Whole it.says is))
+    (λ chain is. absurd (no_chain _ heap _ i.class _ chain it.settled (not_whole _ c.in-Unknown.is)
+    it.says is))
