@@ -6,7 +6,7 @@ ghost use Rattle.buffer_pool.specs.Calls.{Owner};
 ghost use Rattle.work_pair.specs.declared.stop.Stop.{Stop};
 ghost use Rattle.drain.specs.Stops.{stopped};
 ghost use Rattle.drain.specs.working.AtWork.{HasGiven, IsSetupOf, IsThrough, Leads};
-ghost use Rattle.drain.specs.working.Duties.{AreBackUnder, HasStarted, IsDutyUnder};
+ghost use Rattle.drain.specs.working.Duties.{AreBackUnder, HasRun, HasStarted, IsDutyUnder};
 ghost use Rattle.drain.specs.working.Jobs.{HasWorked, MayRun, MayWork};
 ghost use Rattle.drain.specs.working.Tallying.{AreTalliesOfNone, HasTallied, Tallies};
 
@@ -235,12 +235,8 @@ where
     requires may { MayRun V.count V.roots V.pairs V.measure job.now starting.leader (vec_len starting.threads)
         (vec_capacity starting.threads) (vec_len back) (vec_capacity back) starting.tallies.items
         (vec_len starting.tallies) }
-    ensures leads { IfOk result (λ s. Leads starting.leader s.0) }
-    ensures finished { IfOk result (λ s. s.0.book.account.finished ≡ starting.leader.book.account.finished) }
-    ensures share { IfOk result (λ s. s.0.book.account.share + job.now.workers
-        ≡ starting.leader.book.account.share) }
-    ensures count { IfOk result (λ s. vec_len s.1 ≡ job.now.workers) }
-    ensures back { IfOk result (λ s. AreBackUnder (V.measure job.now.graph.now) s.0 s.1.items) }
+    ensures run { IfOk result (λ s. HasRun (V.measure job.now.graph.now) job.now.workers starting.leader s.0
+        s.1.items (vec_len s.1)) }
 {
     thread::scope(
         thread::scope_env(),
@@ -249,13 +245,8 @@ where
             requires may { MayRun V.count V.roots V.pairs V.measure job.now starting.leader (vec_len starting.threads)
                 (vec_capacity starting.threads) (vec_len back) (vec_capacity back) starting.tallies.items
                 (vec_len starting.tallies) }
-            ensures leads { IfOk result (λ s. Leads starting.leader s.0) }
-            ensures finished { IfOk result (λ s. s.0.book.account.finished
-                ≡ starting.leader.book.account.finished) }
-            ensures share { IfOk result (λ s. s.0.book.account.share + job.entry.now.workers
-                ≡ starting.leader.book.account.share) }
-            ensures count { IfOk result (λ s. vec_len s.1 ≡ job.entry.now.workers) }
-            ensures back { IfOk result (λ s. AreBackUnder (V.measure job.entry.now.graph.now) s.0 s.1.items) }
+            ensures run { IfOk result (λ s. HasRun (V.measure job.entry.now.graph.now) job.entry.now.workers
+                starting.leader s.0 s.1.items (vec_len s.1)) }
         {
             let started = start_all(rt, scope, job, starting)?;
             let back = join_all(rt, started.threads, back)?;

@@ -35,3 +35,13 @@ pub record IsBackUnder {A : Type 0} (m : Measure) (leader w : Owner) (t : Tally 
 -- each worker in `back` is back
 abbrev pub AreBackUnder : {A : Type 0} → Measure → Owner → List (TalliedWorker A) → Type 0
 AreBackUnder m leader back = All (λ t. IsBackUnder m leader t.worker t.tally) back
+
+-- The leader before and after its workers ran, and the workers that ended, of which there are `number`: it still leads,
+-- finished nothing, and gave a unit to each of `workers` workers, all of which are back.
+pub record HasRun {A : Type 0} (m : Measure) (workers : ℕ) (old new : Owner) (ended : List (TalliedWorker A))
+    (number : ℕ) : Type 0 where
+  pub leads : Leads old new
+  pub finished : new.book.account.finished ≡ old.book.account.finished
+  pub share : new.book.account.share + workers ≡ old.book.account.share
+  pub count : number ≡ workers
+  pub back : AreBackUnder m new ended

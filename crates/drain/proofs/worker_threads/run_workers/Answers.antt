@@ -18,4 +18,4 @@ run_in_scope-requires-clause-may g c κs within =
     }
 
 pub returns-clause-tally : goal.returns-clause-tally
-returns-clause-tally g c = same_tally c.in_ok-worker.ensures.finished c.requires.tally
+returns-clause-tally g c = same_tally c.in_ok-worker.ensures.run.finished c.requires.tally

@@ -11,10 +11,12 @@ returns g c =
     let leads = started.1.leads in
     let owed = came.back _ begun (λ k t below. started.1.owed k t (omega (arith, below, started.0))) in
     record {
-      leads = leads;
-      finished = started.1.finished;
-      share = started.1.share;
-      count = came.count ∙ started.0;
-      back = λ k d below.
-          back_still c.in_ok-started.started.leader leads.pool leads.setup (owed k d below);
+      run = record {
+        leads = leads;
+        finished = started.1.finished;
+        share = started.1.share;
+        count = came.count ∙ started.0;
+        back = λ k d below.
+            back_still c.in_ok-started.started.leader leads.pool leads.setup (owed k d below);
+      };
     }
