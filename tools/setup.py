@@ -20,6 +20,7 @@ import setuptools
 from setuptools.command.build_py import build_py
 
 TOOLS = pathlib.Path(__file__).resolve().parent
+sys.dont_write_bytecode = True  # into the sources, which are not to be changed
 sys.path.insert(0, str(TOOLS))
 from heap_tools.version import VERSION  # noqa: E402 (found by the path above)
 

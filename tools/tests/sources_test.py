@@ -67,6 +67,11 @@ class SourcesTest(unittest.TestCase):
             if not (name in OF_COMMANDS and all(it.startswith("commands/") for it in modules - {"command_line.py"})):
                 self.assertEqual(len(modules), 1, f"{name}: {sorted(modules)}")
 
+    def test_no_compiled_modules(self) -> None:
+        """git ignores the modules that Python compiles beside the sources, and the build of the package writes none."""
+        self.assertIn("__pycache__/", (TOP / ".gitignore").read_text(encoding="utf-8").splitlines())
+        self.assertIn("sys.dont_write_bytecode = True", (TOP / "tools/setup.py").read_text(encoding="utf-8"))
+
     def test_old_python(self) -> None:
         """Scripts parse as the version of Python that they need. (For what is installed, the tests above show it.)"""
         parsed = [path for folder in ("tools", "dev", "bench") for path, _ in trees(TOP / folder, OF_SCRIPTS)]
