@@ -124,6 +124,12 @@ class ReadingTest(HprofTest):
         dump.record(STRING, dump.form.spell([dump.text("shop/Order")]), b"shop/Later")
         self.assertEqual(self.read(dump).names[3], "shop/Order")
 
+    def test_loaded_twice(self) -> None:
+        """Of two records that name one class the first counts, as for heapmark."""
+        dump = Service()
+        dump.loaded(3, "shop/Later")
+        self.assertEqual(self.read(dump).names[3], "shop/Order")
+
     def test_no_traces(self) -> None:
         """Threads without traces are met in whatever segment, since nothing says how many there are."""
         dump = Service()

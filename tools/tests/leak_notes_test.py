@@ -5,11 +5,13 @@ from typing import Any, List, Tuple
 from unittest import mock
 
 from heap_tools.candidates import FIELD, Candidate
+from heap_tools.direct_buffers import DirectMemory
 from heap_tools.leak_lines import Answer, Line
-from heap_tools.leak_notes import LineObjects, Notes, line_objects, with_object_first
+from heap_tools.leak_notes import PATTERNS, LineObjects, Notes, line_objects, notes_of, with_object_first
 from heap_tools.object_names import Name
 from heap_tools.probe import Retained
 from heap_tools.reports import Amount, Unit
+from heap_tools.thread_counts import ThreadCount
 from heap_tools.which_object import HoldingObject
 
 
@@ -77,6 +79,15 @@ class LeakNotesTest(unittest.TestCase):
         self.assertEqual(found, LineObjects(2, NODE, named))
         found, _ = self.found(self.answer(TOP, NODE), top=nameless, node=nameless)
         self.assertEqual(found, LineObjects(1, TOP, nameless))
+
+    def test_threads(self) -> None:
+        """Of many patterns of threads only the first ones are said."""
+        counts = [ThreadCount(f"pool-{letter}-*", 1, 9, []) for letter in "abcdefgh"]
+        with mock.patch("heap_tools.leak_notes.grown_thread_counts", return_value=counts):
+            comparison = mock.Mock(direct=(DirectMemory(), DirectMemory()))
+            comparison.weak_words.return_value = ""
+            found = notes_of(comparison, self.answer(), shows_values=True)
+        self.assertEqual((found, PATTERNS), (Notes(None, counts[:3], []), 3))
 
     def test_with_object_first(self) -> None:
         """The line comes first of which one object holds most, if it is own, about as many as before, and large."""

@@ -344,6 +344,22 @@ class LeaksTest(ToolTest):
         more = "1 object more, 500 bytes more are unreachable: *waiting virtual threads hold them*: see grown *"
         self.expect(["friday", "lost"], said=f"{said}; {more}", status=3)
 
+    def test_nothing_found(self) -> None:
+        """What grew are roots themselves: no line, and which option may help. More is unreachable than grew: so it is
+        said, too."""
+        loose = cache(20, minutes=12)
+        for number in range(9000, 9010):
+            loose.values(number, BYTE, bytes(40))
+            loose.root(number)
+        loose.write("loose")
+        none = "leaks: no field, local variable or thread alone holds {}% of the growth"
+        self.expect(["monday", "loose"], said=f"{none.format(30)}: see --at-least\n{self.COST}")
+        self.expect(["--at-least=1", "monday", "loose"], said=f"{none.format(1)}\n{self.COST}")
+        loose.values(9100, BYTE, bytes(500))
+        loose.write("loose")
+        more = "leaks: 1 object more, 500 bytes more are unreachable: *: see grown with jmap -histo:live"
+        self.expect(["monday", "loose"], said=f"{none.format(30)}: see --at-least\n{more}\n{self.COST}")
+
     def test_share(self) -> None:
         """A share is above 100% if what the field does not hold shrank, and the help says so. The page has the same
         share, and beside it that of the heap, which is not."""

@@ -5,19 +5,21 @@ import unittest
 from typing import List
 
 from heap_tools.heap_dump import HeapDump
-from heap_tools.thread_counts import grown_thread_counts, pattern_of
+from heap_tools.thread_counts import FRAMES, grown_thread_counts, pattern_of
 from tests.support.dump_writer import BYTE, DumpWriter
 
 
 def threads(names: List[str]) -> DumpWriter:
-    """Returns a dump with threads of these names. Those whose names begin with `r` wait in `take`, called by `run`."""
+    """Returns a dump with threads of these names. Those whose names begin with `r` wait in `take`, called by `run`;
+    those of `deep` are in eight methods."""
     dump = DumpWriter()
     dump.of_class(1, "java/lang/Thread", fields=["name"])
     dump.of_class(2, "java/lang/String", fields=["value", "coder"])
     dump.of_class(3, "shop/Queue")
     for number, name in enumerate(names, 1):
         at = 1000 + 10 * number
-        dump.thread(number, at, [(3, "take"), (3, "run")] if name.startswith("r") else [])
+        methods = ["take", "run"] * name.startswith("r") + [f"m{depth}" for depth in range(8)] * name.startswith("deep")
+        dump.thread(number, at, [(3, method) for method in methods])
         dump.instance(at, 1, at + 1)
         dump.instance(at + 1, 2, at + 2, b"\0")
         dump.values(at + 2, BYTE, name.encode())
@@ -51,6 +53,12 @@ class ThreadCountsTest(unittest.TestCase):
             'threads "http-*": 1, then 3',
         ]
         self.assertEqual(self.grown(["main", "report-7", "http-1"], after), wanted)
+
+    def test_deep(self) -> None:
+        """Of a deep stack only the innermost methods are said."""
+        innermost = ", ".join(f"shop/Queue.m{depth}" for depth in range(FRAMES))
+        wanted = f'threads "deep-*": 0, then 2; most are in {innermost}'
+        self.assertEqual((self.grown([], ["deep-1", "deep-2"]), FRAMES), ([wanted], 5))
 
     def test_none(self) -> None:
         """With as many threads as before, nothing is said."""
