@@ -2,11 +2,13 @@
 
 import argparse
 import contextlib
+import io
 import os
 import subprocess
 import sys
 import unittest
 from typing import Any, Dict, Tuple
+from unittest import mock
 
 from heap_tools import console
 from heap_tools.command_line import number
@@ -59,6 +61,24 @@ class NumberTest(unittest.TestCase):
         for text in ("0", "101", "-1", "+1", "1.0", " 1", "1_0", "", "\u0661", "9" * 20):
             self.assertRaises(argparse.ArgumentTypeError, read, text)
         self.assertEqual(number()("9" * 19), 10**19 - 1)
+
+
+class ProgressTest(unittest.TestCase):
+    """The line of a terminal that says how far a tool is."""
+
+    def test_line(self) -> None:
+        """A line is cut to the width of the terminal, and leaves nothing of the line before."""
+        size = os.terminal_size((20, 24))
+        with contextlib.redirect_stderr(io.StringIO()) as shown:
+            with mock.patch("heap_tools.console.is_terminal", return_value=True):
+                progress = console.Progress("leaks")
+            with mock.patch("shutil.get_terminal_size", return_value=size):
+                for text in ("reading dump 1 of 2", "run 7\n"):
+                    progress.show(text)
+            progress.clear()
+            progress.clear()
+        lines = ["leaks: reading dump", r"leaks: run 7\x0a".ljust(19), " " * 16, ""]
+        self.assertEqual(shown.getvalue().split("\r"), lines)
 
 
 class LineTest(unittest.TestCase):

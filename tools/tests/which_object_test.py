@@ -7,6 +7,7 @@ import unittest
 from typing import List, Sequence
 from unittest import mock
 
+from heap_tools import hprof_format as hprof
 from heap_tools.candidates import Candidates
 from heap_tools.dump_runs import DumpRuns
 from heap_tools.heap_dump import HeapDump
@@ -166,6 +167,41 @@ class NamesTest(ToolTest):
         ]
         self.assertEqual(self.names(dump, 1000, 1001, 1002), wanted)
         self.assertEqual(self.names(dump, 1000, shows_values=False), [["its field name", "the map's key"]])
+
+    def test_maps(self) -> None:
+        """Each kind of map has its keys in a field of its own; a key may be a number of any size."""
+        maps = "java/util/", "java/util/concurrent/"
+        for name, value in (
+            (f"{maps[0]}HashMap$Node", "value"),
+            (f"{maps[0]}Hashtable$Entry", "value"),
+            (f"{maps[0]}TreeMap$Entry", "value"),
+            (f"{maps[1]}ConcurrentHashMap$Node", "val"),
+            (f"{maps[1]}ConcurrentSkipListMap$Node", "val"),
+        ):
+            dump = self.boxes()
+            dump.of_class(30, name, fields=["key", value])
+            for number, key in enumerate((60_000, 60_001, 60_002, 60_003)):
+                dump.instance(61_000 + number, 30, key, 300 + number)
+            keys = [[f"the map's key {key}"] for key in ('"eu"', -(2**40), -3, -1)]
+            self.assertEqual(self.names(dump, 300, 301, 302, 303), keys, name)
+        weak = self.boxes()
+        weak.of_class(30, f"{maps[0]}WeakHashMap$Entry", fields=["value"], superclass=6)
+        weak.instance(61_000, 30, 300, 60_000)
+        self.assertEqual(self.names(weak, 300), [['the map\'s key "eu"']])
+
+    def boxes(self) -> Queues:
+        """Returns a dump with four objects without names, a text and three boxed numbers."""
+        dump = Queues([])
+        dump.of_class(20, "shop/Atom", fields=["state"])
+        for number, (name, code) in enumerate((("Long", hprof.LONG), ("Short", hprof.SHORT), ("Byte", hprof.BYTE)), 40):
+            dump.loaded(number, f"java/lang/{name}")
+            dump.heap += dump.form.named_class_dump(number, (0, 0), [], [(dump.text("value"), code)])
+        for number in range(300, 304):
+            dump.instance(number, 20, 0)
+        dump.string(60_000, "eu")
+        for number, value in enumerate((b"\xff\xff\xff\0\0\0\0\0", b"\xff\xfd", b"\xff")):
+            dump.instance(60_001 + number, 40 + number, value)
+        return dump
 
     def test_thread_local(self) -> None:
         """The value and the entry of a thread-local have the name of the static field that names the thread-local."""
