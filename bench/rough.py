@@ -1,5 +1,5 @@
 #!/usr/bin/env python3
-"""Treats heapmark roughly: a real dump that is cut or changed at random, many workers, little memory, streams that fail.
+"""Treats heapmark roughly: a real dump cut or changed at random, many workers, little memory, streams that fail.
 
 The groups, all of them if none is given; N is 1000 if it is not given:
 

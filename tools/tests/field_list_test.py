@@ -1,0 +1,36 @@
+"""Tests which fields a line of holders or leaks means, when it is given to held."""
+
+import unittest
+
+from heap_tools.candidates import LOCAL, THREAD, THREADS
+from heap_tools.field_list import entries_of, root_of
+
+
+class FieldListTest(unittest.TestCase):
+    """Lines as the tools print them."""
+
+    def test_entries(self) -> None:
+        """The last step of a path counts, without the columns before it and the words of a line."""
+        of_leaks = "        20            160  100%            720           2880 {}  static A.x > B.y"
+        for text, entries in (
+            ("A.x,B.y", ["A.x", "B.y"]),
+            (of_leaks.format("        1"), ["B.y"]),
+            (of_leaks.format(" 20 to 80").replace("static A.x > ", ""), ["B.y"]),
+            ("together static A.x, static B.y", ["A.x", "B.y"]),
+            ("together static A.a, static A.b, static A.c .. and 2 more", ["A.a", "A.b", "A.c"]),
+        ):
+            self.assertEqual(entries_of(text), entries, text)
+
+    def test_roots(self) -> None:
+        """A line may end with a local variable, a thread or threads."""
+        for text, key in (
+            ("static A.x > local B.run", (LOCAL, "B.run")),
+            ('thread "http 1"', (THREAD, "http 1")),
+            ('  5  0  62%  1  threads "report-*"', (THREADS, "report-*")),
+            ("static A.local", None),
+        ):
+            self.assertEqual(root_of(text), key, text)
+
+
+if __name__ == "__main__":
+    unittest.main()
