@@ -16,6 +16,9 @@ from heap_tools.thread_counts import pattern_of
 
 STATIC, FIELD, LOCAL, THREAD, THREADS = "static", "field", "local", "thread", "threads"
 WEAK = "java/lang/ref/Reference.referent"
+#: The links of the virtual machine's list of references that are not in their queues yet. It is a root of dumps of
+#: JDK 17, and the collection before a dump fills it. Whatever is in it was held when that began.
+PENDING = "java/lang/ref/Reference.discovered"
 #: The list of the threads of a group, up to JDK 18, and that of the classes of a loader.
 GROUP, LOADED_CLASSES = "java/lang/ThreadGroup.threads", "java/lang/ClassLoader.classes"
 
@@ -136,9 +139,10 @@ class Candidates:
 
     def not_counted(self) -> Changes:
         """Returns the changes by which that leads nowhere which does not count: weak references, unless they are
-        followed, and the list of a group's threads, since each thread is a root."""
+        followed, the list of references that wait for their queues, and that of a group's threads, since each thread is
+        a root."""
         weak = {} if self._follows_weak else self.changes((FIELD, WEAK))
-        return {**self.changes((FIELD, GROUP)), **weak}
+        return {**self.changes((FIELD, GROUP)), **self.changes((FIELD, PENDING)), **weak}
 
     def prepared(self, runs: DumpRuns) -> DumpRuns:
         """Returns `runs` on copies without what does not count. The list of a loader's classes holds what is held
@@ -159,7 +163,7 @@ class Candidates:
         """Returns the fields of classes with reachable instances. Those with few holders come first."""
         found = []
         for (kind, name), fields in self._fields.items():
-            if kind != FIELD or name in (LOADED_CLASSES, GROUP) or name == WEAK and not self._follows_weak:
+            if kind != FIELD or name in (LOADED_CLASSES, GROUP, PENDING) or name == WEAK and not self._follows_weak:
                 continue
             classes = self._classes_with(fields)
             count = self._count(classes, report)

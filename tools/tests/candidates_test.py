@@ -4,7 +4,7 @@ import tempfile
 import unittest
 from typing import List
 
-from heap_tools.candidates import FIELD, GROUP, LOADED_CLASSES, LOCAL, STATIC, THREAD, THREADS, WEAK, Candidate
+from heap_tools.candidates import FIELD, GROUP, LOADED_CLASSES, LOCAL, PENDING, STATIC, THREAD, THREADS, WEAK, Candidate
 from heap_tools.candidates import Candidates, joint_name
 from heap_tools.dump_runs import DumpRuns
 from heap_tools.heap_dump import HeapDump
@@ -27,7 +27,7 @@ class Application(DumpWriter):
         self.of_class(3, "java/lang/Thread", fields=["name", "group"])
         self.of_class(4, "java/lang/String", fields=["value", "coder"])
         self.of_class(5, "shop/Order", {"FIRST": 300, "NONE": 0}, fields=["next"])
-        self.of_class(6, "java/lang/ref/Reference", fields=["referent"])
+        self.of_class(6, "java/lang/ref/Reference", fields=["referent", "discovered"])
         self.thread(1, 200, [(5, "sell")])
         self.instance(200, 3, 201, 203)
         self.instance(201, 4, 202, b"\0")
@@ -62,11 +62,13 @@ class CandidatesTest(unittest.TestCase):
         return Report([Row(name, Amount(1, 8)) for name in dump.names.values()])
 
     def test_fields(self) -> None:
-        """All fields of reachable instances but the lists of a group's threads and of a loader's classes."""
+        """All fields of reachable instances but the lists of a group's threads, of a loader's classes and of references
+        that wait for their queues."""
         known = self.candidates(Application())
         fields = self.named(known.fields(self.report(known.dump)))
         self.assertNotIn(GROUP, fields)
         self.assertNotIn(LOADED_CLASSES, fields)
+        self.assertNotIn(PENDING, fields)
         wanted = ["java/lang/String.value", "java/lang/Thread.group", "java/lang/Thread.name", "shop/Order.next"]
         self.assertEqual(fields, wanted)
         self.assertEqual(known.fields(Report()), [])
@@ -155,13 +157,14 @@ class CandidatesTest(unittest.TestCase):
             self.assertEqual(joint_name(candidates[:count]), wanted)
 
     def test_prepared(self) -> None:
-        """The list of a group's threads is cut by name, as weak references are unless they are followed."""
+        """The lists of a group's threads and of references that wait for their queues are cut by name, as weak
+        references are unless they are followed."""
         for follows_weak in (False, True):
             known = self.candidates(Application(), follows_weak)
             runs = known.prepared(DumpRuns(Heapmark(), "dump", Report(), known.dump, {}, ()))
-            group, weak = known.changes((FIELD, GROUP)), known.changes((FIELD, WEAK))
-            self.assertEqual((len(group), len(weak)), (1, 1))
-            self.assertEqual(runs.cut, group if follows_weak else {**group, **weak})
+            group, pending, weak = (known.changes((FIELD, name)) for name in (GROUP, PENDING, WEAK))
+            self.assertEqual((len(group), len(pending), len(weak)), (1, 1, 1))
+            self.assertEqual(runs.cut, {**group, **pending, **({} if follows_weak else weak)})
             self.assertEqual(runs.roots, known.dump.lasting_classes())
             self.assertIn(5, runs.roots)
         for kind in (STATIC, FIELD, LOCAL, THREAD):
