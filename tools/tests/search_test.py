@@ -151,6 +151,13 @@ class KinTest(unittest.TestCase):
         found, _ = self.found([([["app/A.a"]], 28), ([["app/A.b"]], 3)], fields)
         self.assertEqual(found, ["together app/A.a, app/A.b"])
 
+    def test_more_than_growth(self) -> None:
+        """What hold the growth together are found, too, if a field that did not gain makes all of them gain more."""
+        names = [f"app/{package}/A.a" for package in "abcdefgh"]
+        things: Things = [([names[1:7:5]], 95), ([names[:1] + names[3:5] + names[7:]], 190)]
+        found, _ = self.found(things, [field(name) for name in names])
+        self.assertEqual(found, ["together app/b/A.a, app/g/A.a"])
+
     def test_names(self) -> None:
         """Of many names only the first ones are in a line."""
         names = [field(f"A.{name}") for name in "edcba"]
