@@ -58,12 +58,13 @@ class ObjectSearch:
         if not is_field or not FEWEST_OBJECTS <= self.field.count <= MOST_OBJECTS:
             return []
         objects = HeapObjects(self.probe.runs.dump)
-        values = [each for each in objects.values_of([self.field.name]) if objects.dump.id(each.value)]
+        every = list(objects.values_of([self.field.name]))
+        values = [each for each in every if objects.dump.id(each.value)]
         found = self._heaviest(values)
         if sum(self._percent(amount) for _, amount in found) < OF_ALL:
             return []
         heavy = [value.instance for value, _ in found]
-        others = [value.instance for value in values if value.instance not in heavy][:OTHERS]
+        others = [value.instance for value in every if value.instance not in heavy][:OTHERS]
         names = ObjectNames(objects.dump).names_of(heavy, others)
         return [
             HoldingObject(

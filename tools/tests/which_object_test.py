@@ -101,6 +101,21 @@ class WhichObjectTest(ToolTest):
         self.assertLessEqual(search.runs, 14)
         self.assertLess(search.runs, MOST_RUNS)
 
+    def test_others(self) -> None:
+        """The names of an object are compared with those of others, though these hold nothing."""
+        dump = Queues([90, 0, 0])
+        dump.of_class(20, "shop/Channel", {"ALL": 730}, fields=["name", "buffer"])
+        dump.of_class(21, "shop/Buffer", fields=["entry"])
+        dump.of_class(22, "[Lshop/Channel;")
+        dump.array(730, 22, 700, 701)
+        for number, entry in enumerate((720, 0)):
+            dump.instance(700 + number, 20, 20_000, 710 + number)
+            dump.instance(710 + number, 21, entry)
+        dump.values(720, BYTE, bytes(5_000))
+        dump.root(20)
+        (found,) = self.search(dump, "shop/Buffer.entry").find()
+        self.assertEqual((found.class_name, found.names), ("shop/Buffer", []))
+
     def test_no_question(self) -> None:
         """One instance is no question."""
         search = self.search(Queues([100]))
