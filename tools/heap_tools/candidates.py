@@ -16,8 +16,8 @@ from heap_tools.thread_counts import pattern_of
 
 STATIC, FIELD, LOCAL, THREAD, THREADS = "static", "field", "local", "thread", "threads"
 WEAK = "java/lang/ref/Reference.referent"
-#: The links of the virtual machine's list of references that are not in their queues yet. It is a root of dumps of
-#: JDK 17, and the collection before a dump fills it. Whatever is in it was held when that began.
+#: The links of the virtual machine's list of references that are not in their queues yet. Its head is a root of dumps
+#: of JDK 17, and the collection before a dump fills it.
 PENDING = "java/lang/ref/Reference.discovered"
 #: The list of the threads of a group, up to JDK 18, and that of the classes of a loader.
 GROUP, LOADED_CLASSES = "java/lang/ThreadGroup.threads", "java/lang/ClassLoader.classes"

@@ -189,7 +189,7 @@ class Search:
             return
         rest = self.unknown([*self.probe.candidates.statics(), *self.threads(), *fields])
         whole = self.share_or_bound(rest, self.at_least)
-        # What the last dump has no name for may have held part of the rest before: then `whole` is above the growth.
+        # All together may gain more than the growth, if something else shrank.
         least = max(PART_NEEDED * min(whole, 100), self.at_least)
         needed = self.needed(rest, [], 0, least) if whole >= self.at_least else []
         if len(needed) <= MOST_NEEDED and self.has_share(needed):

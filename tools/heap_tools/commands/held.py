@@ -35,8 +35,9 @@ on standard error says if an entry of FIELDS names no field, or nothing hangs by
 FIELDS alone. A name that begins with a hyphen goes after `--`.
 
 As for holders and leaks, soft, weak, final and phantom references lead nowhere,
-unless --weak is given or FIELDS names java/lang/ref/Reference.referent. Nor
-does the list of a group's threads (JDK 17), which are roots themselves.
+unless --weak is given or FIELDS names java/lang/ref/Reference.referent. Nor do
+the list of a group's threads (JDK 17), which are roots themselves, and that of
+references that are not in their queues yet.
 
 Calls that are running do not count: both reports are also made without the
 local variables that FIELDS does not name, and if more hangs by FIELDS then,

@@ -43,11 +43,14 @@ how much threads or the virtual machine hold without any static field.
 
 Each line is the difference of two reports of heapmark: of the dump, and of the
 dump in which the field is a number, so that it leads nowhere; of a local
-variable or a thread the roots are null. Two lists hold only what is held
-anyway, and do not count: the classes of a loader, and the threads of a group.
+variable or a thread the roots are null. Three lists hold only what is held
+anyway, and do not count: the classes of a loader, the threads of a group, and
+the references that are not in their queues yet.
+
 Calls that are running do not count: their local variables lead into containers
 that fields hold. So local variables lead nowhere if at most 5% of what is asked
 for is lost by that; else those of methods of the JDK, if that loses no more.
+
 heapmark gets the dump from a pipe; no file is written. The heapmark that runs
 is what the variable HEAPMARK names, else the one beside this tool, else the one
 built in this repository, else that of PATH. If SIGINT, SIGTERM or SIGHUP ends
