@@ -17,6 +17,7 @@ mod many_objects;
 mod many_rows;
 mod marking;
 mod memory;
+mod peaks;
 mod process;
 mod program;
 mod records;
