@@ -18,6 +18,8 @@ MOST_OBJECTS = 1 << 24
 MIXED_OBJECTS = 2_000_000
 #: The most bytes of a segment, and the number of pieces that each kind of object is cut into.
 SEGMENT_SIZE, PIECES = 1 << 20, 16
+#: The number of identifiers on a page of the index.
+PAGE = 64
 
 
 class Mixed:
@@ -205,8 +207,9 @@ def write_largest(path: str, size: int = MOST_BYTES) -> bytes:
     return heap.expected.report()
 
 
-def write_most_objects(path: str) -> bytes:
-    """Writes a dump of as many objects as one may have, nearly all of them empty arrays, and returns its report."""
+def write_most_objects(path: str, scattered: bool = False) -> bytes:
+    """Writes a dump of as many objects as one may have, nearly all of them empty arrays, and returns its report. If
+    `scattered`, each array is on another page of the index than the one before it."""
     heap, most = Rooted(4, MOST_OBJECTS - Rooted.FIRST), 1 << 20
     top, size = heap.top(), len(heap.form.primitive_head(0, dump_writer.BYTE, 0))
     heap.expected.add("byte[]", heap.count, 0)
@@ -214,8 +217,9 @@ def write_most_objects(path: str) -> bytes:
     with open(path, "wb") as file:
         file.write(heap.beginning() + heap.record(len(top) + heap.count * (heap.form.width + size)) + top)
         file.writelines(heap.elements(*part) for part in parts)
-        for first, count in parts:
-            file.write(heap.form.primitive_arrays(heap.FIRST + first, count, dump_writer.BYTE, 0).dumps)
+        apart = PAGE if scattered else 1
+        for first, count in [(it, len(range(it, heap.count, PAGE))) for it in range(PAGE)] if scattered else parts:
+            file.write(heap.form.primitive_arrays(heap.FIRST + first, count, dump_writer.BYTE, 0, apart).dumps)
     return heap.expected.report()
 
 

@@ -120,10 +120,11 @@ class Format:
         columns += [(len(template) - size + at * self.width, self.spell(it)) for at, it in enumerate(references)]
         return Block(columned(template, count, columns), len(template))
 
-    def primitive_arrays(self, first: int, count: int, code: int, length: int) -> "Block":
-        """Returns the dumps of `count` arrays of `length` elements of the type `code`, all 0."""
+    def primitive_arrays(self, first: int, count: int, code: int, length: int, apart: int = 1) -> "Block":
+        """Returns the dumps of `count` arrays of `length` elements of the type `code`, all 0. Their numbers are `apart`
+        from one another."""
         template = self.primitive_head(0, code, length) + bytes(length * VALUE_SIZE[code])
-        column = self.spell(map(self.id, range(first, first + count)))
+        column = self.spell(map(self.id, range(first, first + count * apart, apart)))
         return Block(columned(template, count, [(1, column)]), len(template))
 
     def primitive_head(self, identifier: int, code: int, length: int) -> bytes:
