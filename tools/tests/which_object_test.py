@@ -253,6 +253,18 @@ class NamesTest(ToolTest):
         shelf = 'of shop/Shelf, its field labelName "shop"'
         self.assertEqual(self.names(dump, 302, others=[301]), [[shelf, "static shop/Shelf.BOXES"]])
 
+    def test_shared(self) -> None:
+        """What up to twelve owners have is named by them; what more have is shared, and has no name."""
+        for count, wanted in ((12, ['of shop/Shelf, its field label "eu"']), (13, [])):
+            dump = Queues([])
+            dump.of_class(20, "shop/Atom")
+            dump.of_class(21, "shop/Shelf", fields=["atom", "label"])
+            dump.instance(300, 20)
+            dump.string(60_000, "eu")
+            for number in range(count):
+                dump.instance(310 + number, 21, 300, 60_000)
+            self.assertEqual(self.names(dump, 300), [wanted], count)
+
     def test_references(self) -> None:
         """Bytes that look like an identifier are no reference if they are in a number or across values."""
         dump = Queues([])
