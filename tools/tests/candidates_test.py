@@ -135,6 +135,26 @@ class CandidatesTest(unittest.TestCase):
         ):
             self.assertEqual(known.holders(key, report), wanted, key)
 
+    def test_collections(self) -> None:
+        """A class is a collection if its name, or that of a class around it, ends like one, or by what it inherits."""
+        for name, superclass, wanted in (
+            ("lib/IntSet", 0, True),
+            ("lib/LongMap", 0, True),
+            ("lib/LinkedList", 0, True),
+            ("lib/IntSet$Cell", 0, True),
+            ("lib/Settings", 0, False),
+            ("lib/Mapper", 0, False),
+            ("lib/Table", 0, False),
+            ("lib/Table", 40, True),
+            ("java/util/BitField", 0, True),
+        ):
+            dump = Application()
+            dump.of_class(40, "java/util/AbstractMap")
+            dump.of_class(41, name, fields=["cells"], superclass=superclass)
+            known = self.candidates(dump)
+            fields = {each.name: each.is_collection for each in known.fields(self.report(known.dump))}
+            self.assertEqual(fields[f"{name}.cells"], wanted, (name, superclass))
+
     def test_order(self) -> None:
         """A field of the JDK weighs as nearly twice as many holders. What the virtual machine keeps comes last."""
         weights = [Candidate(FIELD, f"{owner}.all", 5, {}).weight for owner in ("shop/Order", "java/util/ArrayList")]
