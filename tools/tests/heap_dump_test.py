@@ -6,10 +6,10 @@ import unittest
 from typing import IO, Any, Callable
 
 from heap_tools import heap_dump, hprof_format, parallel
-from heap_tools.changed_copy import NEAR, write_copy
+from heap_tools.changed_copy import NEAR, number_code, write_copy
 from heap_tools.faults import Fault
 from heap_tools.heap_objects import FEWEST_SEGMENTS, HeapObjects
-from tests.support.dump_writer import BYTE, ROOT_THREAD_OBJECT, STRING, DumpWriter, word
+from tests.support.dump_writer import BYTE, FRAME, ROOT_THREAD_OBJECT, STRING, TRACE, DumpWriter, word
 
 
 #: The code of the type `char`.
@@ -101,6 +101,21 @@ class ReadingTest(HprofTest):
         self.roots(orders, orders, orders, first, second)
         self.roots(orders, first, orders, second, orders)
         self.roots(first, orders, orders, orders, second)
+
+    def test_length_of_a_stack(self) -> None:
+        """A stack has as many frames as its trace says, though the record has more, or as the record has."""
+        for said, methods in ((1, ["sell"]), (2, ["sell", "main"]), (3, ["sell", "main"])):
+            dump = Service()
+            dump.thread(1, 200, [(3, "sell"), (3, "main")])
+            # The record after the trace begins with eight bytes that are the identifier of a frame, too.
+            names = [dump.text(name) for name in ("next", "()V", "Source.java")]
+            dump.record(FRAME, dump.form.spell([STRING << 56, *names]), word(3), word(1))
+            dump.record(TRACE, word(101), word(1), word(said), dump.form.spell([5100, 5101]))
+            dump.text("after")
+            found = self.read(dump)
+            self.assertEqual([frame.method for frame in found.stack(1)], methods)
+            frames = [found.frame(1, number) for number in range(4)]
+            self.assertEqual([frame.method for frame in frames if frame], methods)
 
     def test_classes(self) -> None:
         """Classes with their fields, also if their dumps come last, and a class without a name."""
@@ -223,6 +238,12 @@ class CopyTest(HprofTest):
                     each.cut()
                     each.objects(301)
             self.assertEqual(self.copied(self.read(dump), {}, [300]), other.bytes())
+
+    def test_number_code(self) -> None:
+        """A field that leads nowhere becomes a number as long as an identifier, so that the fields after it stay."""
+        for id_size, code in ((4, hprof_format.INT), (8, hprof_format.LONG)):
+            self.assertEqual(number_code(self.read(Service(id_size))), bytes([code]))
+            self.assertEqual(hprof_format.PRIMITIVE_SIZES[code], id_size)
 
     def test_shorter(self) -> None:
         """A file that became shorter is seen."""
