@@ -7,6 +7,7 @@ from typing import List, Optional, Tuple
 
 from heap_tools import page
 from heap_tools.page import chart
+from heap_tools.page.words import bare
 from tests.support.outline import Outline
 from tests.support.page_sample import NOON, full_leak, leak, uneven
 
@@ -75,6 +76,35 @@ class ChartTest(unittest.TestCase):
             self.assertGreaterEqual(len(numbers), 3 * len(chart.CHARTS))
             for x, text in numbers:
                 self.assertGreaterEqual(x - chart.LETTER * len(text), 0, text)
+
+    def test_heights_of_the_grid(self) -> None:
+        """The lines of the grid are as far apart as their numbers, on the scale of what is drawn."""
+        it = leak()
+        html = self.drawn(it)
+        numbers, step = ["0\u00a0bytes", "20.0\u00a0MB", "40.0\u00a0MB"], 20_000_000
+        pattern = r'<line class="grid"[^>]* y1="([\d.]+)" y2="\1"/>\s*<text class="axis"[^>]* y="\1"[^>]*>([^<]*)<'
+        for picture, points in zip(html.split("</svg>"), lines_in(html, "reachable")):
+            grid = re.findall(pattern, picture)
+            self.assertEqual([text for _, text in grid], numbers)
+            floor, one, two = (float(y) for y, _ in grid)
+            self.assertGreater(floor, one + 30)
+            self.assertAlmostEqual(floor - two, 2 * (floor - one), delta=0.2)
+            for dump, (_, y) in zip(it.dumps, points):
+                self.assertAlmostEqual(floor - y, (floor - one) * dump.reachable.bytes / step, delta=0.4)
+
+    def test_numbers_have_the_style_of_their_line(self) -> None:
+        """Each number is drawn in the style of the line whose point it is at."""
+        it = full_leak()
+        first = it.holders[0]
+        amounts = {
+            "reachable": [dump.reachable.bytes for dump in it.dumps],
+            "held": [first.before.amount.bytes, first.after.amount.bytes],
+            "unreachable": [dump.unreachable.bytes for dump in it.dumps],
+        }
+        labels = re.findall(r'<text class="label (\w+)"[^>]*>([^<]*)<', self.drawn(it))
+        self.assertEqual({kind for kind, _ in labels}, set(amounts))
+        for kind, text in labels:
+            self.assertIn(text, [bare(amount, it.by) for amount in amounts[kind]], kind)
 
     def test_numbers_do_not_hide_each_other(self) -> None:
         """Numbers at the same end of different lines are apart."""
