@@ -9,7 +9,10 @@ import shutil
 import sys
 import unittest
 from typing import Callable, List, Tuple, Union
+from unittest import mock
 
+from heap_tools.commands import leaks
+from heap_tools.faults import Fault
 from tests.support.dump_writer import BYTE, DumpWriter, word
 from tests.support.services import (
     MINUTE,
@@ -491,6 +494,20 @@ class LeaksTest(ToolTest):
         self.assertEqual(parts[0], "leaks: reading dump 1 of 2")
         self.assertTrue(any(" fields left; found static shop/Service.CACHE, 100%" in part for part in parts), seen)
         self.assertTrue(parts[-1].startswith("leaks: "), seen)
+
+
+class MostFilesTest(unittest.TestCase):
+    """How many dumps a command line may have, without a run."""
+
+    def test_most(self) -> None:
+        """A hundred dumps are compared, one more is refused before any is read."""
+        with mock.patch("heap_tools.commands.leaks.compared", side_effect=InterruptedError) as compared:
+            with self.assertRaises(InterruptedError):
+                leaks.main(["dump"] * 100)
+            self.assertEqual(len(compared.call_args[0][0].after), 99)
+            with self.assertRaisesRegex(Fault, "^101 dumps: at most 100$"):
+                leaks.main(["dump"] * 101)
+            self.assertEqual(compared.call_count, 1)
 
 
 if __name__ == "__main__":
