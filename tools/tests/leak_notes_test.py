@@ -7,7 +7,8 @@ from unittest import mock
 from heap_tools.candidates import FIELD, Candidate
 from heap_tools.direct_buffers import DirectMemory
 from heap_tools.leak_lines import Answer, Line
-from heap_tools.leak_notes import PATTERNS, LineObjects, Notes, line_objects, notes_of, with_object_first
+from heap_tools.leak_notes import PATTERNS, LineObjects, Notes, captured_words, line_objects, notes_of
+from heap_tools.leak_notes import with_object_first
 from heap_tools.object_names import Name
 from heap_tools.probe import Retained
 from heap_tools.reports import Amount, Unit
@@ -79,6 +80,14 @@ class LeakNotesTest(unittest.TestCase):
         self.assertEqual(found, LineObjects(2, NODE, named))
         found, _ = self.found(self.answer(TOP, NODE), top=nameless, node=nameless)
         self.assertEqual(found, LineObjects(1, TOP, nameless))
+
+    def test_captured(self) -> None:
+        """Of fields of lambdas the first one is explained, from the first line and the top of its path down."""
+        first, second = line("shop/Bus$$Lambda.arg$2", 9), line("shop/Mailer$$Lambda.arg$1", 9)
+        said = "field shop/Bus$$Lambda.arg$2 is a variable that a lambda in shop/Bus captured: "
+        for lines in ([OWN, first, second], [second._replace(above=[OWN.held, first.held]), second]):
+            self.assertEqual(captured_words(lines).partition("arg$1 is")[0], said)
+        self.assertEqual(captured_words([OWN, line("shop/Lambda.arg$1", 9)]), "")
 
     def test_threads(self) -> None:
         """Of many patterns of threads only the first ones are said."""
