@@ -7,7 +7,10 @@ import shutil
 import subprocess
 import unittest
 from typing import Any, Sequence
+from unittest import mock
 
+from heap_tools.class_growth import ClassGrowth, lines_to_print
+from heap_tools.reports import Amount, Unit
 from tests.support.tool_test import TOP, Row, ToolTest, histogram, report
 
 TWO_OBJECTS = TOP / "crates/heapmark/data/two_objects.hprof"
@@ -292,6 +295,32 @@ class GrownTest(ToolTest):
         wanted = [f"{line.rpartition('  ')[0]}  {bar:10}  {name}" for line, (bar, name) in plain]
         self.assertEqual(seen.splitlines(), [f"{'objects':>10} {'bytes':>14}  {'':10}  class", *wanted])
         self.assertEqual((ended.status, ended.said), (0, ""))
+
+
+class HeadsTest(unittest.TestCase):
+    """What grown prints on a terminal: the heads of the columns above the lines."""
+
+    def test_heads(self) -> None:
+        """A step is numbered from one, and the growth an hour comes after the steps; neither is there without need."""
+        for steps, hours, heads, line in (
+            ([7], None, "   objects          bytes              class", "         7             70  ##########  New"),
+            (
+                [3, 4],
+                2.0,
+                "   objects          bytes     step 1     step 2      an hour              class",
+                "         7             70          3          4          3.5  ##########  New",
+            ),
+            (
+                [3, 0, 4],
+                None,
+                "   objects          bytes     step 1     step 2     step 3              class",
+                "         7             70          3          0          4  ##########  New",
+            ),
+        ):
+            with mock.patch("heap_tools.class_growth.is_terminal", return_value=True):
+                found = lines_to_print([ClassGrowth("New", Amount(7, 70), steps)], Unit.OBJECTS, hours)
+                self.assertEqual(found.splitlines(), [heads, line])
+                self.assertEqual(lines_to_print([], Unit.OBJECTS, hours), "")
 
 
 class RecipesTest(ToolTest):
