@@ -3,9 +3,12 @@
 import pathlib
 import tempfile
 import unittest
-from typing import List, Optional, Tuple
+from typing import Any, List, Optional, Tuple
+from unittest import mock
 
-from heap_tools.same_program import Taken, other_program, same_file, wrong_order
+from heap_tools.heap_dump import Frame, Root
+from heap_tools.hprof_format import THREAD_OBJECT
+from heap_tools.same_program import Taken, other_main, other_program, same_file, wrong_order
 
 
 class SameProgramTest(unittest.TestCase):
@@ -44,6 +47,29 @@ class SameProgramTest(unittest.TestCase):
             firsts = [*jdk, *both, *(f"shop/B{number}" for number in range(first))]
             lasts = [*jdk, *both, *(f"shop/C{number}" for number in range(last))]
             self.assertEqual(other_program(firsts, lasts), said, (common, first, last))
+
+    def test_other_main(self) -> None:
+        """The main classes are those of a stack that begins in `main`, of a launcher and what it launches. One of them
+        may come or go; if each dump has one that the other lacks, they are of two programs."""
+        cases: List[Tuple[List[str], List[str], Optional[str]]] = [
+            (["main"], ["main"], None),
+            (["main"], ["Stock.main"], "the main class Stock, not the Order"),
+            (["main", "Stock.main"], ["main", "Late.main"], "the main class Late, not the Stock"),
+            (["main", "Stock.main"], ["main"], None),
+            (["main"], ["Stock.main", "main"], None),
+            (["main"], ["Stock.run"], None),
+            (["main", "run"], ["Stock.main", "run"], None),
+            ([], ["Stock.main"], None),
+        ]
+        for first, last, said in cases:
+            dumps = [self.dump(methods) for methods in (first, last)]
+            self.assertEqual(other_main(*dumps), said, (first, last))
+
+    def dump(self, methods: List[str]) -> Any:
+        """Returns a dump of which the only thread is in these methods, the innermost first, each of a class or of
+        `Order`."""
+        stack = [Frame(each.rpartition(".")[0] or "Order", each.rpartition(".")[2]) for each in methods]
+        return mock.Mock(roots=[Root(THREAD_OBJECT, 0, 1, None)], stack={1: stack}.get)
 
     def test_same_file(self) -> None:
         """Two files with one content after each other are the same, also by other names."""
