@@ -10,6 +10,7 @@ from heap_tools.class_lookup import why_unknown
 from heap_tools.class_names import families, family, shown, spellings
 from heap_tools.heap_dump import HeapDump
 from heap_tools.hprof_format import OBJECT
+from heap_tools.thread_counts import NAMELESS
 
 #: What a line of `holders` calls by these words.
 NOUNS = {LOCAL: "local variable", THREAD: "thread", THREADS: "group of threads"}
@@ -17,7 +18,10 @@ NOUNS = {LOCAL: "local variable", THREAD: "thread", THREADS: "group of threads"}
 
 def root_of(text: str) -> Optional[Key]:
     """Returns the kind and the name of the local variable or the threads that a line of holders or leaks ends with, or
-    None if it ends with something else. Names have no blanks, and those of threads no quotes."""
+    None if it ends with something else. Names have no blanks, and those of threads no quotes. Lines call threads
+    without a name `thread`, and count them as `threads without a name`."""
+    if re.search(rf"(?:^| > |  )(thread|threads? {NAMELESS})$", text):
+        return THREAD, ""
     found = re.search(r"(?:^| > |  )(local|threads?) (\S+|\"[^\"]*\")$", text)
     return (found[1], found[2].strip('"')) if found else None
 

@@ -12,6 +12,8 @@ from heap_tools.hprof_format import THREAD_OBJECT
 
 #: How many frames of a stack are shown, the innermost first.
 FRAMES = 5
+#: What threads with no name, or an empty one, are called.
+NAMELESS = "without a name"
 
 
 def pattern_of(name: str) -> str:
@@ -35,7 +37,8 @@ class ThreadCount(NamedTuple):
 
     def __str__(self) -> str:
         most = f"; most are in {', '.join(self.frames)}" if self.stack else ""
-        return f'threads "{self.pattern}": {self.before}, then {self.after}{most}'
+        named = f'"{self.pattern}"' if self.pattern else NAMELESS
+        return f"threads {named}: {self.before}, then {self.after}{most}"
 
 
 def number_of_threads(dump: HeapDump) -> int:

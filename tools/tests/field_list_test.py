@@ -27,7 +27,12 @@ class FieldListTest(unittest.TestCase):
             ("static A.x > local B.run", (LOCAL, "B.run")),
             ('thread "http 1"', (THREAD, "http 1")),
             ('  5  0  62%  1  threads "report-*"', (THREADS, "report-*")),
+            ("  5  0  62%  1  thread", (THREAD, "")),
+            ("static A.x > thread", (THREAD, "")),
+            ("threads without a name", (THREAD, "")),
+            ('thread ""', (THREAD, "")),
             ("static A.local", None),
+            ("static A.thread", None),
         ):
             self.assertEqual(root_of(text), key, text)
 

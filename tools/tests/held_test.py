@@ -158,6 +158,15 @@ class HeldTest(ToolTest):
             said = f"held: {kind} {name}: no {noun} of the dump has this name"
             self.expect(["threads.hprof", f"{kind} {name}"], said=said, status=6)
 
+    def test_nameless_threads(self) -> None:
+        """Threads without a name, as holders and leaks call them."""
+        handler(20, "").write("nameless.hprof")
+        for words in ("thread", 'thread ""', "threads without a name", " 20  160  62%  1  thread"):
+            self.assertIn(line(20, 160, "shop/Order"), self.ran("nameless.hprof", words).out, words)
+        handler(20).write("named.hprof")
+        said = "held: thread: no thread of the dump has this name"
+        self.expect(["named.hprof", "thread"], said=said, status=6)
+
     def test_running_calls(self) -> None:
         """A call that runs hides nothing; but what is reachable only through its local variables hangs by fields."""
         running(20).write("running.hprof")

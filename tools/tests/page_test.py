@@ -140,6 +140,8 @@ class PageTest(unittest.TestCase):
         """Threads whose names differ in a number hold together, in quotes as one does."""
         entry = dataclasses.replace(leak().holders[3], kind="threads", name="report-*")
         self.check_texts(leak(holders=[entry]), 'Threads "report-*" hold 8.3 MB, up from 4.0 kB')
+        nameless = dataclasses.replace(entry, kind="thread", name="")
+        self.check_texts(leak(holders=[nameless]), "Thread without a name holds 8.3 MB, up from 4.0 kB")
         every = dataclasses.replace(entry, name="")
         self.check_texts(leak(holders=[every]), "Threads of all names hold 8.3 MB, up from 4.0 kB")
 
@@ -165,6 +167,8 @@ class PageTest(unittest.TestCase):
             '"http-nio-8080-exec-*" 10 9 −1 not known',
             "1,204,332 bytes more are held by weak or final references alone.",
         )
+        nameless = [page.ThreadGroupEntry("", 0, 5, [])]
+        self.check_texts(full_leak(threads=nameless), "without a name 0 5 +5 not known")
         text = self.outline(leak()).text()
         for heading in "Which objects", "Threads by name":
             self.assertNotIn(heading, text)

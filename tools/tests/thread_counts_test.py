@@ -54,6 +54,10 @@ class ThreadCountsTest(unittest.TestCase):
         ]
         self.assertEqual(self.grown(["main", "report-7", "http-1"], after), wanted)
 
+    def test_nameless(self) -> None:
+        """Threads without a name are called so."""
+        self.assertEqual(self.grown(["main"], ["main"] + [""] * 5), ["threads without a name: 0, then 5"])
+
     def test_deep(self) -> None:
         """Of a deep stack only the innermost methods are said."""
         innermost = ", ".join(f"shop/Queue.m{depth}" for depth in range(FRAMES))

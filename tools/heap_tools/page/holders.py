@@ -8,6 +8,7 @@ from heap_tools.page.model import TOGETHER, HolderEntry, Leak, Limits, NextStep,
 from heap_tools.page.tables import body, left_out, share, table
 from heap_tools.page.templates import LONGEST_SENTENCE, Html, breakable, escaped, fill, joined, name_of, plain, visible
 from heap_tools.page.words import change_of, figure, from_to, percent, with_sign
+from heap_tools.thread_counts import NAMELESS
 
 
 #: How many fields are named that lead somewhere only together.
@@ -38,12 +39,17 @@ def holder_name(holder: HolderEntry, limits: Limits) -> Html:
     if holder.kind == THREADS and not holder.name:
         return escaped("of all names")
     if holder.kind in (THREAD, THREADS):
-        return fill("plain_name", text=f'"{plain(holder.name, limits.name)}"')
+        return thread_name(holder.name, limits)
     names = holder.name.split(", ") if holder.kind == TOGETHER else [holder.name]
     shown: List[Html] = [name_of(name, limits.name) for name in names[: limits.steps]]
     if len(names) > len(shown):
         shown.append(escaped(f"{len(names) - len(shown):,} more"))
     return joined(shown, ", ")
+
+
+def thread_name(name: str, limits: Limits) -> Html:
+    """Returns the name of a thread, or the pattern of such names, in quotes; in words if there is none."""
+    return fill("plain_name", text=f'"{plain(name, limits.name)}"') if name else escaped(NAMELESS)
 
 
 def path_to(holder: HolderEntry, limits: Limits) -> Html:
@@ -163,7 +169,7 @@ def thread_row(it: ThreadGroupEntry, limits: Limits) -> Html:
     steps = joined(fill("item", text=breakable(plain(frame, limits.name))) for frame in it.frames[: limits.steps])
     return fill(
         "thread_row",
-        name=fill("plain_name", text=f'"{plain(it.pattern, limits.name)}"'),
+        name=thread_name(it.pattern, limits),
         before=figure(it.before, "thread"),
         now=figure(it.now, "thread"),
         more=figure(it.now - it.before, "thread", is_difference=True),
