@@ -1,7 +1,7 @@
 #!/usr/bin/env bash
-# Tries the recipe "Which classes grew", tools/grown, tools/holders and tools/held on programs that leak. Takes two dumps
-# of each program, and tests whether the recipe and tools/grown print the class that leaks, and whether the first line of
-# tools/holders is what holds it. bench/leaks.sh tries tools/leaks.
+# Tries the recipe "Which classes grew", tools/grown, tools/holders and tools/held on programs that leak. Takes two
+# dumps of each program, and tests whether the recipe and tools/grown print the class that leaks, and whether the first
+# line of tools/holders is what holds it. bench/leaks.sh tries tools/leaks.
 #
 # usage: bench/advice.sh
 #

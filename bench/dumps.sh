@@ -18,9 +18,10 @@
 #   ids        6,000,000 instances with IDs at random, made by hostile.rs: 290 MB, without a histogram
 #   odd        no compressed references, no class archive, a dump written at an OutOfMemoryError
 #   refused    a dump compressed by the virtual machine, which heapmark refuses
-#   newer      for a JDK of any version: Filler with 40 MB by each collector and mode that it has, live, all and, from 22
-#              on, written by four threads; with compact object headers, and without compressed references; from 21 on,
-#              3,000 parked virtual threads, also interpreted only. The names begin with the version, as in j25-z-live
+#   newer      for a JDK of any version: Filler with 40 MB by each collector and mode that it has, live, all and, from
+#              22 on, written by four threads; with compact object headers, and without compressed references; from 21
+#              on, 3,000 parked virtual threads, also interpreted only. The names begin with the version, as in
+#              j25-z-live
 # Java is that of JAVA_HOME, else that of PATH; bench/debian_jdk.sh unpacks others. Files that exist are made again.
 set -euo pipefail
 
@@ -32,7 +33,8 @@ room=${1:-/tmp/heapmark-bench}
 [ $# -gt 0 ] || set -- small medium large big garbage tools scattered random list map ids odd refused
 for group; do
     case $group in
-        small | medium | large | big | garbage | tools | scattered | random | list | map | ids | odd | refused | newer) ;;
+        small | medium | large | big | garbage | tools | scattered) ;;
+        random | list | map | ids | odd | refused | newer) ;;
         *) wrong_words "no such group: $group" ;;
     esac
 done
@@ -130,8 +132,8 @@ accepts() {
     told=$("${java}java" "$@" -version 2>&1) && ! grep -q warning <<< "$told"
 }
 
-# each_way NAME WORD..: starts the Java program WORD.. and dumps all objects, the live ones, and from Java 22 on the live
-# ones by four threads.
+# each_way NAME WORD..: starts the Java program WORD.. and dumps all objects, the live ones, and from Java 22 on the
+# live ones by four threads.
 each_way() {
     local name
     name=j$(version)-$1

@@ -53,7 +53,8 @@ nth() {
 # second are the median times.
 row() {
     awk -v name="$1" -v threads="$2" -v count="$3" -v pool="$4" -v std="$5" -v pool2="$6" -v std2="$7" 'BEGIN {
-        printf "| %s | %d | %.1f | %.1f | %.1f | %.1f | ", name, threads, pool / count, std / count, 1000 * count / pool, 1000 * count / std
+        printf "| %s | %d | %.1f | %.1f | ", name, threads, pool / count, std / count
+        printf "%.1f | %.1f | ", 1000 * count / pool, 1000 * count / std
         printf "%.2f | %.2f |\n", pool / std, pool2 / std2
     }'
 }
@@ -79,6 +80,7 @@ for threads in 1 4; do
     both $((4 * runs)) "$threads" 0 1 0 "$turns"
     pool1=$(nth pool 'pops and pushes' 1) pool2=$(nth pool 'pops and pushes' $((2 * runs)))
     for name in 'pops and pushes' 'pops and pushes of vectors'; do
-        row "$name" "$threads" $((threads * turns)) "$pool1" "$(nth std "$name" 1)" "$pool2" "$(nth std "$name" $((2 * runs)))"
+        std1=$(nth std "$name" 1) std2=$(nth std "$name" $((2 * runs)))
+        row "$name" "$threads" $((threads * turns)) "$pool1" "$std1" "$pool2" "$std2"
     done
 done

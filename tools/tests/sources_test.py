@@ -15,6 +15,9 @@ OF_COMMANDS = {"ABOUT", "NOTES", "main", "parser", "run", "say_remainder"}
 #: The versions of Python that the installed tools and that the scripts need.
 OF_TOOLS, OF_SCRIPTS = (3, 7), (3, 9)
 
+#: The most columns of a line.
+WIDTH = 120
+
 
 def trees(folder: pathlib.Path, version: tuple[int, int]) -> Iterator[tuple[pathlib.Path, ast.Module]]:
     """Yields what is written in Python in a folder, as this version of Python parses it."""
@@ -71,6 +74,18 @@ class SourcesTest(unittest.TestCase):
         """git ignores the modules that Python compiles beside the sources, and the build of the package writes none."""
         self.assertIn("__pycache__/", (TOP / ".gitignore").read_text(encoding="utf-8").splitlines())
         self.assertIn("sys.dont_write_bytecode = True", (TOP / "tools/setup.py").read_text(encoding="utf-8"))
+
+    def test_width(self) -> None:
+        """No line of a module or a script has more than 120 columns."""
+        count = 0
+        for path in (path for folder in ("tools", "dev", "bench") for path in sorted((TOP / folder).rglob("*"))):
+            if path.is_file() and path.suffix in ("", ".py", ".sh") and "out" not in path.parts:
+                lines = path.read_text(encoding="utf-8").splitlines()
+                if path.suffix or lines[:1] and lines[0].startswith("#!"):
+                    count += 1
+                    wide = [number for number, line in enumerate(lines, 1) if len(line) > WIDTH]
+                    self.assertEqual(wide, [], path.relative_to(TOP))
+        self.assertGreater(count, 150)
 
     def test_old_python(self) -> None:
         """Scripts parse as the version of Python that they need. (For what is installed, the tests above show it.)"""
