@@ -20,6 +20,8 @@ FOLDERS = ("tools", "dev", "bench")
 LIMIT = 30
 #: Programs that no script may start for its help: the gate, compilers, what is measured, and what installs.
 FORBIDDEN = ("rt", "cc", "rustc", "java", "javac", "jcmd", "apt-get", "heapmark")
+#: The beginning of a path in /tmp, such as those of dev/gate_costs and bench/dumps.sh.
+IN_TMP = r"(?<![\w}])/tmp/(?=[\w])"
 #: A stand-in for these. Its own name goes into a file.
 STAND_IN = """#!/bin/sh
 basename "$0" >> "$(dirname "$0")/../started"
@@ -74,6 +76,7 @@ class ScriptsTest(unittest.TestCase):
         shutil.copytree(TOP, self.copy, symlinks=True, ignore=shutil.ignore_patterns(".git", "out", "__pycache__"))
         for name in ("empty", "bin", "home", "tmp"):
             (self.room / name).mkdir()
+        self.move_folders_of_scripts()
         for name in FORBIDDEN:
             (self.room / "bin" / name).write_text(STAND_IN)
             (self.room / "bin" / name).chmod(0o755)
@@ -81,6 +84,14 @@ class ScriptsTest(unittest.TestCase):
         places = {"HOME": f"{self.room}/home", "TMPDIR": f"{self.room}/tmp"}
         path = f"{self.room}/bin:{os.environ['PATH']}"
         self.environment = {**kept, **places, "PATH": path, "PYTHONDONTWRITEBYTECODE": "1"}
+
+    def move_folders_of_scripts(self) -> None:
+        """Puts into the room what scripts would make in /tmp by a name of their own, so that it is seen."""
+        for path in (it for folder in FOLDERS for it in (self.copy / folder).rglob("*")):
+            if path.is_file() and path.suffix in ("", ".py", ".sh"):
+                text = path.read_text(encoding="utf-8")
+                if re.search(IN_TMP, text):
+                    path.write_text(re.sub(IN_TMP, f"{self.room}/tmp/", text), encoding="utf-8")
 
     def run_script(self, script: pathlib.Path, word: str) -> Ended:
         """Runs a script with a word."""
