@@ -36,9 +36,10 @@ class ThreadCount(NamedTuple):
         return [f"{frame.class_name}.{frame.method}" for frame in self.stack[:FRAMES]]
 
     def __str__(self) -> str:
-        most = f"; most are in {', '.join(self.frames)}" if self.stack else ""
+        where = "it is" if self.after == 1 else "most are"
+        stack = f"; {where} in {', '.join(self.frames)}" if self.stack else ""
         named = f'"{self.pattern}"' if self.pattern else NAMELESS
-        return f"threads {named}: {self.before}, then {self.after}{most}"
+        return f"threads {named}: {self.before}, then {self.after}{stack}"
 
 
 def number_of_threads(dump: HeapDump) -> int:

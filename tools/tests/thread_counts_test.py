@@ -54,6 +54,11 @@ class ThreadCountsTest(unittest.TestCase):
         ]
         self.assertEqual(self.grown(["main", "report-7", "http-1"], after), wanted)
 
+    def test_one(self) -> None:
+        """What one thread is in, most are not said to be in."""
+        wanted = ['threads "report-*": 0, then 1; it is in shop/Queue.take, shop/Queue.run']
+        self.assertEqual(self.grown(["main"], ["main", "report-1"]), wanted)
+
     def test_nameless(self) -> None:
         """Threads without a name are called so."""
         self.assertEqual(self.grown(["main"], ["main"] + [""] * 5), ["threads without a name: 0, then 5"])
