@@ -180,8 +180,10 @@ class Search:
 
     def look_in_few_together(self, fields: Sequence[Candidate]) -> None:
         """Finds fields with few holders that hold enough only together, if what is found leaves as much: those of one
-        class or package; else, if nothing with few holders is found, any of them and roots."""
-        shares = [self.probe.share(each.candidates) for each in self.found if each.holders <= self.few]
+        class or package; else, if nothing with few holders is found, any of them and roots. Roots that hold enough only
+        together are not enough: what they lead to may be held together below, too."""
+        alone = [each for each in self.found if each.holders <= self.few and len(each.candidates) == 1]
+        shares = [self.probe.share(each.candidates) for each in alone]
         if max(shares, default=0) > 100 - self.at_least:
             return
         rest = self.unknown(fields)

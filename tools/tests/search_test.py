@@ -122,13 +122,18 @@ class SearchTest(unittest.TestCase):
 class KinTest(unittest.TestCase):
     """What is found together."""
 
-    def found(self, things: Things, fields: Sequence[Candidate]) -> Tuple[List[str], int]:
-        """Searches `fields` with few holders, and returns what was found together, and how much was asked."""
+    def found(
+        self, things: Things, fields: Sequence[Candidate], known: Sequence[Sequence[Candidate]] = ()
+    ) -> Tuple[List[str], int]:
+        """Searches `fields` with few holders after `known` was found, and returns what was found together, and how much
+        was asked."""
         probe = ToldGains([], things)
         search = Search(probe, 30, 4, lambda held: held.holders, mock.Mock(), FEW)
         probe.candidates = mock.Mock(**{f"{kind}.return_value": [] for kind in ("statics", "threads", "threads_alike")})
+        search.found = [probe.retained(group) for group in known]
+        probe.asked.clear()
         search.look_in_few_together(fields)
-        return [joint_name(held.candidates) for held in search.found], len(probe.asked)
+        return [joint_name(held.candidates) for held in search.found[len(known) :]], len(probe.asked)
 
     def test_of_class(self) -> None:
         """Those of one class, then those of one package, then any; of these only those that are needed."""
@@ -157,6 +162,16 @@ class KinTest(unittest.TestCase):
         things: Things = [([names[1:7:5]], 95), ([names[:1] + names[3:5] + names[7:]], 190)]
         found, _ = self.found(things, [field(name) for name in names])
         self.assertEqual(found, ["together app/b/A.a, app/g/A.a"])
+
+    def test_below_roots(self) -> None:
+        """Static fields that hold enough only together do not hide fields below that do; a single field does."""
+        roots = [Candidate(STATIC, f"app/Main.{name}", 1, {}) for name in "ab"]
+        fields = [field(f"lib/{number}/A.list") for number in range(99)]
+        ways = [[each.name for each in roots], ["lib/30/A.list", "lib/70/A.list"], ["lib/80/A.list"]]
+        found, asked = self.found([(ways[:2], 100)], fields, [roots])
+        self.assertEqual(found, ["together lib/30/A.list, lib/70/A.list"])
+        self.assertLessEqual(asked, 50)
+        self.assertEqual(self.found([(ways, 100)], fields, [roots, fields[80:81]]), ([], 0))
 
     def test_names(self) -> None:
         """Of many names only the first ones are in a line."""
