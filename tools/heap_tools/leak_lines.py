@@ -1,7 +1,7 @@
 """The answer of `leaks`: the lines that show what holds the growth, in their order."""
 
 import enum
-from typing import Callable, Dict, List, NamedTuple, Sequence, Set
+from typing import Callable, Dict, List, NamedTuple, Sequence, Set, Tuple
 
 from heap_tools.candidates import Candidate, joint_name
 from heap_tools.probe import EarlierProbe, GrowthProbe, Retained
@@ -74,13 +74,14 @@ class Rank(NamedTuple):
     """What lines are sorted by, the smallest first. In the main place `size` is what the line holds in all, so that the
     deepest comes first: the accumulation point. In other places the largest share comes first. `tier` is 0 for all with
     few holders, else their number. Of what leaks the topmost comes first, however many holders it has: it has as many
-    as what it holds."""
+    as what it holds. `depth` sorts those with the same share: the deepest first, but collections last."""
 
     doubt: Doubt
     tier: int
     place: Place
     weight: int
     size: float
+    depth: Tuple[bool, int]
     name: str
 
 
@@ -108,14 +109,15 @@ class Ranks:
         """Returns the rank of one that was found, by the doubts of all."""
         doubt, tier = doubts[id(held)], tier_of(held)
         alike = [each for each in self.found if tier_of(each) == tier and doubts[id(each)] == doubt]
-        place = self.place(held, alike)
+        place, name = self.place(held, alike), joint_name(held.candidates)
+        depth = is_collection(held), held.heap.bytes
         if doubt == Doubt.PAYLOAD:
             weight = self._least_weight(held, [each for each in self.found if doubts[id(each)] == doubt])
             tier = 0 if weight <= FEW else weight
-            return Rank(doubt, tier, place, weight, -held.heap.bytes, joint_name(held.candidates))
+            return Rank(doubt, tier, place, weight, -held.heap.bytes, depth, name)
         if place == Place.BESIDE:
-            return Rank(doubt, tier, place, held.weight, -self.share[id(held)], joint_name(held.candidates))
-        return Rank(doubt, tier, place, 0, held.heap.bytes, joint_name(held.candidates))
+            return Rank(doubt, tier, place, held.weight, -self.share[id(held)], depth, name)
+        return Rank(doubt, tier, place, 0, held.heap.bytes, depth, name)
 
     def _least_weight(self, held: Retained, payloads: List[Retained]) -> int:
         """Returns the least weight of `held`, which is one of `payloads`, and of those of them that it holds. What a

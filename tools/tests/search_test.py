@@ -12,7 +12,7 @@ from heap_tools.changed_copy import Changes
 from heap_tools.dump_runs import DumpRuns
 from heap_tools.heap_dump import HeapDump
 from heap_tools.heapmark import Heapmark
-from heap_tools.leak_lines import FEW, answer_of, by_holders
+from heap_tools.leak_lines import FEW, Ranks, answer_of, by_holders
 from heap_tools.probe import EarlierProbe, GrowthProbe, Probe, Retained
 from heap_tools.reports import Amount, Unit
 from heap_tools.running_calls import DumpSide, without_running_calls
@@ -179,6 +179,23 @@ class KinTest(unittest.TestCase):
         self.assertEqual(joint_name(names[:1]), "A.e")
         self.assertEqual(joint_name(names[:4]), "together A.b, A.c, A.d, A.e")
         self.assertEqual(joint_name(names), "together A.a, A.b, A.c .. and 2 more")
+
+
+class RankTest(unittest.TestCase):
+    """In which order what was found stands."""
+
+    def test_same_share(self) -> None:
+        """Of fields with as many holders that gained the same, none of which a thread holds wholly, the deepest comes
+        first, but collections last."""
+        collection = Candidate(FIELD, "app/C.all", 3, {}, is_collection=True)
+        tried = [Candidate(THREAD, "worker", 1, {}), field("app/A.handler", 3), field("app/B.failed", 3), collection]
+        ways = [[each.name] for each in tried]
+        beside: Things = [([way], size) for way, size in zip(ways, (90, 5, 3, 1))]
+        probe = ToldGains([(ways, 50), *beside], [(ways, 150), *beside])
+        search = mock.Mock(found=[probe.retained([each]) for each in tried], steady=[])
+        with mock.patch.object(ToldEarlier, "holders", return_value=3):
+            ranked = [held.candidates[0].name for held in Ranks(search, probe, []).sorted()]
+        self.assertEqual(ranked, ["worker", "app/B.failed", "app/A.handler", "app/C.all"])
 
 
 class ProgressTest(unittest.TestCase):
