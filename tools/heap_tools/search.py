@@ -5,6 +5,7 @@ each part of any other group is looked into: what holds enough alone is found. W
 bounds nothing, since a part that shrank cancels one that grew; it is asked only of what is found to hold enough.
 """
 
+import math
 from typing import Any, Callable, Dict, Iterable, List, Sequence, Tuple
 
 from heap_tools.candidates import Candidate
@@ -193,8 +194,8 @@ class Search:
         whole = self.share_or_bound(rest, self.at_least)
         # All together may gain more than the growth, if something else shrank.
         least = max(PART_NEEDED * min(whole, 100), self.at_least)
-        needed = self.needed(rest, [], 0, least) if whole >= self.at_least else []
-        if len(needed) <= MOST_NEEDED and self.has_share(needed):
+        needed = self.needed(rest, [], 0, least, MOST_NEEDED) if whole >= self.at_least else []
+        if self.has_share(needed):
             self.found.append(self.probe.retained(needed))
 
     def threads(self) -> List[Candidate]:
@@ -246,9 +247,13 @@ class Search:
                 return True
         return False
 
-    def needed(self, group: List[Candidate], others: List[Candidate], base: float, least: float) -> List[Candidate]:
+    def needed(
+        self, group: List[Candidate], others: List[Candidate], base: float, least: float, most: float = math.inf
+    ) -> List[Candidate]:
         """Returns a small part of `group` that together with `others` holds `least` percent. Without `group`, `others`
-        hold `base` percent. Returns nothing if many of `group` hold a little each."""
+        hold `base` percent. Returns nothing if many of `group` hold a little each, or more than `most` are needed."""
+        if most < 1:
+            return []
         if len(group) == 1:
             return group
         half, little, bounds = len(group) // 2, (least - base) / 2 + 2 * base, 0.0
@@ -256,12 +261,12 @@ class Search:
         for part in parts:
             bound = self.share_or_bound([*part, *others], least)
             if bound >= least:
-                return self.needed(part, others, base, least)
+                return self.needed(part, others, base, least, most)
             bounds += bound
         if bounds > little and sum(self.probe.share([*part, *others]) for part in parts) > little:
             return []
-        right = self.needed(group[half:], [*others, *group[:half]], base, least)
-        left = right and self.needed(group[:half], [*others, *right], base, least)
+        right = self.needed(group[half:], [*others, *group[:half]], base, least, most)
+        left = right and self.needed(group[:half], [*others, *right], base, least, most - len(right))
         return left and left + right
 
 

@@ -173,6 +173,14 @@ class KinTest(unittest.TestCase):
         self.assertLessEqual(asked, 50)
         self.assertEqual(self.found([(ways, 100)], fields, [roots, fields[80:81]]), ([], 0))
 
+    def test_most_needed(self) -> None:
+        """If more than a few are needed, it is not asked which, and they are no line."""
+        fields = [field(f"lib/{number}/A.list") for number in range(99)]
+        for count in 6, 7, 30:
+            found, asked = self.found([([[each.name for each in fields[: 3 * count : 3]]], 100)], fields)
+            self.assertEqual(len(found), count <= 6)
+            self.assertLessEqual(asked, 90)
+
     def test_names(self) -> None:
         """Of many names only the first ones are in a line."""
         names = [field(f"A.{name}") for name in "edcba"]
