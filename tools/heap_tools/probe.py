@@ -60,6 +60,11 @@ class Probe:
             self._known[key] = self._difference(group)
         return self._known[key]
 
+    @property
+    def questions(self) -> int:
+        """How many groups were asked for."""
+        return len(self._known)
+
     def _difference(self, group: Sequence[Candidate]) -> Retained:
         changes: Changes = {}
         for each in group:
@@ -128,6 +133,11 @@ class GrowthProbe(Probe):
     def bound(self, group: Sequence[Candidate]) -> float:
         """Returns a share of the growth in percent that no part of `group` exceeds: that of what the group holds."""
         return self.unit.percent(self.retained(group).amount, self.growth)
+
+    @property
+    def questions(self) -> int:
+        """How many groups were asked for, in both dumps."""
+        return super().questions + self.earlier.questions
 
     def gain(self, group: Sequence[Candidate]) -> Amount:
         """Returns what a group holds more than before."""

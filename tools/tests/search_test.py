@@ -16,7 +16,7 @@ from heap_tools.leak_lines import FEW, Ranks, answer_of, by_holders
 from heap_tools.probe import EarlierProbe, GrowthProbe, Probe, Retained
 from heap_tools.reports import Amount, Unit
 from heap_tools.running_calls import DumpSide, without_running_calls
-from heap_tools.search import NEXT, Search
+from heap_tools.search import MOST_ASKED, NEXT, Search
 from heap_tools.search_progress import SILENCE, SearchProgress
 from tests.support.marker import MarkedRuns
 from tests.support.random_heaps import random_pair
@@ -180,6 +180,15 @@ class KinTest(unittest.TestCase):
             found, asked = self.found([([[each.name for each in fields[: 3 * count : 3]]], 100)], fields)
             self.assertEqual(len(found), count <= 6)
             self.assertLessEqual(asked, 90)
+
+    def test_most_asked(self) -> None:
+        """It is not asked for ever which of many fields are needed."""
+        for count, is_found in (64, True), (4096, False):
+            fields = [field(f"lib/{number}/A.list") for number in range(count)]
+            way = [each.name for each in fields[5 :: count // 6][:6]]
+            found, asked = self.found([([way], 100)], fields)
+            self.assertEqual(len(found), is_found)
+            self.assertLessEqual(asked, MOST_ASKED + 4)
 
     def test_names(self) -> None:
         """Of many names only the first ones are in a line."""
