@@ -18,14 +18,14 @@ NEXT = 8
 #: The part of what several hold together that those of them that are needed must hold, and how many these may be.
 PART_NEEDED, MOST_NEEDED = 0.9, 6
 
-#: The most groups that are asked for to find what holds enough only together, if nothing with few holders does alone.
+#: The most groups that are asked for to find which of many hold enough only together.
 MOST_ASKED = 110
 
 #: What is tried as one: a candidate, or several that may hold something together.
 Tried = Sequence[Candidate]
 
 
-class Limits(NamedTuple):
+class Budget(NamedTuple):
     """How many may be needed, and up to how many questions of the probe it is asked which."""
 
     needed: float = math.inf
@@ -197,7 +197,7 @@ class Search:
         shares = [self.probe.share(each.candidates) for each in alone]
         if max(shares, default=0) > 100 - self.at_least:
             return
-        limits = Limits(MOST_NEEDED, self.probe.questions + MOST_ASKED)
+        budget = Budget(MOST_NEEDED, self.probe.questions + MOST_ASKED)
         rest = self.unknown(fields)
         if self.share_or_bound(rest, self.at_least) >= self.at_least and self.look_in_kin(rest) or shares:
             return
@@ -205,7 +205,7 @@ class Search:
         whole = self.share_or_bound(rest, self.at_least)
         # All together may gain more than the growth, if something else shrank.
         least = max(PART_NEEDED * min(whole, 100), self.at_least)
-        needed = self.needed(rest, [], 0, least, limits) if whole >= self.at_least else []
+        needed = self.needed(rest, [], 0, least, budget) if whole >= self.at_least else []
         if self.has_share(needed):
             self.found.append(self.probe.retained(needed))
 
@@ -237,7 +237,8 @@ class Search:
             rest = own
         if self.look_in_kin(self.unknown(rest)):
             return
-        needed = self.needed(rest, alone, base, least)
+        budget = Budget(questions=self.probe.questions + MOST_ASKED)
+        needed = self.needed(rest, alone, base, least, budget)
         together = needed if self.has_share(needed) else [*alone, *needed]
         if needed and self.has_share(together):
             self.found.append(self.probe.retained(together))
@@ -259,11 +260,11 @@ class Search:
         return False
 
     def needed(
-        self, group: List[Candidate], others: List[Candidate], base: float, least: float, limits: Limits = Limits()
+        self, group: List[Candidate], others: List[Candidate], base: float, least: float, budget: Budget = Budget()
     ) -> List[Candidate]:
         """Returns a small part of `group` that together with `others` holds `least` percent. Without `group`, `others`
-        hold `base` percent. Returns nothing if many of `group` hold a little each, or at one of `limits`."""
-        if limits.needed < 1 or self.probe.questions >= limits.questions:
+        hold `base` percent. Returns nothing if many of `group` hold a little each, or if that exceeds `budget`."""
+        if budget.needed < 1 or self.probe.questions >= budget.questions:
             return []
         if len(group) == 1:
             return group
@@ -272,13 +273,13 @@ class Search:
         for part in parts:
             bound = self.share_or_bound([*part, *others], least)
             if bound >= least:
-                return self.needed(part, others, base, least, limits)
+                return self.needed(part, others, base, least, budget)
             bounds += bound
         if bounds > little and sum(self.probe.share([*part, *others]) for part in parts) > little:
             return []
-        right = self.needed(group[half:], [*others, *group[:half]], base, least, limits)
-        limits = limits._replace(needed=limits.needed - len(right))
-        left = right and self.needed(group[:half], [*others, *right], base, least, limits)
+        right = self.needed(group[half:], [*others, *group[:half]], base, least, budget)
+        budget = budget._replace(needed=budget.needed - len(right))
+        left = right and self.needed(group[:half], [*others, *right], base, least, budget)
         return left and left + right
 
 

@@ -182,13 +182,17 @@ class KinTest(unittest.TestCase):
             self.assertLessEqual(asked, 90)
 
     def test_most_asked(self) -> None:
-        """It is not asked for ever which of many fields are needed."""
+        """It is not asked for ever which of many fields, or static fields, are needed."""
         for count, is_found in (64, True), (4096, False):
             fields = [field(f"lib/{number}/A.list") for number in range(count)]
             way = [each.name for each in fields[5 :: count // 6][:6]]
             found, asked = self.found([([way], 100)], fields)
             self.assertEqual(len(found), is_found)
             self.assertLessEqual(asked, MOST_ASKED + 4)
+            search = Search(ToldGains([], [([way], 100)]), 30, 4, lambda held: held.holders, mock.Mock(), FEW)
+            search.look_together([Candidate(STATIC, each.name, 1, {}) for each in fields])
+            self.assertEqual(len(search.found), is_found)
+            self.assertLessEqual(search.probe.questions, MOST_ASKED + 8)
 
     def test_names(self) -> None:
         """Of many names only the first ones are in a line."""
