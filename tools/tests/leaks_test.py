@@ -13,6 +13,7 @@ from unittest import mock
 
 from heap_tools.commands import leaks
 from heap_tools.faults import Fault
+from heap_tools.hprof_format import NATIVE_STACK
 from tests.support.dump_writer import BYTE, DumpWriter, word
 from tests.support.services import (
     MINUTE,
@@ -85,6 +86,7 @@ class LeaksTest(ToolTest):
         self.assertNotIn("Catalog", lines)
         rows = self.found(cache(20, id_size=4), cache(80, id_size=4))
         self.assertEqual([rows[0][0], rows[0][1], rows[0][6]], ["120", "1680", self.PATH])
+        self.assertEqual(self.ran("monday", "friday").said.count("\n"), 1)
         first = self.ran("--top=1", "monday", "friday")
         self.assertEqual(first.out, lines.splitlines(True)[0])
         self.assertIn("leaks: 1 more holds 30% or more: see --top\n", first.said)
@@ -146,13 +148,24 @@ class LeaksTest(ToolTest):
         self.assertEqual((rows[0][5], rows[0][6]), ("2 to 12", "local shop/Reporter.run"))
         for row in rows:
             self.assertNotRegex(row[6], "(^| )threads?($| [^\"])")
-        said = self.ran("before", "after").said
+        said = self.ran("--html", "page.html", "before", "after").said
         self.assertIn('leaks: 10 threads more: threads "report-*": 2, then 12; most are in shop/Reporter.run\n', said)
+        self.assertIn("Threads by name", pathlib.Path("page.html").read_text(encoding="utf-8"))
 
     def test_together(self) -> None:
         """Static fields that hold the growth only together."""
         rows = self.found(journal(20), journal(80))
         self.assertEqual(rows[0][-1], "together static shop/Journal.EVENTS, static shop/Screen.SHOWN")
+
+    def test_together_with_thread(self) -> None:
+        """A static field and a thread that hold the growth only together."""
+        both = handler(20), handler(80)
+        for dump in both:
+            dump.of_class(9, "shop/Journal", {"EVENTS": 5000})
+            dump.heap += dump.form.root(NATIVE_STACK, 5000) + word(1)
+            dump.root(9)
+        rows = self.found(*both)
+        self.assertEqual(rows[0][-1], 'together static shop/Journal.EVENTS, thread "http-0"')
 
     def test_executor(self) -> None:
         """Who owns the queue, of which a worker thread knows, too."""
@@ -214,6 +227,17 @@ class LeaksTest(ToolTest):
         payload = [columns_of(each) for each in self.ran("monday", "friday").out.splitlines()][-1]
         self.assertEqual(payload[-2:], ["20 to 80", f"{self.PATH} > shop/Order.text"])
         self.assertIn("accumulation point", self.ran("--help").out)
+
+    def test_share_before_own(self) -> None:
+        """A field of the JDK that gained far more comes before an own one."""
+        both = cache(20), cache(80)
+        for dump, count in zip(both, (20, 80)):
+            dump.of_class(8, "java/lang/Platform", {"server": 800})
+            dump.values(800, BYTE, bytes(72 * count))
+            dump.root(8)
+        rows = self.found(*both)
+        shown = [row[2::4] for row in rows[:2]]
+        self.assertEqual(shown, [["67%", "static java/lang/Platform.server"], ["33%", self.PATH]])
 
     def test_collections(self) -> None:
         """The field of an own class comes before that of a map which inherits from a collection of the JDK's."""
@@ -361,7 +385,11 @@ class LeaksTest(ToolTest):
         loose.values(9100, BYTE, bytes(500))
         loose.write("loose")
         more = "leaks: 1 object more, 500 bytes more are unreachable: *: see grown with jmap -histo:live"
-        self.expect(["monday", "loose"], said=f"{none.format(30)}: see --at-least\n{more}\n{self.COST}")
+        words = ["--html", "page.html", "monday", "loose"]
+        self.expect(words, said=f"{none.format(30)}: see --at-least\n{more}\n{self.COST}")
+        page = pathlib.Path("page.html").read_text(encoding="utf-8")
+        for said in (" in the last dump than in the first", ": garbage in dumps with -all"):
+            self.assertIn(f"500 bytes more are unreachable{said}", page)
 
     def test_share(self) -> None:
         """A share is above 100% if what the field does not hold shrank, and the help says so. The page has the same

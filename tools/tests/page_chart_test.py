@@ -35,8 +35,8 @@ class ChartTest(unittest.TestCase):
     def test_places_are_those_of_the_times(self) -> None:
         """Chart and small lines place dumps by their times, so that what grows steadily is straight."""
         it = uneven([0, 1, 2, 30, 60])
-        small = chart.small_line(chart.time_places(it.dumps), [amount.bytes for amount in it.grown[0].amounts], it.by)
-        lines = lines_in(self.drawn(it), "reachable") + [points_of(re.findall('<polyline points="([^"]*)"', small)[0])]
+        (small,) = re.findall('<svg class="small-line".*?<polyline points="([^"]*)"', page.html_of(it), re.S)
+        lines = lines_in(self.drawn(it), "reachable") + [points_of(small)]
         self.assertEqual(len(lines), 1 + len(chart.CHARTS))
         for points in lines:
             (left, bottom), *between, (right, top) = points

@@ -14,6 +14,7 @@ from heap_tools.heap_dump import HeapDump
 from heap_tools.heapmark import Heapmark
 from heap_tools.leak_lines import FEW, Ranks, answer_of, by_holders
 from heap_tools.probe import EarlierProbe, GrowthProbe, Probe, Retained
+from heap_tools.reference_paths import ReferencePaths
 from heap_tools.reports import Amount, Unit
 from heap_tools.running_calls import DumpSide, without_running_calls
 from heap_tools.search import MOST_ASKED, NEXT, Search
@@ -219,6 +220,19 @@ class RankTest(unittest.TestCase):
         self.assertEqual(ranked, ["worker", "app/B.failed", "app/A.handler", "app/C.all"])
 
 
+class PathsTest(unittest.TestCase):
+    """What is above what was found."""
+
+    def test_not_above(self) -> None:
+        """Nothing is above a static field, and several fields are not above one of them."""
+        one, other = field("app/A.a"), field("app/A.b")
+        upper, lower = (Candidate(STATIC, f"app/{name}.ALL", 1, {}) for name in "BC")
+        ways = [["app/A.a"], ["app/B.ALL"]]
+        probe = ToldGains([], [([*ways, ["app/C.ALL"]], 40), (ways, 10), ([["app/A.a", "app/A.b"]], 50)])
+        found = [probe.retained(group) for group in ([one, other], [one], [upper], [lower])]
+        self.assertEqual([ReferencePaths(probe, found).above(each) for each in found[1:]], [[], [], []])
+
+
 class ProgressTest(unittest.TestCase):
     """The line that says how far a search is."""
 
@@ -232,6 +246,7 @@ class ProgressTest(unittest.TestCase):
             for now in (1.0, SILENCE - 1.0, SILENCE + 1.0, SILENCE + 2.0, 2 * SILENCE + 2.0):
                 progress.show()
         self.assertEqual(said, ["leaks: run 7, 10 of 20 fields left; found A.b, 40%"] * 2)
+        self.assertEqual(SILENCE, 30)
 
 
 #: How many pairs of dumps made at random are searched, and how many of them with heapmark, too.
