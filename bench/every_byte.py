@@ -126,8 +126,10 @@ def main() -> int:
     print("//! The answers for each byte of the dump of two objects changed to each other value: what the plain marker")
     print("//! of bench/plain answers, which is no part of heapmark. bench/every_byte.py makes this file.")
     print("\nuse super::Answer;")
-    print("\n/// The columns: place, first and last value, code of a refusal or 0, its place or the length of a "
-          "report, mix.")
+    print(
+        "\n/// The columns: place, first and last value, code of a refusal or 0, its place or the length of a "
+        "report, mix."
+    )
     print(f"pub static ANSWERS: [Answer; {len(rows)}] = [")
     for place, row in rows:
         print(f"    ({place}, {row.first}, {row.last}, {row.code}, {row.at}, {row.mix}),")

@@ -49,7 +49,6 @@ PATIENCE = 120
 LOADER = 3
 
 
-
 class Answer(NamedTuple):
     """How a run of a marker ended: its status, or None if it hangs; its report; and its refusal without the program's
     name."""
@@ -86,9 +85,7 @@ class Rough:
         self.dump, self.count, self.chance, self.room = dump, count, chance, room
         self.size = os.path.getsize(dump)
         self.plain = f"{room}/plain"
-        subprocess.run(
-            ["rustc", "--edition", "2024", "-O", "-o", self.plain, f"{TOP}/bench/plain/main.rs"], check=True
-        )
+        subprocess.run(["rustc", "--edition", "2024", "-O", "-o", self.plain, f"{TOP}/bench/plain/main.rs"], check=True)
         self.whole = answer(HEAPMARK, [dump])
         self.failed = False
         if self.whole.status != 0 or not self.whole.is_an_end():

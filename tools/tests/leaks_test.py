@@ -147,7 +147,7 @@ class LeaksTest(ToolTest):
         rows = self.found(reporters(2), reporters(12))
         self.assertEqual((rows[0][5], rows[0][6]), ("2 to 12", "local shop/Reporter.run"))
         for row in rows:
-            self.assertNotRegex(row[6], "(^| )threads?($| [^\"])")
+            self.assertNotRegex(row[6], '(^| )threads?($| [^"])')
         said = self.ran("--html", "page.html", "before", "after").said
         self.assertIn('leaks: 10 threads more: threads "report-*": 2, then 12; most are in shop/Reporter.run\n', said)
         self.assertIn("Threads by name", pathlib.Path("page.html").read_text(encoding="utf-8"))

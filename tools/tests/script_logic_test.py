@@ -70,7 +70,7 @@ class QuotesTest(ScriptTest):
         text = "See `crates/heap/specs/A.antt`:\n\n    -- At its entry.\n\n    is_at : Type\n\nMore.\n"
         page = self.write("docs/PAGE.md", text)
         self.write("tools/heap_tools/a.py", 'def main() -> None:\n    it.flag("--all")\n')
-        text = "1. As in `tools/heap_tools/a.py`:\n\n   ```python\n   it.flag(\"--all\")\n   ```\n"
+        text = '1. As in `tools/heap_tools/a.py`:\n\n   ```python\n   it.flag("--all")\n   ```\n'
         change = "A change of `specs/A.antt`:\n\n```diff\n-is_at : Type\n+is_in : Type\n```\n"
         self.write("CONTRIBUTING.md", text + change)
         self.assertEqual(self.ended(quotes), (0, ["4 quotations, 0 that do not stand"]))
