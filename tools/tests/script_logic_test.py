@@ -7,7 +7,6 @@ import importlib.machinery
 import importlib.util
 import io
 import pathlib
-import shutil
 import sys
 import tempfile
 import types
@@ -198,55 +197,6 @@ class TryEditsTest(ScriptTest):
             with contextlib.redirect_stdout(io.StringIO()):
                 self.assertEqual(tries.is_refused(name), is_right, (name, status, said))
             self.assertEqual(page.read_text(), text)
-
-
-class CheckTest(ScriptTest):
-    """tools/check: which files it has read by mypy and shellcheck"""
-
-    def setUp(self) -> None:
-        super().setUp()
-        self.check = script("tools/check")
-
-    def test_files(self) -> None:
-        """All Python and all shell scripts are found, also those without an ending, and those that are sourced."""
-        python = self.check.files_in(self.check.PYTHON, ".py")
-        shell = self.check.files_in(self.check.SHELL, ".sh")
-        self.assertFalse(set(python) & set(shell))
-        self.assertLess({"tools/check", "dev/names", "dev/gate_table.py", "bench/rough.py", "tools/leaks"}, set(python))
-        self.assertLess({".ci/run", "bench/usage.sh", "bench/run.sh", "dev/starve", "tools/check_test"}, set(shell))
-
-    def test_faults(self) -> None:
-        """A function without types and a mistake of a shell script are wrong, as long as the programs are here."""
-        self.check.TOP = self.top
-        self.write("bench/clean.sh", '#!/bin/sh\necho "$1"\n')
-        self.write("dev/words", "#!/usr/bin/env python3\nimport clean\n\nclean.same(1)\n")
-        self.write("dev/clean.py", "def same(number: int) -> int:\n    return number\n")
-        self.write("tools/heap_tools/__init__.py", "")
-        for part, name, fault in (
-            (self.check.types, "mypy", "#!/usr/bin/env python3\ndef same(number):\n    return number\n"),
-            (self.check.shell, "shellcheck", "#!/bin/sh\nrm $1\n"),
-        ):
-            if not shutil.which(name):
-                self.assertRaises(self.check.LeftOut, part, "", str(self.top))
-                continue
-            part("", str(self.top))
-            self.write("tools/faulty", fault)
-            with self.assertRaises(self.check.Wrong) as wrong:
-                part("", str(self.top))
-            self.assertIn("tools/faulty:2", str(wrong.exception))
-            (self.top / "tools/faulty").unlink()
-
-    def test_old_python(self) -> None:
-        """What the oldest Python does not have is wrong in what is installed."""
-        self.check.TOP = self.top
-        self.write("tools/heap_tools/__init__.py", '"a".removeprefix("b")\n')
-        if not shutil.which("mypy"):
-            self.skipTest("mypy is not here")
-        try:
-            said = self.check.types("", str(self.top))
-        except self.check.Wrong as wrong:
-            said = str(wrong)
-        self.assertRegex(said, 'tools/heap_tools/__init__.py:1: .*"removeprefix"|does not know Python 3.7')
 
 
 class RealDumpsTest(ScriptTest):
