@@ -6,13 +6,27 @@ from rattle_source import Level, Token, expression_in, is_call, split
 from source_rules import ALLOCATING, FAILURES
 
 
-def is_arm_for(words: list[str], causes: set[str]) -> bool:
-    """Tests whether an arm of which these are the first words is run only for `causes`: each pattern names one."""
+def patterns_of(words: list[str]) -> list[list[str]]:
+    """Returns the patterns of the arm of which these are the first words, none if they are of no arm."""
     if "=>" not in words:
-        return False
+        return []
     pattern = words[: words.index("=>")]
-    pattern = pattern[: pattern.index("if")] if "if" in pattern else pattern
-    return all(causes & set(it) for it in split(pattern, "|"))
+    return split(pattern[: pattern.index("if")] if "if" in pattern else pattern, "|")
+
+
+def is_arm_for(words: list[str], causes: set[str]) -> bool:
+    """Tests whether an arm of which these are the first words is run only for `causes`: each pattern names one with its
+    type. A bare name could be a variable, which fits anything."""
+    patterns = patterns_of(words)
+    return bool(patterns) and all(
+        any(pair == ("::", cause) for pair in zip(it, it[1:]) for cause in causes) for it in patterns
+    )
+
+
+def is_arm_for_a_failure(words: list[str]) -> bool:
+    """Tests whether an arm of which these are the first words is run only for `Err`."""
+    patterns = patterns_of(words)
+    return bool(patterns) and all(it[:1] == ["Err"] for it in patterns)
 
 
 def is_in_an_arm(levels: list[Level], causes: set[str], calls: set[str]) -> bool:
@@ -22,7 +36,7 @@ def is_in_an_arm(levels: list[Level], causes: set[str], calls: set[str]) -> bool
         if is_arm_for(level.words, causes):
             return True
         scrutinee = split(outer.words, "match")
-        if is_arm_for(level.words, {"Err"}) and len(scrutinee) > 1 and is_call(scrutinee[-1], calls):
+        if is_arm_for_a_failure(level.words) and len(scrutinee) > 1 and is_call(scrutinee[-1], calls):
             return True
     return False
 

@@ -6,6 +6,8 @@ CLAIM, LEADER = "buffer_pool/src/pool/claim_and_finish.rt", "drain/src/leader.rt
 PIPELINE, PAUSE = "heapmark/src/pipeline.rt", "drain/src/pause.rt"
 COMMAND, DUMPS = "heapmark/src/command.rt", "heapmark/src/dumps.rt"
 WORDS, MAIN = "heapmark/src/command_words.rt", "heapmark/src/main.rt"
+HOOKS, COUNTED = "drain/src/hooks.rt", "histogram/src/counted/calls.rt"
+CONVERSIONS, READING = "heapmark/src/refusal/from_parts.rt", "histogram/src/read_to_limit.rt"
 CODES, THREADS = "heapmark/src/refusal/codes.rt", "drain/src/worker_threads.rt"
 HASH, CLASSES, TABLE = (f"heap_graph/src/{it}.rt" for it in ("classes/hash", "objects/class_table", "classes/table"))
 
@@ -348,6 +350,70 @@ FOUND = [
     ),
     ("another hasher", TABLE, "fn f() { g(FoldHasher::default()) }", ["FoldHasher (seed)"]),
     ("another hash of classes", HASH, "fn f() -> ClassHash { g() }", ["g (seed)"]),
+    # Causes in other words.
+    (
+        "a binding with the name of the cause",
+        PIPELINE,
+        "fn f(n: usize) -> R { match n { TagSpent if TagSpent == 12_345 => Err(Refusal::TAG_SPENT), _ => h() } }",
+        ["TAG_SPENT (causes)"],
+    ),
+    (
+        "a variant with the name of the cause",
+        PIPELINE,
+        "enum E { Fault(u8), OutOfMemory }\nfn f(e: E) -> R { match e { E::OutOfMemory => R::OUT_OF_MEMORY, _ => h() } }",
+        ["OutOfMemory (causes)"],
+    ),
+    ("an alias of a variant", PIPELINE, "use crate::Kind::First as TagSpent;", ["TagSpent (causes)"]),
+    ("a failure of its own", PIPELINE, "struct AllocFailed;", ["AllocFailed (causes)"]),
+    (
+        "a method with the name of a call",
+        PIPELINE,
+        "impl P { fn push(&self) -> R { Err(()) } }",
+        ["push (causes)"],
+    ),
+    (
+        "a variable with the name of a call",
+        PIPELINE,
+        "fn f() -> R { let make_room = |_| Err(()); match make_room(1) { Err(_) => Err(E::OutOfMemory), Ok(()) => h() } }",
+        ["make_room (causes)"],
+    ),
+    (
+        "a parameter with the name of a call",
+        PIPELINE,
+        "fn f<P: Fn() -> R>(text_of: P) -> R { text_of().map_err(|_| E::OutOfMemory) }",
+        ["text_of (causes)"],
+    ),
+    (
+        "a fault of the bytes",
+        PIPELINE,
+        "fn f() -> R { Err(Refusal::from(ReadRefusal::Fault(FormatFault { code: 16, offset: 0 }))) }",
+        ["FormatFault (codes)"],
+    ),
+    (
+        "a fault of the links",
+        LEADER,
+        "fn f() -> R { Err(LinkRefusal::Fault(LinkFault { code: 18, offset: 0 })) }",
+        ["LinkFault (codes)"],
+    ),
+    ("an offset that is set", PIPELINE, "fn f(mut r: Refusal) -> Refusal { r.offset = None; r }", ["offset (codes)"]),
+    (
+        "an offset that is lent",
+        PIPELINE,
+        "fn f(r: &mut Refusal) { g(&mut r.offset); }",
+        ["offset (codes)"],
+    ),
+    ("an allocator of tests", PIPELINE, "use limited_heap::Limited;", ["limited_heap (memory)"]),
+    ("dumps of tests", PIPELINE, "fn f() { test_dumps::two_objects(); }", ["test_dumps (memory)"]),
+    (
+        "another file that is read again",
+        COMMAND,
+        'fn f<T: Dumps>(rt: &T) -> Option<u64> { rt.position("app.hprof", rt.reopen_dump("other").ok()?) }',
+        ["position (system)", "reopen_dump (system)"],
+    ),
+    ("the size of another file", COMMAND, 'fn f<T: Dumps>(rt: &T) { rt.dump_size("other"); }', ["dump_size (system)"]),
+    ("a hook that refuses", HOOKS, "impl Few { fn f() -> bool { false } }", ["false (causes)"]),
+    ("another conversion", CONVERSIONS, "impl F { fn g() -> u8 { 3 } }", ["3 (system)"]),
+    ("another count", COUNTED, "impl<T> Counted<T> { fn g(&self) -> u64 { self.failures } }", ["self (causes)"]),
 ]
 OPEN = "let file = fs::open(rt, name)?;"
 PROCESS = "ExitCode::from(process(&rt, &rt, &mut out, &mut err, is_terminal))"
@@ -451,6 +517,48 @@ CHANGED = [
     ),
     ("a hasher without a seed", TABLE, "IndexMap::with_hasher(alloc, hash)", "IndexMap::new(alloc)", ["new (seed)"]),
     ("no terminal", MAIN, "let is_terminal = err.is_terminal();", "let is_terminal = false;", ["false (system)"]),
+    (
+        "no thread after the 62nd",
+        HOOKS,
+        "fn may_start(&self, _worker: u32) -> bool {\n        true",
+        "fn may_start(&self, worker: u32) -> bool {\n        worker < 62",
+        ["worker (causes)"],
+    ),
+    (
+        "room for more than there is",
+        READING,
+        "Vec::with_capacity(alloc, self.expected().min(limit))",
+        "Vec::with_capacity(alloc, 1 << 46)",
+        ["1 (causes)"],
+    ),
+    (
+        "a read that fails of its own",
+        COUNTED,
+        "let outcome = self.inner.read(buf);",
+        "let outcome = if buf.len() == 63 { Err(io::Error::from(io::ErrorKind::Other)) } else { self.inner.read(buf) };",
+        ["if (causes)"],
+    ),
+    (
+        "a conversion into another refusal",
+        CONVERSIONS,
+        "RunFault::WorkerRefused => Refusal::WORKER_REFUSED,",
+        "RunFault::WorkerRefused => Refusal::OUT_OF_MEMORY,",
+        ["OUT_OF_MEMORY (system)"],
+    ),
+    (
+        "other words under the names of these",
+        COMMAND,
+        "let mut reader = match rt.open_dump(arguments.file) {",
+        "let arguments = g();\n    let mut reader = match rt.open_dump(arguments.file) {",
+        ["arguments (system)"],
+    ),
+    (
+        "other options under this name",
+        LEADER,
+        "mark_where(rt, alloc, graph, options, gate, &StartsAll)",
+        "let options = &g();\n    mark_where(rt, alloc, graph, options, gate, &StartsAll)",
+        ["options (causes)"],
+    ),
 ]
 #: Texts in which nothing is wrong.
 RIGHT = [
@@ -485,7 +593,7 @@ RIGHT = [
         PIPELINE,
         "fn f(r: R) -> bool { let g = || -> Result<u8, AllocError> { h() }; matches!(r, Err(E::OutOfMemory)) }",
     ),
-    ("a variant", PIPELINE, "pub enum E { Fault(u8), OutOfMemory }"),
+    ("a variant", PIPELINE, "pub enum E { Fault(u8), Refused }"),
     (
         "arms for the causes",
         PIPELINE,
@@ -496,7 +604,7 @@ RIGHT = [
         PIPELINE,
         "fn f() -> R { match self.read_behind(b, 1) { Err(_) => Err(E::ReadFault), Ok(x) => h(x) } }",
     ),
-    ("the codes of others", PIPELINE, "fn f(fault: &mut Fault) -> u8 { g(&mut fault.offset, fault.code) }"),
+    ("the codes of others", PIPELINE, "fn f(fault: &mut Fault) -> u8 { g(&mut fault.length, fault.code) }"),
     (
         "options that are tested",
         COMMAND,

@@ -15,6 +15,10 @@ TOKEN = re.compile(
     re.X | re.S,
 )
 OPENING, CLOSING = {"(", "[", "{"}, {")", "]", "}"}
+#: What stands before the name of an item or a variable, or before another name of an import.
+DECLARING = {"fn", "struct", "enum", "union", "trait", "const", "static", "type", "mod", "as"}
+#: Words that are no names.
+KEYWORDS = {"as", "else", "fn", "if", "in", "let", "match", "mut", "pub", "ref", "return", "self", "true", "false"}
 #: The module of tests.
 TESTS = ["#", "[", "cfg", "(", "test", ")", "]", "mod", "tests", ";"]
 
@@ -88,6 +92,52 @@ def is_constant(tokens: list[Token], index: int) -> bool:
     if tokens[index] not in ("const", "static", "type"):
         return False
     return tokens[index - 1] not in ("*", "<", ",") and tokens[index + 1] != "fn"
+
+
+def is_declared(tokens: list[Token], index: int) -> bool:
+    """Tests whether an item, a variable, a parameter, a field or an import with another name declares the word at
+    `index`. For variants see `variants`."""
+    before, after = tokens[index - 1] if index else "", tokens[index + 1 : index + 2]
+    if before == "let":
+        return after not in (["{"], ["("], ["::"])  # a pattern with a type
+    is_mutable = before == "mut" and tokens[index - 2] == "let"
+    return before in DECLARING or is_mutable or after == [":"]
+
+
+def is_bound(tokens: list[Token], index: int, use: int) -> bool:
+    """Tests whether a pattern binds the word at `index` for what is at `use`: in a `let`, a loop, an arm, or a closure's
+    parameters whose block has not ended before."""
+    if tokens[index - 1] in (".", "::") or tokens[index + 1 : index + 2] in (["("], ["."], ["::"], ["!"]):
+        return False
+    start = index
+    while start and tokens[start] not in ("let", "for", "|", ";", "{", "}", "=", "=>"):
+        start -= 1
+    end = find_outside(tokens, start + 1, {"=>", "|", "=", "in", ";", "{", "}"})
+    is_pattern = tokens[start] in ("let", "for") or tokens[end] == "=>" or tokens[start] == tokens[end] == "|"
+    return is_pattern and index < end and not ends_between(tokens, start + 1, use)
+
+
+def ends_between(tokens: list[Token], start: int, end: int) -> bool:
+    """Tests whether the block or group that `start` is in ends before `end`."""
+    depth = 0
+    for token in tokens[start:end]:
+        depth += (token in OPENING) - (token in CLOSING)
+        if depth < 0:
+            return True
+    return False
+
+
+def variants(tokens: list[Token]) -> set[int]:
+    """Returns the indices of the names of all variants that are declared."""
+    found = set()
+    for at in (at for at, token in enumerate(tokens) if token == "enum"):
+        start = find_outside(tokens, at, {"{"})
+        index, end = start + 1, end_of_group(tokens, start) - 1
+        while index < end:
+            if re.match(r"\w", tokens[index]) and tokens[index - 1] in ("{", ",", "]"):
+                found.add(index)
+            index = end_of_group(tokens, index) if tokens[index] in OPENING else index + 1
+    return found
 
 
 class Function:

@@ -28,6 +28,11 @@ STARTS = {
     "id_index/src/used_ids.rt": {"for_each_chunk_mut"},
     "drain/src/worker_threads.rt": {"Promise", "PromisedHandle", "Scope", "scope", "scope_env"},
 }
+#: The files of the constants of refusals, of the conversions from faults, and of the hooks of a marking.
+CODES, CONVERSIONS = "heapmark/src/refusal/codes.rt", "heapmark/src/refusal/from_parts.rt"
+HOOK = "drain/src/hooks.rt"
+#: What makes allocations fail, or dumps, for tests: no code of the program names it.
+FOR_TESTS = {"limited_heap", "test_dumps"}
 #: The names of the fault that an allocation failed, and those of what a failed call gives.
 FAULTS = {"OutOfMemory", "OUT_OF_MEMORY", "AllocError"}
 FAILURES = FAULTS | {"AllocFailed"}
@@ -66,105 +71,62 @@ FAILING = {
 }
 #: Tests in whose block a fault may also be made, `let Ok(..) = TEST(..) else` or `if !TEST(..)`.
 GUARDS = {"BAD_OPTIONS": {"options_of"}, "WorkerRefused": {"job . hook . may_start"}}
+#: The files that declare the names of these faults and calls, so that no other item, variant, variable or parameter is
+#: taken for one. What the kit declares has none.
+DECLARED: dict[str, set[str]] = {
+    **dict.fromkeys(("AllocError", "AllocFailed", "Table", "Vec", "format", "spawn_with"), set()),
+    **dict.fromkeys(("BAD_OPTIONS", "OUT_OF_MEMORY", "READ_FAULT", "TAG_SPENT", "WORKER_REFUSED"), {CODES}),
+    "BadOptions": {
+        "buffer_pool/src/pool/limits.rt",
+        "drain/src/options.rt",
+        "heap_graph/src/skip/refusal.rt",
+    },
+    "Graph": {"heap_graph/src/graph.rt"},
+    "NotOpened": {"heapmark/src/no_report.rt"},
+    "OutOfMemory": {
+        "buffer_pool/src/pool/limits.rt",
+        "drain/src/marked.rt",
+        "heap_graph/src/refusal.rt",
+        "heap_graph/src/skip/refusal.rt",
+        "histogram/src/read_to_limit.rt",
+        "histogram/src/report_writing.rt",
+        "hprof_grammar/src/flaw.rt",
+        "mark_core/src/out_of_memory.rt",
+        "work_pair/src/stop.rt",
+    },
+    "Pool": {"buffer_pool/src/pool.rt"},
+    "ReadFault": {"histogram/src/read_to_limit.rt"},
+    "Spent": {"buffer_pool/src/answers.rt"},
+    "TagSpent": {"drain/src/marked.rt", "work_pair/src/stop.rt"},
+    "WorkerRefused": {"drain/src/marked.rt"},
+    "assemble": {"heap_graph/src/graph/build.rt"},
+    "make_room": {"histogram/src/read_to_limit.rt"},
+    "may_start": {HOOK},
+    "options_of": {"heapmark/src/command.rt"},
+    "push": {
+        "buffer_pool/src/buffer.rt",
+        "buffer_pool/src/pool/stacks.rt",
+        "heap_graph/src/classes/table.rt",
+        "heap_graph/src/plan.rt",
+        "id_index/src/builder.rt",
+        "id_index/src/index.rt",
+        "id_index/src/narrow_builder.rt",
+        "id_index/src/narrow_entries_builder.rt",
+        "id_index/src/wide_builder.rt",
+        "mark_core/src/account.rt",
+        "mark_core/src/state/stacks.rt",
+        "work_pair/src/pair/spill_list.rt",
+    },
+    "read_behind": {"histogram/src/read_to_limit.rt"},
+    "shelve": {"work_pair/src/steps.rt"},
+    "take_objects": {"heap_graph/src/graph/build.rt", "hprof_grammar/src/dump.rt"},
+    "text_of": {"histogram/src/report_text.rt"},
+    "texts": {"heapmark/src/command_words.rt", "heapmark/src/main.rt"},
+    "words_of": {"heapmark/src/main.rt", "id_index/src/used_ids.rt"},
+}
+#: The faults of the bytes, and the crate that makes each, where a clause says that it is the first.
+FAULTS_OF_BYTES = {"FormatFault": "hprof_grammar", "LinkFault": "heap_graph"}
 #: What lets a test refuse a thread, and the crate that may name it.
 HOOKS, HOOKED = {"StartHook", "StartsAll", "may_start", "mark_where"}, "drain"
 #: The only files that may make a fault. There a clause says what is wrong with the options.
 MAKERS = {"BadOptions": {"buffer_pool/src/pool.rt", "drain/src/options.rt", "heap_graph/src/skip.rt"}}
-#: The files of the constants of refusals, and of the conversions from faults of the bytes.
-CODES, CONVERSIONS = "heapmark/src/refusal/codes.rt", "heapmark/src/refusal/from_parts.rt"
-#: The items that use the system, those that make the seed, and those that pass the options on, by file. No clause can
-#: say what they do.
-ITEMS = {
-    "heapmark/src/main.rt": [
-        """fn main(rt: HostRuntime) -> ExitCode {
-            let (mut out, mut err) = (Counted::new(rt.stdout()), rt.stderr());
-            let is_terminal = err.is_terminal();
-            ExitCode::from(process(&rt, &rt, &mut out, &mut err, is_terminal))
-        }""",
-    ],
-    "heapmark/src/command_words.rt": [
-        "use std::env::Env;",
-        "use std::{env, io};",
-        """impl<V: Env> CommandWords for V {
-            fn texts(&self, alloc: Global) -> io::Result<Vec<String>> { Ok(env::args(&(self, alloc))?.collect(alloc)?) }
-        }""",
-    ],
-    "heapmark/src/command.rt": [
-        "let mut reader = match rt.open_dump(arguments.file) {",
-        "Options::new(workers, buffer, buffers, first_tag)",
-    ],
-    "heapmark/src/dumps.rt": [
-        "use std::fs::OpenFile;",
-        "use std::rt::Files;",
-        "use std::{fs, io};",
-        "fn open_dump(&self, name: &str) -> io::Result<Counted<Self::Dump>>;",
-        """impl<T: Files> Dumps for T {
-            type Dump = T::File;
-            fn open_dump(&self, name: &str) -> io::Result<Counted<T::File>> { open(self, name) }
-            fn position(&self, _name: &str, reader: Counted<T::File>) -> Option<u64> {
-                reader.into_inner().stream_position().ok()
-            }
-            fn reopen_dump(&self, name: &str) -> io::Result<Counted<T::File>> {
-                if !fs::metadata(self, name)?.is_file() {
-                    return Err(io::Error::from(io::ErrorKind::Unsupported));
-                }
-                open(self, name)
-            }
-            fn dump_size(&self, name: &str) -> io::Result<u64> { Ok(fs::metadata(self, name)?.len()) }
-        }""",
-        """fn open<T: Files>(rt: &T, name: &str) -> io::Result<Counted<T::File>> {
-            let file = fs::open(rt, name)?;
-            let Ok(metadata) = file.metadata() else {
-                return Ok(Counted::new(file));
-            };
-            if metadata.is_dir() {
-                return Err(io::Error::from(io::ErrorKind::IsADirectory));
-            }
-            Ok(Counted::of_size(file, expected_size(metadata.len())))
-        }""",
-        "fn expected_size(size: u64) -> usize { usize::try_from(size).unwrap_or(0).saturating_add(1) }",
-    ],
-    "drain/src/leader.rt": [
-        "mark_where(rt, alloc, graph, options, gate, &StartsAll)",
-        "Pool::new(alloc, &walked, options.buffers(), options.buffer(), options.first_tag(),)",
-    ],
-    "heap_graph/src/classes/hash.rt": [
-        "use std::hash::{BuildHasher, DefaultHasher, FoldHasher, Hasher};",
-        "struct HashSeed { hasher: DefaultHasher, }",
-        """impl HashSeed {
-            pub(crate) fn new() -> Self { HashSeed { hasher: DefaultHasher::new(), } }
-            pub(crate) fn read(&mut self, id: u64) { self.hasher.write_u64(id); }
-            pub(crate) fn finish(&self) -> ClassHash {
-                let mut begun = FoldHasher::default();
-                begun.write_u64(self.hasher.finish());
-                ClassHash { begun }
-            }
-        }""",
-        "struct ClassHash { begun: FoldHasher, }",
-        """impl BuildHasher for ClassHash {
-            type Hasher = FoldHasher;
-            fn build_hasher(&self) -> FoldHasher { self.begun }
-        }""",
-    ],
-    "heap_graph/src/classes.rt": ["pub(crate) use hash::{ClassHash, HashSeed};"],
-    "heap_graph/src/classes/table.rt": ["map: IndexMap::with_hasher(alloc, hash),"],
-    "heap_graph/src/objects/class_table.rt": [
-        "use crate::classes::{ClassHash, Classes, HashSeed};",
-        """fn hash_of(view: &View<'_>, places: &[u32], class_dumps: &[u32]) -> ClassHash {
-            let mut seed = HashSeed::new();
-            for number in class_dumps {
-                seed.read(view.object_id(places[*number as usize]));
-            }
-            seed.finish()
-        }""",
-        "let hash = hash_of(&view, places, &indexed.class_dumps);",
-    ],
-}
-#: What stands for the system or the seed in code, each with its rule, and the files that do nothing else. The rule of
-#: an item that is missing is that of its crate.
-OF_ITEMS = {
-    **dict.fromkeys(("fs", "env", "Files", "Env", "HostRuntime", "open_dump"), "system"),
-    **dict.fromkeys(("HashSeed", "BuildHasher", "DefaultHasher", "FoldHasher", "hash_of", "with_hasher"), "seed"),
-}
-RULES = {"drain": "causes", "heap_graph": "seed", "heapmark": "system"}
-WHOLE = {"heapmark/src/command_words.rt", "heapmark/src/dumps.rt", "heap_graph/src/classes/hash.rt"}
