@@ -1,14 +1,16 @@
 """A dump in a plain file, and runs of heapmark on it as it is and on copies with changes."""
 
+import contextlib
 import os
 import struct
-from typing import Dict, Sequence
+from typing import ContextManager, Dict, List, NamedTuple, Optional, Sequence
 
 from heap_tools.changed_copy import Changes, write_copy
 from heap_tools.faults import UNREADABLE, Fault
 from heap_tools.heap_dump import HeapDump, UnknownTag
-from heap_tools.heapmark import Heapmark, opened
+from heap_tools.heapmark import Copy, Heapmark, opened
 from heap_tools.hprof_format import MAGIC
+from heap_tools.memory_copy import CopyInMemory, have_room
 from heap_tools.reports import Report, read_text
 
 
@@ -34,7 +36,8 @@ def require_plain_dump(path: str, tool: str) -> None:
 
 class DumpRuns:
     """A dump in a plain file, and the runs of heapmark on it. `report` is that of the dump as it is. Later runs are on
-    copies in which `cut` is changed, too, and the objects `roots` are roots."""
+    copies in which `cut` is changed, too, and the objects `roots` are roots: on the copy in `memory`, if it is there
+    and free, else on one that a pipe brings."""
 
     def __init__(
         self,
@@ -44,9 +47,10 @@ class DumpRuns:
         dump: HeapDump,
         cut: Changes,
         roots: Sequence[int],
+        memory: Optional[CopyInMemory] = None,
     ) -> None:
         self.heapmark, self.path, self.report, self.dump = heapmark, path, report, dump
-        self.cut, self.roots = cut, roots
+        self.cut, self.roots, self.memory = cut, roots, memory
 
     @classmethod
     def of(cls, heapmark: Heapmark, path: str, tool: str) -> "DumpRuns":
@@ -59,18 +63,51 @@ class DumpRuns:
             raise Fault(UNREADABLE, f"{path}: {unknown}") from None
         except (IndexError, KeyError, ValueError, struct.error):
             raise Fault(UNREADABLE, f"{path}: it changed while it was read") from None
-        return cls(heapmark, path, report, dump, {}, ())
+        return cls(heapmark, path, report, dump, {}, (), CopyInMemory(dump))
 
     def with_cut(self, changes: Changes, roots: Sequence[int] = ()) -> "DumpRuns":
         """Returns the same dump, in whose copies `changes` are made and `roots` are roots, too."""
         cut: Dict[int, bytes] = {**self.cut, **changes}
-        return DumpRuns(self.heapmark, self.path, self.report, self.dump, cut, [*self.roots, *roots])
-
-    def without(self, changes: Changes) -> Report:
-        """Returns the report of the dump with these changes."""
-        every = {**self.cut, **changes}
-        return self.heapmark.later_report(self.path, lambda pipe: write_copy(self.dump, pipe, every, self.roots))
+        return DumpRuns(self.heapmark, self.path, self.report, self.dump, cut, [*self.roots, *roots], self.memory)
 
     def base(self) -> Report:
         """Returns the report with which those of copies compare."""
         return self.without({}) if self.cut or self.roots else self.report
+
+    def without(self, changes: Changes) -> Report:
+        """Returns the report of the dump with these changes."""
+        with self.in_memory(changes) as file:
+            (report,) = self.heapmark.later_reports(self._copy(changes, file))
+        return report
+
+    def _copy(self, changes: Changes, file: Optional[int]) -> Copy:
+        """Returns the copy in memory, which `file` is, or one by a pipe if that is None."""
+        if file is not None:
+            return Copy(self.path, file)
+        every = {**self.cut, **changes}
+        return Copy(self.path, feed=lambda pipe: write_copy(self.dump, pipe, every, self.roots))
+
+    def in_memory(self, changes: Changes) -> ContextManager[Optional[int]]:
+        """Returns the copy in memory with these changes, to be entered for a run, or None for one by a pipe."""
+        memory = self.memory.with_roots(self.roots) if self.memory else None
+        return memory.changed({**self.cut, **changes}) if memory else contextlib.nullcontext()
+
+
+class Question(NamedTuple):
+    """A dump, and the changes with which its report is asked for."""
+
+    runs: DumpRuns
+    changes: Changes = {}
+
+
+def reports_of(*questions: Question) -> List[Report]:
+    """Returns the reports that are asked for. heapmark runs for all at once if each has a copy in memory of its own."""
+    with contextlib.ExitStack() as stack:
+        copies = []
+        for runs, changes in questions:
+            file = stack.enter_context(runs.in_memory(changes))
+            if file is not None:
+                copies.append(Copy(runs.path, file))
+        if 1 < len(copies) == len(questions) and have_room([runs.dump for runs, _ in questions]):
+            return questions[0].runs.heapmark.later_reports(*copies)
+    return [runs.without(changes) for runs, changes in questions]

@@ -12,6 +12,8 @@ from heap_tools.faults import UNREADABLE, Fault
 #: The names of the last three rows of a report.
 TOTALS = ["(reachable)", "(unreachable)", "(unresolved)"]
 LONGEST_LINE = 1 << 20  # a name has at most 65,535 bytes, each shown by at most four
+#: A row of a report of heapmark.
+ROW = re.compile(rb" *([0-9]{1,19}) +([0-9]{1,19})  ([!-~]+)")
 
 
 class Amount(NamedTuple):
@@ -97,12 +99,17 @@ def lines_of(file: BinaryIO) -> Iterator[bytes]:
     return (line.rstrip(b"\r\n") for line in iter(lambda: file.readline(LONGEST_LINE), b""))
 
 
+def may_be_report(text: bytes) -> bool:
+    """Tests whether `text` may be the beginning of a report of heapmark: its first line is a row, or not yet whole."""
+    line, end, _ = text[:LONGEST_LINE].partition(b"\n")
+    return bool(ROW.fullmatch(line)) if end else len(text) < LONGEST_LINE
+
+
 def read_report(lines: Iterable[bytes], path: str) -> Optional[Report]:
     """Reads a report of heapmark. Returns None if `lines` are no whole report, raises `Fault` if they are two."""
-    row = re.compile(rb" *([0-9]{1,19}) +([0-9]{1,19})  ([!-~]+)")
     rows: List[Row] = []
     for line in lines:
-        found = row.fullmatch(line)
+        found = ROW.fullmatch(line)
         if not found:
             return None
         if [each.name for each in rows[-3:]] == TOTALS:

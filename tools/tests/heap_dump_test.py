@@ -41,7 +41,7 @@ class HprofTest(unittest.TestCase):
     def copied(self, found: heap_dump.HeapDump, *changes: Any) -> bytes:
         """Returns a copy of a dump that was read, with changes."""
         with tempfile.TemporaryDirectory() as folder, open(f"{folder}/copy", "wb") as copy:
-            write_copy(found, copy, *changes)
+            write_copy(found, copy.fileno(), *changes)
             with open(f"{folder}/copy", "rb") as file:
                 return file.read()
 
@@ -250,7 +250,7 @@ class CopyTest(HprofTest):
         found = self.read(Service())
         os.truncate(found.file.fileno(), 200)
         for changes in ({}, {150: b"a", 300: b"b"}):
-            with self.assertRaises(EOFError):
+            with self.assertRaisesRegex(Fault, ": it became shorter while it was read$"):
                 self.copied(found, changes)
 
 

@@ -3,12 +3,12 @@
 import os
 import pathlib
 import signal
+import sys
 import unittest
-from typing import IO
 from unittest import mock
 
 from heap_tools.faults import NO_HEAPMARK, UNREADABLE, Fault
-from heap_tools.heapmark import Heapmark, LaterFault
+from heap_tools.heapmark import Copy, Heapmark, LaterFault
 from tests.support.tool_test import ToolTest, report
 
 
@@ -40,23 +40,54 @@ class HeapmarkTest(ToolTest):
                 self.heapmark(text).first_report("dump")
             self.assertEqual(raised.exception.status, status, text)
         with self.assertRaises(LaterFault):
-            self.heapmark("cat > all; exit 1").later_report("dump", lambda pipe: pipe.close())
+            self.heapmark("cat > all; exit 1").later_reports(Copy("dump", feed=lambda pipe: None))
         with mock.patch.dict(os.environ, HEAPMARK="/no/where"), self.assertRaises(Fault) as raised:
             Heapmark().first_report("dump")
         self.assertEqual(raised.exception.status, NO_HEAPMARK)
+
+    def test_other_programs(self) -> None:
+        """A program that is not heapmark, and prints without end, is ended; so is one whose messages have no end. What
+        is missing, or fails at once, is named."""
+        pathlib.Path("dump").touch()
+        endless = "while echo 12345678; do :; done"
+        for text, ended in (
+            ("exec yes", "no report: is it heapmark?"),
+            ("exec cat /dev/zero", "no report: is it heapmark?"),
+            ("exec yes >&2", "no report: is it heapmark?"),
+            (f"echo '1 8  A'; {endless} >&2", "no report: is it heapmark?"),
+            ("exit 1", "status 1: is it heapmark?"),
+        ):
+            heapmark = self.heapmark(text)
+            with self.assertRaises(Fault) as raised:
+                heapmark.first_report("dump")
+            self.assertEqual(str(raised.exception), f"{heapmark.program}: run 1 on dump failed: {ended}")
+            self.assertEqual(raised.exception.status, NO_HEAPMARK)
+        self.assertEqual(self.heapmark("exec yes").version(), "")
+        self.heapmark("exec yes").check_fields("A.b")
+        with mock.patch.dict(os.environ, HEAPMARK="", PATH="/nowhere"), mock.patch.object(sys, "argv", ["/no/leaks"]):
+            with mock.patch("os.access", return_value=False):
+                heapmark = Heapmark()
+            why = "^heapmark cannot be run: No such file or directory: build heapmark with tools/build, .* HEAPMARK "
+            self.assertRaisesRegex(Fault, why, heapmark.first_report, "dump")
+
+    def test_long_report(self) -> None:
+        """A report is read whole, whatever its length, and so is a first row with a long name."""
+        rows = [(1, 8, "a" * 200_000), *((1, 8, f"A{number}") for number in range(20_000))]
+        pathlib.Path("report").write_text(report(*rows))
+        pathlib.Path("dump").touch()
+        self.assertEqual(len(self.heapmark("cat report").first_report("dump").rows), 20_001)
 
     def test_feed(self) -> None:
         """What is fed arrives whole, also if it is more than a pipe holds."""
         heapmark = self.heapmark(f"cat > all\ncat << 'END'\n{report((1, 8, 'A'))}END")
         content = bytes(range(256)) * 20_000
 
-        def feed(pipe: IO[bytes]) -> None:
+        def feed(pipe: int) -> None:
             rest = memoryview(content)
             while rest:
-                rest = rest[os.write(pipe.fileno(), rest) :]
-            pipe.close()
+                rest = rest[os.write(pipe, rest) :]
 
-        heapmark.later_report("dump", feed)
+        heapmark.later_reports(Copy("dump", feed=feed))
         self.assertEqual(pathlib.Path("all").read_bytes(), content)
 
     def test_signals(self) -> None:

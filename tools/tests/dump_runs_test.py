@@ -1,0 +1,160 @@
+"""Tests runs of heapmark on dumps with changes: by a copy in memory, by a pipe, and on two dumps at once."""
+
+import os
+import pathlib
+import subprocess
+import sys
+import time
+import unittest
+from typing import Dict, List, Tuple
+from unittest import mock
+
+from heap_tools.changed_copy import Changes
+from heap_tools.dump_runs import DumpRuns, Question, reports_of
+from heap_tools.faults import Fault
+from heap_tools.heapmark import Heapmark, LaterFault
+from tests.support.dump_writer import DumpWriter
+from tests.support.tool_test import ENDING, TOOLS, ToolTest, heed_signals, report, when_written
+
+#: Waits until two runs have begun, and notes how many that are.
+WAITS = """touch began.$$
+for _ in $(seq 100); do [ "$(ls began.* | wc -l)" -lt 2 ] || break; sleep 0.1; done
+ls began.* | wc -l >> together"""
+#: A tool that asks two dumps at once.
+TOOL = """
+from heap_tools import command_line
+from heap_tools.dump_runs import DumpRuns, Question, reports_of
+from heap_tools.heapmark import Heapmark
+
+def main(words):
+    heapmark = Heapmark()
+    reports_of(*[Question(DumpRuns.of(heapmark, word, "tool"), {24: b"a"}) for word in words])
+    return 0
+
+command_line.run("tool", main)
+"""
+
+
+class DumpRunsTest(ToolTest):
+    """Runs of a stand-in on two dumps"""
+
+    def setUp(self) -> None:
+        super().setUp()
+        for name, numbers in (("monday", [300]), ("friday", [300, 301])):
+            dump = DumpWriter()
+            dump.of_class(3, "Order", fields=["next"])
+            for number in numbers:
+                dump.instance(number, 3, 0)
+            dump.root(300)
+            dump.write(name)
+
+    def stand_in(self, on_copy: str) -> str:
+        """Returns the path of a stand-in for heapmark. Of a copy, which it opens by its name as heapmark does, it makes
+        the file `got`, does what `on_copy` says, and reports a class A with an object for each byte."""
+        read = f'cat /dev/stdin > $$\n{on_copy}\necho "$(wc -c < $$) 8  A"\nmv $$ got'
+        return self.program(f"case $* in *stdin)\n{read} ;;\nesac\ncat << END\n{report((1, 8, 'Order'))}END")
+
+    def both(self, on_copy: str = "") -> List[DumpRuns]:
+        """Returns the runs of such a stand-in on both dumps."""
+        with mock.patch.dict(os.environ, HEAPMARK=self.stand_in(on_copy)):
+            heapmark = Heapmark()
+        found = [DumpRuns.of(heapmark, name, "tool") for name in ("monday", "friday")]
+        for each in found:
+            self.addCleanup(each.dump.file.close)
+        return found
+
+    def test_same_bytes(self) -> None:
+        """heapmark gets the same by a copy in memory and by a pipe: the dump with what is cut, roots, and changes."""
+        cases: Tuple[Tuple[Changes, List[int]], ...] = (({}, []), ({25: b"c"}, []), ({25: b"c"}, [3, 300]))
+        several: List[Changes] = [{24: b"a"}, {}]
+        whole = pathlib.Path("friday").read_bytes()
+        for cut, roots in cases:
+            got = []
+            for is_pipe in (False, True):
+                runs = self.both()[1].with_cut(cut, roots)
+                if is_pipe:
+                    runs.memory = None
+                for changes in several:
+                    size = runs.without(changes).amount("A").objects
+                    got.append(pathlib.Path("got").read_bytes())
+                    self.assertEqual((size, len(got[-1])), (len(whole) + 9 * len(roots),) * 2)
+                    self.assertEqual(got[-1][24:26], changes.get(24, whole[24:25]) + cut.get(25, whole[25:26]))
+            self.assertEqual(got[:2], got[2:])
+        self.assertEqual(pathlib.Path("friday").read_bytes(), whole)
+
+    def test_at_once(self) -> None:
+        """Two dumps are asked at once. Their reports come in the order in which they were asked for, and both runs are
+        counted. Both copies are then as they were."""
+        first, last = self.both(WAITS)
+        asked = [Question(last.with_cut({25: b"c"}), {24: b"a"}), Question(first)]
+        for wanted in (2, 4):
+            found = [each.amount("A").objects for each in reports_of(*asked)]
+            self.assertEqual(found, [last.dump.size, first.dump.size])
+            self.assertEqual(first.heapmark.runs, 2 + wanted)
+            self.assertEqual(pathlib.Path("together").read_text().split(), ["2"] * wanted)
+            for path in pathlib.Path().glob("began.*"):
+                path.unlink()
+
+    def test_one_after_another(self) -> None:
+        """Two questions about one dump, or about dumps without room for copies or for two runs, take turns."""
+        alone = "touch runs.$$; ls runs.* | wc -l >> together; sleep 0.1; rm runs.$$"
+        first, last = self.both(alone)
+        small = mock.patch("heap_tools.dump_runs.have_room", return_value=False)
+        with small:
+            self.assertEqual(len(reports_of(Question(first), Question(last))), 2)
+        self.assertEqual(len(reports_of(Question(last, {24: b"a"}), Question(last, {24: b"b"}))), 2)
+        first.memory = None
+        self.assertEqual(len(reports_of(Question(first), Question(last))), 2)
+        self.assertEqual(len(reports_of(Question(first))), 1)
+        self.assertEqual(pathlib.Path("together").read_text().split(), ["1"] * 7)
+        self.assertEqual(first.heapmark.runs, 2 + 7)
+
+    def test_put_back(self) -> None:
+        """A copy is as it was after a run that failed, or one that another's failure ended."""
+        for fails, why in (("exit 3", "status 3"), ("kill -9 $$", "signal 9"), ("echo no; exit 0", "no report")):
+            first, last = self.both(f'[ "$(head -c 25 $$ | tail -c 1)" != a ] || {{ {fails}; }}')
+            for asked in [Question(first, {24: b"a"})], [Question(first), Question(last, {24: b"a"})]:
+                with self.assertRaisesRegex(LaterFault, f"on {asked[-1].runs.path} failed: {why}"):
+                    reports_of(*asked)
+            for runs in (first, last):
+                runs.without({})
+                self.assertEqual(pathlib.Path("got").read_bytes(), pathlib.Path(runs.path).read_bytes())
+
+    def test_shorter(self) -> None:
+        """A file that becomes shorter between two questions is said to be so, by its name."""
+        for is_pipe in (False, True):
+            runs = self.both()[0]
+            if is_pipe:
+                runs.memory = None
+            runs.without({})
+            os.truncate("monday", runs.dump.size - 1)
+            for ask in lambda: [runs.without({})], lambda: reports_of(Question(runs), Question(runs)):
+                self.assertRaisesRegex(Fault, "^monday: it became shorter while it was read$", ask)
+            with open("monday", "ab") as file:
+                file.write(b"a")
+
+    def test_interrupt(self) -> None:
+        """A signal ends the tool and both runs."""
+        environment = {**os.environ, "HEAPMARK": self.stand_in("echo $$ > pid.$(wc -c < $$)\nexec sleep 50")}
+        sizes = [os.path.getsize(name) for name in ("monday", "friday")]
+        for number in ENDING:
+            words = [sys.executable, "-c", TOOL, "monday", "friday"]
+            with subprocess.Popen(
+                words,
+                cwd=os.getcwd(),
+                env={**environment, "PYTHONPATH": str(TOOLS)},
+                preexec_fn=heed_signals,
+                stderr=subprocess.PIPE,
+            ) as child:
+                pids = [when_written(f"pid.{size}") for size in sizes]
+                time.sleep(0.2)  # until it waits for what they print
+                child.send_signal(number)
+                _, said = child.communicate(timeout=10)
+            self.assertEqual((child.returncode, said), (130, b"tool: interrupted\n"), number.name)
+            for size, pid in zip(sizes, pids):
+                self.assertFalse(os.path.exists(f"/proc/{pid}"), number.name)
+                os.remove(f"pid.{size}")
+
+
+if __name__ == "__main__":
+    unittest.main()
