@@ -12,7 +12,8 @@ from heap_tools.changed_copy import Changes
 from heap_tools.dump_runs import DumpRuns
 from heap_tools.heap_dump import HeapDump
 from heap_tools.heapmark import Heapmark
-from heap_tools.leak_lines import FEW, Ranks, answer_of, by_holders
+from heap_tools.leak_lines import answer_of, by_holders
+from heap_tools.line_order import FEW
 from heap_tools.probe import EarlierProbe, GrowthProbe, Probe, Retained
 from heap_tools.reference_paths import ReferencePaths
 from heap_tools.reports import Amount, Unit
@@ -21,45 +22,8 @@ from heap_tools.search import MOST_ASKED, NEXT, Search
 from heap_tools.search_progress import SILENCE, SearchProgress
 from tests.support.marker import MarkedRuns
 from tests.support.random_heaps import random_pair
+from tests.support.told_probe import Things, Told, ToldGains, field
 from tests.support.tool_test import HEAPMARK
-
-
-#: For each thing the ways to hold it, and its bytes. A way is a list of names that hold it together.
-Things = List[Tuple[List[List[str]], int]]
-
-
-class Told(Probe):
-    """A probe that is told which `things` are held. Notes what it is asked for."""
-
-    def __init__(self, things: Things) -> None:
-        self.things, self._known = things, {}
-        self.asked: List[List[str]] = []
-        self.unit, self.whole = Unit.BYTES, Amount(1000, 1000)
-
-    def _difference(self, holders: Sequence[Candidate]) -> Retained:
-        names = {holder.name for holder in holders}
-        self.asked.append(sorted(names))
-        size = sum(size for ways, size in self.things if any(names.issuperset(way) for way in ways))
-        return Retained(holders, Amount(size, size), Amount(size, size), {})
-
-
-class ToldEarlier(Told, EarlierProbe):
-    """An earlier dump."""
-
-
-class ToldGains(Told, GrowthProbe):
-    """A later dump, of which 100 bytes are growth."""
-
-    earlier: ToldEarlier
-
-    def __init__(self, earlier: Things, things: Things) -> None:
-        super().__init__(things)
-        self.earlier, self.growth = ToldEarlier(earlier), Amount(100, 100)
-
-
-def field(name: str, count: int = 1) -> Candidate:
-    """Returns a field with `count` holders."""
-    return Candidate(FIELD, name, count, {})
 
 
 class NamesTest(unittest.TestCase):
@@ -201,23 +165,6 @@ class KinTest(unittest.TestCase):
         self.assertEqual(joint_name(names[:1]), "A.e")
         self.assertEqual(joint_name(names[:4]), "together A.b, A.c, A.d, A.e")
         self.assertEqual(joint_name(names), "together A.a, A.b, A.c .. and 2 more")
-
-
-class RankTest(unittest.TestCase):
-    """In which order what was found stands."""
-
-    def test_same_share(self) -> None:
-        """Of fields with as many holders that gained the same, none of which a thread holds wholly, the deepest comes
-        first, but collections last."""
-        collection = Candidate(FIELD, "app/C.all", 3, {}, is_collection=True)
-        tried = [Candidate(THREAD, "worker", 1, {}), field("app/A.handler", 3), field("app/B.failed", 3), collection]
-        ways = [[each.name] for each in tried]
-        beside: Things = [([way], size) for way, size in zip(ways, (90, 5, 3, 1))]
-        probe = ToldGains([(ways, 50), *beside], [(ways, 150), *beside])
-        search = mock.Mock(found=[probe.retained([each]) for each in tried], steady=[])
-        with mock.patch.object(ToldEarlier, "holders", return_value=3):
-            ranked = [held.candidates[0].name for held in Ranks(search, probe, []).sorted()]
-        self.assertEqual(ranked, ["worker", "app/B.failed", "app/A.handler", "app/C.all"])
 
 
 class PathsTest(unittest.TestCase):

@@ -13,7 +13,7 @@ from heap_tools.console import Progress, is_terminal, say, write
 from heap_tools.faults import WRONG_USE, Fault
 from heap_tools.humanize import counted, duration, size
 from heap_tools.leak_lines import Answer, Line, answer_of
-from heap_tools.leak_notes import Notes, notes_of, say_notes, with_object_first
+from heap_tools.leak_notes import Notes, notes_of, say_notes
 from heap_tools.page_content import content_of, require_place, write_page
 from heap_tools.probe import GrowthProbe
 from heap_tools.reports import Unit
@@ -33,14 +33,19 @@ a local variable are the threads in its method. Fields above a field, from a
 static field, a local variable or a thread down, stand before it: in `A > B`, A
 holds all that B does.
 
-Lines with few holders come first, and of fields above one another the deepest
-that still has most of the growth: the accumulation point. Lines whose holders
-became more with the leak come later, of those above one another the topmost
-first, and so do lines that did not grow at four of five steps between dumps, or
-whose owner gained little. Fields of the JDK come after own ones with the same
-share, and so do those of collections: of the JDK's, of classes that inherit
-from them, and of classes whose names end with Map, List or Set. If one object
-of many gained most of a field, that comes first. Such an object is named by a
+A line's score is what it gained without what came with new instances (unless
+one object gained most), without what moved there from above it or from a field
+of its class, and nothing if it did not grow at each step between dumps. If no
+score is a quarter of the growth, nothing that lasts holds what grew: the answer
+is the topmost line, a thread before others. Else the answer is the deepest line
+on the path of the best score, above or below it, that has half of that score:
+the accumulation point. A collection, a variable of a lambda or a thread is the
+answer only if no other line on that path has nine tenths of that score, or half
+of it below; of fields, own ones come before the JDK's in the same way. The
+other lines follow by their scores.
+
+Collections are those of the JDK, of classes that inherit from them, and of
+classes whose names end with Map, List or Set. An object of many is named by a
 text in it, its key in a map, or by those of what leads to it.
 
 Calls that are running do not count: their local variables lead into containers
@@ -142,8 +147,7 @@ def compared(options: Namespace, words: Sequence[str]) -> Tuple[Comparison, Answ
         probe = comparison.probe()
         between = functools.partial(comparison.probes_between, probe)
         answer = answer_of(probe, options.at_least, options.top, comparison.progress, between)
-        notes = notes_of(comparison, answer, not options.no_values)
-        return (comparison, *with_object_first(answer, notes))
+        return comparison, answer, notes_of(comparison, answer, not options.no_values)
     finally:
         progress.clear()
 

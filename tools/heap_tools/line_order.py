@@ -1,0 +1,231 @@
+"""The order of the lines of `leaks`, the answer first.
+
+A line's score is what it gained without what came with new instances (unless one object gained most), without what
+moved there from above it or from a field of its class, and nothing if it did not grow at each step between dumps. If no
+score is a quarter of the growth, nothing that lasts holds what grew: the answer is the topmost line, a thread before
+others. Else the answer is the deepest line on the path of the best score, above or below it, that has half of that
+score: the accumulation point. A collection, a variable of a lambda or a thread is the answer only if no other line on
+that path has nine tenths of that score, or half of it below; of fields, own ones come before the JDK's in the same way.
+The other lines follow by their scores.
+"""
+
+import enum
+from dataclasses import dataclass, field
+from typing import Callable, List, Mapping, Optional, Sequence, Tuple
+
+from heap_tools.candidates import FIELD, THREAD, THREADS
+
+#: The part of the best score that a line must have to be on its path. 0.4 to 0.6 gave the same answers.
+MOST = 0.5
+#: The part of the best score that a line must have to come before one whose name says less: both gained the same, but
+#: for what else they lead to.
+NEARLY = 0.9
+#: The part of the growth that the best score must be: with less, too little of it is in what was there before.
+LASTS = 0.25
+#: Up to how many instances of a field can be few that hold much each, such as pools. Most accumulation points have one.
+FEW = 64
+#: The part of all objects that were gained which a class must have to show that they did not move.
+LARGE_CLASS = 0.1
+#: The part of what a line holds that it may have held before, if it is asked whether that was beside it.
+HARDLY_ANY = 0.1
+#: The part of its instances that a field must hold to be a chain.
+CHAIN = 0.5
+#: Of how many instances it is asked whether one object holds most.
+FEWEST_OBJECTS, MOST_OBJECTS = 2, 100_000
+#: Of how many lines at most that is asked: each takes some 10 runs.
+MOST_ASKED = 3
+
+
+class Scoring(enum.Enum):
+    """What the score of a line is."""
+
+    #: What its instances gained that it had before, as above.
+    GAIN = enum.auto()
+    #: What it holds, of one dump: none if it has more than `FEW` instances and no object holds most.
+    SHARE = enum.auto()
+
+
+@dataclass(frozen=True)
+class Features:
+    """What the order knows of a line. `kinds` are those of its candidates, of which several hold something together.
+    `instances` have the field, and `instances_before` had it in the first dump. `amount` and `before` are what they
+    hold and held, in the unit of the question. `heap` is the number of all objects that they hold, `gains` of how many
+    objects they gained by class. `of_one` is the part of its gain that one object has, if that is most. `is_line`: it
+    gained enough; else it only shows what was held before."""
+
+    name: str
+    kinds: Tuple[str, ...]
+    is_own: bool
+    is_collection: bool
+    instances: int
+    instances_before: int
+    amount: int
+    before: int
+    heap: int
+    gains: Mapping[str, int] = field(default_factory=dict)
+    grew_at_each_step: bool = True
+    of_one: float = 0.0
+    is_chain: bool = False
+    is_line: bool = True
+
+    @property
+    def gain(self) -> int:
+        """How much more is held than before."""
+        return self.amount - self.before
+
+    @property
+    def is_thread(self) -> bool:
+        """Tests whether it is threads."""
+        return all(kind in (THREAD, THREADS) for kind in self.kinds)
+
+    @property
+    def is_telling(self) -> bool:
+        """Tests whether its name says what it is for."""
+        return not (self.is_collection or self.is_thread or "$$Lambda" in self.name)
+
+    @property
+    def is_own_telling(self) -> bool:
+        """Tests whether its name says what it is for in the program."""
+        return self.is_own and self.is_telling
+
+    @property
+    def lasting_gain(self) -> float:
+        """What the instances gained that it had before, too, on average, at least what one has; or what all gained,
+        without what the new ones would have held before, if they are few."""
+        came, was, each = self.instances - self.instances_before, self.instances_before, self.amount / self.instances
+        if came <= 0:
+            return self.gain
+        lasting = max(each, was * each - self.before)
+        return max(lasting, self.gain - came * self.before / was) if was and self.instances <= FEW else lasting
+
+    def part_of(self, upper: "Features") -> float:
+        """Returns the part of the gain that `upper`, which holds all of it, gained, too: of the class of which that is
+        most, among those of which much was gained. What moved takes all its classes along."""
+        large = LARGE_CLASS * sum(gain for gain in self.gains.values() if gain > 0)
+        parts = [upper.gains.get(name, 0) / gain for name, gain in self.gains.items() if gain > 0 and gain >= large]
+        return min(1.0, max(0.0, *parts)) if parts else 1.0
+
+
+#: Tests whether the first of two lines, by their numbers, holds all that the second does.
+HoldsAll = Callable[[int, int], bool]
+
+
+class LineOrder:
+    """The order of `lines`, of which some are `Features.is_line`: numbers of these, by what `holds_all`. `growth` is
+    what shares are of."""
+
+    def __init__(
+        self, lines: Sequence[Features], holds_all: HoldsAll, growth: int, scoring: Scoring = Scoring.GAIN
+    ) -> None:
+        self.lines, self.holds_all, self.growth, self.scoring = lines, holds_all, growth, scoring
+        self.numbers = [number for number, line in enumerate(lines) if line.is_line]
+        self.some_are_steady = any(lines[number].grew_at_each_step for number in self.numbers)
+        self.scores = {number: self.score(number) for number in self.numbers}
+
+    def sorted(self) -> List[int]:
+        """Returns the numbers of the lines, the answer first."""
+        answer = self.answer()
+        return sorted(self.numbers, key=lambda it: (it != answer, -self.scores[it], *self._depth(it)))
+
+    def answer(self) -> Optional[int]:
+        """Returns the number of the answer, None if there is no line."""
+        if not self.numbers:
+            return None
+        best, largest = self.best(), max(self.lines[it].gain for it in self.numbers if self._is_steady(it))
+        return self.deepest_with(best) if self.scores[best] >= LASTS * min(self.growth, largest) else self.topmost()
+
+    def score(self, number: int) -> float:
+        """Returns the score of a line."""
+        line = self.lines[number]
+        if self.scoring is Scoring.SHARE:
+            return line.amount if line.instances <= FEW else line.amount * line.of_one
+        if not self._is_steady(number):
+            return 0.0
+        score = max(line.lasting_gain, line.of_one * line.gain)
+        for upper, other in enumerate(self.lines):
+            if upper != number and other.gain < MOST * line.gain and self.holds_all(upper, number):
+                score = min(score, line.gain * line.part_of(other))
+        return score
+
+    def best(self) -> int:
+        """Returns the line with the best score. A single one comes before several together, and one that is of no
+        collection before one that is, unless it has less than half of the score: a collection of the JDK has what all
+        of its kind hold."""
+        chosen = max(self.numbers, key=self._score_and_name)
+        for is_wanted in self._is_single, self._is_no_collection:
+            found = [number for number in self.numbers if is_wanted(number)]
+            other = max(found, key=self._score_and_name, default=chosen)
+            if self.scores[other] >= MOST * self.scores[chosen]:
+                chosen = other
+        return chosen
+
+    def topmost(self) -> int:
+        """Returns the line that no other one holds, of several a thread, else the one that gained most."""
+        lines, steady = self.lines, [it for it in self.numbers if self._is_steady(it)]
+        top = [it for it in steady if not any(self.holds_all(upper, it) for upper in steady if upper != it)]
+        return max(top or steady, key=lambda it: (lines[it].is_thread, not lines[it].is_collection, lines[it].gain))
+
+    def deepest_with(self, best: int) -> int:
+        """Returns the deepest line above or below `best` that has most of its score, of those whose names say most."""
+        whole = self.scores[best]
+        path = [it for it in self.numbers if self.scores[it] >= MOST * whole and self._is_on_path(it, best)]
+        for least in NEARLY * whole, MOST * whole:
+            for is_wanted in self._is_own_telling, self._is_telling:
+                near = [it for it in path if self.scores[it] >= least and is_wanted(it)]
+                if near:
+                    return self._own_below(min(near, key=self._depth), path)
+        return min(path, key=self._depth)
+
+    def to_ask(self) -> List[int]:
+        """Returns the lines of which it is to be asked whether one object gained most: the answer, and fields of
+        instances below it that gained most of what it did; those first whose names say most, then those with fewest
+        instances."""
+        answer = self.answer()
+        if answer is None:
+            return []
+        lines, least = self.lines, MOST * self.lines[answer].gain
+        found = [it for it in self.numbers if self._has_objects(it) and lines[it].gain >= least]
+        found = [it for it in found if it == answer or self.holds_all(answer, it)]
+        found.sort(key=lambda it: (not lines[it].is_own_telling, not lines[it].is_telling, lines[it].instances))
+        return found[:MOST_ASKED]
+
+    def _has_objects(self, number: int) -> bool:
+        """Tests whether a line is about several instances, which can be asked one by one."""
+        line = self.lines[number]
+        is_few = line.is_telling or line.instances <= FEW
+        is_asked = line.kinds == (FIELD,) and FEWEST_OBJECTS <= line.instances <= MOST_OBJECTS
+        return is_asked and is_few and not line.is_chain
+
+    def _own_below(self, number: int, path: Sequence[int]) -> int:
+        """Returns the deepest own line of `path` below a line, else that line."""
+        below = [it for it in path if it != number and self._is_own_telling(it) and self.holds_all(number, it)]
+        return min(below, key=self._depth, default=number)
+
+    def _is_steady(self, number: int) -> bool:
+        """Tests whether a line grew at each step, or none did."""
+        return self.lines[number].grew_at_each_step or not self.some_are_steady
+
+    def _is_on_path(self, number: int, best: int) -> bool:
+        return number == best or self.holds_all(number, best) or self.holds_all(best, number)
+
+    def _is_single(self, number: int) -> bool:
+        return len(self.lines[number].kinds) == 1
+
+    def _is_no_collection(self, number: int) -> bool:
+        return self._is_single(number) and not self.lines[number].is_collection
+
+    def _is_telling(self, number: int) -> bool:
+        return self.lines[number].is_telling
+
+    def _is_own_telling(self, number: int) -> bool:
+        return self.lines[number].is_own_telling
+
+    def _score_and_name(self, number: int) -> Tuple[float, bool, int, str]:
+        """Returns what the best line is the largest by."""
+        line = self.lines[number]
+        return self.scores[number], line.is_own_telling, -line.heap, line.name
+
+    def _depth(self, number: int) -> Tuple[bool, int, str]:
+        """Returns what the deepest line is the smallest by, among those with one score."""
+        line = self.lines[number]
+        return not line.is_telling, line.heap, line.name

@@ -1,0 +1,72 @@
+"""Tests what the order of lines is told of what was found, and of which lines it is asked which objects gained most."""
+
+import unittest
+from typing import List, Optional, Sequence, Tuple
+from unittest import mock
+
+from heap_tools.candidates import FIELD, STATIC, Candidate
+from heap_tools.leak_lines import LineObjects, Lines
+from heap_tools.object_names import Name
+from heap_tools.probe import Retained
+from heap_tools.reports import Amount
+from heap_tools.which_object import HoldingObject
+from tests.support.told_probe import Things, ToldGains, field
+
+ROOT, INBOX, TEXT = (
+    Candidate(STATIC, "shop/A.ALL", 1, {}),
+    field("shop/Tenant.inbox", 500),
+    field("shop/Mail.text", 900),
+)
+FIELDS = [field(f"shop/{name}") for name in ("S.blue", "S.green", "Other.all")]
+#: All three lead to the mails, and the first two to more.
+MAILS: Things = [([[each.name] for each in (ROOT, INBOX, TEXT)], 100), ([["shop/A.ALL"], ["shop/Tenant.inbox"]], 5)]
+
+
+def holding(*percents: float) -> List[HoldingObject]:
+    """Returns objects with these shares of what a field gained."""
+    return [
+        HoldingObject("shop/Tenant", [Name("its field name", "one")], Amount(1, 80), each, True) for each in percents
+    ]
+
+
+class LinesTest(unittest.TestCase):
+    """Lines"""
+
+    def lines(self, found: Sequence[Candidate], earlier: Things, things: Things, before: int = 0) -> Lines:
+        """Returns the lines about `found`, each of which had `before` holders."""
+        probe = ToldGains(earlier, things)
+        probe.candidates = mock.Mock(**{"statics.return_value": [], "fields.return_value": FIELDS})
+        probe.base = mock.Mock()
+        search = mock.Mock(found=[probe.retained([each]) for each in found], steady=[])
+        with mock.patch.object(type(probe.earlier), "holders", return_value=before):
+            return Lines(search, probe, [])
+
+    def asked(self, objects: Sequence[List[HoldingObject]]) -> Tuple[Optional[LineObjects], List[str], int]:
+        """Asks of the mails which objects gained most: `objects` are what is found, of one line after another. Returns
+        what is noted, the line that is the answer then, and how often it was asked."""
+        lines = self.lines([ROOT, INBOX, TEXT], [], MAILS, before=0)
+        with mock.patch("heap_tools.leak_lines.objects_that_grew", side_effect=objects) as asked:
+            found = lines.ask_for_objects()
+        return found, [str(held.candidates[0]) for held in lines.sorted()], asked.call_count
+
+    def test_objects(self) -> None:
+        """A line of which one object gained most is the answer; no other one is asked then. If several did, the first
+        such line is noted, and the order stays."""
+        found, names, count = self.asked([holding(88)])
+        assert found
+        self.assertEqual((found.objects, names[0], count), (holding(88), "shop/Tenant.inbox", 1))
+        found, names, count = self.asked([[], holding(40, 30)])
+        assert found
+        self.assertEqual((str(found.held.candidates[0]), names[0], count), ("shop/Mail.text", "static shop/A.ALL", 2))
+        self.assertEqual(self.asked([[], []])[::2], (None, 2))
+
+    def test_kin(self) -> None:
+        """What a field of the same class held before did not grow."""
+        _, green, other = FIELDS
+        ways = [["shop/S.blue"], ["shop/S.green"]]
+        lines = self.lines([green, other], [(ways[:1], 90)], [(ways[1:], 90), ([["shop/Other.all"]], 40)], before=1)
+        self.assertEqual([str(held.candidates[0]) for held in lines.sorted()], ["shop/Other.all", "shop/S.green"])
+
+
+if __name__ == "__main__":
+    unittest.main()

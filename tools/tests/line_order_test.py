@@ -1,0 +1,203 @@
+"""Tests the order of the lines of leaks alone: rows of features in, the answer out, a row for each rule and pair.
+
+A row is why, a colon, and lines, of which the answer has a star. In `A > B`, A holds all that B does. Words in
+parentheses after a name are what the line gained of 1,000, its instances before and now as `2..9`, and others; all else
+is as in `SPOKEN`."""
+
+import unittest
+from typing import Any, Dict, List, NamedTuple, Sequence, Set, Tuple
+
+from heap_tools import line_order
+from heap_tools.candidates import FIELD, LOCAL, STATIC, THREAD, THREADS
+from heap_tools.commands import leaks
+from heap_tools.line_order import FEW, LASTS, MOST, MOST_ASKED, MOST_OBJECTS, NEARLY, Features, LineOrder, Scoring
+
+GROWTH = 1000
+#: What words in parentheses mean. `moved`: what gained nothing, and is no line; `other`: it gained what others lost.
+SPOKEN: Dict[str, Dict[str, Any]] = {
+    "null": {"before": 0},
+    "large": {"before": 9000},
+    "one": {"of_one": 0.9},
+    "half": {"of_one": 0.6},
+    "unsteady": {"grew_at_each_step": False},
+    "chain": {"is_chain": True},
+    "together": {"kinds": (STATIC, STATIC)},
+    "moved": {"is_line": False, "gain": 0},
+    "other": {"is_line": False, "gain": 0, "gains": {"shop/Order": 900}},
+}
+
+ROWS = """
+rule 1, the largest gain: *static shop/A.a (600), static shop/B.b (400)
+rule 1, not what is large: *static shop/A.a (600), static shop/B.b (400 large)
+rule 1, new instances do not count: *static shop/A.a (400), shop/Order.text (10..110)
+rule 1, each of many gained, and some came: *shop/A.a (900 100..110), static shop/B.b (400)
+rule 1, few came, which would have held nothing: *shop/A.a (900 2..8 null), static shop/B.b (400)
+rule 1, few came, which would have held as much: shop/A.a (700 1..8), *static shop/B.b (400)
+rule 1, it was null: *static shop/A.a (600 0..1 null), static shop/B.b (400)
+rule 1, it had no instance: shop/A.a (900 0..9 null), *static shop/B.b (400)
+rule 1, one object gained most: *shop/A.a (900 10..110 one), static shop/B.b (400)
+rule 1, it moved from below what is above: shop/Swap.s (moved) > shop/A.a (900), *static shop/B.b (400)
+rule 1, something else went from there: shop/Swap.s (other) > *shop/A.a (900), static shop/B.b (400)
+rule 1, it did not grow at each step: static shop/A.a (600 unsteady), *static shop/B.b (400)
+rule 1, nothing grew at each step: *static shop/A.a (600 unsteady), static shop/B.b (400 unsteady)
+rule 2, nothing lasts: *shop/Session.orders (9..99) > shop/Order.text (10..110)
+rule 2, nothing lasts, a thread first: *threads "job" (900 9..99), shop/B.b (950 9..99)
+rule 2, a quarter lasts: *static shop/A.a (250), shop/Order.text (10..110)
+rule 2, less than a quarter lasts: static shop/A.a (249), *shop/Order.text (10..110)
+rule 2, little grew at each step: *static shop/A.a (200), static shop/B.b (700 unsteady)
+rule 2, a thread came that did not grow at each step: *shop/Order.text (10..110), thread "job" (unsteady)
+rule 3, the deepest: static shop/A.STORE > *shop/Store.map
+rule 3, the deepest with half: static shop/A.a > *shop/B.b (500) > shop/C.c (499)
+rule 3, what is beside is not deeper: *static shop/A.a, static shop/B.b (600)
+rule 4, no collection: *static shop/A.STORE > java/util/HashMap.table
+rule 4, a collection beside: java/util/HashMap.table, *static shop/A.a (500)
+rule 4, a collection beside that has far more: *java/util/HashMap.table, static shop/A.a (499)
+rule 4, no variable of a lambda: *static shop/A.STORE > shop/Bus$$Lambda.arg$1
+rule 4, no thread: thread "main" > *local shop/Main.run
+rule 4, a thread, if nothing else is there: *thread "main", java/util/HashMap.table (600)
+rule 4, no field of the JDK: *static shop/A.STORE > java/lang/Queue.list
+rule 4, one of the JDK, if what is above has less: static shop/A.a (899) > *java/lang/Queue.list
+rule 4, one of the JDK rather than a collection: *java/lang/Queue.list > java/util/HashMap.table
+rule 4, several together, if no single one has half: *two (together), static shop/A.a (499)
+rule 4, else a single one: two (together), *static shop/A.a (500)
+rules 1 and 2, one object refutes that nothing lasts: threads "job" (900 9..99), *shop/B.b (900 9..99 one)
+rules 1 and 2, what moved does not last: shop/Swap.s (moved) > shop/B.b (900), *shop/Order.text (10..110)
+rules 1 and 3, the payload is deeper: *static shop/A.STORE > shop/Order.text (10..110)
+rules 1 and 3, one object is deeper: static shop/A.STORE > *shop/Tenant.inbox (9..99 one)
+rules 1 and 3, one object has less than half: *static shop/A.STORE > shop/Tenant.inbox (800 9..99 half)
+rules 1 and 4, a name that says more did not last: shop/A.a (9..99) > *java/lang/Queue.list
+rules 2 and 3, of what does not last the topmost: *shop/Order.text (10..110) > shop/Order.id (900 10..110)
+rules 2 and 4, of what does not last no collection: java/util/HashMap.table (990 9..99), *shop/B.b (900 9..99)
+rules 3 and 4, below a field of the JDK half: java/lang/Queue.list > *shop/A.a (500)
+rules 3 and 4, below a collection half: static shop/A.STORE > java/util/HashMap.table > *shop/Tenant.inbox (500)
+"""
+#: Rows of one dump.
+OF_ONE_DUMP = """
+the deepest: static shop/A.STORE > *shop/Store.map
+few instances: static shop/A.STORE > *shop/Pool.list (0..64)
+many instances: *static shop/A.STORE > shop/Order.text (0..65)
+many instances, of which one holds most: static shop/A.STORE > *shop/Tenant.inbox (0..500 one)
+nothing has few instances: *shop/A.a (0..100) > shop/B.b (900 0..100)
+"""
+
+
+def line(name: str, words: str, depth: int) -> Features:
+    """Returns the features of a line, by its name and the words in parentheses after it."""
+    kind = name.rpartition(" ")[0]
+    known: Dict[str, Any] = {"gain": GROWTH, "before": 100, "instances": 1, "instances_before": 1}
+    known["kinds"] = (kind if kind in (STATIC, LOCAL, THREAD, THREADS) else FIELD,)
+    for word in words.split():
+        was, dots, now = word.partition("..")
+        more = {"instances_before": int(was), "instances": int(now)} if dots else SPOKEN.get(word)
+        known.update({"gain": int(word)} if more is None else more)
+    gain = known.pop("gain")
+    known.setdefault("gains", {"shop/Order": gain})
+    is_collection = name.startswith("java/util/")
+    return Features(
+        name,
+        is_own="java/" not in name,
+        is_collection=is_collection,
+        amount=known["before"] + gain,
+        heap=100 - depth,
+        **known,
+    )
+
+
+class Row(NamedTuple):
+    """Why a line is the answer, all lines, which holds all that another does, by their names, and the answer."""
+
+    why: str
+    lines: List[Features]
+    above: Set[Tuple[str, str]]
+    answer: str
+
+    @classmethod
+    def of(cls, text: str) -> "Row":
+        """Returns what a row of a table says."""
+        why, _, chains = text.partition(": ")
+        row = cls(why, [], set(), chains.partition("*")[2].partition(" (")[0].partition(" > ")[0].partition(", ")[0])
+        for chain in chains.split(", "):
+            names: List[str] = []
+            for depth, text in enumerate(chain.split(" > ")):
+                name, _, words = text.lstrip("*").partition(" (")
+                row.above.update((upper, name) for upper in names)
+                row.lines.append(line(name, words.rstrip(")"), depth))
+                names.append(name)
+        return row
+
+    def order(self, scoring: Scoring = Scoring.GAIN, step: int = 1) -> "Tuple[LineOrder, List[str]]":
+        """Returns the order, and the names of the lines, from the last one up if `step` is -1."""
+        lines = self.lines[::step]
+        names = [each.name for each in lines]
+        return LineOrder(lines, lambda upper, lower: (names[upper], names[lower]) in self.above, GROWTH, scoring), names
+
+
+class LineOrderTest(unittest.TestCase):
+    """LineOrder"""
+
+    def test_answer(self) -> None:
+        """The answer is right, in whatever order the lines are found."""
+        for scoring, table in ((Scoring.GAIN, ROWS), (Scoring.SHARE, OF_ONE_DUMP)):
+            for row in map(Row.of, table.strip().splitlines()):
+                for step in 1, -1:
+                    with self.subTest(row.why, step=step):
+                        order, names = row.order(scoring, step)
+                        found = order.sorted()
+                        self.assertEqual(names[found[0]], row.answer)
+                        self.assertEqual(sorted(found), [it for it, each in enumerate(order.lines) if each.is_line])
+
+    def sorted(self, text: str) -> List[str]:
+        """Returns the names of lines in their order."""
+        order, names = Row.of(text).order()
+        return [names[number] for number in order.sorted()]
+
+    def test_others(self) -> None:
+        """After the answer, lines stand by their scores, of lines with the same one the deepest first, those last whose
+        names say nothing. There may be none."""
+        store = (
+            "static shop/A.STORE > shop/Cache.all > *shop/Store.map > java/util/HashMap.table > shop/Order.text (9..99)"
+        )
+        wanted = [
+            "shop/Store.map",
+            "shop/Cache.all",
+            "static shop/A.STORE",
+            "java/util/HashMap.table",
+            "static shop/B.b",
+        ]
+        self.assertEqual(self.sorted(f"all: {store}, static shop/B.b (400)"), [*wanted, "shop/Order.text"])
+        self.assertEqual(LineOrder([], lambda upper, lower: False, GROWTH).sorted(), [])
+
+    def test_to_ask(self) -> None:
+        """It is asked of the answer and of fields of several instances below it that gained most of what it did: of
+        those first whose names say most, then of those with the fewest instances."""
+        for asked, is_asked in (
+            ("shop/Tenant.inbox (500..500)", True),
+            ("shop/Tenant.inbox (600 9..500)", True),
+            ("shop/Tenant.inbox (499 9..500)", False),
+            ("shop/Tenant.inbox", False),
+            (f"shop/Tenant.inbox (1..{MOST_OBJECTS + 1})", False),
+            ("static shop/Tenant.inbox (2..2)", False),
+            ("shop/Node.next (500..500 chain)", False),
+            ("java/util/Node.value (2..64)", True),
+            ("java/util/Node.value (2..65)", False),
+        ):
+            order, names = Row.of(f"one: *static shop/A.a > {asked}, shop/Beside.b (9..9)").order()
+            self.assertEqual(order.to_ask(), [1] if is_asked else [], asked)
+        fields = ["java/util/M.m (3..3)", "java/lang/L.l (9..99)", "shop/C.c (8..99)", "shop/D.d (7..99)"]
+        order, names = Row.of(f"all: *static shop/A.a > {' > '.join(fields)}").order()
+        self.assertEqual([names[number] for number in order.to_ask()], ["shop/C.c", "shop/D.d", "java/lang/L.l"])
+        self.assertEqual(LineOrder([], lambda upper, lower: False, GROWTH).to_ask(), [])
+
+    def test_help(self) -> None:
+        """The help of leaks quotes the order."""
+        quoted = " ".join((line_order.__doc__ or "").partition("\n\n")[2].split())
+        self.assertIn(quoted, " ".join(leaks.NOTES.split()))
+        self.assertEqual(quoted.count(". ") + 1, 5)
+
+    def test_numbers(self) -> None:
+        """The numbers that README and the help have."""
+        self.assertEqual((MOST, NEARLY, LASTS, FEW, MOST_ASKED), (0.5, 0.9, 0.25, 64, 3))
+
+
+if __name__ == "__main__":
+    unittest.main()

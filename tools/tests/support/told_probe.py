@@ -1,0 +1,44 @@
+"""Probes that are told what holds which things, and note what they are asked for."""
+
+from typing import List, Sequence, Tuple
+
+from heap_tools.candidates import FIELD, Candidate
+from heap_tools.probe import EarlierProbe, GrowthProbe, Probe, Retained
+from heap_tools.reports import Amount, Unit
+
+#: For each thing the ways to hold it, and its bytes. A way is a list of names that hold it together.
+Things = List[Tuple[List[List[str]], int]]
+
+
+class Told(Probe):
+    """A probe that is told which `things` are held. Notes what it is asked for."""
+
+    def __init__(self, things: Things) -> None:
+        self.things, self._known = things, {}
+        self.asked: List[List[str]] = []
+        self.unit, self.whole = Unit.BYTES, Amount(1000, 1000)
+
+    def _difference(self, holders: Sequence[Candidate]) -> Retained:
+        names = {holder.name for holder in holders}
+        self.asked.append(sorted(names))
+        size = sum(size for ways, size in self.things if any(names.issuperset(way) for way in ways))
+        return Retained(holders, Amount(size, size), Amount(size, size), {"shop/Thing": Amount(size, size)})
+
+
+class ToldEarlier(Told, EarlierProbe):
+    """An earlier dump."""
+
+
+class ToldGains(Told, GrowthProbe):
+    """A later dump, of which 100 bytes are growth."""
+
+    earlier: ToldEarlier
+
+    def __init__(self, earlier: Things, things: Things) -> None:
+        super().__init__(things)
+        self.earlier, self.growth = ToldEarlier(earlier), Amount(100, 100)
+
+
+def field(name: str, count: int = 1) -> Candidate:
+    """Returns a field with `count` holders."""
+    return Candidate(FIELD, name, count, {})
