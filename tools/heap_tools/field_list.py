@@ -2,35 +2,66 @@
 
 import os
 import re
-from typing import List, Optional, Tuple
+from typing import List, NamedTuple, Optional, Tuple
 
 from heap_tools.candidates import LOCAL, THREAD, THREADS, Candidates, Key
 from heap_tools.changed_copy import Changes, number_code
 from heap_tools.class_lookup import why_unknown
 from heap_tools.class_names import families, family, shown, spellings
+from heap_tools.faults import WRONG_USE, Fault
 from heap_tools.heap_dump import HeapDump
 from heap_tools.hprof_format import OBJECT
 from heap_tools.thread_counts import NAMELESS
 
 #: What a line of `holders` calls by these words.
 NOUNS = {LOCAL: "local variable", THREAD: "thread", THREADS: "group of threads"}
+#: What is between the steps of a path, and the word before a static field.
+STEP, STATIC_WORD = " > ", "static "
 
 
-def root_of(text: str) -> Optional[Key]:
-    """Returns the kind and the name of the local variable or the threads that a line of holders or leaks ends with, or
-    None if it ends with something else. Names have no blanks, and those of threads no quotes. Lines call threads
-    without a name `thread`, and count them as `threads without a name`."""
-    if re.search(rf"(?:^| > |  )(thread|threads? {NAMELESS})$", text):
-        return THREAD, ""
-    found = re.search(r"(?:^| > |  )(local|threads?) (\S+|\"[^\"]*\")$", text)
-    return (found[1], found[2].strip('"')) if found else None
+class Entry(NamedTuple):
+    """An entry of a list, as it is spelt, and why it names nothing in a dump, empty if it does."""
+
+    text: str
+    problem: str
 
 
 def entries_of(text: str) -> List[str]:
-    """Returns the entries of a list of fields, which may be a line of holders or leaks."""
-    last = re.sub("^ *[0-9]+ +[0-9]+ +[0-9]+% +[0-9 ]+ (to [0-9]+ +)?", "", text).rpartition(" > ")[2]
-    last = re.sub(r" \.\. and [0-9]+ more$", "", re.sub("^together ", "", last))
-    return [re.sub("^static ", "", entry) for entry in last.replace(", ", ",").split(",")]
+    """Returns the entries of a list of fields, which may be a line of holders or leaks. Raises `Fault` if the line says
+    only how many more there are. Names of threads are in quotes, and have none."""
+    last = re.sub("^ *[0-9]+ +[0-9]+ +[0-9]+% +[0-9 ]+ (to [0-9]+ +)?", "", text)
+    step = masked(last).rfind(STEP)
+    last = re.sub("^together ", "", last[step + len(STEP) :] if step >= 0 else last)
+    more = re.search(r" \.\. and ([0-9]+) more$", masked(last))
+    if more:
+        raise Fault(WRONG_USE, f"{text}: the line names not all of these fields: with --json, all are named")
+    return [entry.strip() for entry in split(last)]
+
+
+def masked(text: str) -> str:
+    """Returns a text of the same length without what is in quotes."""
+    return re.sub('"[^"]*"', lambda quoted: "_" * len(quoted[0]), text)
+
+
+def split(text: str) -> List[str]:
+    """Returns the parts of a list with commas between, which count only outside of quotes."""
+    commas = [each.start() for each in re.finditer(",", masked(text))]
+    return [text[begin + 1 : end] for begin, end in zip([-1, *commas], [*commas, len(text)])]
+
+
+def root_of(entry: str) -> Optional[Key]:
+    """Returns the kind and the name of the local variable or the threads that an entry is, or None if it is a field.
+    Names have no blanks, and those of threads no quotes. Lines call threads without a name `thread`, and count them as
+    `threads without a name`."""
+    if re.fullmatch(f"thread|threads? {NAMELESS}", entry):
+        return THREAD, ""
+    found = re.fullmatch(r"(local|threads?) (\S+|\"[^\"]*\")", entry)
+    return (found[1], found[2].strip('"')) if found else None
+
+
+def field_of(entry: str) -> str:
+    """Returns the field that an entry is, without the word for a static one."""
+    return entry[len(STATIC_WORD) :] if entry.startswith(STATIC_WORD) else entry
 
 
 def classes_named(text: str, dump: HeapDump) -> List[int]:
@@ -41,11 +72,14 @@ def classes_named(text: str, dump: HeapDump) -> List[int]:
 
 
 def places_of(entry: str, dump: HeapDump) -> Tuple[List[int], str]:
-    """Returns the places of the types of the fields that `entry` names, and why there are none if there are none."""
-    name, _, field = entry.rpartition(".")
+    """Returns the places of the types of the fields that `entry` names, and why there are none if there are none. Only
+    static fields count if the entry says so."""
+    name, _, field = field_of(entry).rpartition(".")
     class_ids = classes_named(name, dump)
     wanted = {field, shown(os.fsencode(field))}
     fields = [each for class_id in class_ids for each in dump.classes[class_id].fields if each.name in wanted]
+    if entry.startswith(STATIC_WORD):
+        fields = [each for each in fields if each.is_static]
     places = [each.place for each in fields if each.kind == OBJECT]
     if places:
         return places, ""

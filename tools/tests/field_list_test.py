@@ -3,6 +3,7 @@
 import unittest
 
 from heap_tools.candidates import LOCAL, THREAD, THREADS
+from heap_tools.faults import WRONG_USE, Fault
 from heap_tools.field_list import entries_of, root_of
 
 
@@ -14,15 +15,28 @@ class FieldListTest(unittest.TestCase):
         of_leaks = "        20            160  100%            720           2880 {}  static A.x > B.y"
         for text, entries in (
             ("A.x,B.y", ["A.x", "B.y"]),
+            ("A.x, B.y", ["A.x", "B.y"]),
+            ("A.x,  static B.y", ["A.x", "static B.y"]),
             (of_leaks.format("        1"), ["B.y"]),
             (of_leaks.format(" 20 to 80").replace("static A.x > ", ""), ["B.y"]),
-            ("together static A.x, static B.y", ["A.x", "B.y"]),
-            ("together static A.a, static A.b, static A.c .. and 2 more", ["A.a", "A.b", "A.c"]),
+            ("  5  0  62%  1  static A.x", ["static A.x"]),
+            ("together static A.x, static B.y", ["static A.x", "static B.y"]),
+            ('together static A.x, thread "a, b", B.y', ["static A.x", 'thread "a, b"', "B.y"]),
+            ('static A.x > thread "from > to"', ['thread "from > to"']),
+            ('  5  0  62%  1  thread "9  8  7%  1  x"', ['thread "9  8  7%  1  x"']),
+            ('thread "a .. and 2 more"', ['thread "a .. and 2 more"']),
+            ("", [""]),
         ):
             self.assertEqual(entries_of(text), entries, text)
 
+    def test_more(self) -> None:
+        """A line that does not name all that it is about is refused: nothing is dropped."""
+        with self.assertRaises(Fault) as raised:
+            entries_of("  5  0  62%  1  together static A.a, static A.b, static A.c .. and 2 more")
+        self.assertEqual(raised.exception.status, WRONG_USE)
+
     def test_roots(self) -> None:
-        """A line may end with a local variable, a thread or threads."""
+        """An entry may be a local variable, a thread or threads."""
         for text, key in (
             ("static A.x > local B.run", (LOCAL, "B.run")),
             ('thread "http 1"', (THREAD, "http 1")),
@@ -34,7 +48,8 @@ class FieldListTest(unittest.TestCase):
             ("static A.local", None),
             ("static A.thread", None),
         ):
-            self.assertEqual(root_of(text), key, text)
+            (entry,) = entries_of(text)
+            self.assertEqual(root_of(entry), key, text)
 
 
 if __name__ == "__main__":

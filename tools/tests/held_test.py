@@ -76,7 +76,7 @@ class HeldTest(ToolTest):
         self.expect(["cache.hprof", VALUE], self.BY_VALUE)
         self.expect(["cache.hprof", three], items + line(3, 24, "list"))
         self.expect(["--bytes", "cache.hprof", three], line(3, 24, "list") + items)
-        said = f"held: nothing hangs by {KEY} alone: what it leads to, if anything, is reachable another way too"
+        said = f"held: nothing is retained by {KEY}: what that leads to, if anything, is reachable another way, too"
         self.expect(["cache.hprof", KEY], said=said)
 
     def test_more_than(self) -> None:
@@ -87,7 +87,7 @@ class HeldTest(ToolTest):
 
     def test_static_fields(self) -> None:
         """Static fields, hidden classes, letters beyond ASCII, and identifiers of both sizes."""
-        other, item, none = "plain/Other", line(1, 0, "Item"), "held: nothing hangs by *"
+        other, item, none = "plain/Other", line(1, 0, "Item"), "held: nothing is retained by *"
         lambdas = "Shop$$Lambda"
         for size in (4, 8):
             statics(size).write("static.hprof")
@@ -97,6 +97,7 @@ class HeldTest(ToolTest):
                 f"{other}.first,{other}.second",
                 "plain.Other.list",
                 "static plain/Other.list",
+                f"static {other}.list, static {other}.all",
                 f"together static {other}.first, static {other}.second",
                 f"static Größe.all > {other}.list",
                 f"        20              0   80%         1  static {other}.list",
@@ -112,8 +113,26 @@ class HeldTest(ToolTest):
             self.expect(["static.hprof", "Cache.int_value"], said=numbers, status=6)
         self.assertNotEqual(INT, LONG)
 
+    def test_two_of_one_name(self) -> None:
+        """A class may have a static field and a field of instances with one name. A line says which it is about."""
+        dump = DumpWriter()
+        dump.of_class(1, "Both", {"it": 201}, fields=["it"])
+        dump.of_class(2, "Item")
+        dump.of_class(3, "Part")
+        dump.instance(200, 1, 202)
+        dump.instance(201, 2)
+        dump.instance(202, 3)
+        dump.root(1, 2, 3, 200)
+        dump.write("both.hprof")
+        for fields, out in (
+            ("static Both.it", line(1, 0, "Item")),
+            ("Both.it", line(1, 0, "Item") + line(1, 0, "Part")),
+        ):
+            self.expect(["both.hprof", fields], out)
+        self.expect(["both.hprof", "static Part.it"], said="held: static Part.it: Part itself declares no *", status=6)
+
     def test_weak_references(self) -> None:
-        """What a finalizer names, too, hangs by a field, unless weak references are followed."""
+        """What a finalizer names, too, a field retains, unless weak references are followed."""
         dump = finalizers(1, 20)
         dump.of_class(14, "shop/Server", {"STREAM": 30000})
         dump.root(14)
@@ -168,7 +187,7 @@ class HeldTest(ToolTest):
         self.expect(["named.hprof", "thread"], said=said, status=6)
 
     def test_running_calls(self) -> None:
-        """A call that runs hides nothing; but what is reachable only through its local variables hangs by fields."""
+        """A call that runs hides nothing; but what is reachable only through its local variables fields retain."""
         running(20).write("running.hprof")
         self.assertIn(line(20, 160, "shop/Order"), self.ran("running.hprof", "shop/Cache.table").out)
         handler(20).write("handler.hprof")
@@ -187,8 +206,10 @@ class HeldTest(ToolTest):
         self.assertIn(line(20, 160, "shop/Order"), both.out)
         self.assertIn(line(100, 800, "shop/Product"), both.out)
         for text in ("  5  0  62%  0  5  2 to 30  ", "static A.b > "):
-            said = f"held: {text}together a.b, c.d .. and 3 more"
-            self.expect(["running.hprof", said[6:]], said="held: a.b: no class *\nheld: c.d: no class *", status=6)
+            words = ["running.hprof", f"{text}together a.b, c.d"]
+            self.expect(words, said="held: a.b: no class *\nheld: c.d: no class *", status=6)
+            words[1] += " .. and 3 more"
+            self.expect(words, said=f"held: {words[1]}: the line names not all of these fields: *--json*", status=2)
 
     def test_no_such_name(self) -> None:
         """Names that match nothing, and what may have been meant."""
@@ -226,18 +247,18 @@ class HeldTest(ToolTest):
         self.expect(["/dev/null", VALUE], said="held: /dev/null: no plain file*", status=1)
         for fields in ("referent", os.fsdecode(b"a.\377"), ""):
             self.expect(["cache.hprof", fields], said="held: *: no list of *", status=2)
-        said = "held: cut.hprof: a file: leaks cache.hprof cut.hprof shows what holds that which grew"
+        said = "held: cut.hprof: a file: leaks cache.hprof cut.hprof shows what grew, and what holds it"
         self.expect(["cache.hprof", "cut.hprof"], said=said, status=2)
         right = ["cache.hprof", VALUE]
         self.check_wrong_words([], right[:1], [*right, VALUE], ["--number", *right], [*right, "--more-than"])
-        self.check_help("Shows what hangs by some fields of a heap dump: ")
+        self.check_help("Shows what some fields of a heap dump retain: ")
 
     def test_heapmark(self) -> None:
         """heapmark runs on the dump and on a pipe. It may end early, or be missing."""
         reads = "case $* in *stdin) cat > /dev/null ;; esac"
         other = self.program(f"{reads}\ncat <<'END'\n{report((1, 8, 'A'))}END")
         huge = {"GLIBC_TUNABLES": "glibc.malloc.hugetlb=1"}
-        said = "held: nothing hangs by *"
+        said = "held: nothing is retained by *"
         self.expect(["cache.hprof", VALUE], said=said, heapmark=other, variables=huge)
         words = (f"--skip={VALUE} -- /dev/null", "-- cache.hprof", "-- /dev/stdin")
         asked = "".join(f"glibc.malloc.hugetlb=1 {each}\n" for each in words)

@@ -2,13 +2,14 @@
 
 import os
 import sys
-from typing import NoReturn, Sequence
+from typing import List, NoReturn, Sequence
 
 from heap_tools import command_line
 from heap_tools.class_growth import growths, lines_to_print
 from heap_tools.class_names import is_own
 from heap_tools.command_line import Parser, number
 from heap_tools.console import is_terminal, say, write
+from heap_tools.documents import document, grown_fields
 from heap_tools.faults import MORE
 from heap_tools.omissions import more_unreachable
 from heap_tools.reports import Report, Unit
@@ -71,56 +72,61 @@ def parser() -> Parser:
     it.flag("--own", "Show only classes that are not of the JDK")
     it.option("--top", "N", "Show at most N lines", type=number(1))
     it.option("--skip", "LIST", "Fields that are not followed in dumps, as heapmark takes them")
+    it.flag("--json", "Print all that lines and notes say as a JSON document")
     return it
 
 
-def say_order(snapshots: Sequence[Snapshot]) -> None:
-    """Says which dump was made earlier than the one before it on the command line."""
-    why = wrong_order([Taken(each.path, each.time) for each in snapshots])
-    if why:
-        say(f"grown: {why}")
+def order_note(snapshots: Sequence[Snapshot]) -> str:
+    """Returns which dump was made earlier than the one before it on the command line, empty if none was."""
+    return wrong_order([Taken(each.path, each.time) for each in snapshots]) or ""
 
 
-def say_nothing(files: Sequence[Snapshot], is_limited: bool) -> None:
-    """Says on a terminal that nothing is printed. `is_limited`: options may be why."""
+def unreachable_note(first: Report, last: Report) -> str:
+    """Returns how much more is unreachable in the last file, empty if that is nothing."""
+    more = last.unreachable.minus(first.unreachable)
+    return f"{more_unreachable(more)}: compare outputs of jmap -histo:live, which count it" if max(more) > 0 else ""
+
+
+def program_note(first: Snapshot, last: Snapshot) -> str:
+    """Returns why the two files seem to be of two programs, empty if they do not."""
+    few = other_program(first.report.families, last.report.families)
+    return f"{last.path}: another program? it has {few} of {first.path}" if few else ""
+
+
+def notes_of(snapshots: Sequence[Snapshot]) -> List[str]:
+    """Returns what is said beside the lines."""
+    first, last = snapshots[0], snapshots[-1]
+    every = order_note(snapshots), unreachable_note(first.report, last.report), program_note(first, last)
+    return [each for each in every if each]
+
+
+def why_nothing(files: Sequence[Snapshot], is_limited: bool) -> str:
+    """Returns why nothing is printed. `is_limited`: options may be why."""
     first, last = files[0].path, files[-1].path
     same = same_file([first, last]) if os.path.isfile(first) and os.path.isfile(last) else None
-    why = same or f"no {'such ' * is_limited}class has more objects or bytes in {last} than in {first}"
-    say(f"grown: {why}")
-
-
-def say_unreachable(first: Report, last: Report) -> None:
-    """Says so if more objects or bytes are unreachable in the last file than in the first."""
-    more = last.unreachable.minus(first.unreachable)
-    if max(more) > 0:
-        say(f"grown: {more_unreachable(more)}: compare outputs of jmap -histo:live, which count it")
-
-
-def say_programs(first: Snapshot, last: Snapshot) -> None:
-    """Says so if the two files seem to be of two programs."""
-    few = other_program(first.report.families, last.report.families)
-    if few:
-        say(f"grown: {last.path}: another program? it has {few} of {first.path}")
+    return same or f"no {'such ' * is_limited}class has more objects or bytes in {last} than in {first}"
 
 
 def main(words: Sequence[str]) -> int:
     """Does what the words of the command line ask for, and returns the exit status."""
     options = parser().read(words)
     snapshots = read_snapshots([options.before, *options.after], options.skip)
-    first, last = snapshots[0], snapshots[-1]
-    hours = hours_between(first, last) if options.per_hour else None
+    hours = hours_between(snapshots[0], snapshots[-1]) if options.per_hour else None
     unit = Unit.BYTES if options.bytes else Unit.OBJECTS
     found = growths([each.report for each in snapshots], unit, options.more_than)
     if options.own:
         found = [each for each in found if is_own(each.name)]
+    notes, shown = notes_of(snapshots), found[: options.top]
     try:
-        write(lines_to_print(found[: options.top], unit, hours))
+        if options.json:
+            write(document("grown", grown_fields(snapshots, shown, len(found) - len(shown), unit, hours), notes))
+        else:
+            write(lines_to_print(shown, unit, hours))
     finally:
         if not found and is_terminal(sys.stderr):
-            say_nothing(snapshots, options.own or options.more_than is not None)
-        say_order(snapshots)
-        say_unreachable(first.report, last.report)
-        say_programs(first, last)
+            say(f"grown: {why_nothing(snapshots, options.own or options.more_than is not None)}")
+        for note in notes:
+            say(f"grown: {note}")
     return MORE if found and options.more_than is not None else 0
 
 

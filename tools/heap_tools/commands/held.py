@@ -1,38 +1,39 @@
-"""held: what hangs by some fields of a dump."""
+"""held: what some fields of a dump retain."""
 
-from typing import NamedTuple, NoReturn, Optional, Sequence, Tuple
+from typing import List, NamedTuple, NoReturn, Optional, Sequence, Tuple
 
 from heap_tools import command_line
-from heap_tools.candidates import FIELD, GROUP, WEAK, Candidates
+from heap_tools.candidates import WEAK, Candidates
 from heap_tools.changed_copy import Changes
-from heap_tools.class_growth import growths, lines_to_print
+from heap_tools.class_growth import ClassGrowth, growths, lines_to_print
 from heap_tools.command_line import Parser, number
 from heap_tools.console import say, write
+from heap_tools.documents import document, dump_entry, held_fields
 from heap_tools.dump_runs import DumpRuns, is_dump
 from heap_tools.faults import MORE, NO_SUCH_NAME, UNREADABLE, WRONG_USE, Fault
-from heap_tools.field_list import changes_of, entries_of, root_of
+from heap_tools.field_list import Entry, changes_of, entries_of, field_of, root_of
 from heap_tools.heapmark import Heapmark, LaterFault
-from heap_tools.reports import Report, Unit
+from heap_tools.reports import Amount, Report, Unit
 
 ABOUT = """
-Shows what hangs by some fields of a heap dump: for each class, how many objects
-and how many bytes are reachable through these fields alone.
+Shows what some fields of a heap dump retain: for each class, how many objects
+and how many bytes are reachable through these fields only.
 """
 NOTES = """
 A field belongs to the class that declares it. The class is spelt as heapmark,
 grown or jmap shows it, in quotes if it has a `$`; letters beyond ASCII may
 stand as they are, and dots in place of slashes. Without `$14+0x..` a hidden
 class means all of that name. A line of holders or leaks may be pasted, or what
-it ends with: `static A.x` and `together static A.x, static B.y` mean these
-fields, `A.x > B.y` means B.y, `local A.f` the local variables of a method, and
-`thread "NAME"` or `threads "NAME-*"` all that threads of such names hold.
+it ends with: `static A.x` means only a static field, `together static A.x, B.y`
+both fields, `A.x > B.y` means B.y, `local A.f` the local variables of a method,
+and `thread "NAME"` or `threads "NAME-*"` all that threads of such names hold.
 
 It runs heapmark on DUMP, and on DUMP with these fields declared as numbers, so
 that they lead nowhere, and shows where the reports differ, as grown does
 between two dumps; grown --help says how names are shown and which heapmark
 runs. The roots of local variables and threads are null in their place. A line
-on standard error says if an entry of FIELDS names no field, or nothing hangs by
-FIELDS alone. A name that begins with a hyphen goes after `--`.
+on standard error says if an entry of FIELDS names no field, or FIELDS retain
+nothing. A name that begins with a hyphen goes after `--`.
 
 As for holders and leaks, soft, weak, final and phantom references lead nowhere,
 unless --weak is given or FIELDS names java/lang/ref/Reference.referent. Nor do
@@ -40,19 +41,19 @@ the list of a group's threads (JDK 17), which are roots themselves, and that of
 references that are not in their queues yet.
 
 Calls that are running do not count: both reports are also made without the
-local variables that FIELDS does not name, and if more hangs by FIELDS then,
-that is shown. What only local variables lead to, such as those of `main`, hangs
-by the FIELDS in it as they are.
+local variables that FIELDS does not name, and if FIELDS retain more then, that
+is shown. What only local variables lead to, such as those of `main`, the FIELDS
+in it retain as they are.
 
 Exit status:
-  0  done: what hangs by FIELDS, if anything, was printed
+  0  done: what FIELDS retain, if anything, was printed
   1  DUMP cannot be read or was refused; nothing was printed
   2  the command line is wrong, or FIELDS is no list of fields
   3  with --more-than: a class has more than N such objects
   4  the output cannot be written
   5  heapmark cannot be run, or was ended by a signal
-  6  an entry of FIELDS names no field of DUMP that holds references; what hangs
-     by the others was printed
+  6  an entry of FIELDS names no field of DUMP that holds references; what the
+     others retain was printed
 
 Example:
   $ held app.hprof 'java/lang/ThreadLocal$ThreadLocalMap$Entry.value'
@@ -68,39 +69,55 @@ def parser() -> Parser:
     text = "Show only classes with more than N such objects; if there are any, the exit status is 3"
     it.option("--more-than", "N", text, type=number())
     it.flag("--weak", "Follow soft, weak, final and phantom references, too")
+    it.flag("--json", "Print all that lines and notes say as a JSON document")
     return it
 
 
 class Difference(NamedTuple):
-    """The report of a dump without some fields, None if the dump has none of them, and the one with them. `all_found`:
-    each entry of the list names a field."""
+    """The dump, its report without some fields, None if the dump has none of them, and the one with them. `entries`:
+    those of the list of fields."""
 
+    runs: DumpRuns
     without: Optional[Report]
     whole: Report
-    all_found: bool
+    entries: List[Entry]
+
+    @property
+    def retained(self) -> Amount:
+        """All that the fields retain."""
+        return self.whole.reachable.minus(self.without.reachable) if self.without else Amount()
+
+    @property
+    def notes(self) -> List[str]:
+        """What is said beside the lines: which entries name nothing, or that the fields retain nothing."""
+        notes = [f"{each.text}: {each.problem}" for each in self.entries if each.problem]
+        if self.without == self.whole:
+            named = ", ".join(each.text for each in self.entries)
+            notes.append(
+                f"nothing is retained by {named}: what that leads to, if anything, is reachable another way, too"
+            )
+        return notes
 
 
 def difference(path: str, text: str, follows_weak: bool = False) -> Difference:
-    """Runs heapmark on the dump `path`, and on it without what `text` names. Says which entries name nothing."""
-    heapmark, entries = Heapmark(), [text] if root_of(text) else entries_of(text)
-    fields = [entry for entry in entries if not root_of(entry)]
+    """Runs heapmark on the dump `path`, and on it without what `text` names."""
+    heapmark, words = Heapmark(), entries_of(text)
+    fields = [field_of(each) for each in words if not root_of(each)]
     if fields:
         heapmark.check_fields(",".join(fields))
     runs = DumpRuns.of(heapmark, path, "held")
-    candidates = Candidates(runs.dump, follows_weak or any(entry.strip().endswith(WEAK) for entry in entries))
+    candidates = Candidates(runs.dump, follows_weak or any(each.endswith(WEAK) for each in fields))
     runs = runs.with_cut(candidates.not_counted())
     changes: Changes = {}
-    all_found = True
-    for entry in entries:
-        found, why = changes_of(entry, runs.dump)
+    entries = []
+    for word in words:
+        found, problem = changes_of(word, runs.dump)
         changes.update(found)
-        if why:
-            say(f"held: {entry.strip()}: {why}")
-            all_found = False
+        entries.append(Entry(word, problem))
     if not changes:
-        return Difference(None, runs.report, False)
+        return Difference(runs, None, runs.report, entries)
     try:
-        return Difference(*largest(runs, changes), all_found)
+        return Difference(runs, *largest(runs, changes), entries)
     except LaterFault:
         raise Fault(UNREADABLE, f"{path}: not read a second time") from None
 
@@ -120,28 +137,30 @@ def largest(runs: DumpRuns, changes: Changes) -> Tuple[Report, Report]:
     return max(plain, silent, key=lambda pair: pair[1].reachable.minus(pair[0].reachable))
 
 
+def json_of(found: Difference, classes: Sequence[ClassGrowth], unit: Unit) -> str:
+    """Returns the document for what was found."""
+    return document(
+        "held", held_fields(dump_entry(found.runs), found.entries, classes, unit, found.retained), found.notes
+    )
+
+
 def main(words: Sequence[str]) -> int:
     """Does what the words of the command line ask for, and returns the exit status."""
     options = parser().read(words)
     if is_dump(options.fields):
-        text = f"{options.fields}: a file: leaks {options.dump} {options.fields} shows what holds that which grew"
+        text = f"{options.fields}: a file: leaks {options.dump} {options.fields} shows what grew, and what holds it"
         raise Fault(WRONG_USE, text)
-    without, whole, all_found = difference(options.dump, options.fields, options.weak)
-    if not without:
-        return NO_SUCH_NAME
+    found = difference(options.dump, options.fields, options.weak)
     unit = Unit.BYTES if options.bytes else Unit.OBJECTS
-    found = growths([without, whole], unit, options.more_than)
+    classes = growths([found.without, found.whole], unit, options.more_than) if found.without else []
     try:
-        write(lines_to_print(found, unit))
+        write(json_of(found, classes, unit) if options.json and found.without else lines_to_print(classes, unit))
     finally:
-        if without == whole:
-            say(
-                f"held: nothing hangs by {options.fields} alone: what it leads to, if anything, is reachable another "
-                "way too"
-            )
-    if found and options.more_than is not None:
+        for note in found.notes:
+            say(f"held: {note}")
+    if classes and options.more_than is not None:
         return MORE
-    return 0 if all_found else NO_SUCH_NAME
+    return NO_SUCH_NAME if any(each.problem for each in found.entries) else 0
 
 
 def run() -> NoReturn:

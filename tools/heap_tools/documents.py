@@ -1,0 +1,117 @@
+"""The documents that `--json` prints: all that the lines and notes of a command say, for a program. docs/JSON.md lists
+their fields."""
+
+import json
+import os
+from typing import Any, Dict, Iterable, List, Optional, Sequence
+
+from heap_tools.candidates import Candidate
+from heap_tools.class_growth import ClassGrowth
+from heap_tools.dump_runs import DumpRuns
+from heap_tools.field_list import Entry
+from heap_tools.probe import Retained
+from heap_tools.reports import Amount, Report, Unit
+from heap_tools.snapshots import Snapshot
+from heap_tools.version import VERSION
+
+#: The number of the form. It rises if a field goes or changes its meaning; a field that comes does not raise it.
+FORMAT = 1
+
+#: The fields of a document, or of a part of one.
+Fields = Dict[str, Any]
+
+
+def document(tool: str, fields: Fields, notes: Iterable[str]) -> str:
+    """Returns the document of `tool` with these fields, in ASCII. Raises `ValueError` if one is no finite number."""
+    every = {"format": FORMAT, "tool": tool, "version": VERSION, **fields, "notes": list(notes)}
+    return json.dumps(every, indent=2, allow_nan=False) + "\n"
+
+
+def path_entry(path: str) -> str:
+    """Returns a path with `\\x` and two digits for each byte that is not UTF-8."""
+    return os.fsencode(path).decode(errors="backslashreplace")
+
+
+def amount_entry(amount: Amount) -> Fields:
+    """Returns an amount."""
+    return {"objects": amount.objects, "bytes": amount.bytes}
+
+
+def share_entry(percent: float) -> float:
+    """Returns a share in percent, to two decimals."""
+    return round(percent, 2)
+
+
+def file_entry(path: str, kind: str, time: Optional[int], report: Report) -> Fields:
+    """Returns a file of the command line, with the totals of its report. A histogram has none."""
+    has_totals = kind != "histogram"
+    return {
+        "path": path_entry(path),
+        "kind": kind,
+        "time_ms": time,
+        "reachable": amount_entry(report.reachable) if has_totals else None,
+        "unreachable": amount_entry(report.unreachable) if has_totals else None,
+        "unresolved": report.unresolved if has_totals else None,
+    }
+
+
+def dump_entry(runs: DumpRuns) -> Fields:
+    """Returns a dump of the command line."""
+    return file_entry(runs.path, "dump", runs.dump.time, runs.report)
+
+
+def candidate_entry(candidate: Candidate) -> Fields:
+    """Returns a field, a local variable or threads, and how `held` is asked for it."""
+    return {"kind": candidate.kind, "name": candidate.name, "text": str(candidate)}
+
+
+def candidates_entry(candidates: Sequence[Candidate]) -> List[Fields]:
+    """Returns what is one step of a path: most often one candidate, else what holds something only together."""
+    return [candidate_entry(each) for each in sorted(candidates, key=str)]
+
+
+def holder_entry(held: Retained, percent: float) -> Fields:
+    """Returns a line of `holders`."""
+    return {
+        "fields": candidates_entry(held.candidates),
+        "retained": amount_entry(held.amount),
+        "share_percent": share_entry(percent),
+        "instances": held.holders,
+    }
+
+
+def growth_entry(growth: ClassGrowth, unit: Unit, hours: Optional[float]) -> Fields:
+    """Returns how a class grew: `steps` and the growth an hour are in the unit of the document."""
+    per_hour = round(unit.of(growth.amount) / hours, 2) if hours else None
+    return {
+        "class": growth.name,
+        "growth": amount_entry(growth.amount),
+        "steps": list(growth.steps),
+        "growth_per_hour": per_hour,
+    }
+
+
+def grown_fields(
+    snapshots: Sequence[Snapshot], shown: Sequence[ClassGrowth], hidden: int, unit: Unit, hours: Optional[float]
+) -> Fields:
+    """Returns the fields of the document of `grown`: the classes that are shown, and the number of the others."""
+    return {
+        "files": [file_entry(each.path, each.kind, each.time, each.report) for each in snapshots],
+        "unit": unit.value,
+        "hours": None if hours is None else round(hours, 4),
+        "classes": [growth_entry(each, unit, hours) for each in shown],
+        "hidden": hidden,
+    }
+
+
+def held_fields(
+    file: Fields, entries: Sequence[Entry], found: Sequence[ClassGrowth], unit: Unit, total: Amount
+) -> Fields:
+    """Returns the fields of the document of `held`."""
+    return {
+        "file": file,
+        "unit": unit.value,
+        "fields": [{"text": each.text, "problem": each.problem or None} for each in entries],
+        "retained": amount_entry(total),
+        "classes": [{"class": each.name, "retained": amount_entry(each.amount)} for each in found],
+    }

@@ -1,0 +1,170 @@
+"""Compares the documents of `--json` with their form, which docs/JSON.md describes."""
+
+import json
+import re
+import unittest
+from typing import Any, Dict, Iterator, List, NamedTuple
+
+from heap_tools.documents import document, path_entry
+from tests.support.held_objects import DUMPS
+from tests.support.services import cache
+from tests.support.tool_test import TOP, ToolTest, histogram, report
+
+
+class Maybe(NamedTuple):
+    """The form of a value that may be null."""
+
+    form: Any
+
+
+#: The form of a value: a type, the texts that it may be, a list with the form of its elements, or fields with forms.
+AMOUNT = {"objects": int, "bytes": int}
+HEAD = {"format": int, "tool": {"grown", "held", "holders", "leaks"}, "version": str, "notes": [str]}
+UNIT = {"objects", "bytes"}
+FILE = {
+    "path": str,
+    "kind": {"dump", "report", "histogram"},
+    "time_ms": Maybe(int),
+    "reachable": Maybe(AMOUNT),
+    "unreachable": Maybe(AMOUNT),
+    "unresolved": Maybe(int),
+}
+FORMS: Dict[str, Dict[str, Any]] = {
+    "grown": {
+        **HEAD,
+        "files": [FILE],
+        "unit": UNIT,
+        "hours": Maybe(float),
+        "classes": [{"class": str, "growth": AMOUNT, "steps": [int], "growth_per_hour": Maybe(float)}],
+        "hidden": int,
+    },
+    "held": {
+        **HEAD,
+        "file": FILE,
+        "unit": UNIT,
+        "fields": [{"text": str, "problem": Maybe(str)}],
+        "retained": AMOUNT,
+        "classes": [{"class": str, "retained": AMOUNT}],
+    },
+}
+
+
+def faults(value: Any, form: Any, at: str = "") -> Iterator[str]:
+    """Yields where a value does not have the form."""
+    if isinstance(form, Maybe):
+        yield from () if value is None else faults(value, form.form, at)
+    elif isinstance(form, dict):
+        if not isinstance(value, dict) or value.keys() != form.keys():
+            yield f"{at}: {value!r} has not the fields {sorted(form)}"
+        else:
+            for name, inner in form.items():
+                yield from faults(value[name], inner, f"{at}.{name}")
+    elif isinstance(form, list):
+        if not isinstance(value, list):
+            yield f"{at}: {value!r} is no list"
+        else:
+            for number, each in enumerate(value):
+                yield from faults(each, form[0], f"{at}[{number}]")
+    elif isinstance(form, set):
+        yield from () if value in form else [f"{at}: {value!r} is none of {sorted(form)}"]
+    elif type(value) is not form and not (form is float and type(value) is int):
+        yield f"{at}: {value!r} is no {form.__name__}"
+
+
+def names_in(form: Any) -> Iterator[str]:
+    """Yields the names of all fields of a form."""
+    if isinstance(form, Maybe):
+        yield from names_in(form.form)
+    elif isinstance(form, list):
+        yield from names_in(form[0])
+    elif isinstance(form, dict):
+        for name, inner in form.items():
+            yield name
+            yield from names_in(inner)
+
+
+class DocumentsTest(ToolTest):
+    """--json of each command."""
+
+    def document(self, *words: str, status: int = 0, form: str = "") -> Dict[str, Any]:
+        """Runs a command, the first of the words, with --json. Returns its document, which has the form."""
+        tool, *rest = words
+        ended = self.ran("--json", *rest, tool=tool)
+        self.assertEqual(ended.status, status, ended.said)
+        self.assertTrue(ended.out.isascii() and ended.out.endswith("}\n"), ended.out)
+        found: Dict[str, Any] = json.loads(ended.out, parse_constant=self.fail)
+        self.assertEqual(list(faults(found, FORMS[form or tool])), [])
+        self.assertEqual((found["format"], found["tool"]), (1, tool))
+        said = [line.partition(": ")[2] for line in ended.said.splitlines() if line.startswith(f"{tool}: ")]
+        self.assertTrue(set(found["notes"]) <= set(said), (found["notes"], said))
+        return found
+
+    def test_grown(self) -> None:
+        """Dumps, reports and histograms, with each option that changes the document."""
+        for number in (1, 2, 3):
+            cache(20 * number, 60 * number).write(f"{number}.hprof")
+        found = self.document("grown", "--per-hour", "--bytes", "1.hprof", "2.hprof", "3.hprof")
+        (first, *_) = found["classes"]
+        self.assertEqual((first["class"], first["growth"]), ("byte[]", {"objects": 40, "bytes": 800}))
+        self.assertEqual((first["steps"], first["growth_per_hour"], found["hours"]), ([400, 400], 400.0, 2.0))
+        self.assertEqual([each["time_ms"] for each in found["files"]], [3600000, 7200000, 10800000])
+        found = self.document("grown", "--top", "1", "--own", "--more-than", "3", "1.hprof", "2.hprof", status=3)
+        self.assertEqual((len(found["classes"]), found["hidden"], found["unit"]), (1, 0, "objects"))
+        self.assertEqual(self.document("grown", "1.hprof", "1.hprof")["classes"], [])
+        with open("r", "w") as file:
+            file.write(report((1, 8, "A"), unreachable=(3, 4)))
+        with open("r2", "w") as file:
+            file.write(report((2, 9, "A"), unreachable=(5, 6)))
+        found = self.document("grown", "r", "r2")
+        self.assertEqual([each["unreachable"]["objects"] for each in found["files"]], [3, 5])
+        self.assertIn("unreachable", found["notes"][0])
+        with open("h", "w") as file:
+            file.write(histogram((1, 16, "A")))
+        self.assertEqual([each["reachable"] for each in self.document("grown", "h", "h")["files"]], [None, None])
+
+    def test_held(self) -> None:
+        """What fields retain, and entries that name none."""
+        DUMPS["shop"].write("shop.hprof")
+        found = self.document("held", "shop.hprof", "static Shop.CACHE, Order.none", status=6)
+        self.assertEqual([each["text"] for each in found["fields"]], ["static Shop.CACHE", "Order.none"])
+        self.assertEqual([each["problem"] is None for each in found["fields"]], [True, False])
+        self.assertEqual(found["classes"][0], {"class": "Order", "retained": {"objects": 20, "bytes": 0}})
+        total = {unit: sum(each["retained"][unit] for each in found["classes"]) for unit in ("objects", "bytes")}
+        self.assertEqual(found["retained"], total)
+
+    def test_nothing(self) -> None:
+        """Where no line is printed because nothing could be found, no document is."""
+        DUMPS["shop"].write("shop.hprof")
+        for words, status in ((["held", "shop.hprof", "Order.none"], 6), (["held", "none.hprof", "A.x"], 1)):
+            ended = self.ran("--json", *words[1:], tool=words[0])
+            self.assertEqual((ended.status, ended.out), (status, ""))
+
+    def test_numbers_and_texts(self) -> None:
+        """No document has a NaN or what a terminal obeys, and each path is a text."""
+        for number in (float("nan"), float("inf")):
+            with self.assertRaises(ValueError):
+                document("leaks", {"share_percent": number}, [])
+        self.assertEqual(path_entry("a\udcff\u202eb"), "a\\xff\u202eb")
+        self.assertNotIn("\u202e", document("leaks", {"path": "\u202e"}, ["\x1b[m"]))
+        self.assertNotIn("\x1b", document("leaks", {"path": "\u202e"}, ["\x1b[m"]))
+
+    def test_page(self) -> None:
+        """docs/JSON.md names each field."""
+        page = (TOP / "docs/JSON.md").read_text(encoding="utf-8")
+        known: List[str] = re.findall(r"`\"?([a-z_]+)\"?`|\"([a-z_]+)\":", page)
+        named = {name for each in known for name in each}
+        for tool, form in FORMS.items():
+            self.assertEqual(sorted(set(names_in(form)) - named), [], tool)
+
+    def test_forms(self) -> None:
+        """The validator sees a wrong type, a field too many and one too few."""
+        good = {"text": "A.x", "problem": None}
+        (form,) = FORMS["held"]["fields"]
+        self.assertEqual(list(faults(good, form)), [])
+        for wrong in ({"text": 1, "problem": None}, {"text": "A.x"}, {**good, "more": 1}, [], None):
+            self.assertNotEqual(list(faults(wrong, form)), [], wrong)
+        self.assertNotEqual(list(faults(True, int)), [])
+
+
+if __name__ == "__main__":
+    unittest.main()
