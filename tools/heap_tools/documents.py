@@ -9,7 +9,7 @@ from heap_tools.candidates import Candidate
 from heap_tools.class_growth import ClassGrowth
 from heap_tools.dump_runs import DumpRuns
 from heap_tools.field_list import Entry
-from heap_tools.probe import Retained
+from heap_tools.probe import Probe, Retained
 from heap_tools.reports import Amount, Report, Unit
 from heap_tools.snapshots import Snapshot
 from heap_tools.version import VERSION
@@ -101,6 +101,21 @@ def grown_fields(
         "hours": None if hours is None else round(hours, 4),
         "classes": [growth_entry(each, unit, hours) for each in shown],
         "hidden": hidden,
+    }
+
+
+def holders_fields(probe: Probe, at_least: float, shown: Sequence[Retained], hidden: int, rest: int) -> Fields:
+    """Returns the fields of the document of `holders`: the lines that are shown, the number of the others, and how much
+    is held without any static field."""
+    return {
+        "file": dump_entry(probe.runs),
+        "class": probe.families[0] if probe.families else None,
+        "unit": probe.unit.value,
+        "at_least_percent": at_least,
+        "whole": amount_entry(probe.whole),
+        "lines": [holder_entry(held, probe.share(held.candidates)) for held in shown],
+        "hidden": hidden,
+        "without_statics": rest,
     }
 
 

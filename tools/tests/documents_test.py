@@ -29,6 +29,7 @@ FILE = {
     "unreachable": Maybe(AMOUNT),
     "unresolved": Maybe(int),
 }
+FIELD = {"kind": {"static", "field", "local", "thread", "threads"}, "name": str, "text": str}
 FORMS: Dict[str, Dict[str, Any]] = {
     "grown": {
         **HEAD,
@@ -37,6 +38,17 @@ FORMS: Dict[str, Dict[str, Any]] = {
         "hours": Maybe(float),
         "classes": [{"class": str, "growth": AMOUNT, "steps": [int], "growth_per_hour": Maybe(float)}],
         "hidden": int,
+    },
+    "holders": {
+        **HEAD,
+        "file": FILE,
+        "class": Maybe(str),
+        "unit": UNIT,
+        "at_least_percent": float,
+        "whole": AMOUNT,
+        "lines": [{"fields": [FIELD], "retained": AMOUNT, "share_percent": float, "instances": int}],
+        "hidden": int,
+        "without_statics": int,
     },
     "held": {
         **HEAD,
@@ -131,6 +143,24 @@ class DocumentsTest(ToolTest):
         self.assertEqual(found["classes"][0], {"class": "Order", "retained": {"objects": 20, "bytes": 0}})
         total = {unit: sum(each["retained"][unit] for each in found["classes"]) for unit in ("objects", "bytes")}
         self.assertEqual(found["retained"], total)
+
+    def test_holders(self) -> None:
+        """Lines with one field and with several, hidden ones, and no line."""
+        for name in ("shop", "journal", "threads"):
+            DUMPS[name].write(f"{name}.hprof")
+        found = self.document("holders", "shop.hprof", "Order", "--top", "1")
+        (line,) = found["lines"]
+        self.assertEqual(line["fields"], [{"kind": "static", "name": "Shop.CACHE", "text": "static Shop.CACHE"}])
+        self.assertEqual((line["share_percent"], line["instances"], found["hidden"]), (80, 1, 1))
+        self.assertEqual((found["class"], found["unit"], found["at_least_percent"]), ("Order", "objects", 10))
+        self.assertEqual(found["whole"]["objects"], 25)
+        self.assertEqual(found["without_statics"], 5)
+        found = self.document("holders", "journal.hprof", "Event")
+        self.assertEqual([each["name"] for each in found["lines"][0]["fields"]], ["Journal.EVENTS", "Screen.SHOWN"])
+        kinds = {each["fields"][0]["kind"] for each in self.document("holders", "threads.hprof", "Message")["lines"]}
+        self.assertTrue({"thread", "local"} <= kinds)
+        found = self.document("holders", "shop.hprof", "--at-least", "99")
+        self.assertEqual((found["lines"], found["class"], found["unit"]), ([], None, "bytes"))
 
     def test_nothing(self) -> None:
         """Where no line is printed because nothing could be found, no document is."""

@@ -150,6 +150,30 @@ class HoldersTest(ToolTest):
             for name in names:
                 self.expect(["odd.hprof", name], out, "* without any static field; *")
 
+    def test_largest_share_first(self) -> None:
+        """A static field with a small share comes after fields with a larger one, though these have more holders; and
+        --top cuts only what is printed."""
+        dump = DumpWriter()
+        dump.of_class(1, "shop/Catalog", {"ALL": 300})
+        dump.of_class(2, "shop/Desk", {"DESKS": 400}, fields=["open"])
+        dump.of_class(3, "[Lshop/Order;")
+        dump.of_class(4, "shop/Order")
+        dump.of_class(5, "[Lshop/Desk;")
+        dump.array(300, 3, *range(1000, 1020))
+        dump.array(400, 5, 401, 402, 403)
+        for desk in (401, 402, 403):
+            dump.instance(desk, 2, desk + 100)
+            dump.array(desk + 100, 3, *range(100 * desk, 100 * desk + 25))
+        for order in [*range(1000, 1020), *(100 * desk + number for desk in (401, 402, 403) for number in range(25))]:
+            dump.instance(order, 4)
+        dump.root(1, 2)
+        dump.write("desks.hprof")
+        lines = line(75, 0, 79, 1, "static shop/Desk.DESKS") + line(75, 0, 79, 3, "shop/Desk.open")
+        last = line(20, 0, 21, 1, "static shop/Catalog.ALL")
+        self.expect(["desks.hprof", "shop/Order"], lines + last, "*")
+        said = "holders: 1 more holds 10% or more: see --top\n*"
+        self.expect(["desks.hprof", "--top", "2", "shop/Order"], lines, said)
+
     def test_own_first(self) -> None:
         """At the same number of holders, own classes come before those of the JDK."""
         dump = DumpWriter()
@@ -166,11 +190,11 @@ class HoldersTest(ToolTest):
         self.expect(["own.hprof", "Task"], lines, "*")
 
     def test_thread_after_own_field(self) -> None:
-        """A thread comes after the own field by which it holds nearly all, before one by which it holds less, and
-        before fields of the JDK."""
+        """A thread comes after an own field with the same share, before one by which it holds less, and before fields
+        of the JDK."""
         for waiting, names in (
             (40, ["shop/Mailer.waiting", 'thread "mailer"', "java/lang/Thread.target"]),
-            (37, ['thread "mailer"', "shop/Mailer.waiting", "java/lang/Thread.target"]),
+            (37, ['thread "mailer"', "java/lang/Thread.target", "shop/Mailer.waiting"]),
         ):
             dump = DumpWriter()
             dump.of_class(1, "java/lang/Thread", fields=["name", "target"])
@@ -233,7 +257,7 @@ class HoldersTest(ToolTest):
         numbers = ("0", "101", "", "-1", "1_0", " 5", "ten", "\u0665")
         self.check_wrong_words(*(["shop.hprof", "--at-least", wrong] for wrong in numbers))
         self.check_wrong_words(["shop.hprof", "--top=0"], ["shop.hprof", "--top", "2.5"])
-        why = "holders: shop4.hprof: a file: leaks shop.hprof shop4.hprof shows what holds that which grew"
+        why = "holders: shop4.hprof: a file: leaks shop.hprof shop4.hprof shows what grew, and what holds it"
         self.expect(["shop.hprof", "shop4.hprof"], said=why, status=2)
         self.check_help("Shows what holds the objects of a class in a heap dump: ")
 

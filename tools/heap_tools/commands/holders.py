@@ -2,7 +2,7 @@
 
 import sys
 from argparse import Namespace
-from typing import NoReturn, Optional, Sequence, Tuple
+from typing import List, NamedTuple, NoReturn, Optional, Sequence, Tuple
 
 from heap_tools import command_line
 from heap_tools.candidates import THREAD, THREADS, joint_name
@@ -10,6 +10,7 @@ from heap_tools.class_lookup import family_of
 from heap_tools.class_names import family, is_array
 from heap_tools.command_line import Parser, number
 from heap_tools.console import Progress, is_terminal, say, write
+from heap_tools.documents import document, holders_fields
 from heap_tools.dump_runs import DumpRuns, is_dump
 from heap_tools.faults import NOTHING, WEAKLY_HELD, WRONG_USE, Fault
 from heap_tools.heap_objects import HeapObjects
@@ -19,6 +20,7 @@ from heap_tools.omissions import HIDDEN_HOLDERS, WHY_UNREACHABLE
 from heap_tools.probe import Probe, Retained
 from heap_tools.reports import Report, Unit
 from heap_tools.running_calls import DumpSide, without_running_calls
+from heap_tools.leak_lines import by_holders
 from heap_tools.search import Search
 from heap_tools.search_progress import SearchProgress
 
@@ -30,16 +32,16 @@ holders, and the field.
 """
 NOTES = """
 The holders of a field are the instances that have it; a static field has one
-holder; those of a local variable are the threads in its method. Fields with few
-holders come first: your own cache or queue, then the fields of the containers
-in it; at the same number of holders, those of the JDK come last, and a thread
-after your own field by which it holds nearly all. Classes with the same name
-are added together, and so are hidden classes, such as those of lambdas, whose
-names differ only in a number and an address (`$1+0x..`). Then a static field
-has one holder for each of these classes. A line `together` names static fields
-that hold the objects only together. The share is one of objects, that of an
-array class and of the whole heap one of bytes. A line on standard error says
-how much threads or the virtual machine hold without any static field.
+holder; those of a local variable are the threads in its method. The largest
+share comes first, and of several with one share that with the fewest holders:
+your own cache or queue, then the fields of the containers in it; then own
+fields, threads, and fields of the JDK. Classes with the same name are added
+together, and so are hidden classes, such as those of lambdas, whose names
+differ only in a number and an address (`$1+0x..`). Then a static field has one
+holder for each of these classes. A line `together` names static fields that
+hold the objects only together. The share is one of objects, that of an array
+class and of the whole heap one of bytes. A line on standard error says how much
+threads or the virtual machine hold without any static field.
 
 Each line is the difference of two reports of heapmark: of the dump, and of the
 dump in which the field is a number, so that it leads nowhere; of a local
@@ -56,7 +58,8 @@ is what the variable HEAPMARK names, else the one beside this tool, else the one
 built in this repository, else that of PATH. If SIGINT, SIGTERM or SIGHUP ends
 this tool, the exit status is 130.
 
-With two dumps, see leaks: it shows what holds that which grew.
+What fills a heap, with the path to it, and what grew between two dumps: see
+leaks.
 
 Exit status:
   0  done: the fields, if any, were printed
@@ -87,6 +90,7 @@ def parser() -> Parser:
     it.option("--top", "N", "Show at most N lines [default: 10]", type=number(1), default=10)
     it.flag("--bytes", "Take shares of bytes, not of objects")
     it.flag("--weak", "Follow soft, weak, final and phantom references, too")
+    it.flag("--json", "Print all that lines and notes say as a JSON document")
     return it
 
 
@@ -106,10 +110,28 @@ def require_objects(name: str, runs: DumpRuns, base: Report) -> None:
         raise Fault(WEAKLY_HELD, f"{name}: only soft, weak, final or phantom references hold its objects: see --weak")
 
 
-def searched(options: Namespace, name: Optional[str]) -> Search:
-    """Searches the dump, and returns the search."""
+class Found(NamedTuple):
+    """What a search has found, in the order of the lines, of which the first `top` are shown."""
+
+    search: Search
+    lines: List[Retained]
+    top: int
+
+    @property
+    def shown(self) -> List[Retained]:
+        """The lines that are shown."""
+        return self.lines[: self.top]
+
+    @property
+    def hidden(self) -> int:
+        """How many lines are not shown."""
+        return len(self.lines) - len(self.shown)
+
+
+def searched(options: Namespace, name: Optional[str]) -> Found:
+    """Searches the dump, and returns what was found."""
     if name and is_dump(name):
-        text = f"{name}: a file: leaks {options.dump} {name} shows what holds that which grew"
+        text = f"{name}: a file: leaks {options.dump} {name} shows what grew, and what holds it"
         raise Fault(WRONG_USE, text)
     heapmark, progress = Heapmark(), Progress("holders")
     progress.show("reading the dump")
@@ -125,31 +147,30 @@ def searched(options: Namespace, name: Optional[str]) -> Search:
             require_objects(families[0], runs, side.base)
         (side,), _ = without_running_calls([side], families, unit, unit.of(side.base.total(families)))
         probe = Probe(side.runs, side.candidates, families, unit, shown.show, side.base)
-        search = Search(probe, options.at_least or (10 if name else 20), options.top, by_amount, shown)
+        search = Search(probe, options.at_least or (10 if name else 20), sys.maxsize, by_holders, shown)
         search.find(side.candidates.fields(side.base))
     finally:
         progress.clear()
-    return search
+    return Found(search, sorted(search.found, key=lambda held: order_of(held, probe)), options.top)
 
 
-def by_amount(held: Retained) -> Tuple[int, bool, float, int]:
-    """Returns what lines are sorted by: few holders, own classes, a large amount, much of the heap. A thread counts as
-    if it held a twentieth less, so that an own field by which it holds nearly all of that comes before it."""
+def order_of(held: Retained, probe: Probe) -> Tuple[int, int, bool, bool, int]:
+    """Returns what lines are sorted by: a large share, as it is shown, few holders, own classes, fields before threads,
+    much of the heap."""
     is_thread = all(each.kind in (THREAD, THREADS) for each in held.candidates)
-    objects = held.amount.objects * (0.95 if is_thread else 1)
-    return held.holders, not held.is_own, -objects, -held.heap.bytes
+    return -round(probe.share(held.candidates)), held.holders, not held.is_own, is_thread, -held.heap.bytes
 
 
-def print_found(search: Search) -> None:
-    """Prints a line for each holder that was found, on a terminal below the heads of the columns."""
+def lines_of(found: Found) -> str:
+    """Returns a line for each holder that is shown, on a terminal below the heads of the columns."""
     lines = []
-    if is_terminal(sys.stdout) and search.found:
+    if is_terminal(sys.stdout) and found.shown:
         lines.append(f"{'objects':>10} {'bytes':>14} share   holders  field\n")
-    for held in search.first():
-        share, amount = search.probe.share(held.candidates), held.amount
+    for held in found.shown:
+        share, amount = found.search.probe.share(held.candidates), held.amount
         line = f"{amount.objects:10} {amount.bytes:14} {share:4.0f}% {held.holders:9}  {joint_name(held.candidates)}\n"
         lines.append(line)
-    write("".join(lines))
+    return "".join(lines)
 
 
 def why_none(search: Search) -> str:
@@ -161,33 +182,45 @@ def why_none(search: Search) -> str:
     return ": see --at-least" if search.at_least > 1 else ""
 
 
-def say_remainder(search: Search) -> None:
-    """Says what the lines do not: how much is left, and whether there is more, or nothing."""
-    probe, at_least = search.probe, search.at_least
-    whole = probe.unit.of(probe.whole)
-    what = counted(whole, probe.unit.noun)
+def without_statics(probe: Probe) -> int:
+    """Returns how much threads or the virtual machine hold without any static field."""
+    return probe.unit.of(probe.whole) - probe.unit.of(probe.retained(probe.candidates.statics()).amount)
+
+
+def notes_of(found: Found) -> List[str]:
+    """Returns what the lines do not say: whether there is more, or nothing, and how much is left."""
+    search, probe, notes = found.search, found.search.probe, []
+    what = counted(probe.unit.of(probe.whole), probe.unit.noun)
     what = f"{what} of {probe.families[0]}" if probe.families else what
-    rest = whole - probe.unit.of(probe.retained(probe.candidates.statics()).amount)
-    if search.hidden:
-        say(f"holders: {search.hidden}: see --top")
-    if not search.found:
-        say(f"holders: no field, local variable or thread alone holds {at_least}% of {what}{why_none(search)}")
+    if found.hidden:
+        hold = "holds" if found.hidden == 1 else "hold"
+        notes.append(f"{found.hidden} more {hold} {search.at_least:.0f}% or more: see --top")
+    if not found.lines:
+        alone = f"no field, local variable or thread alone holds {search.at_least}% of {what}"
+        notes.append(f"{alone}{why_none(search)}")
     unreachable = probe.runs.report.unreachable.bytes
     if not probe.families and 100 * unreachable >= MUCH_UNREACHABLE * probe.whole.bytes and unreachable:
-        say(f"holders: {counted(unreachable, 'byte')} more are unreachable: {WHY_UNREACHABLE}")
+        notes.append(f"{counted(unreachable, 'byte')} more are unreachable: {WHY_UNREACHABLE}")
     cost = f"{counted(search.all, 'field')}, {counted(probe.runs.heapmark.runs, 'run')} of heapmark"
-    say(f"holders: threads or the virtual machine hold {rest:,} of {what} without any static field; {cost}")
+    rest = f"threads or the virtual machine hold {without_statics(probe):,} of {what} without any static field"
+    return [*notes, f"{rest}; {cost}"]
 
 
 def main(words: Sequence[str]) -> int:
     """Does what the words of the command line ask for, and returns the exit status."""
     options = parser().read(words)
-    name = getattr(options, "class")
     if sys.stdout is None:
         write("")
-    search = searched(options, name)
-    print_found(search)
-    say_remainder(search)
+    found = searched(options, getattr(options, "class"))
+    lines, notes = lines_of(found), notes_of(found)
+    if options.json:
+        probe = found.search.probe
+        fields = holders_fields(probe, found.search.at_least, found.shown, found.hidden, without_statics(probe))
+        write(document("holders", fields, notes))
+    else:
+        write(lines)
+    for note in notes:
+        say(f"holders: {note}")
     return 0
 
 
