@@ -14,10 +14,11 @@ WAYS = [
     [("java/util/Properties", "map"), ("java/util/concurrent/ConcurrentHashMap", "table")],
     [("java/util/Hashtable", "table")],
 ]
-#: The fields of a node for its key, its value, and the next node, of the tables of both ways.
+#: The fields of a node for its key, its value, and the next node: of the tables of both ways, and of other maps.
 NODES = [
     ("java/util/concurrent/ConcurrentHashMap$Node", "key", "val", "next"),
     ("java/util/Hashtable$Entry", "key", "value", "next"),
+    ("java/util/HashMap$Node", "key", "value", "next"),
 ]
 #: The most nodes of a chain that are followed. Each is a walk over all objects, and a table has few long chains.
 LONGEST_CHAIN = 6

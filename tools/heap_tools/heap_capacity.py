@@ -1,0 +1,40 @@
+"""How much memory the heap of a program may have, as far as the dump says."""
+
+from typing import Optional
+
+from heap_tools import hprof_format as hprof
+from heap_tools.heap_dump import HeapDump
+from heap_tools.heap_objects import HeapObjects
+from heap_tools.program_facts import elements, pairs_in, static_value
+
+#: The class of the JDK that keeps how much memory direct buffers may have in all: as much as the heap, unless the
+#: option -XX:MaxDirectMemorySize says otherwise, which is then among the properties that the same class keeps.
+MACHINE, MOST_DIRECT, PROPERTIES = "jdk/internal/misc/VM", "directMemory", "savedProps"
+OPTION = "sun.nio.MaxDirectMemorySize"
+#: What this class has before the heap's size is known.
+UNKNOWN = 64 << 20
+
+
+def heap_capacity(dump: HeapDump) -> Optional[int]:
+    """Returns the most bytes that the heap may have, which is what the program gets as Runtime.maxMemory(), or None if
+    the dump does not say it. Walks over all objects some ten times."""
+    found = static_long(dump, MACHINE, MOST_DIRECT)
+    return None if found in (None, 0, UNKNOWN) or _has_option(HeapObjects(dump)) else found
+
+
+def static_long(dump: HeapDump, class_name: str, field: str) -> Optional[int]:
+    """Returns the number in a static field of 8 bytes, None if no class of the dump has such a field."""
+    for class_id, name in dump.names.items():
+        for each in dump.classes[class_id].fields if name == class_name else []:
+            if each.is_static and each.name == field and each.kind == hprof.LONG:
+                return dump.number(each.place + 1, 8)
+    return None
+
+
+def _has_option(objects: HeapObjects) -> bool:
+    """Tests whether the option is among the properties, or these cannot be read."""
+    at = objects.places_of([static_value(objects.dump, MACHINE, PROPERTIES)])
+    tables = [objects.reference(each, "java/util/HashMap", "table") for each in at.values()]
+    nodes = [node for each in objects.places_of(tables).values() for node in elements(objects.dump, each)]
+    keys = {key for key, _ in pairs_in(objects, nodes)}
+    return not keys or OPTION in objects.texts(keys).values()
