@@ -10,43 +10,36 @@
 #   shop  services that leak while nothing else happens
 #   load  services of real libraries, with requests inside the library while a dump is made
 #   hard  leaks in plain Java that are hard to name
+#   judge plain Java and real libraries, beside a catalog and a cache that has other pages each day
+#
+# The order of tools/leaks is tuned on the programs of shop, load and hard, and judged on those of judge: their holders
+# were written down before tools/leaks ran on them. A program of judge whose line is read to change the order is one to
+# tune on from then on.
 #
 # Java is that of JAVA_HOME, else that of PATH. A program is left out if it needs a later version, or a library that
 # /usr/share/java does not have; the row then says the Debian package.
 #
 # Prints a Markdown table: for each program the megabytes of its dumps, how many megabytes grew, how many the catalog
-# has, the seconds that tools/leaks took without a class, and its first line. A line is right if its field is the holder
-# of the table below, and the catalog is not in it. It is partly right if the output lacks the words of the table, which
-# say which of many objects it is. After a line that is not right comes the whole output. The last line is `N right, M
-# wrong, K left out`, with `P partly` between if there are any. Exit status 1 if a line was wrong or partly right, 2 if
-# there is no such program.
+# has, the seconds that tools/leaks took without a class, how often it started heapmark, and its first line. A line is
+# right if its field is the holder of the table below, and the catalog is not in it. It is partly right if the output
+# lacks the words of the table, which say which of many objects it is. After a line that is not right comes the whole
+# output. The last line is `N right, M wrong, K left out`, with `P partly` between if there are any. Exit status 1 if a
+# line was wrong or partly right, 2 if there is no such program.
 #
 # heapmark is the binary of crates/heapmark/out, or what the variable HEAPMARK names. LEAKS: a command in place of
-# tools/leaks. KEPT: a folder in which the dumps stay, NAME-before.hprof, NAME-after.hprof, and NAME-middle.hprof of
-# three. DUMPED: such a folder, whose dumps are searched again: Java is not run, and a program without dumps is left
-# out. SCALE: how many times as large as usual catalog and leak are (1); with 26, the last dump has some 600 MB.
+# tools/leaks, HELD one in place of tools/held. KEPT: a folder in which the dumps stay, NAME-before.hprof,
+# NAME-after.hprof, and NAME-middle.hprof of three. DUMPED: such a folder, whose dumps are searched again: Java is not
+# run, and a program without dumps is left out. SCALE: how many times as large as usual catalog and leak are (1); with
+# 26, the last dump has some 600 MB.
 set -euo pipefail
 
-top=$(cd "$(dirname "$0")/.." && pwd)
-# shellcheck source=bench/machine.sh
-. "$top/bench/machine.sh"
-export HEAPMARK=${HEAPMARK:-$top/crates/heapmark/out/heapmark}
-read -r -a leaks <<< "${LEAKS:-$top/tools/leaks}"
+# shellcheck source=bench/judging.sh
+. "$(dirname "$0")/judging.sh"
 scale=${SCALE:-1}
-room=$(mktemp -d)
-trap 'rm -rf "$room"' EXIT
-dumps=${DUMPED:-${KEPT:-$room}}
-right=0 partly=0 wrong=0 omitted=0
 
-# services: prints three lines for each program, of which the last may be missing:
-#
-# - its folder and name, the version of Java that it needs, and the number of its dumps; then, if it needs libraries,
-#   the Debian packages that have them and the names of their jars, with commas between them;
-# - the holder. Between holders of which any is right stands ` | `; `*` stands for any letters. Fields that only
-#   together hold the leak are right, too, if each of them is;
-# - after `says`, the words that the output must have, too.
-services() {
-    cat << 'SERVICES'
+# programs: prints the table, as judging.sh says.
+programs() {
+    cat << 'PROGRAMS'
 shop/MetricsService 17 2
     shop/MetricsService$Metrics.meters
 shop/QuoteService 17 2
@@ -186,24 +179,69 @@ hard/TenantService 17 2
 hard/ImageService 17 2
     static hard/ImageService.IMAGES
     says weak
-SERVICES
-}
-
-# rows: prints a line for each program: its folder, name, version, number of dumps, packages, jars, holder and words,
-# with tabs between them.
-rows() {
-    services | awk '
-        function printed() { if (row != "") print row "\t" holder "\t" words }
-        /^ +says / { words = substr($0, index($0, "says ") + 5); next }
-        /^ / { sub(/^ +/, ""); holder = holder (holder == "" ? "" : " ") $0; next }
-        { printed(); holder = words = ""; sub("/", "\t", $1)
-          row = $1 "\t" $2 "\t" $3 "\t" ($4 == "" ? "-" : $4) "\t" ($5 == "" ? "-" : $5) }
-        END { printed() }'
-}
-
-# megabytes FILE..: prints the sizes of the files, with commas between them.
-megabytes() {
-    stat -c %s "$@" | awk '{ printf "%s%.1f", (NR == 1 ? "" : ", "), $1 / 1e6 }'
+judge/ChatService 17 2
+    judge/ChatService$Session.history
+    says welcome-bot
+judge/InboxService 17 2
+    judge/InboxService$Inbox.mails | judge/InboxService$Tenant.inbox
+    says tenant-317
+judge/ChannelService 17 2
+    judge/ChannelService$Channel.oldest
+    says quotes.eur
+judge/LockService 17 2
+    judge/LockService$Locks.byKey
+judge/SensorService 17 2
+    judge/SensorService$Sensor.listeners
+    says boiler-7
+judge/RouteService 17 2
+    judge/RouteService$Planner.planned
+judge/FormatService 17 2
+    judge/FormatService$Scratch.parts
+judge/DeliveryService 17 2
+    judge/DeliveryService$Destination.retries
+    says hooks-23.
+judge/LabelService 17 2
+    judge/LabelService$Metric.children
+    says http_requests_total
+judge/PanelService 17 2
+    judge/PanelService$Settings.changes | java/beans/PropertyChangeSupport.map | java/beans/ChangeListenerMap.map
+judge/WordService 17 2
+    judge/WordService$Words.root
+judge/LineService 17 2
+    judge/LineService$Log.pending
+    says payments.audit
+judge/RegionService 17 2
+    judge/RegionService$Region.quotes
+    says eu-central
+judge/CrawlService 17 2
+    local judge/CrawlService.crawl | thread "crawler"
+judge/StampService 17 2
+    java/util/concurrent/CompletableFuture.stack | judge/StampService$Clock.offset
+judge/ExportService 17 2
+    static java/io/DeleteOnExitHook.files
+judge/LaneService 17 2
+    java/util/concurrent/ThreadPoolExecutor.workQueue | judge/LaneService$Lane.executor
+    says pdf
+judge/JsonService 17 2 libjackson2-databind-java jackson-core,jackson-databind,jackson-annotations
+    com/fasterxml/jackson/databind/ObjectMapper._rootDeserializers
+judge/AliasService 17 2 libcommons-collections4-java commons-collections4
+    org/apache/commons/collections4/trie/AbstractPatriciaTrie.root | judge/AliasService$Directory.customers
+judge/BorrowService 17 2 libhikaricp-java,libslf4j-java HikariCP,slf4j-api
+    com/zaxxer/hikari/util/ConcurrentBag.sharedList | com/zaxxer/hikari/pool/HikariPool.connectionBag
+judge/FlushService 17 2 libnetty-java netty-common,netty-buffer,netty-transport,netty-resolver
+    io/netty/channel/ChannelOutboundBuffer.unflushedEntry
+    says peer-77
+judge/ChartService 17 2 libjfreechart-java jfreechart,jcommon
+    org/jfree/data/xy/XYSeries.data
+    says host-12
+judge/SchemaService 17 2 libxerces2-java xercesImpl,xml-apis
+    org/apache/xerces/util/XMLGrammarPoolImpl.fGrammars | judge/SchemaService.pool
+judge/ReplyService 17 2 libokhttp-java okhttp,okio
+    okhttp3/Dispatcher.readyAsyncCalls | okhttp3/OkHttpClient.dispatcher
+judge/ActorService 17 2 libjctools-java jctools-core
+    org/jctools/queues/BaseMpscLinkedArrayQueueConsumerFields.consumerBuffer | judge/ActorService$Actor.mailbox
+    says system/billing
+PROGRAMS
 }
 
 # reachable DUMP: prints the reachable bytes of DUMP.
@@ -213,128 +251,55 @@ reachable() {
 
 # catalog DUMP FOLDER: prints how many bytes the catalog of the programs of FOLDER holds in DUMP.
 catalog() {
-    { "$top/tools/held" "$1" "$2/Catalog.PRODUCTS" 2> /dev/null || true; } | awk '{ bytes += $2 } END { print bytes }'
-}
-
-# class_path JARS: sets `path` to the class path of the jars. Returns 1 if one is missing.
-class_path() {
-    local jar jars
-    path=$room/classes
-    [ "$1" != - ] || return 0
-    IFS=, read -r -a jars <<< "$1"
-    for jar in "${jars[@]}"; do
-        # shellcheck disable=SC2206 # a name may be a pattern
-        jar=(/usr/share/java/$jar.jar)
-        [ -e "${jar[0]}" ] || return 1
-        path+=$(printf ':%s' "${jar[@]}")
-    done
+    { "${held[@]}" "$1" "$2/Catalog.PRODUCTS" 2> /dev/null || true; } | awk '{ bytes += $2 } END { print bytes }'
 }
 
 # dumped FOLDER NAME: compiles the program and runs it, which dumps itself to `files`.
 dumped() {
-    "${java}javac" -encoding UTF-8 -sourcepath "$top/bench/java/leaks" -cp "$path" -d "$room/classes" \
-        "$top/bench/java/leaks/$1/$2.java"
+    compiled "$top/bench/java/leaks" "$top/bench/java/leaks/$1/$2.java"
     rm -f "${files[@]}"
     "${java}java" -cp "$path" "-Xmx$((64 + 64 * scale))m" "-Dscale=$scale" "-Djava.io.tmpdir=$room" "$1.$2" \
         "${files[@]}" > "$room/told" 2>&1 || { cat "$room/told" >&2; exit 1; }
 }
 
-# is FIELD HOLDERS: tests whether FIELD is one of HOLDERS. More words may come after the field.
-is() {
-    local holders=$2 holder
-    until [ -z "$holders" ]; do
-        holder=${holders%% | *}
-        holders=${holders#"$holder"}
-        holders=${holders# | }
-        holder=${holder//[\\]/\\\\}
-        holder=${holder//\[/\\[}
-        # shellcheck disable=SC2053 # a holder is a pattern
-        [[ $1 != $holder && $1 != ${holder}[\ :]* ]] || return 0
-    done
-    return 1
-}
-
-# named LINE HOLDERS: tests whether the last field of LINE, to which fields above it may lead, is one of HOLDERS, or is
-# some of them together, and whether LINE says nothing of the catalog.
-named() {
-    local found=${1##*  } part
-    found=${found##* > }
-    [[ -n $found && $1 != */Catalog* ]] || return 1
-    ! is "$found" "$2" || return 0
-    [[ $found == 'together '* ]] || return 1
-    found=${found#together }
-    while [ -n "$found" ]; do
-        part=${found%%, *}
-        is "$part" "$2" || return 1
-        found=${found#"$part"}
-        found=${found#, }
-    done
-}
-
-# judged HOLDERS WORDS: counts and prints what the output is worth.
-judged() {
+# judge HOLDERS WORDS: counts and prints what the answer is worth.
+judge() {
     if ! named "$line" "$1"; then
-        wrong=$((wrong + 1))
-        printf 'WRONG: line 1 does not name %s:\n' "$1"
-    elif [ -n "$2" ] && ! grep -qF "$2" "$room/lines" "$room/told"; then
-        partly=$((partly + 1))
-        printf 'PARTLY: line 1 names the holder, but nothing says %s:\n' "$2"
+        counted wrong "line 1 does not name $1"
+    elif ! says "$2"; then
+        counted partly "line 1 names the holder, but nothing says $2"
     else
         right=$((right + 1))
-        return
     fi
-    cat "$room/lines" "$room/told"
 }
 
 # try FOLDER NAME HOLDERS WORDS: runs tools/leaks on the dumps, `files`, and prints the row of the table.
 try() {
-    local start first=${files[0]} last=${files[-1]}
-    start=${EPOCHREALTIME/./}
-    "${leaks[@]}" "${files[@]}" > "$room/lines" 2> "$room/told" < /dev/null || true
-    start=$((${EPOCHREALTIME/./} - start))
-    line=$(head -n 1 "$room/lines")
+    local first=${files[0]} last=${files[-1]}
+    ask "${files[@]}"
     awk -v service="$2" -v sizes="$(megabytes "${files[@]}")" -v before="$(reachable "$first")" \
-        -v after="$(reachable "$last")" -v catalog="$(catalog "$last" "$1")" -v seconds=$start '{
-            printf "| %s | %s | %.1f | %.1f | %.1f | `%s` |\n", service, sizes, (after - before) / 1e6, catalog / 1e6,
-                seconds / 1e6, $0
+        -v after="$(reachable "$last")" -v catalog="$(catalog "$last" "$1")" -v seconds="$microseconds" \
+        -v runs="$runs" '{
+            printf "| %s | %s | %.1f | %.1f | %.1f | %d | `%s` |\n", service, sizes, (after - before) / 1e6,
+                catalog / 1e6, seconds / 1e6, runs, $0
         }' <<< "$line"
-    judged "$3" "$4"
+    judge "$3" "$4"
 }
 
-# missing VERSION PACKAGES JARS: prints what the program needs that is not here, if there is such a thing.
-missing() {
-    if [ -n "${DUMPED:-}" ]; then
-        [ -e "${files[0]}" ] || echo "a dump, $(basename "${files[0]}")"
-    elif [ "$1" -gt "$(version)" ]; then
-        echo "Java $1"
-    else
-        class_path "$3" || echo "${2//,/ }"
-    fi
-}
-
-mapfile -t all < <(rows)
-chosen=()
-for word in "${@:-*}"; do
-    count=${#chosen[@]}
-    for row in "${all[@]}"; do
-        IFS=$'\t' read -r folder name _ <<< "$row"
-        # shellcheck disable=SC2053 # no word stands for all
-        [[ $name != $word && $folder != $word ]] || chosen+=("$row")
-    done
-    [ "${#chosen[@]}" -gt "$count" ] || { echo "no such program: $word" >&2; exit 2; }
-done
+choose "$@"
+counting
 mkdir -p "$dumps"
 on=${DUMPED:+, searched again}
-echo "| Service | Dumps, MB | Grew, MB | Catalog, MB | Seconds | First line${on:-, on Java $(version)} |"
-echo '|---|---|---|---|---|---|'
+echo "| Service | Dumps, MB | Grew, MB | Catalog, MB | Seconds | Runs | First line${on:-, on Java $(version)} |"
+echo '|---|---|---|---|---|---|---|'
 for row in "${chosen[@]}"; do
-    IFS=$'\t' read -r folder name needed number packages jars holders words <<< "$row"
+    IFS=$'\t' read -r folder name needed number packages jars holders words _ <<< "$row"
     files=("$dumps/$name-before.hprof" "$dumps/$name-after.hprof")
     [ "$number" = 2 ] || files=("${files[0]}" "$dumps/$name-middle.hprof" "${files[1]}")
     lacking=$(missing "$needed" "$packages" "$jars")
     if [ -n "$lacking" ]; then
         omitted=$((omitted + 1))
-        echo "| $name | | | | | left out: it needs $lacking |"
+        echo "| $name | | | | | | left out: it needs $lacking |"
         continue
     fi
     if [ -z "${DUMPED:-}" ]; then
@@ -344,6 +309,4 @@ for row in "${chosen[@]}"; do
     try "$folder" "$name" "$holders" "$words"
     [ -n "${DUMPED:-}${KEPT:-}" ] || rm "${files[@]}"
 done
-[ "$partly" = 0 ] || between="$partly partly, "
-echo "$right right, ${between:-}$wrong wrong, $omitted left out"
-[ "$((wrong + partly))" -eq 0 ]
+judged

@@ -4,22 +4,22 @@ import com.sun.management.HotSpotDiagnosticMXBean;
 import java.lang.management.ManagementFactory;
 
 /**
- * The course of every program: it works for a day and dumps its live objects; before each further dump it works for
- * three days.
+ * The course of every program of hard and judge: it works for a day and dumps its live objects; before each further
+ * dump it works for three days.
  *
  * <p>Usage: {@code java hard.NAME DUMP..}: the files of the dumps, which must not exist.
  */
-final class Course {
+public final class Course {
     /** How many times as large as usual catalog and leaks are. */
-    static final int SCALE = Integer.getInteger("scale", 1);
+    public static final int SCALE = Integer.getInteger("scale", 1);
 
     /** What a program does on a day. The days before the second dump are 1, 2 and 3. */
-    interface Day {
+    public interface Day {
         void work(int day) throws Exception;
     }
 
     /** Ends the program, too, even if something fails: some have threads that would not end. */
-    static void run(String[] words, Day work) {
+    public static void run(String[] words, Day work) {
         try {
             HotSpotDiagnosticMXBean machine = ManagementFactory.getPlatformMXBean(HotSpotDiagnosticMXBean.class);
             int day = 0;

@@ -1,0 +1,129 @@
+"""Tests how bench/leaks.sh and bench/oom.sh judge what leaks prints, with small programs in place of leaks and held."""
+
+from __future__ import annotations
+
+import os
+import pathlib
+import subprocess
+import tempfile
+import unittest
+
+TOP = pathlib.Path(__file__).resolve().parents[2]
+HEAPMARK = "#!/bin/sh\nprintf '%10s  %14s  %s\\n' 1 8 A 1 8 '(reachable)'\n"
+#: Starts heapmark twice, and prints the files `lines` and `told`.
+LEAKS = """#!/bin/sh
+"$HEAPMARK" "$1" > /dev/null; "$HEAPMARK" "$1" > /dev/null
+cat "$(dirname "$0")/lines"; cat "$(dirname "$0")/told" >&2
+"""
+#: Prints the line of the file `hanging` that begins with the fields and a colon, without these.
+HELD = '#!/bin/sh\nsed -n "s|^$2: ||p" "$(dirname "$0")/hanging"\n'
+FIGURES = "       30          2048     90%  0 -> 9        1  "
+RAN_OUT = 'leaks: memory ran out in thread "chat-3": full/Chat.say, full/Chat.serve\n'
+
+
+class JudgingTest(unittest.TestCase):
+    """Each verdict of both scripts."""
+
+    def setUp(self) -> None:
+        room = tempfile.TemporaryDirectory()
+        self.addCleanup(room.cleanup)
+        self.room = pathlib.Path(room.name)
+        (self.room / "dumps").mkdir()
+        for name, text in (("heapmark", HEAPMARK), ("leaks", LEAKS), ("held", HELD), ("hanging", "")):
+            (self.room / name).write_text(text)
+            (self.room / name).chmod(0o755)
+
+    def ended(self, script: str, *words: str, line: str = "", told: str = "") -> tuple[int, str]:
+        """Runs a script of bench/ on the dumps, where leaks prints a line and says something. Returns its status and
+        what it printed."""
+        (self.room / "lines").write_text(f"{FIGURES}{line}\n" if line else "")
+        (self.room / "told").write_text(told)
+        given = {"HEAPMARK": "heapmark", "LEAKS": "leaks", "HELD": "held", "DUMPED": "dumps"}
+        run = subprocess.run(
+            [str(TOP / "bench" / script), *words],
+            env={**os.environ, **{name: str(self.room / file) for name, file in given.items()}},
+            stdin=subprocess.DEVNULL,
+            stdout=subprocess.PIPE,
+            stderr=subprocess.STDOUT,
+            text=True,
+        )
+        return run.returncode, run.stdout
+
+    def dump(self, *names: str) -> None:
+        """Writes dumps of these names."""
+        for name in names:
+            (self.room / "dumps" / f"{name}.hprof").write_text("dump")
+
+    def test_two_dumps(self) -> None:
+        """A line is right if it ends with the holder, and partly right if nothing says which object it is."""
+        self.dump("BasketService-before", "BasketService-after")
+        holder = "hard/BasketService$Basket.items"
+        for line, told, verdict in (
+            (holder, "leaks: basket-4711", "1 right, 0 wrong"),
+            (f"static hard/BasketService.BASKETS > {holder}", "leaks: basket-4711", "1 right, 0 wrong"),
+            (holder, "leaks: none", "0 right, 1 partly, 0 wrong"),
+            (f"{holder} > hard/Item.next", "leaks: basket-4711", "0 right, 1 wrong"),
+            (f"static hard/Catalog.PRODUCTS > {holder}", "leaks: basket-4711", "0 right, 1 wrong"),
+            ("", "leaks: nothing grew", "0 right, 1 wrong"),
+        ):
+            status, out = self.ended("leaks.sh", "BasketService", line=line, told=told)
+            self.assertIn(f"{verdict}, 0 left out\n", out)
+            self.assertEqual(status, 0 if verdict.startswith("1 right") else 1)
+            self.assertIn("| 2 | `", out)
+
+    def test_together(self) -> None:
+        """Fields that only together hold the leak are right if each is."""
+        self.dump("JournalService-before", "JournalService-after")
+        journal, screen = "shop/JournalService$Journal.events", "shop/JournalService$Screen.shown"
+        for line, right in (
+            (f"together static {journal}, static {screen}", 1),
+            (f"together static {journal}, static shop/Other.shown", 0),
+        ):
+            status, out = self.ended("leaks.sh", "JournalService", line=line)
+            self.assertIn(f"{right} right, {1 - right} wrong, ", out)
+            self.assertEqual(status, 1 - right)
+
+    def test_left_out(self) -> None:
+        """A program without dumps is left out, and no program of a name is an error."""
+        for script, name in (("leaks.sh", "BasketService"), ("oom.sh", "Chat")):
+            status, out = self.ended(script, name)
+            self.assertEqual((status, out.splitlines()[-1]), (0, "0 right, 0 wrong, 1 left out"))
+            self.assertEqual(self.ended(script, "Nothing"), (2, "no such program: Nothing\n"))
+
+    def test_one_dump(self) -> None:
+        """An answer is right if the holder, each step above it, the object and the thread are."""
+        self.dump("Chat-17-G1", "Chat-21-Serial")
+        above, holder = "static full/Chat.SESSIONS_BY_USER", "full/Chat$Session.history"
+        path, named = f"{above} > {holder}", 'leaks: user "welcome-bot"\n'
+        steps = f"{above}: 3 100 A\n{holder}: 2 90 A\n{above}, {holder}: 3 100 A\n"
+        for line, told, hanging, verdict in (
+            (path, named + RAN_OUT, steps, "2 right, 0 wrong"),
+            (path, RAN_OUT, steps, "0 right, 2 partly, 0 wrong"),
+            (path, named, steps, "0 right, 2 wrong"),
+            (path, named + RAN_OUT.replace("chat-3", "chat-4"), steps, "0 right, 2 wrong"),
+            (path, named + RAN_OUT.replace("full/Chat", "full/Other"), steps, "0 right, 2 wrong"),
+            (path, named + RAN_OUT, steps.replace("3 100 A\n" + holder, "3 80 A\n" + holder), "0 right, 2 wrong"),
+            (path, named + RAN_OUT, steps + f"{above}, {holder}: 1 9 B\n", "0 right, 2 wrong"),
+            (above, named + RAN_OUT, steps, "0 right, 2 wrong"),
+        ):
+            (self.room / "hanging").write_text(hanging)
+            status, out = self.ended("oom.sh", "full", line=line, told=told)
+            self.assertIn(f"median runs: 2\n{verdict}, ", out)
+            self.assertEqual(status, 0 if verdict.startswith("2 right") else 1)
+
+    def test_healthy(self) -> None:
+        """A healthy program may not be said to leak or to have grown."""
+        self.dump("Pages-17-Serial")
+        for told, right in (
+            ("leaks: 80% of the heap", 1),
+            ("leaks: it grew", 0),
+            ("leaks: a leak", 0),
+            (RAN_OUT, 0),
+        ):
+            status, out = self.ended("oom.sh", "Pages", line="static steady/Pages.RECENT", told=told)
+            self.assertIn(f"{right} right, {1 - right} wrong", out)
+            self.assertEqual(status, 1 - right)
+
+
+if __name__ == "__main__":
+    unittest.main()
