@@ -43,7 +43,7 @@ rows() {
         /^ +ran out / { thread = substr($0, index($0, "ran out ") + 8); next }
         /^ / { sub(/^ +/, ""); holder = holder (holder == "" ? "" : " ") $0; next }
         { printed(); holder = ""; words = thread = "-"; sub("/", "\t", $1)
-          row = $1 "\t" $2 "\t" $3 "\t" $4 "\t" ($5 == "" ? "-" : $5) "\t" ($6 == "" ? "-" : $6) }
+          row = $1 "\t" $2 "\t" $3 "\t" ($4 == "" ? "-" : $4) "\t" ($5 == "" ? "-" : $5) }
         END { printed() }'
 }
 

@@ -19,6 +19,7 @@ cat "$(dirname "$0")/lines"; cat "$(dirname "$0")/told" >&2
 HELD = '#!/bin/sh\nsed -n "s|^$2: ||p" "$(dirname "$0")/hanging"\n'
 FIGURES = "       30          2048     90%  0 -> 9        1  "
 RAN_OUT = 'leaks: memory ran out in thread "chat-3": full/Chat.say, full/Chat.serve\n'
+RAN_OUT_OF_TOKENS = 'leaks: cache "tokens"\nleaks: memory ran out in thread "cart-1": full/Eternal.serve\n'
 
 
 class JudgingTest(unittest.TestCase):
@@ -82,6 +83,16 @@ class JudgingTest(unittest.TestCase):
             status, out = self.ended("leaks.sh", "JournalService", line=line)
             self.assertIn(f"{right} right, {1 - right} wrong, ", out)
             self.assertEqual(status, 1 - right)
+
+    def test_library(self) -> None:
+        """The row of a program that needs libraries is read as another is."""
+        self.dump("AtomService-before", "AtomService-after", "Eternal-17-G1")
+        for script, name, line, told in (
+            ("leaks.sh", "AtomService", "clojure/lang/Atom.state", "leaks: sessions\n"),
+            ("oom.sh", "Eternal", "net/sf/ehcache/store/MemoryStore.map", RAN_OUT_OF_TOKENS),
+        ):
+            status, out = self.ended(script, name, line=line, told=told)
+            self.assertIn("1 right, 0 wrong, 0 left out\n", out)
 
     def test_left_out(self) -> None:
         """A program without dumps is left out, and no program of a name is an error."""
