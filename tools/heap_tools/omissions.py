@@ -20,10 +20,13 @@ WHY_UNREACHABLE = f"garbage in dumps with -all; in live dumps {HIDDEN_HOLDERS}"
 #: What no dump shows, of whatever program.
 NEVER_SHOWN = [
     "Memory outside of the heap: direct buffers, class metadata, compiled code, and the memory of stacks.",
+]
+#: What bytes are if they are those of the dump.
+SIZES = (
     "Headers and padding of objects. Bytes are those of fields and elements as the dump writes them, and a reference "
     "of a 64-bit machine counts 8 bytes, so sizes differ from those that the virtual machine reports. Numbers of "
-    "objects can be compared.",
-]
+    "objects can be compared."
+)
 #: What is unreachable is much if it is at least this part of all that a dump has more, in percent, and of its heap.
 MUCH_OF_MORE, MUCH_OF_HEAP = 20, 1
 
@@ -38,9 +41,9 @@ def on_page(more: Amount) -> List[str]:
     return [f"In the last dump, {more_unreachable(more)}."] if max(more) > 0 else []
 
 
-def unreachable_on_page(objects: int) -> str:
-    """Returns a sentence on the `objects` that are unreachable in the last dump of a page."""
-    return f"What holds unreachable objects, of which the last dump has {objects:,}: {WHY_UNREACHABLE}."
+def unreachable_on_page(objects: int, dump: str = "the last dump") -> str:
+    """Returns a sentence on the `objects` that are unreachable in the last dump of a page, which is called `dump`."""
+    return f"What holds unreachable objects, of which {dump} has {objects:,}: {WHY_UNREACHABLE}."
 
 
 def large_unreachable(more: Amount, grown: Amount, heap: Amount) -> Optional[str]:

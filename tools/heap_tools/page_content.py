@@ -7,6 +7,7 @@ import time
 from typing import List, Sequence
 
 from heap_tools import VERSION, page
+from heap_tools.candidates import Candidate
 from heap_tools.class_growth import growths
 from heap_tools.class_names import CLASSES, is_own
 from heap_tools.comparison import Comparison
@@ -18,6 +19,7 @@ from heap_tools.omissions import on_page
 from heap_tools.probe import GrowthProbe, Probe
 from heap_tools.program_facts import facts_of
 from heap_tools.reports import Amount, Report, Unit
+from heap_tools.which_object import HoldingObject
 
 
 def content_of(comparison: Comparison, answer: Answer, notes: Notes, shows_values: bool) -> page.Leak:
@@ -55,11 +57,13 @@ def growth_entries(reports: Sequence[Report], unit: Unit) -> List[page.GrownClas
 
 def objects_of(notes: Notes) -> List[page.ObjectEntry]:
     """Returns the objects that hold most of what a line holds."""
-    if not notes.objects:
-        return []
-    number, found = notes.objects.number, notes.objects.objects
-    parts = [(it.class_name, it.named_by, it.amount.bytes, it.percent, it.has_gained) for it in found]
-    return [page.ObjectEntry(number, *each) for each in parts]
+    return [object_of(notes.objects.number, it) for it in notes.objects.objects] if notes.objects else []
+
+
+def object_of(line: int, it: HoldingObject) -> page.ObjectEntry:
+    """Returns what the page shows of an object that has the field of a line."""
+    names = [page.NameEntry(name.how, name.text) for name in it.names]
+    return page.ObjectEntry(line, it.class_name, names, it.amount.bytes, it.percent, it.has_gained)
 
 
 def dump_of(runs: DumpRuns) -> page.DumpEntry:
@@ -77,13 +81,20 @@ def program_of(runs: DumpRuns, shows_values: bool) -> page.ProgramEntry:
 
 def holder_of(line: Line, probe: GrowthProbe) -> page.HolderEntry:
     """Returns what the page shows of a line."""
-    candidates = line.held.candidates
-    kind = page.TOGETHER if len(candidates) > 1 else candidates[0].kind
-    name = ", ".join(sorted(each.name for each in candidates))
-    before = share_of(line.before, probe.earlier)
-    after = share_of(line.held.amount, probe)
-    above = [sorted(map(str, each.candidates)) for each in line.above]
-    return page.HolderEntry(kind, name, line.held.holders, before, after, line.share, above, line.holders_before)
+    return page.HolderEntry(
+        fields=fields_of(line.held.candidates),
+        instances=line.held.holders,
+        before=share_of(line.before, probe.earlier),
+        after=share_of(line.held.amount, probe),
+        share=line.share,
+        above=[page.StepEntry(fields_of(each.candidates), share_of(each.amount, probe)) for each in line.above],
+        instances_before=line.holders_before,
+    )
+
+
+def fields_of(candidates: Sequence[Candidate]) -> List[page.FieldEntry]:
+    """Returns what the page shows of candidates that hold something together."""
+    return [page.FieldEntry(each.kind, each.name) for each in sorted(candidates, key=str)]
 
 
 def share_of(amount: Amount, probe: Probe) -> page.HeldShare:
@@ -98,7 +109,7 @@ def steps_from(path: str, lines: Sequence[Line], names: Sequence[str], follows_w
     if lines and all(each.name for each in lines[0].held.candidates):
         fields = ", ".join(sorted(map(str, lines[0].held.candidates)))
         command = command_line(["held", *options], path, fields)
-        steps.append(page.NextStep("All that hangs by it, class by class", command))
+        steps.append(page.NextStep("All that it retains, class by class", command))
     for name in [*filter(is_own, names), *names][:1]:
         purpose = f"What holds objects of {name}, also if it did not grow"
         steps.append(page.NextStep(purpose, command_line(["holders", *options], path, name)))

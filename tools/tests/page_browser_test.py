@@ -1,4 +1,4 @@
-"""A browser opens pages of `leaks --html`: of dumps, and of leaks that no dump has."""
+"""A browser opens pages of `leaks --html`: of dumps, and of what no dump has."""
 
 import pathlib
 import re
@@ -11,7 +11,7 @@ from heap_tools.class_names import shown
 from heap_tools.page import templates
 from tests.support import page_sample
 from tests.support.dump_writer import DumpWriter
-from tests.support.hostile_names import HOSTILE_CLASSES, SCRIPT, hostile_leak
+from tests.support.hostile_names import HOSTILE_CLASSES, SCRIPT, hostile_leak, hostile_one_dump
 from tests.support.in_browser import CUT, LOW_CONTRAST, SCROLLING, InBrowser
 from tests.support.picture import picture_of
 from tests.support.services import cache
@@ -29,8 +29,14 @@ ACCENT = """
 (it => getComputedStyle(it.lastChild.nodeType === 3 ? it : it.lastElementChild).color.match(/[0-9.]+/g).map(Number))(
   document.querySelector('h1 .name'))
 """
-#: The sides of A4 in points.
+#: Returns the dots of the drawn path that are not below the one before them.
+DOTS_OUT_OF_LINE = """
+(dots => dots.filter((dot, at) => at && !(dot.left === dots[at - 1].left && dot.top >= dots[at - 1].bottom - 1)))(
+  [...document.querySelectorAll('.chain > li')].map(it => it.getBoundingClientRect()))
+"""
+#: The sides of A4 in points, and of what is printed on it in pixels: without the margins of 13 and 14 mm at each side.
 A4 = (595, 842)
+A4_WIDTH, A4_HEIGHT = int((210 - 2 * 13) * 96 / 25.4), int((297 - 2 * 14) * 96 / 25.4)
 
 
 class ToolPageTest(InBrowser, ToolTest):
@@ -48,7 +54,7 @@ class ToolPageTest(InBrowser, ToolTest):
 
     def test_leak(self) -> None:
         """The figures of a leak."""
-        objects, size, share, before, after, holders, way = self.made(cache(40), cache(160, 12), "monday", "friday")
+        objects, size, share, before, after, instances, way = self.made(cache(40), cache(160, 12), "monday", "friday")
         self.open("page.html")
         self.check_screens()
         *above, name = way.split(" > ")
@@ -56,10 +62,10 @@ class ToolPageTest(InBrowser, ToolTest):
         self.assertEqual(self.texts("#holders .holders tbody tr:first-child li"), above)
         self.assertEqual(self.texts("header li"), above)
         row = "#holders .holders tbody tr:first-child td:nth-of-type"
-        self.assertEqual(self.figures(f"{row}(1) data"), [int(holders)])
+        self.assertEqual(self.figures(f"{row}(1) data"), [int(instances)])
         self.assertEqual(self.figures(f"{row}(2) data")[2], int(objects))
         self.assertEqual(self.figures(f"{row}(3) data"), [int(before), int(after), int(size)])
-        self.assertEqual(self.texts(f"{row}(4)"), [share.replace("%", " %")])
+        self.assertEqual(self.texts(f"{row}(4)"), [share])
         self.assertEqual(self.figures("h1 data"), [int(after), int(before)])
         self.assertEqual(self.texts("#making tbody th"), ["monday", "friday"])
         self.assertIn("In 12 min", self.texts(".lead")[0])
@@ -144,24 +150,47 @@ class BrowserTest(InBrowser):
         self.assertEqual(self.texts("h1"), [f"Static field {name} holds 20.4 MB, up from 4.0 MB"])
         cell = "#holders tbody tr:first-child td:nth-of-type(3)"
         self.assertEqual(self.texts(f"{cell} data"), ["4.0 MB", "20.4 MB", "+16.4 MB"])
-        self.assertEqual(self.texts("#grown tbody th"), [it.name for it in leak.grown])
+        self.assertEqual(self.texts("#grown tbody th"), [it.name for it in leak.grown[:-1]])
         exact = set(self.figures("#making td data"))
         for dump in leak.dumps:
             self.assertLessEqual({*dump.reachable, *dump.unreachable, dump.size, dump.unresolved}, exact)
         self.assertEqual(self.texts("#last tfoot data"), ["1,304,914", "58.3 MB"])
-        self.assertEqual([[step] for step in self.texts("#holders tbody tr:last-child li")], leak.holders[-1].above)
+        above = [field for step in leak.holders[-1].above for field in step.fields]
+        steps = self.texts("#holders .holders tbody tr:last-child .path li")
+        self.assertEqual([page_sample.field(step) for step in steps], above)
         self.assertEqual(self.texts("title")[0], f"{name}: 4.0 MB to 20.4 MB")
 
     def test_other_pages(self) -> None:
-        """A page of which nothing was found, and one that has all that there can be."""
-        for leak in page_sample.bare_leak(), page_sample.full_leak():
+        """Pages of which nothing was found, and some that have all that there can be."""
+        for leak in page_sample.bare_leak(), page_sample.full_leak(), page_sample.bare_dump(), page_sample.one_dump():
             self.open_page_of(leak)
             self.check_screens()
 
+    def test_figures_of_one_dump(self) -> None:
+        """The browser shows the figures of the sample, and draws the path: a dot for each step, one below the other."""
+        dump = page_sample.one_dump()
+        self.open_page_of(dump)
+        self.assertEqual(self.texts("head title"), ["com/acme/mail/Tenants.BY_NAME: 40.3 MB of 49.6 MB"])
+        held = [step.held for step in dump.suspects[1].above] + [dump.suspects[1].held]
+        sizes = [each.amount.bytes for each in held if each] + [dump.objects[0].bytes]
+        self.assertEqual(self.figures(".chain .amount data"), sizes)
+        self.assertEqual(self.figures(".full + figcaption data")[:2], [sizes[0], dump.dump.reachable.bytes - sizes[0]])
+        self.assertEqual(
+            self.figures(".contents tbody td:nth-of-type(2) data"), [it.amount.bytes for it in dump.contents]
+        )
+        for width in 1280, 390:
+            self.browser.show(width)
+            self.assertEqual(self.browser.value(DOTS_OUT_OF_LINE), [])
+
     def test_pictures(self) -> None:
-        """In pictures of the page the edges are empty, its inside nowhere for long, and the answer is at the top; light
-        and dark differ in nothing but colours."""
-        self.open_page_of(page_sample.full_leak())
+        """In pictures of the pages the edges are empty, their inside nowhere for long, and the answer is at the top;
+        light and dark differ in nothing but colours."""
+        for it in page_sample.full_leak(), page_sample.one_dump():
+            self.open_page_of(it)
+            self.check_pictures()
+
+    def check_pictures(self) -> None:
+        """Requires that of the page that is open."""
         for width, scale, top in (1280, 0.125, 180), (390, 0.25, 260):
             heights = set()
             for dark in False, True:
@@ -189,14 +218,31 @@ class BrowserTest(InBrowser):
 
     def test_paper(self) -> None:
         """On paper the page is light, also for those who have it dark, and nothing is cut."""
-        self.open_page_of(page_sample.full_leak())
-        self.browser.show(700, dark=True, media="print")
-        self.check_shown(700)
-        self.assertEqual(self.browser.value("getComputedStyle(document.querySelector('h2')).color"), "rgb(21, 25, 30)")
+        for it in page_sample.full_leak(), page_sample.one_dump():
+            self.open_page_of(it)
+            self.browser.show(A4_WIDTH, dark=True, media="print")
+            self.check_shown(A4_WIDTH)
+            colour = self.browser.value("getComputedStyle(document.querySelector('h2')).color")
+            self.assertEqual(colour, "rgb(21, 25, 30)")
+
+    def test_answer_is_on_the_first_printed_page(self) -> None:
+        """The answer is whole on the first page of paper: the figures, as many lines as leaks prints, with their paths,
+        and the objects; of one dump the path, the object, what is in it, and all lines. No head of these is broken."""
+        full = page_sample.full_leak()
+        four = page_sample.full_leak(holders=[*full.holders[:3], full.holders[4]], objects=full.objects[:1])
+        for it, last in (four, ".objects"), (page_sample.one_dump(), ".holders"):
+            self.open_page_of(it)
+            self.browser.show(A4_WIDTH, media="print")
+            foot = self.browser.value(f"document.querySelector('{last}').getBoundingClientRect().bottom + scrollY")
+            self.assertLess(foot, A4_HEIGHT, last)
+            heads = "[...document.querySelectorAll('.holders thead th')].map(it => it.getClientRects()[0].height)"
+            self.assertEqual(len(set(self.browser.value(heads))), 1)
+            self.assertLess(self.browser.value(heads)[0], 25)
 
     def test_printed(self) -> None:
-        """It is printed on A4, and no page but the last is left half empty."""
-        for leak in page_sample.leak(), page_sample.full_leak(), page_sample.leak(grown=page_sample.leak().grown * 4):
+        """It is printed on A4, no page but the last is left half empty, and the last has more than two lines."""
+        long = page_sample.leak(grown=page_sample.leak().grown * 4)
+        for leak in page_sample.leak(), page_sample.full_leak(), long, page_sample.one_dump(), page_sample.bare_dump():
             self.open_page_of(leak)
             self.browser.show(700, media="print")
             printed = self.browser.printed()
@@ -207,6 +253,7 @@ class BrowserTest(InBrowser):
             self.assertEqual(len(ends), len(sides))
             for end in ends[:-1]:
                 self.assertGreater(end, 0.7)
+            self.assertGreater(ends[-1], 0.12)
 
     def test_hostile_names(self) -> None:
         """The browser shows hostile names as text."""
@@ -214,6 +261,10 @@ class BrowserTest(InBrowser):
         self.check_screens(may_scroll=True)
         self.assertIn(SCRIPT, self.texts("#grown tbody th"))
         self.assertIn("\\xe2\\x80\\xaeltr\\xe2\\x81\\xa6", self.texts("#making tbody th"))
+        self.assertEqual(self.browser.value("document.images.length + document.links.length"), 7)
+        self.open_page_of(hostile_one_dump())
+        self.check_screens(may_scroll=True)
+        self.assertIn(SCRIPT, self.texts("#holders .contents tbody th"))
         self.assertEqual(self.browser.value("document.images.length + document.links.length"), 7)
 
     def test_screen_reader(self) -> None:
@@ -225,11 +276,11 @@ class BrowserTest(InBrowser):
             for role in "banner", "navigation", "main", "contentinfo", "table", "figure", "rowheader":
                 self.assertIn(role, [part for part, _ in parts])
             images = [name for role, name in parts if role in ("image", "img")]
-            self.assertEqual(len(images), 2 + len(page_sample.leak().grown))
+            self.assertEqual(len(images), 2 + len(page_sample.leak().grown[:-1]))
             self.assertTrue(all(images))
             regions = [name for role, name in parts if role == "region"]
             self.assertTrue(all(regions))
-            self.assertIn("What holds it", regions)
+            self.assertIn("What holds what grew", regions)
 
     def test_policy(self) -> None:
         """If a name ever were more than text, the policy of the page would still refuse to fetch or to run it."""

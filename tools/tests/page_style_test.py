@@ -11,7 +11,9 @@ TEXTS = [(text, ground) for text in ("ink", "soft", "calm", "accent") for ground
     ("ink", "faint"),
     ("accent", "accent-faint"),
     ("ink", "accent-faint"),
-    *(("ink", f"group-{number}") for number in [*range(treemap_picture.COLOURS), "rest"]),
+    *(("ink", f"own-{number}") for number in range(treemap_picture.OWN_COLOURS)),
+    *(("ink", f"jdk-{number}") for number in range(treemap_picture.JDK_COLOURS)),
+    ("ink", "rest"),
 ]
 
 

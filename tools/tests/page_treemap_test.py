@@ -3,7 +3,7 @@
 import unittest
 from typing import List, Tuple
 
-from heap_tools.page import treemap
+from heap_tools.page import treemap, treemap_picture
 from heap_tools.reports import Amount
 from tests.support import page_sample
 
@@ -48,10 +48,59 @@ class TreemapTest(unittest.TestCase):
             self.assertEqual(treemap.number_alone(sizes, most, 10), wanted, sizes)
 
     def test_small(self) -> None:
-        """A package or class of less than a 500th is not shown alone."""
-        sizes = {"a/a/a/A": 9_950, "b/b/b/B": 21, "c/c/c/C": 19, "d/d/d/D": 10}
+        """A package or class of less than a 100th is not shown alone: its box would have no room for a name."""
+        sizes = {"a/a/a/A": 9_750, "b/b/b/B": 101, "c/c/c/C": 99, "d/d/d/D": 50}
         groups = treemap.groups_of({name: Amount(1, size) for name, size in sizes.items()}, 9, 9)
         self.assertEqual([group.name for group in groups], ["a/a/a", "b/b/b", None])
+
+    def test_own_code_is_set_off(self) -> None:
+        """Packages of the program and its libraries have other colours than those of the JDK, and arrays."""
+        sizes = {"com/acme/Order": 40, "java/util/HashMap$Node": 30, "byte[]": 20, "Main": 10, "[Lorg/lib/Entry;": 9}
+        groups = treemap.groups_of({name: Amount(1, size) for name, size in sizes.items()}, 9, 9)
+        colours = dict(zip([group.name for group in groups], treemap_picture.colours_of(groups)))
+        self.assertEqual(
+            colours,
+            {
+                "com/acme": "colour-own-0",
+                "java/util": "colour-jdk-0",
+                "arrays of numbers": "colour-jdk-1",
+                "no package": "colour-own-1",
+                "org/lib": "colour-own-2",
+            },
+        )
+        self.assertEqual(treemap_picture.colours_of([treemap.Group(None, [])]), ["colour-rest"])
+
+    def test_labels_are_whole(self) -> None:
+        """A box has the whole name of its class, in lines if need be, or none of it; then its bytes."""
+        part = treemap.Part("java/util/concurrent/ConcurrentHashMap$Node", 1, Amount(1, 2_200_000))
+        rest = treemap.Part(None, 95, Amount(100, 1_100_000))
+        for it, width, height, wanted in [
+            (part, 300, 100, ["ConcurrentHashMap$Node", "2.2\u00a0MB"]),
+            (part, 135, 100, ["ConcurrentHashMap$", "Node", "2.2\u00a0MB"]),
+            (part, 90, 100, ["Concurrent", "HashMap$Node", "2.2\u00a0MB"]),
+            (part, 90, 32, ["Concurrent", "HashMap$Node"]),
+            (part, 90, 20, []),
+            (part, 60, 100, []),
+            (rest, 60, 100, ["95 more", "1.1\u00a0MB"]),
+            (rest, 20, 100, []),
+        ]:
+            with self.subTest(f"{width} {height}"):
+                box = treemap.Box(0, 0, width, height)
+                self.assertEqual(treemap_picture.labels_of(it, box), wanted)
+                self.assertNotIn("…", treemap_picture.cell(it, box, 10**8))
+        self.assertIn("rotate(90)", treemap_picture.cell(rest, treemap.Box(0, 0, 20, 100), 10**8))
+
+    def test_labels_of_groups(self) -> None:
+        """A package has its name and its bytes, or as much as there is room for: never a part of a word."""
+        group = treemap.Group("java/util/concurrent", [treemap.Part("java/util/concurrent/A", 1, Amount(1, 3_400_000))])
+        for width, wanted in [
+            (300, "java/util/concurrent  3.4\u00a0MB"),
+            (160, "java/util/concurrent"),
+            (150, "concurrent  3.4\u00a0MB"),
+            (90, "concurrent"),
+            (40, ""),
+        ]:
+            self.assertEqual(treemap_picture.group_label(group, width), wanted, width)
 
     def test_groups_lose_nothing(self) -> None:
         """The groups have all objects, bytes and classes."""

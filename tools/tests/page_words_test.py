@@ -3,7 +3,7 @@
 import unittest
 from typing import Any, Callable, Dict
 
-from heap_tools.page import templates, words
+from heap_tools.page import names, templates, words
 from heap_tools.reports import Unit
 from tests.support.hostile_names import HOSTILE
 from tests.support.outline import Outline
@@ -20,10 +20,9 @@ class WordsTest(unittest.TestCase):
                 self.assertEqual(spell(given).replace("\u00a0", " "), wanted)
 
     def test_percent(self) -> None:
-        """Percentages, with a decimal if they are small."""
-        table: Dict[float, str] = {0: "0 %", 0.04: "<0.1 %", 0.06: "0.1 %", 9.73: "9.7 %", 35.04: "35 %"}
-        table.update({99.6: "99.6 %", 100: "100 %"})
-        table[12_345.6] = "12,346 %"
+        """Percentages, whole as on the terminal; what is little is not nothing."""
+        table: Dict[float, str] = {0: "0%", 0.04: "<1%", 0.49: "<1%", 0.6: "1%", 9.73: "10%", 35.04: "35%"}
+        table.update({99.4: "99%", 99.6: "100%", 100: "100%", 104.6: "105%", 12_345.6: "12,346%"})
         self.check(words.percent, table)
 
     def test_with_sign(self) -> None:
@@ -31,7 +30,7 @@ class WordsTest(unittest.TestCase):
         self.check(lambda it: words.with_sign(it, Unit.BYTES), {5: "+5 bytes", -1000: "−1.0 kB", 0: "±0 bytes"})
         table = {1: "+1 object", -124: "−124 objects", 0: "±0 objects"}
         self.check(lambda it: words.with_sign(it, Unit.OBJECTS), table)
-        self.check(lambda it: words.percent_more(*it), {(10, 14): "+40 %", (10, 5): "−50 %", (10, 10): "±0 %"})
+        self.check(lambda it: words.percent_more(*it), {(10, 14): "+40%", (10, 5): "−50%", (10, 10): "±0%"})
 
     def test_units(self) -> None:
         """Bytes are in words, objects with or without their noun."""
@@ -102,7 +101,17 @@ class TemplatesTest(unittest.TestCase):
         """A name is the same text, whatever is between its parts."""
         for name in HOSTILE[:8]:
             with self.subTest(name):
-                self.assertEqual(Outline(templates.name_of(name, 240)).text(), name)
+                self.assertEqual(Outline(names.name_of(name, 240)).text(), name)
+
+    def test_names_of_arrays(self) -> None:
+        """Arrays are spelled as in Java, and what only looks like one as it is."""
+        table = {"[Ljava/lang/Object;": "java/lang/Object[]", "[[La/B;": "a/B[][]", "byte[]": "byte[]"}
+        table.update(
+            {"[[I": "int[][]", "[": "[", "[Lno end": "[Lno end", "[[Q": "[[Q", "a/B": "a/B", "<class>": "<class>"}
+        )
+        for name, wanted in table.items():
+            with self.subTest(name):
+                self.assertEqual(names.in_java(name), wanted)
 
 
 if __name__ == "__main__":

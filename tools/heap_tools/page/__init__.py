@@ -1,26 +1,30 @@
-"""The page of `leaks --html`: one HTML file that fetches nothing and runs no script.
+"""The pages of `leaks --html`: each is one HTML file that fetches nothing and runs no script.
 
-`model.py` has what `leaks` fills. `sections.py` has the whole page, `top.py`, `holders.py` and `classes.py` its larger
-parts, `tables.py` what these share. `chart.py`, `treemap.py` and `treemap_picture.py` make the pictures. `templates.py`
-escapes and fills, `words.py` spells; `page.html` has all templates, `page.css` the style.
+`model.py` has what the tools fill. `comparison_page.py` is the page of two or more dumps, `dump_page.py` that of one;
+`sections.py` has what both have. The parts of the first are `top.py`, `chart.py` with `chart_labels.py`, `holders.py`
+and `classes.py`, those of the other `fullness.py` and `suspects.py`. `objects.py`, `treemap.py`, `treemap_picture.py`
+and `tables.py` are of both. `templates.py` escapes and fills, `names.py` and `words.py` spell; `page.html` has all
+templates, `page.css` the style.
 """
 
 import contextlib
 import os
 import secrets
 import stat
-from typing import Callable
+from typing import Callable, Union
 
-from heap_tools.candidates import FIELD, LOCAL, STATIC, THREAD
-from heap_tools.page.model import TOGETHER, DumpEntry, GrownClass, HeldShare, HolderEntry, Leak, Limits, Making
-from heap_tools.page.model import NextStep, ObjectEntry, ProgramEntry, ThreadGroupEntry
-from heap_tools.page.sections import whole_page
-from heap_tools.reports import Amount, Unit
+from heap_tools.candidates import FIELD, LOCAL, STATIC, THREAD, THREADS
+from heap_tools.page import comparison_page, dump_page
+from heap_tools.page.model import DumpEntry, FieldEntry, GrownClass, HeldShare, HolderEntry, Leak, Limits, Making
+from heap_tools.page.model import NameEntry, NextStep, ObjectEntry, OneDump, ProgramEntry, RanOutEntry, StepEntry
+from heap_tools.page.model import SuspectEntry, ThreadGroupEntry
+from heap_tools.reports import Amount, Row, Unit
 
 __all__ = [
     "Amount",
     "DumpEntry",
     "FIELD",
+    "FieldEntry",
     "GrownClass",
     "HeldShare",
     "HolderEntry",
@@ -28,18 +32,26 @@ __all__ = [
     "Leak",
     "Limits",
     "Making",
+    "NameEntry",
     "NextStep",
     "ObjectEntry",
+    "OneDump",
     "ProgramEntry",
+    "RanOutEntry",
+    "Row",
     "STATIC",
+    "StepEntry",
+    "SuspectEntry",
     "THREAD",
-    "TOGETHER",
+    "THREADS",
     "ThreadGroupEntry",
     "Unit",
     "html_of",
     "save",
 ]
 
+#: What a page can be of.
+Content = Union[Leak, OneDump]
 #: The most bytes of a page.
 MOST_BYTES = 300_000
 #: How much is shown. The first that gives a page of at most `MOST_BYTES` is taken; only odd names need the later ones.
@@ -50,26 +62,29 @@ LIMITS = [
 ]
 
 
-def html_of(leak: Leak) -> str:
+def html_of(content: Content) -> str:
     """Returns the page, at most `MOST_BYTES` in UTF-8."""
     for limits in LIMITS:
-        text = whole_page(leak, limits)
+        if isinstance(content, OneDump):
+            text = dump_page.page_of(content, limits)
+        else:
+            text = comparison_page.page_of(content, limits)
         if len(text.encode()) <= MOST_BYTES:
             break
     return str(text)
 
 
-def save(leak: Leak, file: str) -> None:
+def save(content: Content, file: str) -> None:
     """Writes the page into the file at the path `file`. Raises `OSError` if it cannot be written. A plain file then is
     as it was before, and never has a part of the page."""
-    content = html_of(leak).encode()
+    written = html_of(content).encode()
     if os.path.exists(file) and not stat.S_ISREG(os.stat(file).st_mode):
-        write_into(os.open(file, os.O_WRONLY), content)
+        write_into(os.open(file, os.O_WRONLY), written)
         return
     place = os.path.realpath(file)
     part = os.path.join(os.path.dirname(place), f".leaks-{secrets.token_hex(8)}.part")
     try:
-        write_into(os.open(part, os.O_WRONLY | os.O_CREAT | os.O_EXCL, 0o666), content, os.fsync)
+        write_into(os.open(part, os.O_WRONLY | os.O_CREAT | os.O_EXCL, 0o666), written, os.fsync)
         os.replace(part, place)
     except BaseException:
         with contextlib.suppress(FileNotFoundError):

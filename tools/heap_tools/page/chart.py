@@ -4,22 +4,22 @@ import math
 from dataclasses import dataclass
 from typing import Dict, Iterable, List, Sequence, Tuple, TypeVar
 
-from heap_tools.page.model import DumpEntry, Leak
-from heap_tools.page.templates import Html, fill, joined
-from heap_tools.page.words import bare, clock, full
+from heap_tools.page.chart_labels import DIGIT, FEW_POINTS, anchor_of, asked, labels_of
+from heap_tools.page.model import DumpEntry, Leak, Limits
+from heap_tools.page.names import names_of
+from heap_tools.page.templates import Html, escaped, fill, joined
+from heap_tools.page.words import bare, clock, full, moment
 from heap_tools.reports import Unit
 
 #: The chart is drawn three times, for wide and for narrow screens and for paper: name, width, height of each.
-CHARTS = [("wide", 1080, 250), ("narrow", 360, 220), ("paper", 700, 200)]
-#: The most points of a line, how many are few, and the size of a small line.
-MOST_POINTS, FEW_POINTS, SMALL_WIDTH, SMALL_HEIGHT = 60, 8, 120, 28
+CHARTS = [("wide", 800, 260), ("narrow", 360, 220), ("paper", 520, 140)]
+#: The most points of a line, and the size of a small line.
+MOST_POINTS, SMALL_WIDTH, SMALL_HEIGHT = 60, 120, 28
 #: The room around the chart's lines: right, top and bottom. The room at the left is for the numbers of the axis.
 RIGHT, TOP, BOTTOM = 30, 26, 26
-#: The width of a letter, and of a digit in bold.
-LETTER, DIGIT = 7.2, 7.8
-#: Where a number is, above or below its point; how close above it another line is close; how far apart numbers are.
-ABOVE, BELOW, CLOSE, APART = -9, 17, 30, 14
-#: The lines of the chart: what is known of each dump, and what is known only of the first and the last one.
+#: The width of a letter.
+LETTER = 7.2
+#: The lines of the chart: what is known of each dump, and what is measured in some only.
 REACHABLE, UNREACHABLE, HELD = "reachable", "unreachable", "held"
 
 #: A place between 0 and 1 along the time, and a number.
@@ -29,10 +29,11 @@ Sample = TypeVar("Sample")
 
 @dataclass(frozen=True)
 class Series:
-    """A line of the chart: which one it is, and its points."""
+    """A line of the chart: which one it is, and its points. `is_partial`: it was not measured in each dump."""
 
     kind: str
     points: List[Point]
+    is_partial: bool = False
 
 
 @dataclass(frozen=True)
@@ -51,26 +52,6 @@ class Scale:
     def y(self, number: float) -> float:
         """Returns the coordinate of a number."""
         return self.height - BOTTOM - number / max(1, self.most) * (self.height - TOP - BOTTOM)
-
-
-@dataclass(frozen=True)
-class Label:
-    """A text at a point of the chart, the number of that point, and which end of the text is there."""
-
-    number: int
-    x: float
-    text: str
-    anchor: str
-
-    @property
-    def begin(self) -> float:
-        """Where the text begins."""
-        return self.x - {"start": 0.0, "middle": 0.5, "end": 1.0}[self.anchor] * DIGIT * len(self.text)
-
-    def is_clear_of(self, other: "Label") -> bool:
-        """Tests whether the texts of both are apart."""
-        left, right = sorted([self, other], key=lambda label: label.begin)
-        return left.begin + DIGIT * (len(left.text) + 1) <= right.begin
 
 
 def sampled(items: Sequence[Sample]) -> List[Sample]:
@@ -122,58 +103,63 @@ def line_of(series: Series, scale: Scale) -> Html:
         floor = f"{scale.y(0):.1f}"
         corners = [f"{points[0][0]:.1f},{floor}", *texts, f"{points[-1][0]:.1f},{floor}"]
         area = fill("area", points=" ".join(corners))
-    return fill("series", kind=series.kind, area=area, points=" ".join(texts), dots=dots)
+    kind = f"{series.kind} partial" if series.is_partial else series.kind
+    return fill("series", kind=kind, area=area, points=" ".join(texts), dots=dots)
 
 
-def labels_of(places: Sequence[float], texts: Sequence[str], scale: Scale, between: Iterable[int]) -> List[Label]:
-    """Returns the labels for which there is room: of the last point, of the first, and of those `between` them."""
-    labels: List[Label] = []
-    last = len(places) - 1
-    for number in [last, 0, *between]:
-        anchor = "end" if number == last else "start" if number == 0 else "middle"
-        label = Label(number, scale.x(places[number]), texts[number], anchor)
-        if all(label.is_clear_of(other) for other in labels):
-            labels.append(label)
-    return labels
-
-
-def numbers_of(series: Series, others: Sequence[Series], scale: Scale, unit: Unit) -> Html:
-    """Returns the numbers at the points of a line, of many points only at the ends and at the highest. They are below
-    the line if one of `others` is close above it, and skipped at an end if the number of another is there."""
-    places, values = [place for place, _ in series.points], [value for _, value in series.points]
-    last = len(values) - 1
-    between = range(1, last) if last < FEW_POINTS else [values.index(max(values))]
-    labels = labels_of(places, [bare(value, unit) for value in values], scale, between)
-    ends = [{0: scale.y(other.points[0][1]), last: scale.y(other.points[-1][1])} for other in others]
-    is_below = any(0 <= scale.y(values[at]) - y < CLOSE for known in ends for at, y in known.items())
+def numbers_of(lines: Sequence[Series], scale: Scale, unit: Unit) -> Html:
+    """Returns the numbers at the points of the lines."""
+    points = [[(scale.x(place), scale.y(number)) for place, number in series.points] for series in lines]
     texts = []
-    for label in labels:
-        y = scale.y(values[label.number]) + (BELOW if is_below else ABOVE)
-        taken = [known[label.number] + ABOVE for known in ends if label.number in known]
-        if y < scale.y(0) and all(abs(y - other) >= APART for other in taken):
-            at = {"x": f"{label.x:.1f}", "y": f"{y:.1f}", "anchor": label.anchor}
-            texts.append(fill("chart_label", kind=series.kind, text=label.text, **at))
-    return joined(texts)
+    for series in lines:
+        values = [value for _, value in series.points]
+        wanted = set(asked(values))
+        texts.append([bare(value, unit) if at in wanted else "" for at, value in enumerate(values)])
+    shown = []
+    for label in labels_of(points, texts, scale.y(0)):
+        at = {"x": f"{label.x:.1f}", "y": f"{label.y:.1f}", "anchor": label.anchor}
+        shown.append(fill("chart_label", kind=lines[label.line].kind, text=label.text, **at))
+    return joined(shown)
 
 
 def ticks_of(places: Sequence[float], texts: Sequence[str], scale: Scale) -> Html:
-    """Returns the times below the chart."""
-    y = f"{scale.height - 6:.1f}"
-    labels = labels_of(places, texts, scale, range(1, len(places) - 1))
-    return joined(fill("tick", x=f"{label.x:.1f}", y=y, anchor=label.anchor, text=label.text) for label in labels)
+    """Returns the times below the chart for which there is room: the last, the first, then those between."""
+    last, shown = len(places) - 1, []
+    taken: List[Tuple[float, float]] = []
+    for number in dict.fromkeys([last, 0, *range(1, last)]):
+        x, anchor, width = scale.x(places[number]), anchor_of(number, last), DIGIT * len(texts[number])
+        left = x - {"start": 0.0, "middle": 0.5, "end": 1.0}[anchor] * width
+        if all(left + width + DIGIT <= begin or end + DIGIT <= left for begin, end in taken):
+            taken.append((left, left + width))
+            at = {"x": f"{x:.1f}", "y": f"{scale.height - 6:.1f}", "anchor": anchor}
+            shown.append(fill("tick", text=texts[number], **at))
+    return joined(shown)
+
+
+def times_of(dumps: Sequence[DumpEntry]) -> List[str]:
+    """Returns the times of the dumps as they are below the chart: the last one says that they are in UTC."""
+    texts = clock([dump.time for dump in dumps])
+    return [*texts[:-1], f"{texts[-1]} UTC"] if moment(dumps[-1].time) else texts
+
+
+def held_line(leak: Leak, places: Sequence[float]) -> Series:
+    """Returns the line of what the first holder holds: in the first dump and the last, and in those between in which
+    that was measured."""
+    first, unit, last = leak.holders[0], leak.by, len(leak.dumps) - 1
+    amounts = {0: first.before.amount, **first.between, last: first.after.amount}
+    points = [(places[number], unit.of(amounts[number])) for number in sorted(amounts)]
+    return Series(HELD, points, is_partial=len(points) < len(leak.dumps))
 
 
 def series_of(leak: Leak, places: Sequence[float]) -> List[Series]:
-    """Returns the lines of the chart: what is reachable, what is held by the first holder, which is known of the first
-    and the last dump, and what is unreachable if that is much."""
+    """Returns the lines of the chart: what is reachable, what is held by the first holder, and what is unreachable if
+    that is much."""
     unit = leak.by
     reachable = [unit.of(dump.reachable) for dump in leak.dumps]
     unreachable = [unit.of(dump.unreachable) for dump in leak.dumps]
     found = [Series(REACHABLE, sampled(list(zip(places, reachable))))]
     if leak.holders and leak.is_of_all:
-        first = leak.holders[0]
-        ends = [(places[0], unit.of(first.before.amount)), (places[-1], unit.of(first.after.amount))]
-        found.append(Series(HELD, ends))
+        found.append(held_line(leak, places))
     if max(unreachable) > max(reachable) / 50:
         found.append(Series(UNREACHABLE, sampled(list(zip(places, unreachable)))))
     return found
@@ -186,9 +172,20 @@ def description_of(leak: Leak) -> str:
     return f"Reachable {leak.by.value}: " + ", ".join(sampled(texts)) + "."
 
 
-def chart(leak: Leak) -> Tuple[Html, List[str]]:
-    """Returns the chart of the heap over the dumps, for each width, and the kinds of its lines."""
-    places, texts = time_places(leak.dumps), clock([dump.time for dump in leak.dumps])
+def legend(lines: Sequence[Series], leak: Leak, limits: Limits) -> Html:
+    """Returns what the lines of the chart are."""
+    texts: Dict[str, Html] = {kind: escaped(f"{kind} {leak.by.value}") for kind in (REACHABLE, UNREACHABLE)}
+    if leak.holders:
+        ends = ", measured at the dots" if any(series.is_partial for series in lines) else ""
+        texts[HELD] = joined(["held by ", names_of(leak.holders[0].fields, limits), ends])
+    keys = [(it.kind, f"{it.kind} partial" if it.is_partial else it.kind) for it in lines]
+    keys.sort(key=lambda key: key[0] == HELD)  # the longest text is the last
+    return joined((fill("legend", kind=key, text=texts[kind]) for kind, key in keys), "\n")
+
+
+def chart(leak: Leak, limits: Limits) -> Html:
+    """Returns the chart of the heap over the dumps, for each width, with its legend."""
+    places, texts = time_places(leak.dumps), times_of(leak.dumps)
     lines = series_of(leak, places)
     most = max(number for series in lines for _, number in series.points)
     grid = grid_numbers(most)
@@ -199,24 +196,34 @@ def chart(leak: Leak) -> Tuple[Html, List[str]]:
         parts: Dict[str, object] = {
             "grid": grid_of(scale, grid, leak.by),
             "lines": joined(line_of(series, scale) for series in lines),
-            "labels": joined(numbers_of(it, lines[:number], scale, leak.by) for number, it in enumerate(lines)),
+            "labels": numbers_of(lines, scale, leak.by),
             "ticks": ticks_of(places, texts, scale),
         }
         pictures.append(fill("chart", kind=kind, width=width, height=height, description=description_of(leak), **parts))
-    return joined(pictures, "\n"), [series.kind for series in lines]
+    return fill("figure_of", picture=joined(pictures, "\n"), caption=legend(lines, leak, limits))
 
 
-def small_line(places: Sequence[float], numbers: Sequence[int], unit: Unit) -> Html:
-    """Returns the small line of a class over the dumps at `places`, from zero up to the most that there was."""
-    most, points = max(1, *numbers), sampled(list(zip(places, numbers)))
+def lowest_and_highest(classes: Iterable[Sequence[int]]) -> Tuple[int, int]:
+    """Returns by how much the numbers of any class are below its first one at most, and above it."""
+    changes = [number - numbers[0] for numbers in classes for number in numbers]
+    return min(changes), max(changes)
+
+
+def small_line(places: Sequence[float], numbers: Sequence[int], scale: Tuple[int, int], unit: Unit) -> Html:
+    """Returns the small line of a class over the dumps at `places`, which rises by what there was more than in the
+    first dump. `scale`: by how much any class fell and rose at most."""
+    lowest, highest = scale
     room, floor = SMALL_HEIGHT - 8, SMALL_HEIGHT - 4
-    shown = [(4 + place * (SMALL_WIDTH - 8), floor - value / most * room) for place, value in points]
+    shown = []
+    for place, value in sampled(list(zip(places, numbers))):
+        part = (value - numbers[0] - lowest) / max(1, highest - lowest)
+        shown.append((4 + place * (SMALL_WIDTH - 8), floor - part * room))
     x, y = shown[-1]
-    first, last, highest = (full(number, unit) for number in (numbers[0], numbers[-1], max(numbers)))
+    first, last, most = (full(number, unit) for number in (numbers[0], numbers[-1], max(numbers)))
     return fill(
         "small_line",
         points=" ".join(f"{x:.1f},{y:.1f}" for x, y in shown),
-        description=f"From {first} to {last}, at most {highest}",
+        description=f"From {first} to {last}, at most {most}",
         width=SMALL_WIDTH,
         height=SMALL_HEIGHT,
         x=f"{x:.1f}",

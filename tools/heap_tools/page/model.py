@@ -1,12 +1,10 @@
-"""What the page of a leak shows. `leaks` fills these; the page writes them. All texts are plain text."""
+"""What the pages show: `Leak` that of two or more dumps, `OneDump` that of one. The tools fill these. All texts are plain
+text."""
 
 from dataclasses import dataclass, field
 from typing import Dict, List, Optional, Tuple
 
-from heap_tools.reports import Amount, Unit
-
-#: The kind of static fields that hold only together. The others are those of `candidates`.
-TOGETHER = "together"
+from heap_tools.reports import Amount, Row, Unit
 
 
 @dataclass(frozen=True)
@@ -45,39 +43,75 @@ class GrownClass:
 
 
 @dataclass(frozen=True)
+class FieldEntry:
+    """What can hold objects: `kind` is one of `candidates`, `name` is without the word for it."""
+
+    kind: str
+    name: str
+
+
+@dataclass(frozen=True)
 class HeldShare:
-    """What a holder holds in one dump; `percent` of what `Leak.whole` says."""
+    """What is held in one dump; `percent` of what `whole` of the page says."""
 
     amount: Amount
     percent: float
 
 
 @dataclass(frozen=True)
-class HolderEntry:
-    """What holds some of the growth. `name` is without the word of its kind, `holders` the number of instances that
-    have the field in the last dump, `share` its share of the growth in percent. `above`: what it is reached through,
-    from the top down to what is right above it, at each step the fields that lead there together, most often one.
-    `holders_before`: the number in the first dump, if it is known."""
+class StepEntry:
+    """A step of a path: the fields that lead on together, most often one, and what they hold in the last dump, if that
+    is known."""
 
-    kind: str
-    name: str
-    holders: int
+    fields: List[FieldEntry]
+    held: Optional[HeldShare] = None
+
+
+@dataclass(frozen=True)
+class HolderEntry:
+    """What holds some of the growth: several fields only together. `instances`: the number of objects that have the
+    field in the last dump; `share`: its share of the growth in percent. `above`: what it is reached through, from the
+    top down to what is right above it. `instances_before`: the number in the first dump, if it is known. `between`:
+    what it held in dumps between the first and the last, as far as that was measured, by their places in `dumps`."""
+
+    fields: List[FieldEntry]
+    instances: int
     before: HeldShare
     after: HeldShare
     share: float
-    above: List[List[str]]
-    holders_before: Optional[int] = None
+    above: List[StepEntry]
+    instances_before: Optional[int] = None
+    between: Dict[int, Amount] = field(default_factory=dict)
+
+
+@dataclass(frozen=True)
+class SuspectEntry:
+    """What holds much of one heap: several fields only together. `instances`: the number of objects that have the
+    field. `above`: what it is reached through, from a root down to what is right above it."""
+
+    fields: List[FieldEntry]
+    instances: int
+    held: HeldShare
+    above: List[StepEntry]
+
+
+@dataclass(frozen=True)
+class NameEntry:
+    """What names an object: `how` in words, such as `its field name`, and the text that is there, empty without one."""
+
+    how: str
+    text: str = ""
 
 
 @dataclass(frozen=True)
 class ObjectEntry:
-    """One of the objects that have the field of a holder. `line`: the number of the holder in `Leak.holders`, the first
-    is 1. `name`: what tells it from the others, empty if nothing does. `bytes`: what it holds through the field in the
-    last dump, which is `percent` of what all of them do. `has_gained`: what it gained is `percent` of what all did."""
+    """One of the objects that have the field of a line. `line`: the number of the line, the first is 1. `bytes`: what it
+    holds through the field in the last dump, which is `percent` of what all of them do. `has_gained`: what it gained is
+    `percent` of what all did."""
 
     line: int
     class_name: str
-    name: str
+    names: List[NameEntry]
     bytes: int
     percent: float
     has_gained: bool = False
@@ -92,6 +126,16 @@ class ThreadGroupEntry:
     before: int
     now: int
     frames: List[str]
+
+
+@dataclass(frozen=True)
+class RanOutEntry:
+    """The thread that ran out of memory: its name, and the methods that it was in, the innermost first. `own`: the place
+    of the first method of an own class in `frames`, if there is one."""
+
+    thread: str
+    frames: List[str]
+    own: Optional[int] = None
 
 
 @dataclass(frozen=True)
@@ -116,11 +160,12 @@ class Making:
 
 @dataclass(frozen=True)
 class Leak:
-    """All that the page shows. `dumps`: two or more, the earliest first. `holders`: the first is the headline.
+    """All that the page of two or more dumps shows. `dumps`: the earliest first. `holders`: the first is the headline.
     `last`: the classes of the last report. `growth`: what shares of the growth are of. `omitted`: sentences on what
     these dumps do not show. `by`: which figure counts. `of_class`: the class whose objects the holders hold, if only
     these count. `is_of_grown`: only the classes that grew count. `notes`: sentences on the growth that the holders do
-    not hold."""
+    not hold. `weak`: a sentence on the weak references, if they are followed. `layout`: a sentence on the sizes of
+    objects, if the bytes are those of the heap and not those of the dumps."""
 
     dumps: List[DumpEntry]
     grown: List[GrownClass]
@@ -137,6 +182,8 @@ class Leak:
     objects: List[ObjectEntry] = field(default_factory=list)
     threads: List[ThreadGroupEntry] = field(default_factory=list)
     notes: List[str] = field(default_factory=list)
+    weak: Optional[str] = None
+    layout: Optional[str] = None
 
     @property
     def is_of_all(self) -> bool:
@@ -159,6 +206,37 @@ class Leak:
     def more_unreachable(self) -> Amount:
         """How much more is unreachable in the last dump than in the first."""
         return self.dumps[-1].unreachable.minus(self.dumps[0].unreachable)
+
+
+@dataclass(frozen=True)
+class OneDump:
+    """All that the page of one dump shows. `suspects`: what holds much of the heap; the first is the headline: the
+    accumulation point. `classes`: those of the report. `objects`: those that have the field of a suspect and hold most
+    by it. `contents`: the classes that the first suspect holds most of, or the first object if there is one.
+    `ran_out`: the threads that ran out of memory. `capacity`: how many bytes the heap may have at most, if that is
+    known. All else is as in `Leak`."""
+
+    dump: DumpEntry
+    suspects: List[SuspectEntry]
+    classes: Dict[str, Amount]
+    omitted: List[str]
+    making: Making
+    by: Unit = Unit.BYTES
+    of_class: Optional[str] = None
+    program: ProgramEntry = ProgramEntry()
+    next_steps: List[NextStep] = field(default_factory=list)
+    objects: List[ObjectEntry] = field(default_factory=list)
+    contents: List[Row] = field(default_factory=list)
+    ran_out: List[RanOutEntry] = field(default_factory=list)
+    notes: List[str] = field(default_factory=list)
+    weak: Optional[str] = None
+    layout: Optional[str] = None
+    capacity: Optional[int] = None
+
+    @property
+    def whole(self) -> str:
+        """What shares are of."""
+        return f"the {self.by.value} of {self.of_class}" if self.of_class else f"all reachable {self.by.value}"
 
 
 @dataclass(frozen=True)

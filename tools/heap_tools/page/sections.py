@@ -1,72 +1,127 @@
-"""The whole page, and those of its sections that are short: the heap, what dumps do not show, how the page was made."""
+"""What both pages have: the frame of a page, what was dumped, notes, what dumps do not show, how the page was made."""
 
-from typing import Dict, Iterable, List
+from typing import Dict, Iterable, List, NamedTuple, Optional, Sequence
 
 from heap_tools import humanize
-from heap_tools.omissions import NEVER_SHOWN, unreachable_on_page
-from heap_tools.page.chart import HELD, REACHABLE, UNREACHABLE, chart
-from heap_tools.page.classes import grown_classes, last
-from heap_tools.page.holders import holder_name, holders, path_to
-from heap_tools.page.model import DumpEntry, Leak, Limits
+from heap_tools.omissions import NEVER_SHOWN, SIZES, unreachable_on_page
+from heap_tools.page.model import DumpEntry, Limits, Making, NextStep, ProgramEntry
+from heap_tools.page.names import breakable, name_of
 from heap_tools.page.tables import body, table
-from heap_tools.page.templates import FOLDER, Html, breakable, escaped, fill, joined, plain
-from heap_tools.page.top import facts, headline, lead, tiles, title, warnings
-from heap_tools.page.words import figure, moment, when
+from heap_tools.page.templates import FOLDER, LONGEST_SENTENCE, Html, fill, joined, plain, visible
+from heap_tools.page.words import figure, when
 
 
-def legend(kinds: Iterable[str], leak: Leak, limits: Limits) -> Html:
-    """Returns what the lines of the chart are."""
-    texts: Dict[str, Html] = {kind: escaped(f"{kind} {leak.by.value}") for kind in (REACHABLE, UNREACHABLE)}
-    if leak.holders:
-        parts = ["held by ", holder_name(leak.holders[0], limits), ", measured only in the first and the last dump"]
-        texts[HELD] = joined(parts)
-    parts = [fill("legend", kind=kind, text=texts[kind]) for kind in kinds]
-    if any(moment(dump.time) for dump in leak.dumps):
-        parts.append(fill("legend", kind="times", text="times in UTC"))
-    return joined(parts, "\n")
+class Section(NamedTuple):
+    """A section of a page: its place in an address, what the list of sections calls it, its head, and what is in it."""
+
+    id: str
+    label: str
+    head: str
+    body: Html
 
 
-def heap(leak: Leak, limits: Limits) -> Html:
-    """Returns the chart of the heap over the dumps, and its legend."""
-    drawn, kinds = chart(leak)
-    return fill("figure_of", picture=drawn, caption=legend(kinds, leak, limits))
+class Top(NamedTuple):
+    """The top of a page: the title, which a browser shows in its tab, what was dumped, the headline, the path to what it
+    names, what is said first, and what else is to be known."""
+
+    title: str
+    facts: Html
+    headline: Html
+    through: Html
+    lead: Html
+    notes: Html
 
 
-def omitted(leak: Leak, limits: Limits) -> Html:
-    """Returns what the dumps do not show: these ones first, then all."""
-    unreachable = leak.dumps[-1].unreachable
-    sentences = [plain(sentence, 3 * limits.name) for sentence in leak.omitted[: limits.sentences]]
-    if unreachable.objects > 0 and not any("unreachable" in each for each in sentences):
-        sentences.append(unreachable_on_page(unreachable.objects))
-    return joined((fill("item", text=sentence) for sentence in sentences + NEVER_SHOWN), "\n")
+def whole_page(top: Top, sections: Sequence[Section], made: int) -> Html:
+    """Returns a page that was made at the time `made`."""
+    links = (fill("nav", id=section.id, label=section.label) for section in sections)
+    shown = (fill("section", id=section.id, head=section.head, body=section.body) for section in sections)
+    return fill(
+        "page",
+        style=Html((FOLDER / "page.css").read_text(encoding="utf-8").strip()),
+        nav=joined(links, "\n"),
+        sections=joined(shown, "\n"),
+        made=when(made),
+        **top._asdict(),
+    )
 
 
-def making(leak: Leak, limits: Limits) -> Html:
+def facts(program: ProgramEntry, taken: Html, limits: Limits) -> Html:
+    """Returns what was dumped, and when, as far as the dumps say."""
+    values: Dict[str, object] = {
+        "Program": program.name and name_of(program.name, limits.name),
+        "Process": program.process,
+        "Virtual machine": program.machine and plain(program.machine, limits.name),
+        "Taken": taken,
+    }
+    shown = (fill("fact", name=name, value=value) for name, value in values.items() if value)
+    return joined(shown, "\n")
+
+
+def notes(sentences: Iterable[Optional[str]], limits: Limits) -> Html:
+    """Returns what else is to be known, each as a note."""
+    shown = [plain(each, 3 * limits.name) for each in sentences if each][: limits.sentences]
+    return joined((fill("note", text=each) for each in shown), "\n")
+
+
+def next_steps(steps: Sequence[NextStep]) -> Html:
+    """Returns the commands that say more. One that cannot be shown as it is cannot be pasted, and is not shown."""
+    shown = [it for it in steps if is_pasted(it)]
+    if not shown:
+        return Html()
+    listed = joined((fill("next_step", purpose=it.purpose, command=it.command) for it in shown), "\n")
+    return fill("next_steps", steps=listed)
+
+
+def is_pasted(step: NextStep) -> bool:
+    """Tests whether a command is the same when it is pasted."""
+    return len(step.command) <= LONGEST_SENTENCE and visible(step.command) == step.command
+
+
+def omitted(sentences: Sequence[str], dumps: Sequence[DumpEntry], layout: Optional[str], limits: Limits) -> Section:
+    """Returns what the dumps do not show: these ones first, then all. `layout` says what bytes are, if they are not
+    those of the dumps."""
+    shown = [plain(sentence, 3 * limits.name) for sentence in sentences[: limits.sentences]]
+    unreachable = dumps[-1].unreachable.objects
+    if unreachable > 0 and not any("unreachable" in each for each in shown):
+        shown.append(unreachable_on_page(unreachable, "the last dump" if len(dumps) > 1 else "the dump"))
+    shown += [*NEVER_SHOWN, plain(layout, 3 * limits.name) if layout else SIZES]
+    items = joined((fill("item", text=sentence) for sentence in shown), "\n")
+    return Section("omitted", "Not shown", "What dumps do not show", fill("list", items=items))
+
+
+def terms() -> Section:
+    """Returns the terms of the field that the page has."""
+    return Section("terms", "Terms", "Terms", fill("terms"))
+
+
+def making(made: Making, dumps: Sequence[DumpEntry], limits: Limits) -> Section:
     """Returns how the page was made."""
-    made = leak.making
     took = humanize.duration(1000 * made.seconds)
     versions = [[plain(text, limits.name) for text in version] for version in made.versions[: limits.sentences]]
-    return fill(
+    shown = fill(
         "making",
-        dumps=dump_table(leak, limits),
+        dumps=dump_table(dumps, limits),
         command=made.command,
         runs=f"heapmark ran {humanize.counted(made.runs, 'time')}, within {took} in all.",
         versions=joined((fill("version", name=name, version=version) for name, version in versions), "\n"),
     )
+    return Section("making", "How it was made", "How it was made", shown)
 
 
-def dump_table(leak: Leak, limits: Limits) -> Html:
+def dump_table(dumps: Sequence[DumpEntry], limits: Limits) -> Html:
     """Returns the table of the dumps, of many only the first and the last ones."""
     end = limits.dumps // 2
-    gap = range(end, len(leak.dumps) - end) if len(leak.dumps) > limits.dumps else range(0)
-    rows: List[Html] = [dump_row(dump, limits) for number, dump in enumerate(leak.dumps) if number not in gap]
+    gap = range(end, len(dumps) - end) if len(dumps) > limits.dumps else range(0)
+    rows: List[Html] = [dump_row(dump, limits) for number, dump in enumerate(dumps) if number not in gap]
     if gap:
         rows.insert(end, fill("dump_gap", text=f"{humanize.counted(len(gap), 'dump')} more"))
     heads = {"File": "name", "Taken (UTC)": "time", "Size": "number"}
     for of in "Reachable", "Unreachable":
         heads.update({f"{of} objects": "number", f"{of} bytes": "number"})
     heads["Unresolved"] = "number"
-    return table("dumps", "The dumps, the earliest first", heads, [body(rows)])
+    caption = "The dumps, the earliest first" if len(dumps) > 1 else "The dump"
+    return table("dumps", caption, heads, [body(rows)])
 
 
 def dump_row(dump: DumpEntry, limits: Limits) -> Html:
@@ -81,26 +136,4 @@ def dump_row(dump: DumpEntry, limits: Limits) -> Html:
         unreachable_objects=figure(dump.unreachable.objects, "object"),
         unreachable_bytes=figure(dump.unreachable.bytes, "byte"),
         unresolved=figure(dump.unresolved, "reference"),
-    )
-
-
-def whole_page(leak: Leak, limits: Limits) -> Html:
-    """Returns the whole page."""
-    return fill(
-        "page",
-        title=title(leak),
-        style=Html((FOLDER / "page.css").read_text(encoding="utf-8").strip()),
-        facts=facts(leak, limits),
-        headline=headline(leak, limits),
-        through=path_to(leak.holders[0], limits) if leak.holders else Html(),
-        lead=lead(leak),
-        warnings=warnings(leak, limits),
-        tiles=tiles(leak),
-        heap=heap(leak, limits),
-        holders=holders(leak, limits),
-        grown=grown_classes(leak, limits),
-        last=last(leak, limits),
-        omitted=omitted(leak, limits),
-        making=making(leak, limits),
-        made=when(leak.making.time),
     )

@@ -29,9 +29,9 @@ def body(rows: Iterable[Html]) -> Html:
     return fill("body", rows=joined(rows, "\n"))
 
 
-def left_out(number: int, noun: str) -> Html:
-    """Returns a line that says how many rows are not shown."""
-    return fill("paragraph", text=f"Not shown: {humanize.counted(number, noun)} more.") if number > 0 else Html()
+def left_out(number: int, noun: str, which: str = "more") -> Html:
+    """Returns a line that says how many rows are not shown, and which these are."""
+    return fill("paragraph", text=f"Not shown: {humanize.counted(number, noun)} {which}.") if number > 0 else Html()
 
 
 def amount_cells(amount: Amount, total: int) -> Html:

@@ -66,16 +66,3 @@ TEMPLATES = templates()
 def fill(template: str, **values: object) -> Html:
     """Returns the template with `values` in their places, each as `escaped` returns it."""
     return Html(TEMPLATES[template].substitute({key: escaped(value) for key, value in values.items()}))
-
-
-def breakable(text: str) -> Html:
-    """Returns `text` as HTML that may be broken into lines between the words and after the marks of a name."""
-    parts = re.split(r"(?<=[/.$_,])(?=[^/.$_,])|(?<=[a-z])(?=[A-Z])", text)
-    return joined((html.escape(part) for part in parts), "<wbr>")
-
-
-def name_of(text: str, longest: int) -> Html:
-    """Returns a name of Java: of a class, a field or a method. Its package is less prominent."""
-    text = plain(text, longest)
-    at = text.rfind("/") + 1
-    return fill("name", package=breakable(text[:at]), rest=breakable(text[at:]))

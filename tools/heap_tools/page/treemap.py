@@ -6,12 +6,13 @@ from dataclasses import dataclass
 from typing import DefaultDict, Iterable, List, Mapping, Optional, Sequence
 
 from heap_tools import class_names
+from heap_tools.page.names import in_java
 from heap_tools.reports import Amount, Row
 
 #: How many parts of a package's name make a group.
 DEPTH = 3
-#: A package or class of less than this part of the heap is added to others.
-SMALL = 1 / 500
+#: A package or class of less than this part of the heap is added to others: its box would have no room for a name.
+SMALL = 1 / 100
 
 
 @dataclass(frozen=True)
@@ -25,10 +26,12 @@ class Part:
 
 @dataclass(frozen=True)
 class Group:
-    """The classes of a package, the largest first. `name` is None if it is all smaller packages."""
+    """The classes of a package, the largest first. `name` is None if it is all smaller packages. `is_own`: the classes
+    are those of the program and of its libraries."""
 
     name: Optional[str]
     parts: List[Part]
+    is_own: bool = False
 
     @property
     def amount(self) -> Amount:
@@ -67,9 +70,8 @@ def package_of(name: str) -> str:
 
 
 def short_name(name: str) -> str:
-    """Returns the name of a class without its package, and of an array as Java writes it."""
-    element = class_names.element(name)
-    return element.rpartition("/")[2] + ("" if element == name else "[]" * (len(name) - len(name.lstrip("["))))
+    """Returns the name of a class without its package, as Java spells it."""
+    return in_java(name).rpartition("/")[2]
 
 
 def part_of(classes: Sequence[Row]) -> Part:
@@ -102,7 +104,10 @@ def groups_of(classes: Mapping[str, Amount], most_groups: int, most_parts: int) 
     sizes = {name: total_of(each.amount for each in packages[name]).bytes for name in packages}
     order = sorted(packages, key=lambda name: (-sizes[name], name))
     number = number_alone([sizes[name] for name in order], most_groups, least)
-    groups = [Group(name, parts_of(packages[name], most_parts, least)) for name in order[:number]]
+    groups = []
+    for name in order[:number]:
+        is_own = any(class_names.is_own(each.name) for each in packages[name])
+        groups.append(Group(name, parts_of(packages[name], most_parts, least), is_own))
     rest = [it for name in order[number:] for it in packages[name]]
     return groups + ([Group(None, parts_of(rest, most_parts, least))] if rest else [])
 

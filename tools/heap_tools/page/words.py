@@ -38,11 +38,8 @@ def full(number: int, unit: Unit) -> str:
 
 
 def percent(share: float) -> str:
-    """Returns a percentage, with a decimal if it is small."""
-    if 0 < share < 0.05:
-        return "<0.1\u00a0%"
-    places = 0 if share == 0 or 10 <= share <= 99 or share >= 100 else 1
-    return f"{share:,.{places}f}\u00a0%"
+    """Returns a percentage, a whole one as on the terminal."""
+    return "<1%" if 0 < share < 0.5 else f"{share:,.0f}%"
 
 
 def sign_of(number: float) -> str:

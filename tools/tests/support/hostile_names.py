@@ -33,29 +33,85 @@ ODD = [
     "\U0001f4a9",
     "",
 ]
-KINDS = [page.STATIC, page.FIELD, page.LOCAL, page.THREAD, page.TOGETHER]
+#: How some of these are shown.
+ESCAPES = [
+    "\\xe2\\x80\\xaeltr\\xe2\\x81\\xa6",
+    "\\x00\\x07\\x1b[31m\\x0d\\x0a\\x09",
+    "\\xff\\x80",
+    "\\xed\\xa0\\x80",
+]
+KINDS = [page.STATIC, page.FIELD, page.LOCAL, page.THREAD, page.THREADS]
+
+
+def hostile_fields(names: List[str]) -> List[page.FieldEntry]:
+    """Returns fields with these names, of all kinds in turn."""
+    return [page.FieldEntry(KINDS[number % len(KINDS)], name) for number, name in enumerate(names)]
+
+
+def hostile_paths(names: List[str]) -> List[List[page.StepEntry]]:
+    """Returns paths that have each of the names as a step, a few of them in each."""
+    steps = [page.StepEntry([field]) for field in hostile_fields(names)]
+    return [[page.StepEntry(hostile_fields(names)), *steps[at : at + 2]] for at in range(0, len(steps), 2)]
+
+
+def hostile_objects(names: List[str]) -> List[page.ObjectEntry]:
+    """Returns objects with these names."""
+    return [
+        page.ObjectEntry(number, name, [page.NameEntry(name, name), page.NameEntry(name)], 10**18, 1e6)
+        for number, name in enumerate(names)
+    ]
 
 
 def hostile_leak(names: List[str] = HOSTILE, odd: List[str] = ODD) -> page.Leak:
     """Returns a leak all of whose names are hostile."""
     first, last = page_sample.amounts((1, 1), (10**18, 10**18))
-    share, every = page.HeldShare(last, 100.0), names + odd
+    share, every = page.HeldShare(last, 100.0), odd + names
     dumps = [page.DumpEntry(name, None, None, first, last, 0) for name in every]
+    paths = hostile_paths(every)
+    holders = [[field] for field in hostile_fields(every)] + [hostile_fields(every)]
     return page.Leak(
         dumps=dumps,
         grown=[page.GrownClass(name, [first] * (len(dumps) - 1) + [last]) for name in names * 5],
         holders=[
-            page.HolderEntry(KINDS[number % 5], name, 1, share, share, 1e6, [names, *([it] for it in names)])
-            for number, name in enumerate(every * 2)
+            page.HolderEntry(fields, 1, share, share, 1e6, paths[number % len(paths)])
+            for number, fields in enumerate(holders * 2)
         ],
         last={f"{name}{number}": page.Amount(10**6, 10**6 - number) for number, name in enumerate(names * 20)},
         growth=last,
         omitted=every * 3,
         making=page.Making(" ".join(every), 1, 1.0, 2**63, [(name, name) for name in every * 3]),
         of_class=names[0],
-        program=page.ProgramEntry(names[0], 2**63, names[1]),
+        program=page.ProgramEntry(names[0], 2**63, names[-1]),
         next_steps=[page.NextStep(name, name) for name in every],
-        objects=[page.ObjectEntry(number, name, name, 10**18, 1e6) for number, name in enumerate(every)],
-        threads=[page.ThreadGroupEntry(name, 0, 2**63, names) for name in every],
+        objects=hostile_objects(every),
+        threads=[page.ThreadGroupEntry(name, 0, 2**63, [name, *every]) for name in every],
         notes=every * 3,
+        weak=odd[0],
+        layout=odd[0],
+    )
+
+
+def hostile_one_dump(names: List[str] = HOSTILE, odd: List[str] = ODD) -> page.OneDump:
+    """Returns one dump all of whose names are hostile."""
+    leak = hostile_leak(names, odd)
+    every, share = odd + names, page.HeldShare(page.Amount(10**18, 10**18), 100.0)
+    return page.OneDump(
+        dump=leak.dumps[0],
+        suspects=[
+            page.SuspectEntry(it.fields, 2**63, share, [page.StepEntry(step.fields, share) for step in it.above])
+            for it in leak.holders
+        ],
+        classes=leak.last,
+        omitted=leak.omitted,
+        making=leak.making,
+        of_class=names[0],
+        program=leak.program,
+        next_steps=leak.next_steps,
+        objects=hostile_objects(every)[1:],
+        contents=[page.Row(name, share.amount) for name in every],
+        ran_out=[page.RanOutEntry(name, [*every, name], len(every)) for name in every],
+        notes=leak.notes,
+        weak=odd[0],
+        layout=odd[0],
+        capacity=2**63,
     )

@@ -4,7 +4,7 @@ import atexit
 import pathlib
 import tempfile
 import unittest
-from typing import Any, List
+from typing import Any, List, Union
 
 from heap_tools import page
 from tests.support import chromium
@@ -96,10 +96,10 @@ class InBrowser(unittest.TestCase):
         self.assertEqual(self.browser.logged(), [])
         self.assertEqual(self.browser.value("document.scripts.length"), 0)
 
-    def open_page_of(self, leak: page.Leak) -> None:
-        """Opens the page of a leak."""
+    def open_page_of(self, content: Union[page.Leak, page.OneDump]) -> None:
+        """Opens the page of a leak, or of one dump."""
         with tempfile.TemporaryDirectory() as room:
-            page.save(leak, f"{room}/leak.html")
+            page.save(content, f"{room}/leak.html")
             self.open(f"{room}/leak.html")
 
     def check_screens(self, may_scroll: bool = False) -> None:

@@ -1,7 +1,7 @@
-"""Leaks for the tests of the page: one as it happens, and changes of it."""
+"""What the pages show, for their tests: a leak and one dump as they happen, and changes of them."""
 
 import dataclasses
-from typing import Any, Dict, List, Sequence, Tuple
+from typing import Any, Dict, List, Optional, Sequence, Tuple
 
 from heap_tools import page
 
@@ -42,12 +42,22 @@ def held(objects: int, size: int, percent: float) -> page.HeldShare:
     return page.HeldShare(page.Amount(objects, size), percent)
 
 
-def holder(
-    kind: str, name: str, holders: int, before: page.HeldShare, after: page.HeldShare, *above: str
-) -> page.HolderEntry:
+def field(text: str) -> page.FieldEntry:
+    """Returns a field by its kind and its name: a field of instances has only its name."""
+    kind, _, name = text.partition(" ")
+    is_named = kind in (page.STATIC, page.LOCAL, page.THREAD, page.THREADS)
+    return page.FieldEntry(kind, name) if is_named else page.FieldEntry(page.FIELD, text)
+
+
+def step(text: str, share: Optional[page.HeldShare] = None) -> page.StepEntry:
+    """Returns a step of a path that is one field."""
+    return page.StepEntry([field(text)], share)
+
+
+def holder(text: str, instances: int, before: page.HeldShare, after: page.HeldShare, *above: str) -> page.HolderEntry:
     """Returns a holder, with its share of the growth of the sample."""
     share = 100 * (after.amount.bytes - before.amount.bytes) / GROWTH.bytes
-    return page.HolderEntry(kind, name, holders, before, after, share, [[step] for step in above])
+    return page.HolderEntry([field(text)], instances, before, after, share, [step(each) for each in above])
 
 
 def classes() -> Dict[str, page.Amount]:
@@ -95,20 +105,13 @@ def holders() -> List[page.HolderEntry]:
     poll = held(11, 4_020, 0.01), held(9_400, 8_300_120, 14.24)
     queue = "java/util/concurrent/ScheduledThreadPoolExecutor$DelayedWorkQueue.queue"
     above = "static com/acme/shop/timeout/TimeoutService.TIMER", "java/util/concurrent/ThreadPoolExecutor.workQueue"
-    meters = f"{OWN}.METERS"
+    meters = f"static {OWN}.METERS"
     return [
-        holder(page.STATIC, meters, 1, held(88_104, 4_011_220, 9.73), held(299_904, 20_425_100, 35.04)),
-        holder(
-            page.FIELD,
-            f"{MAP}.table",
-            44,
-            held(88_220, 4_031_004, 9.78),
-            held(300_001, 20_440_216, 35.07),
-            f"static {meters}",
-        ),
-        holder(page.LOCAL, "com/acme/shop/Poller.run", 3, *poll),
-        holder(page.THREAD, "http-nio-8080-exec-1", 1, *poll),
-        holder(page.FIELD, queue, 1, held(0, 0, 0.0), held(8_000, 8_200_000, 14.07), *above),
+        holder(meters, 1, held(88_104, 4_011_220, 9.73), held(299_904, 20_425_100, 35.04)),
+        holder(f"{MAP}.table", 44, held(88_220, 4_031_004, 9.78), held(300_001, 20_440_216, 35.07), meters),
+        holder("local com/acme/shop/Poller.run", 3, *poll),
+        holder("thread http-nio-8080-exec-1", 1, *poll),
+        holder(queue, 1, held(0, 0, 0.0), held(8_000, 8_200_000, 14.07), *above),
     ]
 
 
@@ -128,7 +131,7 @@ def leak(**changes: Any) -> page.Leak:
         making=making(),
         program=page.ProgramEntry("com.acme.shop.Application", 4711, "OpenJDK 64-Bit Server VM, Java 21.0.4"),
         next_steps=[
-            page.NextStep("All that hangs by it, class by class", f"held /tmp/shop-2.hprof 'static {OWN}.METERS'"),
+            page.NextStep("All that it retains, class by class", f"held /tmp/shop-2.hprof 'static {OWN}.METERS'"),
             page.NextStep(f"What holds objects of {OWN}$Meter", f"holders /tmp/shop-2.hprof '{OWN}$Meter'"),
         ],
     )
@@ -145,8 +148,8 @@ def full_leak(**changes: Any) -> page.Leak:
     """Returns the sample with all that a page can have: objects, threads, notes, and much that is unreachable."""
     first, middle, last = leak().dumps
     objects = [
-        page.ObjectEntry(1, MAP, "meters of /checkout", 12_300_110, 60.2),
-        page.ObjectEntry(2, f"{MAP}$Node[]", "", 1_200, 0.02),
+        page.ObjectEntry(1, MAP, [page.NameEntry("the map's key", '"meters of /checkout"')], 12_300_110, 60.2),
+        page.ObjectEntry(2, f"[L{MAP}$Node;", [], 1_200, 0.02),
     ]
     threads = [
         page.ThreadGroupEntry("report-*", 1, 284, ["java/lang/Object.wait", "com/acme/shop/Reporter.run"]),
@@ -167,3 +170,56 @@ def uneven(times: Sequence[int]) -> page.Leak:
     dumps = [dump(number, amount, (0, 0)) for number, amount in enumerate(series)]
     dumps = [dataclasses.replace(each, time=NOON + MINUTE * minute) for each, minute in zip(dumps, times)]
     return leak(dumps=dumps, grown=[grown("com/acme/Steady", *series)])
+
+
+def one_dump(**changes: Any) -> page.OneDump:
+    """Returns one dump of a program that ran out of memory: the inbox of one tenant of 500 is full."""
+    tenants = "static com/acme/mail/Tenants.BY_NAME"
+    whole = page.HeldShare(page.Amount(811_204, 40_311_880), 81.2)
+    inbox = page.HeldShare(page.Amount(799_400, 39_102_440), 78.8)
+    found = page.OneDump(
+        dump=dump(1, (1_002_300, 49_624_118), (120_441, 6_112_800)),
+        suspects=[
+            page.SuspectEntry([field(tenants)], 1, whole, []),
+            page.SuspectEntry(
+                [field("com/acme/mail/Tenant.inbox")], 500, inbox, [step(tenants, whole), step(f"{MAP}.table", whole)]
+            ),
+            page.SuspectEntry([field("local com/acme/mail/Import.run")], 1, held(20_114, 10_044_190, 20.2), []),
+        ],
+        classes=classes(),
+        omitted=[],
+        making=making("leaks --html heap.html /tmp/mail.hprof"),
+        program=page.ProgramEntry("mail-server.jar", 4711, "OpenJDK 64-Bit Server VM, Java 21.0.4"),
+        next_steps=[page.NextStep("All that it retains, class by class", f"held /tmp/mail.hprof '{tenants}'")],
+        objects=[
+            page.ObjectEntry(
+                2, "com/acme/mail/Tenant", [page.NameEntry("its field name", '"tenant-317"')], 37_400_120, 95.6
+            )
+        ],
+        contents=[
+            page.Row("byte[]", page.Amount(301_442, 21_033_107)),
+            page.Row("com/acme/mail/Message", page.Amount(98_117, 7_154_808)),
+            page.Row("[Ljava/lang/Object;", page.Amount(60_733, 5_335_557)),
+        ],
+        ran_out=[
+            page.RanOutEntry(
+                "http-nio-8080-exec-7",
+                [
+                    "java/util/Arrays.copyOf",
+                    "java/util/ArrayList.grow",
+                    "com/acme/mail/Inbox.add",
+                    "com/acme/mail/Server.run",
+                ],
+                2,
+            )
+        ],
+        capacity=60_000_000,
+    )
+    return dataclasses.replace(found, **changes)
+
+
+def bare_dump(**changes: Any) -> page.OneDump:
+    """Returns one dump without what may be missing, and with `changes`."""
+    nothing: Dict[str, Any] = {"suspects": [], "classes": {}, "objects": [], "contents": [], "ran_out": []}
+    nothing.update({"next_steps": [], "capacity": None, "program": page.ProgramEntry()})
+    return one_dump(**{**nothing, **changes})

@@ -1,0 +1,29 @@
+"""The page of two or more dumps: what holds what grew between them."""
+
+from heap_tools.page.chart import chart
+from heap_tools.page.classes import grown_classes, made_of
+from heap_tools.page.holders import holders
+from heap_tools.page.model import Leak, Limits
+from heap_tools.page.sections import Section, making, omitted, terms, whole_page
+from heap_tools.page.templates import Html, fill
+from heap_tools.page.top import tiles, top
+
+
+def heap(leak: Leak, limits: Limits) -> Section:
+    """Returns the section of the heap over the dumps: figures, and the chart beside them."""
+    beside = fill("beside", tiles=tiles(leak), picture=chart(leak, limits))
+    return Section("heap", "Heap", "The heap over the dumps", beside)
+
+
+def page_of(leak: Leak, limits: Limits) -> Html:
+    """Returns the page."""
+    sections = [
+        heap(leak, limits),
+        holders(leak, limits),
+        grown_classes(leak, limits),
+        made_of(leak.last, "the last heap", limits),
+        omitted(leak.omitted, leak.dumps, leak.layout, limits),
+        terms(),
+        making(leak.making, leak.dumps, limits),
+    ]
+    return whole_page(top(leak, limits), sections, leak.making.time)

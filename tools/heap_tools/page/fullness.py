@@ -1,0 +1,81 @@
+"""How full the heap of one dump is, and of what: figures, and a bar that has all of it."""
+
+from typing import List, NamedTuple
+
+from heap_tools.page.model import Limits, OneDump
+from heap_tools.page.names import names_of
+from heap_tools.page.sections import Section
+from heap_tools.page.templates import Html, escaped, fill, joined
+from heap_tools.page.words import figure, figure_in, percent
+from heap_tools.reports import Unit
+
+
+class Part(NamedTuple):
+    """A part of the bar: its kind, what it is, and its size."""
+
+    kind: str
+    words: Html
+    size: int
+
+
+def fullness(dump: OneDump, limits: Limits) -> Section:
+    """Returns the section of how full the heap is."""
+    parts = parts_of(dump, limits)
+    shown = fill("above", tiles=tiles(dump), picture=bar_of(parts, dump.by))
+    return Section("heap", "Heap", "How full the heap is", shown)
+
+
+def free_bytes(dump: OneDump) -> int:
+    """Returns how many bytes the heap may have more, 0 if that is not known."""
+    if dump.capacity is None or dump.by is not Unit.BYTES:
+        return 0
+    return max(0, dump.capacity - dump.dump.reachable.bytes - dump.dump.unreachable.bytes)
+
+
+def parts_of(dump: OneDump, limits: Limits) -> List[Part]:
+    """Returns the parts of the bar: what the first suspect holds, all else that is reachable, what is unreachable, and
+    what is free."""
+    unit, it = dump.by, dump.dump
+    held = unit.of(dump.suspects[0].held.amount) if dump.suspects else 0
+    parts = [
+        Part("reachable", escaped(f"{'other ' * bool(held)}reachable {unit.value}"), unit.of(it.reachable) - held),
+        Part("unreachable", escaped(f"unreachable {unit.value}"), unit.of(it.unreachable)),
+        Part("free", escaped("free, or taken by what no dump has"), free_bytes(dump)),
+    ]
+    if held:
+        parts.insert(0, Part("held", joined(["held by ", names_of(dump.suspects[0].fields, limits)]), held))
+    return [part for part in parts if part.size > 0]
+
+
+def bar_of(parts: List[Part], unit: Unit) -> Html:
+    """Returns the bar, and what its parts are."""
+    whole, at, boxes = max(1, sum(part.size for part in parts)), 0.0, []
+    for part in parts:
+        width = 1000 * part.size / whole
+        boxes.append(fill("full_part", kind=part.kind, x=f"{at:.1f}", width=f"{width:.1f}"))
+        at += width
+    keys = (fill("full_key", kind=part.kind, size=figure_in(part.size, unit), text=part.words) for part in parts)
+    shares = ", ".join(f"{part.kind} {percent(100 * part.size / whole)}" for part in parts)
+    picture = fill("full_bar", boxes=joined(boxes), description=f"The heap in parts: {shares}.")
+    return fill("figure_of", picture=picture, caption=joined(keys, "\n"))
+
+
+def tiles(dump: OneDump) -> Html:
+    """Returns the figures beside the bar."""
+    unit, it, parts = dump.by, dump.dump, []
+    if dump.suspects:
+        share = percent(dump.suspects[0].held.percent)
+        parts.append(fill("tile", name="Its share of the heap", value=share, note=f"of {dump.whole}"))
+    parts.append(
+        fill(
+            "tile",
+            name="Reachable heap",
+            value=figure_in(unit.of(it.reachable), unit),
+            note=figure_in(unit.other.of(it.reachable), unit.other),
+        )
+    )
+    if dump.capacity:
+        used = it.reachable.bytes + it.unreachable.bytes
+        note = joined(["of ", figure(dump.capacity, "byte"), " that the heap may have, garbage included"])
+        parts.append(fill("tile", name="In use", value=percent(100 * used / dump.capacity), note=note))
+    return joined(parts, "\n")
