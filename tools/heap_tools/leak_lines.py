@@ -1,16 +1,16 @@
 """The answer of `leaks`: the lines that show what holds the growth. `line_order.py` has their order."""
 
 import dataclasses
-from typing import Callable, Dict, List, NamedTuple, Optional, Sequence
+from typing import Callable, List, NamedTuple, Optional, Sequence, Tuple
 
 from heap_tools.candidates import Candidate, joint_name
-from heap_tools.line_order import CHAIN, FEW, HARDLY_ANY, Features, LineOrder
-from heap_tools.probe import EarlierProbe, GrowthProbe, Retained
+from heap_tools.line_order import CHAIN, FEW, HARDLY_ANY, Features, LineOrder, Scoring
+from heap_tools.probe import EarlierProbe, GrowthProbe, Probe, Retained
 from heap_tools.reference_paths import ReferencePaths
 from heap_tools.reports import Amount
 from heap_tools.search import Search
 from heap_tools.search_progress import SearchProgress
-from heap_tools.which_object import HoldingObject, objects_that_grew
+from heap_tools.which_object import HoldingObject, ObjectSearch, objects_that_grew
 
 
 class Line(NamedTuple):
@@ -46,12 +46,16 @@ class Answer(NamedTuple):
 
 
 class Lines:
-    """What a search has found, in the order of `line_order`. `between` are dumps between the first and the last."""
+    """What a search has found, in the order of `line_order`: of one dump by what it holds. `between` are dumps between
+    the first and the last."""
 
-    def __init__(self, search: Search, probe: GrowthProbe, between: Sequence[EarlierProbe]) -> None:
+    def __init__(self, search: Search, probe: Probe, between: Sequence[EarlierProbe] = ()) -> None:
         self.probe, self.between, self.found = probe, between, search.found
+        self.scoring = Scoring.GAIN if isinstance(probe, GrowthProbe) else Scoring.SHARE
         #: What is not found, but may have held before what a line holds now.
-        self.others = [*search.steady, *(probe.retained(kin) for kin in map(self._kin, self.found) if kin)]
+        self.others: List[Retained] = []
+        if self.scoring is Scoring.GAIN:
+            self.others = [*search.steady, *(probe.retained(kin) for kin in map(self._kin, self.found) if kin)]
         self.every = [*self.found, *self.others]
         self.features = [self._features(held, number < len(self.found)) for number, held in enumerate(self.every)]
 
@@ -63,7 +67,7 @@ class Lines:
         """Asks of some lines which objects gained most, and notes if it is one. Returns them, without a number."""
         several = None
         for number in self._order().to_ask():
-            objects = objects_that_grew(self.probe, self.every[number])
+            objects = self._objects_of(self.every[number])
             if len(objects) == 1:
                 of_one = objects[0].percent / 100
                 self.features[number] = dataclasses.replace(self.features[number], of_one=of_one)
@@ -72,15 +76,21 @@ class Lines:
                 several = LineObjects(0, self.every[number], objects)
         return several
 
+    def _objects_of(self, held: Retained) -> List[HoldingObject]:
+        """Returns which objects gained most of what `held` did, or of one dump hold most."""
+        if isinstance(self.probe, GrowthProbe):
+            return objects_that_grew(self.probe, held)
+        return ObjectSearch(self.probe, held).find()
+
     def _order(self) -> LineOrder:
-        return LineOrder(self.features, self._holds_all, self.probe.unit.of(self.probe.growth))
+        return LineOrder(self.features, self._holds_all, self.probe.unit.of(self.probe.growth), self.scoring)
 
     def _holds_all(self, upper: int, lower: int) -> bool:
         return self.probe.holds_all(self.every[upper], self.every[lower])
 
     def _features(self, held: Retained, is_line: bool) -> Features:
         """Returns what the order has to know of `held`."""
-        probe, candidates, was = self.probe, held.candidates, self.probe.earlier.retained(held.candidates)
+        probe, candidates, was = self.probe, held.candidates, self.probe.before(held.candidates)
         classes = frozenset().union(*(each.classes for each in candidates))
         return Features(
             name=joint_name(candidates),
@@ -88,7 +98,7 @@ class Lines:
             is_own=held.is_own,
             is_collection=all(each.is_collection for each in candidates),
             instances=held.holders,
-            instances_before=probe.earlier.holders(candidates),
+            instances_before=probe.instances_before(candidates),
             amount=probe.unit.of(held.amount),
             before=probe.unit.of(was.amount),
             heap=held.heap.objects,
@@ -100,21 +110,23 @@ class Lines:
 
     def _grew_at_each_step(self, held: Retained) -> bool:
         """Tests whether `held` gained between each two of the dumps that are asked."""
-        probes = [self.probe.earlier, *self.between, self.probe] if self.between else []
-        series = [self.probe.unit.of(probe.retained(held.candidates).amount) for probe in probes]
+        if not self.between:
+            return True
+        every = [self.probe.before(held.candidates), *(each.retained(held.candidates) for each in self.between), held]
+        series = [self.probe.unit.of(each.amount) for each in every]
         return all(after > before for before, after in zip(series, series[1:]))
 
     def _kin(self, held: Retained) -> List[Candidate]:
         """Returns the fields of the class that declares the field `held`, static ones if it is static, if it held
         hardly anything before: then another one of them may have held the same objects. Else nothing."""
-        unit, before = self.probe.unit, self.probe.earlier.retained(held.candidates).amount
+        unit, before = self.probe.unit, self.probe.before(held.candidates).amount
         if len(held.candidates) > 1 or unit.of(before) > HARDLY_ANY * unit.of(held.amount):
             return []
         kin = kin_of(held.candidates[0], self.probe)
         return kin if len(kin) > 1 else []
 
 
-def kin_of(candidate: Candidate, probe: GrowthProbe) -> List[Candidate]:
+def kin_of(candidate: Candidate, probe: Probe) -> List[Candidate]:
     """Returns the fields of the class that declares `candidate`, static ones if it is static."""
     owner = candidate.name.rpartition(".")[0]
     every = [*probe.candidates.statics(), *probe.candidates.fields(probe.base)]
@@ -136,12 +148,19 @@ def answer_of(
     """Searches the dumps for what holds `at_least` percent of the growth, and returns at most `top` lines."""
     search = Search(probe, at_least, top, by_holders, progress, FEW)
     search.find(probe.candidates.fields(probe.base))
-    found = Lines(search, probe, probes_between() if search.found else [])
+    lines, objects = lines_found(search, probe, top, probes_between() if search.found else [])
+    return Answer(lines, objects, search, probe)
+
+
+def lines_found(
+    search: Search, probe: Probe, top: int, between: Sequence[EarlierProbe] = ()
+) -> Tuple[List[Line], Optional[LineObjects]]:
+    """Returns at most `top` lines of what a search has found, and the objects that gained most of one."""
+    found = Lines(search, probe, between)
     objects = found.ask_for_objects()
     ranked = found.sorted()
     paths, lines = ReferencePaths(probe, [*ranked, *search.steady]), []
     for held in ranked[:top]:
-        before = probe.earlier.retained(held.candidates).amount
-        share = probe.share(held.candidates)
-        lines.append(Line(held, before, share, paths.above(held), probe.earlier.holders(held.candidates)))
-    return Answer(lines, objects and objects._replace(number=1 + ranked.index(objects.held)), search, probe)
+        before, share = probe.before(held.candidates).amount, probe.share(held.candidates)
+        lines.append(Line(held, before, share, paths.above(held), probe.instances_before(held.candidates)))
+    return lines, objects and objects._replace(number=1 + ranked.index(objects.held))

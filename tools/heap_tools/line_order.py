@@ -123,9 +123,21 @@ class LineOrder:
         self.scores = {number: self.score(number) for number in self.numbers}
 
     def sorted(self) -> List[int]:
-        """Returns the numbers of the lines, the answer first."""
+        """Returns the numbers of the lines, the answer first. Of one dump the best own line beside that is the second:
+        something else may leak, too."""
         answer = self.answer()
-        return sorted(self.numbers, key=lambda it: (it != answer, -self.scores[it], *self._depth(it)))
+        first = [answer, self.beside(answer) if self.scoring is Scoring.SHARE else None]
+        return sorted(
+            self.numbers, key=lambda it: (*(it != each for each in first), -self.scores[it], *self._depth(it))
+        )
+
+    def beside(self, answer: Optional[int]) -> Optional[int]:
+        """Returns the best own line whose name says what it is for, and which neither is above the answer nor below it,
+        None if there is none."""
+        if answer is None:
+            return None
+        found = [it for it in self.numbers if self._is_own_telling(it) and not self._is_on_path(it, answer)]
+        return max(found, key=self._score_and_name) if found else None
 
     def answer(self) -> Optional[int]:
         """Returns the number of the answer, None if there is no line."""

@@ -51,6 +51,8 @@ class Probe:
         self.before_run = before_run
         self.base = base or runs.base()
         self.whole = self.base.total(families)
+        #: What shares are of: of one dump all that is asked for, as if the heap had been empty before.
+        self.growth = self.whole
         self._known: Dict[FrozenSet[Key], Retained] = {}
 
     def retained(self, group: Sequence[Candidate]) -> Retained:
@@ -77,6 +79,14 @@ class Probe:
         lost = {name: amount for name, amount in lost.items() if amount.objects > 0}
         amount = self.whole.minus(report.total(self.families))
         return Retained(group, amount, self.base.reachable.minus(report.reachable), lost)
+
+    def before(self, group: Sequence[Candidate]) -> Retained:
+        """Returns what a group held before: of one dump nothing."""
+        return Retained(group, Amount(), Amount(), {})
+
+    def instances_before(self, group: Sequence[Candidate]) -> int:
+        """Returns how many instances a group had before: of one dump none."""
+        return 0
 
     def changes(self, candidate: Candidate) -> Changes:
         """Returns the changes by which a candidate leads nowhere in this dump."""
@@ -130,6 +140,14 @@ class GrowthProbe(Probe):
         self.earlier = earlier
         self.growth = self.whole.minus(earlier.whole)
 
+    def before(self, group: Sequence[Candidate]) -> Retained:
+        """Returns what a group held before."""
+        return self.earlier.retained(group)
+
+    def instances_before(self, group: Sequence[Candidate]) -> int:
+        """Returns how many instances a group had before."""
+        return self.earlier.holders(group)
+
     def bound(self, group: Sequence[Candidate]) -> float:
         """Returns a share of the growth in percent that no part of `group` exceeds: that of what the group holds."""
         return self.unit.percent(self.retained(group).amount, self.growth)
@@ -141,7 +159,7 @@ class GrowthProbe(Probe):
 
     def gain(self, group: Sequence[Candidate]) -> Amount:
         """Returns what a group holds more than before."""
-        return self.retained(group).amount.minus(self.earlier.retained(group).amount)
+        return self.retained(group).amount.minus(self.before(group).amount)
 
     def share(self, group: Sequence[Candidate]) -> float:
         """Returns the share of the growth that a group gained, in percent."""
