@@ -4,7 +4,7 @@ import itertools
 from typing import Dict, Iterable, Iterator, List, NamedTuple, Optional, Set, Tuple
 
 from heap_tools import hprof_format as hprof
-from heap_tools.class_names import PRIMITIVES, family
+from heap_tools.class_names import CLASSES, PRIMITIVES, family
 from heap_tools.heap_dump import Field, HeapDump, Span
 from heap_tools.parallel import shared
 
@@ -88,6 +88,33 @@ class HeapObjects:
     def class_of(self, at: int) -> int:
         """Returns the identifier of the class of the instance at `at`, 0 if an array is there."""
         return self.dump.id(at + 5 + self.dump.id_size) if self.dump.bytes[at] == hprof.INSTANCE else 0
+
+    def class_name(self, at: int) -> str:
+        """Returns the family of the class of the object at `at`: the class of an instance or of an array."""
+        dump, tag = self.dump, self.dump.bytes[at]
+        if tag == hprof.PRIMITIVE_ARRAY:
+            return f"{PRIMITIVES[hprof.LETTERS[dump.bytes[at + 9 + dump.id_size]]]}[]"
+        place = {hprof.INSTANCE: 5, hprof.OBJECT_ARRAY: 9}.get(tag)
+        return CLASSES if place is None else family(dump.names.get(dump.id(at + place + dump.id_size), ""))
+
+    def references_of(self, at: int) -> Dict[str, int]:
+        """Returns the identifiers of the objects that the fields of the instance at `at` name, by the field; of fields
+        of one name, that of the class nearest to the instance's own. Returns nothing for an array or a class."""
+        found: Dict[str, int] = {}
+        for _, place, field in self.fields_of(self.class_of(at)):
+            if field.kind == hprof.OBJECT and self.dump.id(at + place):
+                found.setdefault(field.name, self.dump.id(at + place))
+        return found
+
+    def length_of(self, at: int) -> int:
+        """Returns how many elements the array of references at `at` has."""
+        return self.dump.number(at + 5 + self.dump.id_size, 4)
+
+    def elements_of(self, at: int) -> List[int]:
+        """Returns where the elements of the array of references at `at` are that are not null."""
+        size, begin = self.dump.id_size, at + 9 + 2 * self.dump.id_size
+        every = range(begin, begin + self.length_of(at) * size, size)
+        return [place for place in every if self.dump.id(place)]
 
     def fields_of(self, class_id: int) -> Iterator[Tuple[int, int, Field]]:
         """Yields the fields of an instance of a class, inherited ones too: the class that declares each, where its

@@ -2,12 +2,14 @@
 object that leads to it."""
 
 import re
-from typing import Dict, Iterable, List, NamedTuple, Optional, Sequence, Set, Tuple
+from collections import Counter
+from typing import Dict, Iterable, List, Mapping, NamedTuple, Optional, Sequence, Set, Tuple
 
 from heap_tools import hprof_format as hprof
-from heap_tools.class_names import family, printable
+from heap_tools.class_names import printable
 from heap_tools.heap_dump import HeapDump
 from heap_tools.heap_objects import HeapObjects, Referrer
+from heap_tools.object_owners import Owners
 
 STRING_CLASS = "java/lang/String"
 #: The fields of a text that names an object, the likeliest first. An object with one text only is named by that.
@@ -25,12 +27,14 @@ NODE_CLASSES = frozenset(node for _, node, key in MAP_NODES if key == "key")
 #: The entries of a thread's map of thread-locals: the field of the value. The thread-local itself is the referent.
 ENTRY = "java/lang/ThreadLocal$ThreadLocalMap$Entry"
 THREAD_LOCAL = f"{ENTRY}.value"
+#: How an object is named by the static field of its thread-local. Those of all threads have that name.
+BY_THREAD_LOCAL = "the thread-local"
 #: The classes of boxed numbers, whose value a key may be.
 BOXES = {"java/lang/Integer": 4, "java/lang/Long": 8, "java/lang/Short": 2, "java/lang/Byte": 1}
-#: How many references above an object its owners are looked for, and how many of them are looked at for each object.
-STEPS_ABOVE, MOST_OWNERS = 3, 12
 #: How many names of owners are shown.
 OWNER_NAMES = 2
+#: With how many other objects the names of an object's owners are compared: each is looked for in the whole dump.
+OTHERS = 3
 #: How many characters of a text are shown.
 LONGEST_TEXT = 60
 
@@ -61,33 +65,51 @@ def likeliest_first(name: Tuple[str, str]) -> Tuple[bool, Tuple[str, str]]:
     return not is_naming(re.split("[ .]", name[0])[-1]), name
 
 
-def best_of(named: Dict[str, str]) -> Optional[str]:
-    """Returns which of the fields with these texts names their object, or None."""
+def best_of(named: Mapping[str, str]) -> Optional[str]:
+    """Returns which of the fields with these texts names their object, or None. A text of several lines, such as the
+    stack where an object was made, is no name, and neither is what is called a trace."""
+    named = {
+        field: text for field, text in named.items() if text and "\n" not in text and field[-5:].lower() != "trace"
+    }
     likely = [field for field in NAMING if field in named] or [field for field in named if is_naming(field)]
     return next(iter(likely or (named if len(named) == 1 else ())), None)
 
 
-class ObjectNames:
-    """Looks up what names objects of `dump`. `shows_values`: texts of the dump are shown; if not, only the fields that
-    have them are named."""
+def alone_in(names: Mapping[int, Sequence[Name]]) -> Dict[int, List[Name]]:
+    """Returns the names of each object that no other has, too: the others tell nothing apart."""
+    count = Counter(name for of_object in names.values() for name in set(of_object))
+    return {at: [name for name in of_object if count[name] == 1] for at, of_object in names.items()}
 
-    def __init__(self, dump: HeapDump, shows_values: bool = True) -> None:
-        self.dump, self.objects, self.shows_values = dump, HeapObjects(dump), shows_values
+
+class ObjectNames:
+    """Looks up what names objects of `dump`."""
+
+    def __init__(self, dump: HeapDump) -> None:
+        self.dump, self.objects = dump, HeapObjects(dump)
 
     def names_of(self, places: Sequence[int], others: Sequence[int] = ()) -> Dict[int, List[Name]]:
-        """Returns the names of the objects at these places, at most a few of each. If an object has none, those of its
-        owners count that the objects at `others` do not have, too. Walks over all objects some times."""
+        """Returns the names of the objects at these places, at most a few of each: texts and keys that neither another
+        of them nor one at `others` has, and thread-locals. If an object has none, those of its owners count that the
+        first of `others` do not have, too. Walks over all objects some times."""
+        own = self.own_names([*places, *others])
+        alone = alone_in(own)
+        found = {at: [name for name in own[at] if name in alone[at] or name.how == BY_THREAD_LOCAL] for at in places}
+        nameless = [at for at in places if not found[at]]
+        if nameless:
+            found.update(self._by_owner(nameless, others[:OTHERS]))
+        return found
+
+    def own_names(self, places: Sequence[int]) -> Dict[int, List[Name]]:
+        """Returns the names of the objects at these places, without those of their owners. Others may have them, too.
+        Walks over all objects some times."""
         found: Dict[int, List[Name]] = {at: [] for at in places}
         for at, name in [*self._by_text(places), *self._by_key(places), *self._by_thread_local(places)]:
             found[at].append(name)
-        nameless = [at for at in places if not found[at]]
-        if nameless:
-            found.update(self._by_owner(nameless, others))
         return found
 
     def _by_owner(self, places: Sequence[int], others: Sequence[int]) -> Dict[int, List[Name]]:
         """Returns the names of the nearest owners that have any. A name that another object has too names nothing."""
-        owners = self._owners([*places, *others])
+        owners = Owners(self.objects).above([*places, *others])
         keyed = self._keyed_names({owner for steps in owners.values() for step in steps for owner in step})
         names: Dict[int, List[Set[Tuple[str, str]]]] = {}
         for at, steps in owners.items():
@@ -97,38 +119,21 @@ class ObjectNames:
             of_others = {name for other in names if other != at for step in names[other] for name in step}
             telling = (sorted(step - of_others, key=likeliest_first) for step in names[at])
             nearest: List[Tuple[str, str]] = next(filter(None, telling), [])
-            found[at] = [Name(how, self._text(text) if text else "") for how, text in nearest[:OWNER_NAMES]]
+            found[at] = [Name(how, shown_text(text) if text else "") for how, text in nearest[:OWNER_NAMES]]
         return found
-
-    def _owners(self, places: Sequence[int]) -> Dict[int, List[List[Referrer]]]:
-        """Returns what leads to the object at each of these places, one reference above it, two, and so on."""
-        owners: Dict[int, List[List[Referrer]]] = {at: [] for at in places}
-        seen = {at: {self.dump.id(at + 1)} for at in places}
-        above = {at: set(ids) for at, ids in seen.items()}
-        for _ in range(STEPS_ABOVE):
-            referrers: Dict[int, List[Referrer]] = {}
-            for each in self.objects.referrers_of({target for targets in above.values() for target in targets}):
-                referrers.setdefault(each.target, []).append(each)
-            for at in places:
-                step = [each for target in above[at] for each in referrers.get(target, ())]
-                # What has many owners is shared: they say nothing of it.
-                step = step if len(step) <= MOST_OWNERS else []
-                owners[at].append(step)
-                above[at] = {self.dump.id(each.place + 1) for each in step} - seen[at]
-                seen[at] |= above[at]
-        return owners
 
     def _keyed_names(self, owners: Iterable[Referrer]) -> Dict[Referrer, Set[Tuple[str, str]]]:
         """Returns what names each of these owners: in words, and the text. Walks over all objects three times."""
         targets = {each: self._naming_targets(each) for each in owners}
         places = self.objects.places_of({target for found in targets.values() for target in found.values()})
         inner = {target: self._inner_texts(at) for target, at in places.items()}
+        kin = {target: self.objects.class_name(at) for target, at in places.items()}
         strings = {target for found in targets.values() for target in found.values()}
         strings.update(text for found in inner.values() for text in found.values())
         texts = self.objects.texts(strings)
         names: Dict[Referrer, Set[Tuple[str, str]]] = {}
         for owner, found in targets.items():
-            class_name = family(self.dump.names.get(self.objects.class_of(owner.place), ""))
+            class_name = self.objects.class_name(owner.place)
             static = self._static_of(owner)
             names[owner] = {(static, "")} if static else set()
             own = {field: texts[target] for field, target in found.items() if texts.get(target)}
@@ -136,17 +141,20 @@ class ObjectNames:
             if best is not None:
                 how = "the map's key" if class_name in NODE_CLASSES else f"of {class_name}, its field {best}"
                 names[owner].add((how, own[best]))
-            for field, target in found.items():
-                for name, text in inner.get(target, {}).items():
-                    if texts.get(text):
-                        names[owner].add((f"of {class_name}, its field {field}.{name}", texts[text]))
+            # An object of the owner's class, such as the next one of a chain, is its neighbour: that has its own name.
+            made_of = {
+                field: inner[target] for field, target in found.items() if kin.get(target, class_name) != class_name
+            }
+            for field, of_part in made_of.items():
+                part = {name: texts[text] for name, text in of_part.items() if texts.get(text)}
+                names[owner].update((f"of {class_name}, its field {field}.{name}", part[name]) for name in part)
         return names
 
     def _naming_targets(self, owner: Referrer) -> Dict[str, int]:
         """Returns the objects that may name an owner, by the fields of it: of the node of a map only its key."""
         if self.dump.bytes[owner.place] != hprof.INSTANCE:
             return {}
-        found = self._references(owner.place)
+        found = self.objects.references_of(owner.place)
         if self.dump.names.get(self.objects.class_of(owner.place)) in NODE_CLASSES:
             found = {field: target for field, target in found.items() if field == "key"}
         return {field: target for field, target in found.items() if target != owner.target}
@@ -156,7 +164,7 @@ class ObjectNames:
         says nothing of what refers to it."""
         if self.dump.bytes[at] != hprof.INSTANCE or self.objects.place_of_value(at, "java/lang/Thread", "name"):
             return {}
-        return {field: target for field, target in self._references(at).items() if is_naming(field)}
+        return {field: target for field, target in self.objects.references_of(at).items() if is_naming(field)}
 
     def _static_of(self, owner: Referrer) -> str:
         """Returns the static field by which a class owns an object, empty if the owner is no class."""
@@ -164,26 +172,15 @@ class ObjectNames:
             return ""
         return f"static {self.dump.names[self.dump.id(owner.place + 1)]}.{owner.field}"
 
-    def _text(self, text: str) -> str:
-        return shown_text(text) if self.shows_values else ""
-
     def _by_text(self, places: Sequence[int]) -> Iterable[Tuple[int, Name]]:
         """Yields the objects that have a text which names them."""
-        fields = {at: self._references(at) for at in places}
+        fields = {at: self.objects.references_of(at) for at in places}
         texts = self.objects.texts({target for of_object in fields.values() for target in of_object.values()})
         for at, of_object in fields.items():
             named = {field: texts[target] for field, target in of_object.items() if texts.get(target)}
             best = best_of(named)
             if best is not None:
-                yield at, Name(f"its field {best}", self._text(named[best]))
-
-    def _references(self, at: int) -> Dict[str, int]:
-        """Returns the objects that the fields of the instance at `at` name, by the field."""
-        found = {}
-        for _, place, field in self.objects.fields_of(self.objects.class_of(at)):
-            if field.kind == hprof.OBJECT and self.dump.id(at + place):
-                found[field.name] = self.dump.id(at + place)
-        return found
+                yield at, Name(f"its field {best}", shown_text(named[best]))
 
     def _by_key(self, places: Sequence[int]) -> Iterable[Tuple[int, Name]]:
         """Yields the objects that a map has under a key, with the key."""
@@ -200,12 +197,12 @@ class ObjectNames:
     def _spelled(self, identifiers: Iterable[int]) -> Dict[int, str]:
         """Returns the texts and the boxed numbers among these objects, as they are shown."""
         identifiers = [each for each in identifiers if each]
-        found = {key: self._text(text) for key, text in self.objects.texts(identifiers).items() if text}
+        found = {key: shown_text(text) for key, text in self.objects.texts(identifiers).items() if text}
         for key, at in self.objects.places_of(identifiers).items():
             box = self.dump.names.get(self.objects.class_of(at), "")
             place = self.objects.place_of_value(at, box, "value") if box in BOXES else None
             if place is not None:
-                found[key] = str(self._signed(place, BOXES[box])) if self.shows_values else ""
+                found[key] = str(self._signed(place, BOXES[box]))
         return found
 
     def _signed(self, place: int, size: int) -> int:
@@ -217,17 +214,17 @@ class ObjectNames:
         entries = [(at, at) for at in places if self.dump.names.get(self.objects.class_of(at)) == ENTRY]
         for entry, place in self.objects.values_of([THREAD_LOCAL], set(wanted)):
             entries.append((wanted[self.dump.id(place)], entry))
+        statics = self._static_fields() if entries else {}
         for at, entry in entries:
-            field = self._static_field(self.objects.reference(entry, "java/lang/ref/Reference", "referent"))
+            field = statics.get(self.objects.reference(entry, "java/lang/ref/Reference", "referent"))
             if field:
-                yield at, Name("the thread-local", f"static {field}")
+                yield at, Name(BY_THREAD_LOCAL, f"static {field}")
 
-    def _static_field(self, target: int) -> Optional[str]:
-        """Returns the name of a static field that names the object `target`, or None."""
-        if not target:
-            return None
+    def _static_fields(self) -> Dict[int, str]:
+        """Returns the names of static fields by the identifiers of the objects that they name."""
+        found: Dict[int, str] = {}
         for class_id, each in self.dump.classes.items():
             for field in each.fields:
-                if field.is_static and field.kind == hprof.OBJECT and self.dump.id(field.place + 1) == target:
-                    return f"{self.dump.names[class_id]}.{field.name}"
-        return None
+                if field.is_static and field.kind == hprof.OBJECT and not field.is_null:
+                    found.setdefault(self.dump.id(field.place + 1), f"{self.dump.names[class_id]}.{field.name}")
+        return found
