@@ -11,6 +11,7 @@ from heap_tools.direct_buffers import more_direct_memory
 from heap_tools.humanize import counted
 from heap_tools.leak_lines import Answer, Line, LineObjects
 from heap_tools.thread_counts import ThreadCount, grown_thread_counts
+from heap_tools.which_object import sentence
 
 #: How many patterns of names of threads are said.
 PATTERNS = 3
@@ -53,10 +54,7 @@ def shown_objects(found: Optional[LineObjects], shows_values: bool) -> Optional[
 
 def objects_words(found: LineObjects) -> str:
     """Returns which objects gained most of what a line did."""
-    objects = "; ".join(map(str, found.objects))
-    field = joint_name(found.held.candidates)
-    hold = "gained" if found.objects[0].has_gained else "holds" if len(found.objects) == 1 else "hold"
-    return f"line {found.number}: {len(found.objects)} of {found.held.holders:,} {field} {hold} most: {objects}"
+    return f"line {found.number}: {sentence(joint_name(found.held.candidates), found.objects)}"
 
 
 def say_notes(notes: Notes) -> None:

@@ -1,34 +1,35 @@
-"""Which objects of many that have a field hold most of what the field holds, and what names them."""
+"""Which objects of many hold most of what a field holds, or gained most of what it gained, and what names them."""
 
-from typing import Dict, List, NamedTuple, Optional, Sequence, Tuple
+from typing import Dict, FrozenSet, Iterator, List, NamedTuple, Sequence
 
-from heap_tools.candidates import FIELD, Candidate
-from heap_tools.changed_copy import Changes
-from heap_tools.class_names import family
+from heap_tools.candidates import FIELD, STATIC
 from heap_tools.heap_objects import FieldValue, HeapObjects
-from heap_tools.object_names import Name, ObjectNames
+from heap_tools.object_names import Name, ObjectNames, alone_in
+from heap_tools.object_parts import Parts, elements, instances
+from heap_tools.part_search import OF_ONE, Holding, Measure, PartSearch
 from heap_tools.probe import GrowthProbe, Probe, Retained
 from heap_tools.reports import Amount
 
-#: Of how many holders it is asked which of them hold most.
+#: Among how many objects those are looked for that hold most: one object is no question, and more of them would make
+#: each run read too many changes.
 FEWEST_OBJECTS, MOST_OBJECTS = 2, 100_000
-#: The share of what all hold, in percent, that one must hold to be named, and that those named must hold together.
-OF_ONE, OF_ALL = 20, 50
-#: With how many other objects the names of those are compared.
-OTHERS = 3
-#: The most runs of heapmark for one field.
-MOST_RUNS = 30
+#: The share in percent that the named objects must have together: so they say more of the field than the others do.
+OF_ALL = 50
 
 
 class HoldingObject(NamedTuple):
-    """An object that holds much of what a field holds: its class, what names it, what it holds, and the share of that
-    in percent. `has_gained`: the share is that of what it gained in what the field gained."""
+    """An object that holds much of what a field holds: its class, what names it, and what it holds. `percent` is its
+    share of what the field holds now; if `has_gained`, the share of what it gained in what the field gained, both
+    measured in both dumps. `of`: among how many objects it was looked for. `is_element`: these are the elements of the
+    field's list, not the instances that have the field."""
 
     class_name: str
     names: List[Name]
     amount: Amount
     percent: float
     has_gained: bool = False
+    of: int = 0
+    is_element: bool = False
 
     @property
     def named_by(self) -> str:
@@ -39,110 +40,187 @@ class HoldingObject(NamedTuple):
         return f"{self.class_name}{f' ({self.named_by})' if self.names else ''}: {self.percent:.0f}%"
 
 
-class ObjectSearch:
-    """Looks for the instances that hold most of what `held`, one field of instances, holds in the dump that `probe`
-    asks. Shares are in percent of `whole`. A group holds at least what each of it does, so groups that hold too little
-    are not looked into."""
+def sentence(field: str, found: Sequence[HoldingObject]) -> str:
+    """Returns in words what objects hold or gained of what `field` does."""
+    first, are_most = found[0], sum(each.percent for each in found) >= OF_ALL
+    hold = "gained" if first.has_gained else "holds" if len(found) == 1 else "hold"
+    what = f"elements of {field}" if first.is_element else field
+    return f"{len(found)} of {first.of:,} {what} {hold}{' most' * are_most}: {'; '.join(map(str, found))}"
 
-    def __init__(self, probe: Probe, held: Retained, whole: Optional[Amount] = None) -> None:
+
+class PartsOfField:
+    """The objects by which the field `held` holds what it holds in the dump that `probe` asks: the instances that have
+    it, or with `as_elements` the elements of its list."""
+
+    def __init__(self, probe: Probe, held: Retained, as_elements: bool = False) -> None:
         self.probe, self.held = probe, held
-        self.whole = held.amount if whole is None else whole
-        self.field: Candidate = held.candidates[0]
-        self.runs = 0
-        self._known: Dict[Tuple[int, ...], Amount] = {}
+        self.objects = HeapObjects(probe.runs.dump)
+        field = held.candidates[0]
+        if as_elements:
+            self.parts: Parts = elements(self.objects, field, probe.changes(field))
+        else:
+            self.parts = instances(self.objects, field)
+        self.names, self.measure = ObjectNames(self.objects.dump), Measure(probe)
 
-    def find(self) -> List[HoldingObject]:
-        """Returns the objects that hold most, those that hold most of all first. Returns nothing if many hold a little
-        each, or if the line is not about 2 to 100,000 instances."""
-        is_field = len(self.held.candidates) == 1 and self.field.kind == FIELD
-        if not is_field or not FEWEST_OBJECTS <= self.field.count <= MOST_OBJECTS:
-            return []
-        objects = HeapObjects(self.probe.runs.dump)
-        every = list(objects.values_of([self.field.name]))
-        values = [each for each in every if objects.dump.id(each.value)]
-        found = self._heaviest(values)
-        if sum(self._percent(amount) for _, amount in found) < OF_ALL:
-            return []
-        heavy = [value.instance for value, _ in found]
-        others = [value.instance for value in every if value.instance not in heavy][:OTHERS]
-        names = ObjectNames(objects.dump).names_of(heavy, others)
+    @property
+    def is_question(self) -> bool:
+        """Tests whether there are several, not too many, and they hold no more than the field: elements that something
+        else leads to do."""
+        if not FEWEST_OBJECTS <= len(self.parts.values) <= MOST_OBJECTS:
+            return False
+        unit = self.probe.unit
+        together = self.measure.amount(self.parts.values) if self.parts.are_elements else self.held.amount
+        return unit.of(together) <= unit.of(self.held.amount)
+
+    def search(self, whole: Amount) -> PartSearch:
+        """Returns a search among them for those that hold much of `whole`. One may hold another if without the field
+        some of the instances that have it are unreachable."""
+        classes: FrozenSet[str] = frozenset() if self.parts.are_elements else self.held.candidates[0].classes
+        are_nested = any(self.held.lost.get(name, Amount()).objects > 0 for name in classes)
+        return PartSearch(self.measure, self.parts.values, self.held.amount, whole, are_nested)
+
+    @property
+    def places(self) -> List[int]:
+        """Where the objects are."""
+        return [each.instance for each in self.parts.values]
+
+    def class_of(self, at: int) -> str:
+        """Returns the class of the object at `at`, without what tells hidden classes apart."""
+        return self.objects.class_name(at)
+
+    def names_of(self, chosen: Sequence[int]) -> Dict[int, List[Name]]:
+        """Returns the names of the objects at `chosen`. Names that others have, too, are none."""
+        known = set(chosen)
+        return self.names.names_of(chosen, [at for at in self.places if at not in known])
+
+    def described(self, found: Sequence[Holding], whole: Amount) -> List[HoldingObject]:
+        """Returns these objects with their names and their shares of `whole`."""
+        names = self.names_of([each.value.instance for each in found])
         return [
             HoldingObject(
-                family(objects.dump.names[objects.class_of(value.instance)]),
+                self.class_of(value.instance),
                 names[value.instance],
                 amount,
-                self.probe.unit.percent(amount, self.held.amount),
+                self.probe.unit.percent(amount, whole),
+                of=len(self.parts.values),
+                is_element=self.parts.are_elements,
             )
             for value, amount in found
         ]
 
-    def _percent(self, amount: Amount) -> float:
-        """Returns the share of an amount in percent."""
-        return self.probe.unit.percent(amount, self.whole)
 
-    def _heaviest(self, values: Sequence[FieldValue]) -> List[Tuple[FieldValue, Amount]]:
-        """Returns the instances that hold `OF_ONE` percent or more, the heaviest first, by halves."""
-        found: List[Tuple[FieldValue, Amount]] = []
-        groups: List[Tuple[float, Sequence[FieldValue]]] = [(self._percent(self.held.amount), values)]
-        while groups and self.runs < MOST_RUNS:
-            groups.sort(key=lambda group: -group[0])
-            bound, group = groups.pop(0)
-            if len(group) == 1:
-                amount = self._amount(group)
-                if self._percent(amount) >= OF_ONE:
-                    found.append((group[0], amount))
-                continue
-            left, right = group[: len(group) // 2], group[len(group) // 2 :]
-            of_left = self._percent(self._amount(left))
-            # Both halves together hold at most what the group does.
-            groups += [(of, half) for of, half in ((of_left, left), (bound - of_left, right)) if of >= OF_ONE]
-        return sorted(found, key=lambda each: -self.probe.unit.of(each[1]))
+def ways(probe: Probe, held: Retained) -> Iterator[PartsOfField]:
+    """Yields the objects to look among: the instances that have the field of a line, then the elements of its list. A
+    line with several fields, a local variable or threads has none."""
+    if len(held.candidates) == 1 and held.candidates[0].kind in (FIELD, STATIC):
+        for as_elements in (False, True):
+            found = PartsOfField(probe, held, as_elements)
+            if found.is_question:
+                yield found
 
-    def _amount(self, group: Sequence[FieldValue]) -> Amount:
-        """Returns what a group of instances holds by the field: the difference that null in its place makes."""
-        key = tuple(each.value for each in group)
-        if key not in self._known:
-            nowhere = bytes(self.probe.runs.dump.id_size)
-            changes: Changes = {each.value: nowhere for each in group}
-            self.probe.before_run()
-            self.runs += 1
-            report = self.probe.runs.without(changes)
-            self._known[key] = self.probe.whole.minus(report.total(self.probe.families))
-        return self._known[key]
+
+def objects_that_hold(probe: Probe, held: Retained) -> List[HoldingObject]:
+    """Returns the objects that hold most of what the field `held` holds in one dump, the heaviest first. Returns
+    nothing if many hold a little each, or if it is no question about some of many objects."""
+    for parts in ways(probe, held):
+        found = parts.search(held.amount).find()
+        if sum(probe.unit.percent(each.amount, held.amount) for each in found) >= OF_ALL:
+            return parts.described(found, held.amount)
+    return []
 
 
 def objects_that_grew(probe: GrowthProbe, held: Retained) -> List[HoldingObject]:
-    """Returns the objects that hold most of what the field `held` holds, if it is they that gained most: none if that
-    is no question about instances, if many gained a little each, or if it is not known which did. What an object held
-    before is at most what all did. If that leaves it open, the earlier dump is asked, too, what the objects with the
-    same names held."""
-    before, gain, unit = probe.earlier.retained(held.candidates), probe.gain(held.candidates), probe.unit
-    found = ObjectSearch(probe, held, gain).find()
-    was = unit.percent(before.amount, gain)
-    sure = [each for each in found if unit.percent(each.amount, gain) - was >= OF_ONE]
-    if sure and sum(unit.percent(each.amount, gain) for each in sure) - was >= OF_ALL:
-        return sure
-    known = ObjectSearch(probe.earlier, before, gain).find() if found else []
-    # If the earlier dump shows no heavy object, each held less than half of the gain.
-    half = Amount(gain.objects // 2, gain.bytes // 2)
-    largest = max((each.amount for each in known), key=unit.of, default=half)
-    shares = [min(100.0, unit.percent(gained(each, known, largest), gain)) for each in found]
-    gains = [each._replace(percent=share, has_gained=True) for each, share in zip(found, shares)]
-    gains = sorted((each for each in gains if each.percent >= OF_ONE), key=lambda each: -each.percent)
-    return gains if sum(each.percent for each in gains) >= OF_ALL else []
+    """Returns the objects that gained most of what the field `held` gained, the heaviest first: with what they gained
+    if that was measured in both dumps, else with what they hold now. Returns nothing if many gained a little each, if
+    it is not known which did, or if it is no question about some of many objects."""
+    gain = probe.gain(held.candidates)
+    if probe.unit.of(gain) <= 0:
+        return []
+    every = (GrownParts(probe, held, parts, gain).find() for parts in ways(probe, held))
+    return next(filter(None, every), [])
 
 
-def gained(found: HoldingObject, known: Sequence[HoldingObject], largest: Amount) -> Amount:
-    """Returns what an object holds more than that of its class that had one of its names before. One without a name may
-    have been the `largest`."""
-    same = [each for each in known if each.class_name == found.class_name and set(each.names) & set(found.names)]
-    before = same[0].amount if same else Amount() if found.names else largest
-    return found.amount.minus(before)
+class GrownParts:
+    """A search for those of `now`, the parts of the field `held`, that gained most of `gain`, what the field gained."""
+
+    def __init__(self, probe: GrowthProbe, held: Retained, now: PartsOfField, gain: Amount) -> None:
+        self.probe, self.held, self.now, self.gain = probe, held, now, gain
+        self.before = probe.earlier.retained(held.candidates)
+        #: The most that an object of which it is not known what it held before held then, in percent of the gain.
+        self.most_before = self.percent(self.before.amount)
+        #: What the objects held before of which that is known, by their places.
+        self.known: Dict[int, Amount] = {}
+
+    def percent(self, amount: Amount) -> float:
+        """Returns the share of an amount in the gain, in percent."""
+        return self.probe.unit.percent(amount, self.gain)
+
+    def find(self) -> List[HoldingObject]:
+        """Returns the objects that gained most. What one held before is at most what all did; the earlier dump is asked
+        what each held only if that leaves it open, and what its heaviest held only if some are not found there."""
+        found = self.now.search(self.gain).find()
+        if sum(self.percent(each.amount) for each in found) < OF_ALL:
+            return []
+        certain = self._grown(found)
+        if sum(self.percent(each.amount) for each in certain) - self.most_before >= OF_ALL:
+            return self.now.described(certain, self.held.amount)
+        earlier = PartsOfField(self.probe.earlier, self.before, self.now.parts.are_elements)
+        same = same_objects(self.now, [each.value.instance for each in found], earlier)
+        self.known = {at: earlier.measure.amount([value]) for at, value in same.items()}
+        if len(self.known) < len(found):
+            search = earlier.search(self.gain)
+            search.find()
+            self.most_before = min(self.most_before, search.most)
+        grown = self._grown(found)
+        gains = [self.least_gain(each) for each in grown]
+        if sum(gains) < OF_ALL:
+            return []
+        # If they gained more than the field did, others shrank: then shares of the gain would be of more than there is.
+        is_measured = all(each.value.instance in self.known for each in grown) and sum(gains) <= 100
+        described = self.now.described(grown, self.held.amount)
+        if is_measured:
+            described = [it._replace(percent=gain, has_gained=True) for it, gain in zip(described, gains)]
+        return sorted(described, key=lambda each: -each.percent)
+
+    def _grown(self, found: Sequence[Holding]) -> List[Holding]:
+        """Returns those of `found` that surely gained `OF_ONE` percent or more."""
+        return [each for each in found if self.least_gain(each) >= OF_ONE]
+
+    def least_gain(self, each: Holding) -> float:
+        """Returns what an object gained, in percent, or if it is not known what it held before, the least that it can
+        have gained."""
+        before = self.known.get(each.value.instance)
+        now = self.percent(each.amount)
+        return now - self.most_before if before is None else now - self.percent(before)
+
+
+def same_objects(now: PartsOfField, places: Sequence[int], earlier: PartsOfField) -> Dict[int, FieldValue]:
+    """Returns which of the parts of an earlier dump the objects at `places` are: the one of the same class that has a
+    name of theirs which no other has in either dump. One without such a name is that with the same identifier and class
+    if the same owner names both: an identifier alone shows nothing, since objects move."""
+    alone, alone_before = (alone_in(of.names.own_names(of.places)) for of in (now, earlier))
+    parts = earlier.parts.values
+    by_id = {earlier.objects.dump.id(each.instance + 1): each for each in parts}
+    by_name = {(earlier.class_of(at), it): each for each in parts for at in [each.instance] for it in alone_before[at]}
+    found: Dict[int, FieldValue] = {}
+    for at in places:
+        class_name, here = now.class_of(at), by_id.get(now.objects.dump.id(at + 1))
+        called = {by_name[class_name, name] for name in alone[at] if (class_name, name) in by_name}
+        if len(called) == 1:
+            found[at] = called.pop()
+        elif here and not alone[at] and earlier.class_of(here.instance) == class_name:
+            if not set(now.names_of([at])[at]).isdisjoint(earlier.names_of([here.instance])[here.instance]):
+                found[at] = here
+    return found
 
 
 def objects_to_show(probe: GrowthProbe, held: Retained, shows_values: bool) -> List[HoldingObject]:
     """Returns the objects that gained most of what `held` did, without texts of the dump unless `shows_values`."""
-    found = objects_that_grew(probe, held)
+    return hidden(objects_that_grew(probe, held), shows_values)
+
+
+def hidden(found: Sequence[HoldingObject], shows_values: bool) -> List[HoldingObject]:
+    """Returns objects without the texts that name them unless `shows_values`: then only what has the texts is said."""
     if shows_values:
-        return found
+        return list(found)
     return [each._replace(names=[name._replace(text="") for name in each.names]) for each in found]

@@ -1,100 +1,101 @@
-"""Tests which objects of many are said to hold most of what a field holds, and what names them."""
+"""Tests which objects of many are said to hold most of what a field holds, or to have gained most of what it gained."""
 
 import fnmatch
-import os
+import random
 import unittest
-from typing import List, Sequence
-from unittest import mock
+from typing import Dict, FrozenSet, List, Sequence, Tuple
 
-from heap_tools.candidates import Candidates
-from heap_tools.dump_runs import DumpRuns
-from heap_tools.heapmark import Heapmark
-from heap_tools.probe import Probe
-from heap_tools.reports import Unit
-from heap_tools.which_object import MOST_RUNS, ObjectSearch
-from tests.support.dump_writer import BYTE, DumpWriter, word
-from tests.support.tool_test import HEAPMARK, ToolTest
+from heap_tools import which_object
+from heap_tools.candidates import FIELD, STATIC
+from heap_tools.heap_objects import FieldValue
+from heap_tools.object_names import Name
+from heap_tools.object_parts import elements, instances
+from heap_tools.part_search import MOST_RUNS, OF_ONE, Measure, PartSearch
+from heap_tools.probe import GrowthProbe, Probe, Retained
+from heap_tools.reports import Amount
+from heap_tools.which_object import (
+    OF_ALL,
+    HoldingObject,
+    PartsOfField,
+    hidden,
+    objects_that_grew,
+    objects_that_hold,
+    sentence,
+)
+from tests.support.dump_writer import BYTE, DumpWriter
+from tests.support.marked import growth_of, held_by, probe_of
+from tests.support.marker import MarkedRuns
+from tests.support.queues import Folders, Queues
+from tests.support.random_heaps import random_pair
+from tests.support.tool_test import ToolTest
 
-
-class Queues(DumpWriter):
-    """A static field names an array of queues. Queue `n` has the identifier 1000 + n, a name, and an array of bytes.
-    The queues `sharing` have one array."""
-
-    def __init__(self, sizes: List[int], id_size: int = 8, sharing: Sequence[int] = ()) -> None:
-        super().__init__(id_size)
-        self.of_class(1, "shop/Queues", {"ALL": 200, "LOCAL": 210})
-        self.of_class(2, "[Lshop/Queue;")
-        self.of_class(3, "java/lang/String", fields=["value", "coder"])
-        self.of_class(4, "shop/Queue", fields=["intSize", "name", "content"])
-        self.of_class(5, "java/util/HashMap$Node", fields=["key", "value"])
-        self.of_class(6, "java/lang/ref/Reference", fields=["referent"])
-        self.of_class(7, "java/lang/ThreadLocal$ThreadLocalMap$Entry", fields=["value"], superclass=6)
-        self.of_class(8, "java/lang/Integer", fields=["int__"])
-        self.of_class(9, "java/lang/ThreadLocal")
-        self.array(200, 2, *range(1000, 1000 + len(sizes)))
-        self.instance(210, 9)
-        for number, size in enumerate(sizes):
-            content = 30_000 + (sharing[0] if number in sharing else number)
-            self.instance(1000 + number, 4, word(size), 20_000 + number, content)
-            self.string(20_000 + number, f"queue {number}")
-            self.values(30_000 + number, BYTE, bytes(size))
-        self.root(1)
-
-    def string(self, number: int, text: str) -> None:
-        """Writes a String."""
-        self.instance(number, 3, number + 100_000, b"\0")
-        self.values(number + 100_000, BYTE, text.encode("latin-1"))
+CONTENT = "shop/Queue.content"
 
 
-class WhichObjectTest(ToolTest):
-    """A search among the instances that have a field."""
+def said(field: str, found: Sequence[HoldingObject]) -> str:
+    """Returns what is said of the objects, empty if there are none."""
+    return sentence(field, found) if found else ""
 
-    def search(self, dump: DumpWriter, field: str = "shop/Queue.content") -> ObjectSearch:
-        """Writes the dump, and returns a search for the instances that hold what the field holds."""
-        dump.write("dump")
-        with mock.patch.dict(os.environ, HEAPMARK=HEAPMARK):
-            runs = DumpRuns.of(Heapmark(), "dump", "test")
-        self.addCleanup(runs.dump.file.close)
-        candidates = Candidates(runs.dump)
-        probe = Probe(candidates.prepared(runs), candidates, None, Unit.BYTES)
-        (candidate,) = (each for each in candidates.fields(probe.base) if each.name == field)
-        return ObjectSearch(probe, probe.retained([candidate]))
+
+def search(dump: DumpWriter, field: str = CONTENT) -> PartSearch:
+    """Returns a search for the instances that hold what the field holds."""
+    probe = probe_of(dump)
+    held = held_by(probe, field)
+    return PartsOfField(probe, held).search(held.amount)
+
+
+class HoldsTest(unittest.TestCase):
+    """A search in one dump."""
+
+    def holding(self, dump: DumpWriter, field: str = CONTENT) -> List[HoldingObject]:
+        """Returns the objects that hold most of what the field holds."""
+        probe = probe_of(dump)
+        return objects_that_hold(probe, held_by(probe, field))
 
     def test_one(self) -> None:
         """One of many is found by its size, in few runs, and is named by its text."""
         for id_size in (4, 8):
-            search = self.search(Queues([5] * 300 + [90_000] + [5] * 200, id_size))
-            (found,) = search.find()
-            names = [str(each) for each in found.names]
-            self.assertEqual((found.class_name, names), ("shop/Queue", ['its field name "queue 300"']))
-            self.assertEqual((found.amount, round(found.percent)), ((1, 90_000), 97))
-            self.assertLessEqual(search.runs, 2 * 9 + 1)
+            dump = Queues([5] * 300 + [90_000] + [5] * 200, id_size)
+            (found,) = self.holding(dump)
+            self.assertEqual((found.class_name, found.named_by), ("shop/Queue", 'its field name "queue 300"'))
+            self.assertEqual((found.amount, round(found.percent), found.of), ((1, 90_000), 97, 501))
+            asked = search(dump)
+            asked.find()
+            self.assertLessEqual(asked.measure.runs, 2 * 9 + 1)
 
     def test_few(self) -> None:
         """Several that hold much are found, the heaviest first."""
-        found = self.search(Queues([3] * 20 + [1000, 3, 9000, 3, 7000])).find()
+        found = self.holding(Queues([3] * 20 + [1000, 3, 9000, 3, 7000]))
         self.assertEqual([each.amount.bytes for each in found], [9000, 7000])
         names = ['its field name "queue 22"', 'its field name "queue 24"']
-        self.assertEqual([str(name) for each in found for name in each.names], names)
+        self.assertEqual([each.named_by for each in found], names)
 
     def test_sharing(self) -> None:
         """What two hold only together names neither of them."""
-        found = self.search(Queues([60, 9_000, 4_000, 0, 10], sharing=[2, 3])).find()
+        found = self.holding(Queues([60, 9_000, 4_000, 0, 10], sharing=[2, 3]))
         self.assertEqual([each.amount.bytes for each in found], [9_000])
-        self.assertEqual(self.search(Queues([60, 900, 9_000, 0, 10], sharing=[2, 3])).find(), [])
+        self.assertEqual(self.holding(Queues([60, 900, 9_000, 0, 10], sharing=[2, 3])), [])
 
     def test_most(self) -> None:
         """Those that are named hold at least half of what all do."""
         for size, wanted in ((6_000, []), (7_100, [7_100])):
-            found = self.search(Queues([100] * 35 + [size] + [100] * 35)).find()
+            found = self.holding(Queues([100] * 35 + [size] + [100] * 35))
             self.assertEqual([each.amount.bytes for each in found], wanted)
 
     def test_spread(self) -> None:
         """Where many hold a little each, none is named, and few runs say so."""
-        search = self.search(Queues([100] * 64))
-        self.assertEqual(search.find(), [])
-        self.assertLessEqual(search.runs, 14)
-        self.assertLess(search.runs, MOST_RUNS)
+        asked = search(Queues([100] * 64))
+        self.assertEqual(asked.find(), [])
+        self.assertLessEqual(asked.measure.runs, 14)
+        self.assertEqual(self.holding(Queues([100] * 64)), [])
+
+    def test_most_runs(self) -> None:
+        """A search of many that hold much of what one dump gained ends at the bound of runs."""
+        probe = probe_of(Queues([100] * 400))
+        held = held_by(probe, CONTENT)
+        parts = PartsOfField(probe, held)
+        found = parts.search(Amount(1, 300)).find()
+        self.assertEqual((parts.measure.runs, bool(found)), (MOST_RUNS, True))
 
     def test_others(self) -> None:
         """The names of an object are compared with those of others, though these hold nothing."""
@@ -103,49 +104,240 @@ class WhichObjectTest(ToolTest):
         dump.of_class(21, "shop/Buffer", fields=["entry"])
         dump.of_class(22, "[Lshop/Channel;")
         dump.array(730, 22, 700, 701)
-        for number, entry in enumerate((720, 0)):
+        for number, entry in enumerate((720, 721)):
             dump.instance(700 + number, 20, 20_000, 710 + number)
             dump.instance(710 + number, 21, entry)
-        dump.values(720, BYTE, bytes(5_000))
+            dump.values(720 + number, BYTE, bytes(5_000 - 4_999 * number))
         dump.root(20)
-        (found,) = self.search(dump, "shop/Buffer.entry").find()
+        (found,) = self.holding(dump, "shop/Buffer.entry")
         self.assertEqual((found.class_name, found.names), ("shop/Buffer", []))
 
     def test_no_question(self) -> None:
-        """One instance is no question."""
-        search = self.search(Queues([100]))
-        self.assertEqual((search.find(), search.runs), ([], 0))
+        """One instance is no question, and neither are several fields, a local variable or a thread."""
+        probe = probe_of(Queues([100]))
+        self.assertEqual(objects_that_hold(probe, held_by(probe, CONTENT)), [])
+        dump = Queues([100, 9_000])
+        dump.thread(1, 1000, [(1, "run")])
+        dump.local(1, 0, 1001)
+        probe = probe_of(dump)
+        both = [held_by(probe, name).candidates[0] for name in (CONTENT, "shop/Queue.name")]
+        for group in (both, probe.candidates.locals(), probe.candidates.threads()):
+            self.assertEqual(objects_that_hold(probe, probe.retained(group)), [])
+
+    def test_elements(self) -> None:
+        """Of a list that one static field or one instance has, the elements are looked at: also of a list's array."""
+        wanted = 'holds most: shop/Queue (its field name "queue 2"): 9*%'
+        sizes = [7, 8, 9_000, 6, 7, 9]
+        for id_size in (4, 8):
+            in_list = Queues(sizes, id_size, every=500)
+            in_list.of_class(20, "java/util/ArrayList", fields=["elementData", "other"])
+            in_list.of_class(21, "shop/Shop", fields=["queues"])
+            in_list.instance(500, 21, 501)
+            in_list.instance(501, 20, 200, 210)
+            for dump, field in ((in_list, "shop/Shop.queues"), (Queues(sizes, id_size), "shop/Queues.ALL")):
+                words = said(field, self.holding(dump, field))
+                self.assertTrue(fnmatch.fnmatchcase(words, f"1 of 6 elements of {field} {wanted}"), words)
+
+    def test_equal_elements(self) -> None:
+        """Of a list of equal elements none is named."""
+        self.assertEqual(self.holding(Queues([50] * 300), "shop/Queues.ALL"), [])
+
+    def test_nested(self) -> None:
+        """Of objects that lead to one another by the same field the one is named that holds most by itself: a folder in
+        a folder, but no node of a chain, though its first node holds all of it."""
+        for id_size in (4, 8):
+            (found,) = self.holding(Folders([1, 2, 3, 4], [0, 0, 0, 9_000, 20], id_size), "disk/Folder.folders")
+            self.assertEqual((found.named_by, found.percent > 97), ('its field name "folder 3"', True))
+            chain = Folders(list(range(1, 40)), [50] * 40, id_size)
+            self.assertEqual(self.holding(chain, "disk/Folder.folders"), [])
 
 
-class GrowthTest(ToolTest):
-    """Which objects gained most of what a field gained."""
+class GrewTest(unittest.TestCase):
+    """Which objects gained most of what a field gained between two dumps."""
 
-    tool = "leaks"
+    def grown(self, before: DumpWriter, after: DumpWriter, field: str = CONTENT) -> List[HoldingObject]:
+        """Returns the objects that gained most of what the field gained."""
+        probe = growth_of(before, after)
+        return objects_that_grew(probe, held_by(probe, field))
 
-    def said(self, before: List[int], after: List[int], *words: str) -> str:
-        """Writes two dumps of queues, and returns the line on objects that leaks prints, or nothing."""
-        Queues(before).write("before")
-        Queues(after).write("after")
-        ended = self.ran("before", "after", *words)
-        return next((line for line in ended.said.splitlines() if "shop/Queue.content" in line), "")
+    def expect(self, before: DumpWriter, after: DumpWriter, wanted: str, field: str = CONTENT) -> None:
+        """Compares what is said of the objects that grew with a pattern."""
+        words = said(field, self.grown(before, after, field))
+        self.assertTrue(fnmatch.fnmatchcase(words, wanted), f"{words!r} is not {wanted!r}")
 
     def test_gained(self) -> None:
-        """Of several the one that grew, not those that hold more; its name shows which it was before."""
-        line = "leaks: line *: 1 of 4 shop/Queue.content gained most: shop/Queue (its field name"
-        said = self.said([9000, 100, 8000, 10], [9000, 3100, 8000, 10])
-        self.assertTrue(fnmatch.fnmatchcase(said, f'{line} "queue 1"): 100%'), said)
-        said = self.said([9000, 100, 8000, 10], [9000, 3100, 8000, 10], "--no-values")
-        self.assertTrue(fnmatch.fnmatchcase(said, f"{line}): 100%"), said)
+        """Of several the one that grew, not those that hold more; its name shows which it was before, wherever."""
+        wanted = '1 of 4 shop/Queue.content gained most: shop/Queue (its field name "queue 1"): 100%'
+        before, after = [9000, 100, 8000, 10], [9000, 3100, 8000, 10]
+        for first in (1000, 1001, 1003, 3000):
+            for id_size in (4, 8):
+                self.expect(Queues(before, id_size), Queues(after, id_size, first=first), wanted)
 
     def test_holds(self) -> None:
         """What is larger now than all were before has grown: the earlier dump is not asked."""
-        said = self.said([90, 100, 80, 10], [90, 9000, 80, 10])
-        line = 'leaks: line *: 1 of 4 shop/Queue.content holds most: shop/Queue (its field name "queue 1"): 98%'
-        self.assertTrue(fnmatch.fnmatchcase(said, line), said)
+        probe = growth_of(Queues([90, 100, 80, 10]), Queues([90, 9000, 80, 10]))
+        held = held_by(probe, CONTENT)
+        probe.earlier.retained(held.candidates)
+        known = probe.earlier.runs.heapmark.runs
+        words = said(CONTENT, objects_that_grew(probe, held))
+        self.assertEqual(words, '1 of 4 shop/Queue.content holds most: shop/Queue (its field name "queue 1"): 98%')
+        self.assertEqual(probe.earlier.runs.heapmark.runs, known)
 
-    def test_open(self) -> None:
+    def test_spread(self) -> None:
         """If many gained a little each, none is named, though one holds most."""
-        self.assertEqual(self.said([9000] + [100] * 40, [9000] + [200] * 40), "")
+        self.assertEqual(self.grown(Queues([9000] + [100] * 40), Queues([9000] + [200] * 40)), [])
+
+    def test_new_name(self) -> None:
+        """What has another name than before, such as a cache that is named by its eldest key, has not gained all that
+        it holds: it is not known to have grown."""
+        for name in ("page-1", None):
+            before = Queues([9000, 9300, 10], names=[name, "a", "b"])
+            for later in ("page-2", None):
+                for first in (1000, 2000):
+                    after = Queues([9100, 9300, 10], names=[later, "a", "b"], first=first)
+                    self.assertEqual(self.grown(before, after), [], (name, later))
+
+    def test_came(self) -> None:
+        """An object that came among many, none of which held as much before, gained what it holds: that is said of what
+        all hold now."""
+        for name in ("new", None):
+            named = f' (its field name "{name}")' if name else ""
+            after = Queues([200] * 50 + [5000], names=[f"queue {number}" for number in range(50)] + [name], first=2000)
+            self.expect(Queues([200] * 50), after, f"1 of 51 shop/Queue.content holds: shop/Queue{named}: 33%")
+
+    def test_small_before(self) -> None:
+        """What an object held before counts, also if that was less than a fifth of what was gained."""
+        names = ["left", "right", "old"]
+        before, after = Queues([150, 150, 900], names=names), Queues([900, 600, 900], names=names, first=3000)
+        by_name = {each.named_by[-6:-1].strip('"'): each for each in self.grown(before, after)}
+        shares = sorted((each.percent, each.has_gained) for each in by_name.values())
+        self.assertEqual(shares, [(37.5, True), (62.5, True)])
+
+    def test_shrunk(self) -> None:
+        """If others shrank, those that grew gained more than the field did: then it is said what they hold."""
+        names = ["a", "b", "c"]
+        found = self.grown(Queues([100, 100, 2000], names=names), Queues([1600, 1500, 100], names=names))
+        self.assertEqual([(each.has_gained, each.percent) for each in found], [(False, 50.0), (False, 46.875)])
+
+    def test_two_of_a_name(self) -> None:
+        """A name that two objects have, in either dump, does not show which one it was, and neither does an identifier,
+        since objects move."""
+        names = ["a", "b", "b"], ["a", "b", "c"]
+        for before, after in (names, names[::-1]):
+            for first in (1000, 3000):
+                known, later = Queues([9000, 100, 10], names=before), Queues([9000, 4000, 10], names=after, first=first)
+                self.assertEqual([each.has_gained for each in self.grown(known, later)], [])
+
+    def test_owner(self) -> None:
+        """An object without a name is the same one if its identifier, its class and the name of its owner are."""
+        for first, owner, wanted in ((1000, "eu", [True]), (1001, "eu", []), (1000, "us", [])):
+            both = []
+            for at, name, sizes in ((1000, "eu", [9000, 100, 10]), (first, owner, [9000, 4000, 10])):
+                both.append(Queues(sizes, names=[None] * 3, first=at))
+                both[-1].of_class(20, "shop/Shop", fields=["name", "queue"])
+                both[-1].instance(500, 20, 501, at + 1)
+                both[-1].string(501, name)
+                both[-1].root(500)
+            self.assertEqual([each.has_gained for each in self.grown(*both)], wanted, (first, owner))
+
+    def test_elements(self) -> None:
+        """Elements of a list that grew are measured in both dumps, too."""
+        wanted = '1 of 3 elements of {0} gained most: shop/Queue (its field name "queue 1"): 100%'
+        field = "shop/Queues.ALL"
+        self.expect(Queues([5000, 100, 7]), Queues([5000, 3100, 7], first=3000), wanted.format(field), field)
+
+    def test_no_growth(self) -> None:
+        """Of a field that gained nothing no object grew."""
+        self.assertEqual(self.grown(Queues([100, 200, 900]), Queues([900, 100, 200])), [])
+
+    def test_hidden(self) -> None:
+        """Without values no text of the dump is among the names, only what has it."""
+        found = self.grown(Queues([90, 100, 80, 10]), Queues([90, 9000, 80, 10]))
+        self.assertEqual([each.named_by for each in hidden(found, False)], ["its field name"])
+        self.assertEqual(hidden(found, True), found)
+
+
+class RandomTest(unittest.TestCase):
+    """Pairs of dumps that are made at random."""
+
+    def test_named(self) -> None:
+        """What is said of queues that grew, shrank, came, went and moved is so: each gained a fifth or more of what all
+        gained, a gain that is said is the true one, and shares are of no more than there is. A queue that can be told
+        apart and gained most is found."""
+        count = 0
+        for seed in range(150):
+            chance = random.Random(seed)
+            before, after = queue_sizes(chance), queue_sizes(chance)
+            kinds = {name: chance.choice(["", "", "nameless", "twin"]) for name in {*before, *after}}
+            shown = {"": lambda name: name, "nameless": lambda name: None, "twin": lambda name: "twin"}
+            writers = []
+            for sizes in (before, after):
+                names = [shown[kinds[name]](name) for name in sizes]
+                first = chance.choice([1000, 1001, 2000])
+                writers.append(Queues(list(sizes.values()), names=names, first=first))
+            probe = growth_of(writers[0], writers[1])
+            held = held_by(probe, CONTENT)
+            gain = probe.gain(held.candidates).bytes
+            found = objects_that_grew(probe, held)
+            percent = {name: 100 * (size - before.get(name, 0)) / max(1, gain) for name, size in after.items()}
+            by_size = {size: name for name, size in after.items()}
+            with self.subTest(seed=seed):
+                self.assertLessEqual(sum(each.percent for each in found), 100.001)
+                for each in found:
+                    name = by_size[each.amount.bytes]
+                    self.assertTrue(percent[name] >= OF_ONE or kinds[name] == "twin", name)
+                    if each.has_gained:
+                        called = shown[kinds[name]](name)
+                        (was,) = (size for other, size in before.items() if shown[kinds[other]](other) == called)
+                        self.assertAlmostEqual(each.percent, 100 * (each.amount.bytes - was) / gain)
+                        self.assertNotEqual(kinds[name], "nameless")
+                    else:
+                        self.assertAlmostEqual(each.percent, 100 * each.amount.bytes / held.amount.bytes)
+                told = {name for name in after if name in before and not kinds[name] and percent[name] > OF_ALL}
+                if gain > 0:
+                    self.assertLessEqual(told, {by_size[each.amount.bytes] for each in found})
+                count += bool(found)
+        self.assertGreater(count, 40)
+
+    def test_disjoint(self) -> None:
+        """Objects of random heaps that are named hold what is said, and nothing that another of them holds."""
+        count = 0
+        for seed in range(25):
+            probe = growth_of(*random_pair(seed))
+            for field in [*probe.candidates.statics(), *probe.candidates.fields(probe.base)]:
+                held = probe.retained([field])
+                if held.amount.bytes <= 0:
+                    continue
+                for found in (objects_that_hold(probe, held), objects_that_grew(probe, held)):
+                    with self.subTest(seed=seed, field=str(field)):
+                        self.assertLessEqual(sum(each.percent for each in found), 100.001)
+                        self.assertLessEqual(sum(each.amount.bytes for each in found), held.amount.bytes)
+                    count += len(found) > 1
+        self.assertGreater(count, 4)
+
+
+def queue_sizes(chance: random.Random) -> Dict[str, int]:
+    """Returns the sizes of some of ten queues, by their names, no two of them alike, some of them large."""
+    names = chance.sample([f"queue {number}" for number in range(10)], chance.randrange(2, 10))
+    return {
+        name: chance.choice([20, 20, 20, 500, 2000]) + 10 * number + chance.randrange(10)
+        for number, name in enumerate(names)
+    }
+
+
+class LeaksTest(ToolTest):
+    """What leaks prints of objects."""
+
+    tool = "leaks"
+
+    def test_printed(self) -> None:
+        """The line says which line is meant, and with --no-values no text of the dump."""
+        Queues([9000, 100, 8000, 10]).write("before")
+        Queues([9000, 3100, 8000, 10]).write("after")
+        line = "leaks: line *: 1 of 4 shop/Queue.content gained most: shop/Queue (its field name"
+        for words, wanted in (([], f'{line} "queue 1"): 100%'), (["--no-values"], f"{line}): 100%")):
+            said = self.ran("before", "after", *words).said
+            self.assertTrue(any(fnmatch.fnmatchcase(each, wanted) for each in said.splitlines()), said)
 
 
 if __name__ == "__main__":

@@ -11,8 +11,9 @@ from heap_tools.heap_dump import HeapDump
 from heap_tools.heapmark import Heapmark
 from heap_tools.reports import Amount, Report, Row
 
-#: A reference: where in the file it can be cut, 0 if it cannot, and the object it names.
-Edge = Tuple[int, int]
+#: A reference: where in the file its field can be cut, 0 if it has none, the object it names, and where in the file its
+#: own value is, 0 if it has none.
+Edge = Tuple[int, int, int]
 
 
 class Marker:
@@ -35,7 +36,7 @@ class Marker:
                 name = f"{PRIMITIVES[hprof.LETTERS[kind]]}[]"
                 self._add(at, name, count * dump.value_sizes[kind], [])
             else:
-                self.roots.append((at + 1, dump.id(at + 1)))
+                self.roots.append((at + 1, dump.id(at + 1), 0))
 
     def _add(self, at: int, name: str, size: int, edges: List[Edge]) -> None:
         key = self.dump.id(at + 1)
@@ -44,19 +45,20 @@ class Marker:
     def _add_class(self, at: int) -> None:
         each = self.dump.classes[self.dump.id(at + 1)]
         statics = [field for field in each.fields if field.is_static]
-        edges = [(field.place, self.dump.id(field.place + 1)) for field in statics if field.kind == hprof.OBJECT]
+        places = [field.place for field in statics if field.kind == hprof.OBJECT]
+        edges = [(place, self.dump.id(place + 1), place + 1) for place in places]
         size = sum(self.dump.value_sizes[field.kind] for field in statics)
-        self._add(at, "<class>", size, [*edges, (0, each.superclass), (0, each.loader)])
+        self._add(at, "<class>", size, [*edges, (0, each.superclass, 0), (0, each.loader, 0)])
 
     def _add_instance(self, at: int) -> None:
         dump = self.dump
         class_id, place = dump.id(at + 5 + dump.id_size), at + 9 + 2 * dump.id_size
-        name, begin, edges = dump.names[class_id], place, [(0, class_id)]
+        name, begin, edges = dump.names[class_id], place, [(0, class_id, 0)]
         while class_id in dump.classes:
             for field in dump.classes[class_id].fields:
                 if not field.is_static:
                     if field.kind == hprof.OBJECT:
-                        edges.append((field.place, dump.id(place)))
+                        edges.append((field.place, dump.id(place), place))
                     place += dump.value_sizes[field.kind]
             class_id = dump.classes[class_id].superclass
         self._add(at, name, place - begin, edges)
@@ -64,19 +66,19 @@ class Marker:
     def _add_array(self, at: int) -> None:
         dump, size = self.dump, self.dump.id_size
         count, class_id, begin = dump.number(at + 5 + size, 4), dump.id(at + 9 + size), at + 9 + 2 * size
-        edges = [(0, dump.id(begin + number * size)) for number in range(count)]
-        self._add(at, dump.names[class_id], count * size, [(0, class_id), *edges])
+        edges = [(0, dump.id(place), place) for place in range(begin, begin + count * size, size)]
+        self._add(at, dump.names[class_id], count * size, [(0, class_id, 0), *edges])
 
     def reachable(self, cut: Iterable[int], added: Sequence[int] = ()) -> Set[int]:
         """Returns the objects that are reachable without the references that are cut. `added` are roots, too."""
         cut, edges = set(cut), self.edges
-        waiting = [*added, *(target for place, target in self.roots if place not in cut)]
+        waiting = [*added, *(target for place, target, _ in self.roots if place not in cut)]
         marked: Set[int] = set()
         while waiting:
             key = waiting.pop()
             if key not in marked and key in edges:
                 marked.add(key)
-                waiting += [target for place, target in edges[key] if target not in marked and place not in cut]
+                waiting += [it for place, it, at in edges[key] if not (it in marked or place in cut or at in cut)]
         return marked
 
     def report(self, marked: Iterable[int]) -> Report:
