@@ -2,6 +2,7 @@
 
 from typing import NamedTuple
 
+from heap_tools import hprof_format as hprof
 from heap_tools.heap_dump import HeapDump
 from heap_tools.heap_objects import HeapObjects
 from heap_tools.humanize import counted
@@ -25,7 +26,7 @@ def direct_memory(dump: HeapDump) -> DirectMemory:
     if BUFFER not in dump.names.values():
         return DirectMemory()
     objects, count, size = HeapObjects(dump), 0, 0
-    for instance, value in objects.values_of([CAPACITY]):
+    for instance, value in objects.values_of([CAPACITY], kind=hprof.INT):
         if _has_memory(objects, instance):
             count, size = count + 1, size + dump.number(value, 4)
     return DirectMemory(count, size)
@@ -37,7 +38,9 @@ def _has_memory(objects: HeapObjects, instance: int) -> bool:
     lineage = [
         (dump.names[owner], place, field) for owner, place, field in objects.fields_of(objects.class_of(instance))
     ]
-    attached = [place for owner, place, field in lineage if owner == BUFFER and field.name == ATTACHMENT]
+    attached = [
+        place for owner, place, it in lineage if (owner, it.name, it.kind) == (BUFFER, ATTACHMENT, hprof.OBJECT)
+    ]
     return bool(attached) and not any(dump.id(instance + place) for place in attached)
 
 

@@ -247,6 +247,7 @@ class HeapDump:
         loaders = {0}
         for class_id, name in self.names.items():
             for field in self.classes[class_id].fields:
-                if field.is_static and f"{name}.{field.name}" in LASTING_LOADERS:
+                is_reference = field.is_static and field.kind == hprof.OBJECT
+                if is_reference and f"{name}.{field.name}" in LASTING_LOADERS:
                     loaders.add(self.id(field.place + 1))
         return [class_id for class_id, each in self.classes.items() if each.loader in loaders]

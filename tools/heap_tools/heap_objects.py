@@ -127,20 +127,26 @@ class HeapObjects:
                     place += self.dump.value_sizes[each.kind]
             class_id = self.dump.classes[class_id].superclass
 
-    def values_of(self, fields: Iterable[str], targets: Optional[Set[int]] = None) -> List[FieldValue]:
+    def values_of(
+        self, fields: Iterable[str], targets: Optional[Set[int]] = None, kind: int = hprof.OBJECT
+    ) -> List[FieldValue]:
         """Returns the values of all instances in `fields`, names such as `java/util/HashMap.table` whose class stands
-        for all hidden classes of its name. `targets`: only the values that are one of these identifiers. Walks over all
+        for all hidden classes of its name. `targets`: only the values that are one of these identifiers. `kind` is the
+        code of the fields' type: a class may have a field of the same name and of another type. Walks over all
         objects."""
         dump, wanted = self.dump, set(fields)
         declared = {
             (class_id, each.name)
             for class_id, name in dump.names.items()
             for each in dump.classes[class_id].fields
-            if not each.is_static and f"{family(name)}.{each.name}" in wanted
+            if not each.is_static and each.kind == kind and f"{family(name)}.{each.name}" in wanted
         }
         places: Dict[int, List[int]] = {}
         for class_id in dump.classes:
-            found = [place for owner, place, each in self.fields_of(class_id) if (owner, each.name) in declared]
+            lineage = [
+                (owner, each.name, place) for owner, place, each in self.fields_of(class_id) if each.kind == kind
+            ]
+            found = [place for owner, name, place in lineage if (owner, name) in declared]
             if found:
                 places[class_id] = found
 
@@ -208,16 +214,17 @@ class HeapObjects:
             return None
         return next((each.name for place, each in fields if place == at and each.kind == hprof.OBJECT), None)
 
-    def place_of_value(self, at: int, class_name: str, field: str) -> Optional[int]:
-        """Returns where the value of an instance's field is that the class `class_name` declares, or None."""
+    def place_of_value(self, at: int, class_name: str, field: str, kind: int) -> Optional[int]:
+        """Returns where the value of an instance's field is that the class `class_name` declares, or None. `kind` is
+        the code of its type: a class may have a field of the same name and of another type."""
         for owner, place, each in self.fields_of(self.class_of(at)):
-            if each.name == field and self.dump.names[owner] == class_name:
+            if (each.name, each.kind) == (field, kind) and self.dump.names[owner] == class_name:
                 return at + place
         return None
 
     def reference(self, at: int, class_name: str, field: str) -> int:
         """Returns the identifier in a field of the instance at `at`, 0 if it has no such field."""
-        place = self.place_of_value(at, class_name, field)
+        place = self.place_of_value(at, class_name, field, hprof.OBJECT)
         return 0 if place is None else self.dump.id(place)
 
     def _string(self, at: int, array: Optional[int]) -> str:
@@ -227,7 +234,7 @@ class HeapObjects:
             return ""
         kind, begin = dump.bytes[array + 9 + dump.id_size], array + 10 + dump.id_size
         raw = dump.bytes[begin : begin + dump.value_sizes[kind] * dump.number(array + 5 + dump.id_size, 4)]
-        coder = self.place_of_value(at, "java/lang/String", "coder")
+        coder = self.place_of_value(at, "java/lang/String", "coder", hprof.BYTE)
         if kind == hprof.CHAR:
             return raw.decode("utf-16-be", "replace")
         return raw.decode("utf-16-le" if coder is not None and dump.bytes[coder] else "latin-1", "replace")

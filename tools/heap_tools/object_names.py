@@ -29,8 +29,13 @@ ENTRY = "java/lang/ThreadLocal$ThreadLocalMap$Entry"
 THREAD_LOCAL = f"{ENTRY}.value"
 #: How an object is named by the static field of its thread-local. Those of all threads have that name.
 BY_THREAD_LOCAL = "the thread-local"
-#: The classes of boxed numbers, whose value a key may be.
-BOXES = {"java/lang/Integer": 4, "java/lang/Long": 8, "java/lang/Short": 2, "java/lang/Byte": 1}
+#: The classes of boxed numbers, whose value a key may be, and the codes of their types.
+BOXES = {
+    "java/lang/Integer": hprof.INT,
+    "java/lang/Long": hprof.LONG,
+    "java/lang/Short": hprof.SHORT,
+    "java/lang/Byte": hprof.BYTE,
+}
 #: How many names of owners are shown.
 OWNER_NAMES = 2
 #: With how many other objects the names of an object's owners are compared: each is looked for in the whole dump.
@@ -162,7 +167,7 @@ class ObjectNames:
     def _inner_texts(self, at: int) -> Dict[str, int]:
         """Returns the objects in those fields of the object at `at` that are called like names. The name of a thread
         says nothing of what refers to it."""
-        if self.dump.bytes[at] != hprof.INSTANCE or self.objects.place_of_value(at, "java/lang/Thread", "name"):
+        if self.dump.bytes[at] != hprof.INSTANCE or self.objects.reference(at, "java/lang/Thread", "name"):
             return {}
         return {field: target for field, target in self.objects.references_of(at).items() if is_naming(field)}
 
@@ -200,9 +205,9 @@ class ObjectNames:
         found = {key: shown_text(text) for key, text in self.objects.texts(identifiers).items() if text}
         for key, at in self.objects.places_of(identifiers).items():
             box = self.dump.names.get(self.objects.class_of(at), "")
-            place = self.objects.place_of_value(at, box, "value") if box in BOXES else None
+            place = self.objects.place_of_value(at, box, "value", BOXES[box]) if box in BOXES else None
             if place is not None:
-                found[key] = str(self._signed(place, BOXES[box]))
+                found[key] = str(self._signed(place, self.dump.value_sizes[BOXES[box]]))
         return found
 
     def _signed(self, place: int, size: int) -> int:

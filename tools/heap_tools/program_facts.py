@@ -63,7 +63,7 @@ def process_of(objects: HeapObjects) -> Optional[int]:
     """Returns the number of the process, or None if the program has not asked for it."""
     handle = static_value(objects.dump, *PROCESS)
     at = objects.places_of([handle]).get(handle)
-    place = None if at is None else objects.place_of_value(at, PROCESS[0], "pid")
+    place = None if at is None else objects.place_of_value(at, PROCESS[0], "pid", hprof.LONG)
     return None if place is None else objects.dump.number(place, 8)
 
 

@@ -3,13 +3,13 @@
 import os
 import tempfile
 import unittest
-from typing import IO, Any, Callable
+from typing import IO, Any, Callable, List, Union
 
 from heap_tools import heap_dump, hprof_format, parallel
 from heap_tools.changed_copy import NEAR, number_code, write_copy
 from heap_tools.faults import Fault
 from heap_tools.heap_objects import FEWEST_SEGMENTS, HeapObjects
-from tests.support.dump_writer import BYTE, FRAME, ROOT_THREAD_OBJECT, STRING, TRACE, DumpWriter, word
+from tests.support.dump_writer import BYTE, FRAME, LONG, ROOT_THREAD_OBJECT, STRING, TRACE, DumpWriter, word
 
 
 #: The code of the type `char`.
@@ -193,6 +193,32 @@ class ReadingTest(HprofTest):
         wanted = {500 + at: text for at, (text, _, _) in enumerate(TEXTS)}
         self.assertEqual(found, {**wanted, 590: "", 300: ""})
 
+    def test_fields_of_one_name(self) -> None:
+        """Of two fields of one name, which class files may have, the one is meant that has the kind: the number may
+        come first, and be shorter than an identifier."""
+        for id_size in (4, 8):
+            for number_first in (False, True):
+                dump = Service(id_size)
+                dump.loaded(7, "a/Shelf")
+                kinds = [hprof_format.OBJECT, hprof_format.SHORT]
+                values: List[Union[int, bytes]] = [300, b"\0\7"]
+                if number_first:
+                    kinds, values = kinds[::-1], values[::-1]
+                fields = [(dump.text("a"), kind) for kind in kinds]
+                dump.heap += dump.form.named_class_dump(7, (0, 0), [], fields)
+                dump.objects(300)
+                dump.instance(400, 7, *values)
+                found = HeapObjects(self.read(dump))
+                (at,) = found.places_of([400]).values()
+                (value,) = found.values_of(["a/Shelf.a"])
+                self.assertEqual((value.instance, found.dump.id(value.value)), (at, 300))
+                self.assertEqual(found.reference(at, "a/Shelf", "a"), 300)
+                self.assertEqual(found.references_of(at), {"a": 300})
+                (short,) = found.values_of(["a/Shelf.a"], kind=hprof_format.SHORT)
+                self.assertEqual(found.dump.number(short.value, 2), 7)
+                self.assertEqual(found.place_of_value(at, "a/Shelf", "a", hprof_format.SHORT), short.value)
+                self.assertEqual(found.values_of(["a/Shelf.a"], kind=hprof_format.INT), [])
+
     def test_count(self) -> None:
         """Objects by class, whether or not they are reachable."""
         dump = Service()
@@ -208,7 +234,10 @@ class ReadingTest(HprofTest):
         dump.of_class(4, "java/lang/ClassLoader", {"scl": 300})
         dump.of_class(5, "shop/Shop", loader=300)
         dump.of_class(6, "plugin/Driver", loader=301)
-        self.assertEqual(self.read(dump).lasting_classes(), [1, 2, 3, 4, 5])
+        dump.loaded(7, "jdk/internal/loader/ClassLoaders")
+        number = (dump.text("APP_LOADER"), LONG, bytes(6) + b"\1\x2d")
+        dump.heap += dump.form.named_class_dump(7, (0, 0), [number], [])
+        self.assertEqual(self.read(dump).lasting_classes(), [1, 2, 3, 4, 5, 7])
 
 
 class CopyTest(HprofTest):

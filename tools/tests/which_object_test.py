@@ -3,15 +3,11 @@
 import fnmatch
 import random
 import unittest
-from typing import Dict, FrozenSet, List, Sequence, Tuple
+from typing import Dict, List, Sequence
 
-from heap_tools import which_object
-from heap_tools.candidates import FIELD, STATIC
-from heap_tools.heap_objects import FieldValue
-from heap_tools.object_names import Name
-from heap_tools.object_parts import elements, instances
-from heap_tools.part_search import MOST_RUNS, OF_ONE, Measure, PartSearch
-from heap_tools.probe import GrowthProbe, Probe, Retained
+from heap_tools.heap_objects import HeapObjects
+from heap_tools.object_parts import instances
+from heap_tools.part_search import MOST_RUNS, OF_ONE, PartSearch
 from heap_tools.reports import Amount
 from heap_tools.which_object import (
     OF_ALL,
@@ -22,9 +18,8 @@ from heap_tools.which_object import (
     objects_that_hold,
     sentence,
 )
-from tests.support.dump_writer import BYTE, DumpWriter
+from tests.support.dump_writer import BYTE, OBJECT, DumpWriter
 from tests.support.marked import growth_of, held_by, probe_of
-from tests.support.marker import MarkedRuns
 from tests.support.queues import Folders, Queues
 from tests.support.random_heaps import random_pair
 from tests.support.tool_test import ToolTest
@@ -141,6 +136,27 @@ class HoldsTest(unittest.TestCase):
     def test_equal_elements(self) -> None:
         """Of a list of equal elements none is named."""
         self.assertEqual(self.holding(Queues([50] * 300), "shop/Queues.ALL"), [])
+
+    def test_fields_of_one_name(self) -> None:
+        """A number that is called as the field is left as it is: its bytes are not those of a reference."""
+        for id_size in (4, 8):
+            dump = DumpWriter(id_size)
+            dump.loaded(1, "a/A")
+            fields = [(dump.text("a"), BYTE), (dump.text("a"), OBJECT)]
+            dump.heap += dump.form.named_class_dump(1, (0, 0), [], fields)
+            dump.of_class(2, "[La/A;")
+            dump.of_class(3, "a/B", {"ALL": 200})
+            dump.array(200, 2, 300, 301, 302)
+            for number, size in ((300, 7), (301, 9_000), (302, 8)):
+                dump.instance(number, 1, b"\7", number + 100)
+                dump.values(number + 100, BYTE, bytes(size))
+            dump.root(3)
+            probe = probe_of(dump)
+            held = held_by(probe, "a/A.a")
+            values = instances(HeapObjects(probe.runs.dump), held.candidates[0]).values
+            self.assertEqual([probe.runs.dump.id(each.value) for each in values], [400, 401, 402])
+            (found,) = objects_that_hold(probe, held)
+            self.assertEqual(found.amount.bytes, 9_000)
 
     def test_nested(self) -> None:
         """Of objects that lead to one another by the same field the one is named that holds most by itself: a folder in
