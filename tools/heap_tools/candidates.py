@@ -6,13 +6,13 @@ from dataclasses import dataclass, field
 from typing import Callable, Dict, FrozenSet, Iterable, List, NamedTuple, Optional, Sequence, Set, Tuple
 
 from heap_tools.changed_copy import Changes, number_code
-from heap_tools.class_names import family, is_own, printable
+from heap_tools.class_names import family, is_own
 from heap_tools.dump_runs import DumpRuns
 from heap_tools.heap_dump import HeapDump, Root
 from heap_tools.heap_objects import HeapObjects
 from heap_tools.hprof_format import OBJECT
 from heap_tools.reports import Report
-from heap_tools.thread_counts import pattern_of
+from heap_tools.thread_counts import pattern_of, shown_name
 
 STATIC, FIELD, LOCAL, THREAD, THREADS = "static", "field", "local", "thread", "threads"
 WEAK = "java/lang/ref/Reference.referent"
@@ -232,7 +232,7 @@ class Candidates:
     def threads(self) -> List[Candidate]:
         """Returns the threads, by name."""
         if self._threads is None:
-            self._threads = self._threads_by(THREAD, lambda name: name)
+            self._threads = self._threads_by(THREAD, shown_name)
         return self._threads
 
     def threads_alike(self) -> List[Candidate]:
@@ -245,7 +245,7 @@ class Candidates:
             self._names = HeapObjects(self.dump).thread_names()
         roots: Dict[str, List[Root]] = defaultdict(list)
         for root in self.dump.roots:
-            roots[called(printable(self._names.get(root.thread, "")))].append(root)
+            roots[called(self._names.get(root.thread, ""))].append(root)
         return self._by_name(kind, roots)
 
     def _by_name(self, kind: str, roots: Dict[str, List[Root]]) -> List[Candidate]:

@@ -87,6 +87,7 @@ class HeapDump:
         self._serials: Dict[int, int] = {}
         self._frames: Dict[int, Tuple[int, int]] = {}
         self._traces: Dict[int, Tuple[int, int]] = {}
+        self._methods: Dict[Tuple[int, int], Frame] = {}
         self.segments: List[Span] = []
         self.classes: Dict[int, Class] = {}
         self.roots: List[Root] = []
@@ -145,10 +146,12 @@ class HeapDump:
         begin, count = self._traces.get(thread, (0, 0))
         if number is None or number >= count:
             return None
-        text_id, serial = self._frames.get(self.id(begin + number * self.id_size), (0, 0))
+        text_id, serial = method = self._frames.get(self.id(begin + number * self.id_size), (0, 0))
         if text_id not in self._texts or serial not in self._serials:
             return None
-        return Frame(self._class_name(self._serials[serial]), self.text(text_id))
+        if method not in self._methods:
+            self._methods[method] = Frame(self._class_name(self._serials[serial]), self.text(text_id))
+        return self._methods[method]
 
     def stack(self, thread: int) -> List[Frame]:
         """Returns the frames of a thread that the dump has, the innermost first."""

@@ -2,6 +2,7 @@
 
 import itertools
 from typing import Dict, Iterable, Iterator, List, NamedTuple, Optional, Set, Tuple
+from weakref import WeakKeyDictionary
 
 from heap_tools import hprof_format as hprof
 from heap_tools.class_names import CLASSES, PRIMITIVES, family
@@ -10,6 +11,10 @@ from heap_tools.parallel import shared
 
 #: The fewest segments for which a process of its own pays. Those of a virtual machine have a million bytes each.
 FEWEST_SEGMENTS = 64
+
+
+#: The names of the threads of those dumps that are still read, by their serial numbers.
+THREAD_NAMES: "WeakKeyDictionary[HeapDump, Dict[int, str]]" = WeakKeyDictionary()
 
 
 class FieldValue(NamedTuple):
@@ -35,7 +40,14 @@ class HeapObjects:
         self.dump = dump
 
     def thread_names(self) -> Dict[int, str]:
-        """Returns the names of the threads by their serial numbers. Walks over all objects up to three times."""
+        """Returns the names of the threads by their serial numbers. Walks over all objects up to three times, once for
+        each dump."""
+        known = THREAD_NAMES.get(self.dump)
+        if known is None:
+            known = THREAD_NAMES[self.dump] = self._thread_names()
+        return known
+
+    def _thread_names(self) -> Dict[int, str]:
         dump = self.dump
         threads = {root.thread: dump.id(root.place) for root in dump.roots if root.kind == hprof.THREAD_OBJECT}
         objects = self.places_of(threads.values())

@@ -1,24 +1,34 @@
 """How many threads there are of a name, with the numbers in it as one, and the stack that most of them have."""
 
-import re
 import collections
+import re
 from collections import defaultdict
-from typing import Counter, Dict, List, NamedTuple, Tuple
+from typing import Counter, Dict, List, NamedTuple, Optional, Tuple
 
-from heap_tools.class_names import printable
+from heap_tools.class_names import is_own, printable
 from heap_tools.heap_dump import Frame, HeapDump
 from heap_tools.heap_objects import HeapObjects
 from heap_tools.hprof_format import THREAD_OBJECT
 
 #: How many frames of a stack are shown, the innermost first.
 FRAMES = 5
+#: How many characters of a thread's name are shown, and of a frame: a program may make names of any length, and a line
+#: of a message has to be read.
+LONGEST_NAME, LONGEST_FRAME = 100, 200
 #: What threads with no name, or an empty one, are called.
 NAMELESS = "without a name"
 
 
+def shown_name(name: str) -> str:
+    """Returns the name of a thread as it is shown: in one line, and of a long one the begin and the length."""
+    if len(name) > LONGEST_NAME:
+        name = f"{name[:LONGEST_NAME]}.. ({len(name):,} characters)"
+    return printable(name)
+
+
 def pattern_of(name: str) -> str:
-    """Returns the name of a thread with `*` for each number in it: `report-17` is `report-*`."""
-    return re.sub("[0-9]+", "*", name)
+    """Returns the name of a thread as it is shown, with `*` for each number in it: `report-17` is `report-*`."""
+    return shown_name(re.sub("[0-9]+", "*", name))
 
 
 class ThreadCount(NamedTuple):
@@ -31,15 +41,28 @@ class ThreadCount(NamedTuple):
     stack: List[Frame]
 
     @property
+    def own(self) -> Optional[int]:
+        """The number of the innermost frame that is not in the JDK, or None if all are: it tells what they do."""
+        return next((number for number, frame in enumerate(self.stack) if is_own(frame.class_name)), None)
+
+    @property
     def frames(self) -> List[str]:
-        """The methods of the stack, at most the innermost `FRAMES`."""
-        return [f"{frame.class_name}.{frame.method}" for frame in self.stack[:FRAMES]]
+        """The methods of the stack, at most `FRAMES`: from the innermost that is not in the JDK on, if there is one."""
+        begin = self.own or 0
+        return [method_of(frame) for frame in self.stack[begin : begin + FRAMES]]
 
     def __str__(self) -> str:
         where = "it is" if self.after == 1 else "most are"
-        stack = f"; {where} in {', '.join(self.frames)}" if self.stack else ""
         named = f'"{self.pattern}"' if self.pattern else NAMELESS
-        return f"threads {named}: {self.before}, then {self.after}{stack}"
+        stack = f"; {where} in {', '.join(self.frames)}" if self.stack else ""
+        innermost = f" (innermost: {method_of(self.stack[0])})" if self.own else ""
+        return f"threads {named}: {self.before}, then {self.after}{stack}{innermost}"
+
+
+def method_of(frame: Frame) -> str:
+    """Returns the method of a frame as it is shown, cut if its name is long."""
+    method = f"{frame.class_name}.{frame.method}"
+    return method if len(method) <= LONGEST_FRAME else f"{method[:LONGEST_FRAME]}.."
 
 
 def number_of_threads(dump: HeapDump) -> int:
@@ -65,7 +88,7 @@ def _by_pattern(dump: HeapDump) -> Dict[str, List[int]]:
     """Returns the serial numbers of the threads by the pattern of their names."""
     found: Dict[str, List[int]] = defaultdict(list)
     for thread, name in HeapObjects(dump).thread_names().items():
-        found[pattern_of(printable(name))].append(thread)
+        found[pattern_of(name)].append(thread)
     return found
 
 

@@ -3,10 +3,23 @@
 import tempfile
 import unittest
 from typing import List
+from unittest import mock
 
-from heap_tools.heap_dump import HeapDump
-from heap_tools.thread_counts import FRAMES, grown_thread_counts, pattern_of
+from heap_tools import heap_dump
+from heap_tools.candidates import THREADS, Candidates
+from heap_tools.heap_dump import Frame, HeapDump
+from heap_tools.reports import Report
+from heap_tools.thread_counts import (
+    FRAMES,
+    LONGEST_FRAME,
+    LONGEST_NAME,
+    ThreadCount,
+    grown_thread_counts,
+    pattern_of,
+    shown_name,
+)
 from tests.support.dump_writer import BYTE, DumpWriter
+from tests.support.hostile_names import HOSTILE, ODD
 
 
 def threads(names: List[str]) -> DumpWriter:
@@ -33,12 +46,16 @@ class ThreadCountsTest(unittest.TestCase):
         """Returns the patterns of which there are more threads, as they are said."""
         dumps = []
         for names in (before, after):
-            file = tempfile.TemporaryFile()
-            self.addCleanup(file.close)
-            file.write(threads(names).bytes())
-            file.flush()
-            dumps.append(HeapDump(file))
+            dumps.append(self.read(threads(names)))
         return [str(each) for each in grown_thread_counts(*dumps)]
+
+    def read(self, dump: DumpWriter) -> HeapDump:
+        """Returns what is read of a dump."""
+        file = tempfile.TemporaryFile()
+        self.addCleanup(file.close)
+        file.write(dump.bytes())
+        file.flush()
+        return HeapDump(file)
 
     def test_patterns(self) -> None:
         """Numbers in names are one, however long they are."""
@@ -68,6 +85,46 @@ class ThreadCountsTest(unittest.TestCase):
         innermost = ", ".join(f"shop/Queue.m{depth}" for depth in range(FRAMES))
         wanted = f'threads "deep-*": 0, then 2; most are in {innermost}'
         self.assertEqual((self.grown([], ["deep-1", "deep-2"]), FRAMES), ([wanted], 5))
+
+    def test_own_frame(self) -> None:
+        """The stack is said from the first frame on that is not in the JDK, and the innermost one."""
+        jdk = ["jdk/internal/misc/Unsafe.park", "java/util/concurrent/locks/LockSupport.park", "java/util/Queue.take"]
+        own, call = Frame("app/Worker", "poll"), Frame("java/lang/Thread", "run")
+        waiting = [Frame(*each.split(".")) for each in jdk]
+        for stack, wanted in (
+            ([*waiting, own, call], f"in app/Worker.poll, java/lang/Thread.run (innermost: {jdk[0]})"),
+            ([own, call], "in app/Worker.poll, java/lang/Thread.run"),
+            (waiting, f"in {', '.join(jdk)}"),
+        ):
+            self.assertEqual(str(ThreadCount("app-*", 1, 9, stack)), f'threads "app-*": 1, then 9; most are {wanted}')
+
+    def test_hostile(self) -> None:
+        """Names are in one line and are cut, numbers in them are one, and those in an escape are none."""
+        self.assertEqual(pattern_of("a7\x1b[31m"), r"a*\x1b[*m")
+        self.assertEqual(pattern_of("\u202e7"), r"\xe2\x80\xae*")
+        for name in [*HOSTILE, *ODD, "9" * 10**6, "x" * 10**6, "\x1b" * 10**6]:
+            for shown in (shown_name(name), pattern_of(name), str(ThreadCount(pattern_of(name), 1, 2, []))):
+                self.assertTrue(shown.isprintable(), name[:50])
+                self.assertLessEqual(len(shown), 1000)
+                self.assertNotIn("\\x*", shown)
+        self.assertEqual(shown_name("x" * 1234), f"{'x' * LONGEST_NAME}.. (1,234 characters)")
+        self.assertEqual(shown_name("x" * LONGEST_NAME), "x" * LONGEST_NAME)
+        long = ThreadCount("a", 1, 2, [Frame("a/A" * 10_000, "b")])
+        self.assertLess(len(str(long)), 2 * LONGEST_FRAME)
+
+    def test_many(self) -> None:
+        """Of many threads the names are read once, though several ask, and each method once."""
+        dump = self.read(threads(["main", *(f"report-{number}" for number in range(600))]))
+        walks, decoded = mock.Mock(wraps=dump.sub_records), mock.Mock(wraps=heap_dump.shown)
+        with mock.patch.object(dump, "sub_records", walks), mock.patch.object(heap_dump, "shown", decoded):
+            candidates = Candidates(dump)
+            for _ in range(3):
+                self.assertEqual(len(candidates.threads()), 601)
+                self.assertEqual([each.count for each in candidates.threads_alike()], [600])
+                self.assertEqual(len(grown_thread_counts(self.read(threads(["main"])), dump)), 1)
+                self.assertEqual(Candidates(dump).holders((THREADS, "report-*"), Report()), 600)
+        self.assertEqual(walks.call_count, 3)
+        self.assertLess(decoded.call_count, 20)
 
     def test_none(self) -> None:
         """With as many threads as before, nothing is said."""
