@@ -6,8 +6,38 @@ from typing import Iterable, List
 
 #: The types of primitive elements by their letter in the name of an array.
 PRIMITIVES = dict(B="byte", C="char", D="double", F="float", I="int", J="long", S="short", Z="boolean")
-#: The packages of the JDK.
-JDK = ("java/", "javax/", "jdk/", "sun/", "com/sun/", "netscape/", "org/ietf/jgss/", "org/w3c/dom/", "org/xml/sax/")
+#: The packages below `javax` and `com/sun` that the JDK has: libraries have others there, such as `javax/servlet` or
+#: `com/sun/jna`. These are what the file system `jrt:/` of JDK 17.0.15, 21.0.13 and 25.0.5 has, all three the same but
+#: for `javax/sound`, which only 25 has; of `com/sun`, where versions differ, the packages above them, and that of the
+#: proxies that JDK 15 and older ones make.
+JAVAX = frozenset(
+    f"javax/{name}"
+    for name in """
+accessibility annotation/processing crypto crypto/interfaces crypto/spec imageio imageio/event imageio/metadata
+imageio/plugins/bmp imageio/plugins/jpeg imageio/plugins/tiff imageio/spi imageio/stream lang/model
+lang/model/element lang/model/type lang/model/util management management/loading management/modelmbean
+management/monitor management/openmbean management/relation management/remote management/remote/rmi
+management/timer naming naming/directory naming/event naming/ldap naming/ldap/spi naming/spi net net/ssl print
+print/attribute print/attribute/standard print/event rmi/ssl script security/auth security/auth/callback
+security/auth/kerberos security/auth/login security/auth/spi security/auth/x500 security/cert security/sasl
+smartcardio sound sound/midi sound/midi/spi sound/sampled sound/sampled/spi sql sql/rowset sql/rowset/serial
+sql/rowset/spi swing swing/border swing/colorchooser swing/event swing/filechooser swing/plaf swing/plaf/basic
+swing/plaf/metal swing/plaf/multi swing/plaf/nimbus swing/plaf/synth swing/table swing/text swing/text/html
+swing/text/html/parser swing/text/rtf swing/tree swing/undo tools transaction/xa xml xml/catalog xml/crypto
+xml/crypto/dom xml/crypto/dsig xml/crypto/dsig/dom xml/crypto/dsig/keyinfo xml/crypto/dsig/spec xml/datatype
+xml/namespace xml/parsers xml/stream xml/stream/events xml/stream/util xml/transform xml/transform/dom
+xml/transform/sax xml/transform/stax xml/transform/stream xml/validation xml/xpath
+""".split()
+)
+COM_SUN = tuple(
+    f"com/sun/{name}/"
+    for name in """
+accessibility beans crypto imageio jarsigner java java_cup jdi jmx jndi management media naming net nio org proxy rowset
+security source swing tools xml/internal
+""".split()
+)
+#: What the names of its other classes begin with.
+JDK = ("java/", "jdk/", "sun/", "netscape/", "org/ietf/jgss/", "org/jcp/xml/", "org/w3c/dom/", "org/xml/sax/", *COM_SUN)
 #: The row of a report for the classes themselves. A class may have a name that begins with `<`, too.
 CLASSES = "<class>"
 
@@ -47,7 +77,7 @@ def is_array(name: str) -> bool:
 def is_own(name: str) -> bool:
     """Tests whether a class is the user's or a library's: neither the JDK's nor an array of primitive values."""
     inner = element(name)
-    return not (inner.startswith(JDK) or is_array(inner) or inner == CLASSES)
+    return not (inner.startswith(JDK) or package(inner) in JAVAX or is_array(inner) or inner == CLASSES)
 
 
 def package(name: str) -> str:

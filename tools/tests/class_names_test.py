@@ -74,11 +74,26 @@ class FunctionsTest(unittest.TestCase):
 
     def test_own(self) -> None:
         """Classes of the JDK, arrays of them and of numbers, and class objects are not own."""
-        jdk = "java/lang/String javax/A jdk/internal/A sun/nio/ch/A com/sun/A netscape/A org/ietf/jgss/A org/w3c/dom/A"
+        jdk = "java/lang/String jdk/internal/A sun/nio/ch/A netscape/A org/ietf/jgss/A org/w3c/dom/A org/jcp/xml/dsig/A"
         for name in f"{jdk} org/xml/sax/A [Ljava/lang/String; [[Lsun/A; byte[] [[I <class>".split():
             self.assertFalse(class_names.is_own(name), name)
         for name in "A shop/A [Lshop/A; [[LA; javafx/A java org/xml/A com/sunny/A <classes> ?0x7f".split():
             self.assertTrue(class_names.is_own(name), name)
+
+    def test_javax(self) -> None:
+        """Of `javax` and `com/sun` only what the JDK has is the JDK's: libraries have packages there, too."""
+        jdk = "annotation/processing/A crypto/A management/A$1 net/ssl/A security/auth/login/A sql/A swing/text/html/A"
+        for name in f"{jdk} transaction/xa/A xml/A xml/parsers/A xml/crypto/dsig/A".split():
+            self.assertFalse(class_names.is_own(f"javax/{name}"), name)
+            self.assertFalse(class_names.is_own(f"[[Ljavax/{name};"), name)
+        libraries = "A annotation/A mail/A servlet/http/A persistence/A jms/A ws/rs/A inject/A xml/bind/A xml/ws/A"
+        for name in f"{libraries} transaction/A security/auth/message/A management/j2ee/A cache/A validation/A".split():
+            self.assertTrue(class_names.is_own(f"javax/{name}"), name)
+            self.assertTrue(class_names.is_own(f"[Ljavax/{name};"), name)
+        for name in "crypto/provider/A jndi/ldap/A net/httpserver/A org/apache/xerces/internal/A proxy/$Proxy7".split():
+            self.assertFalse(class_names.is_own(f"com/sun/{name}"), name)
+        for name in "A jna/A mail/imap/A xml/bind/A faces/A enterprise/A".split():
+            self.assertTrue(class_names.is_own(f"com/sun/{name}"), name)
 
     def test_alike(self) -> None:
         """Classes whose simple name is the last of what a user wrote, of packages and of outer classes."""
