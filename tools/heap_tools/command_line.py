@@ -4,6 +4,7 @@ import argparse
 import re
 import signal
 import sys
+import warnings
 from typing import Any, Callable, Dict, Iterable, NoReturn, Optional, Sequence
 
 from heap_tools import VERSION
@@ -95,7 +96,9 @@ def number(least: int = 0, most: int = 10**19 - 1) -> Callable[[str], int]:
 
 
 def run(tool: str, main: Callable[[Sequence[str]], int]) -> NoReturn:
-    """Runs `main` of the tool with the words of the command line, and ends with the status that it returns."""
+    """Runs `main` of the tool with the words of the command line, and ends with the status that it returns. Warnings of
+    Python are for those who write tools: they are ignored, also if PYTHONWARNINGS makes them errors."""
+    warnings.simplefilter("ignore")
     heeded = [each for each in ENDING if signal.getsignal(each) != signal.SIG_IGN]
     for each in heeded:
         signal.signal(each, signal.default_int_handler)

@@ -6,11 +6,18 @@ import shutil
 import sys
 from typing import IO, Optional
 
+from heap_tools.class_names import byte_escapes
 from heap_tools.faults import UNWRITABLE, Fault
 
 
 def in_one_line(text: str) -> str:
-    """Spells control characters, which a terminal would obey, as heapmark does: each of their bytes as `\\x..`."""
+    """Spells what does not print, such as control characters and marks of direction, which a terminal would obey: each
+    of their bytes as `\\x..`. Bytes of a file's name that are no text stay as they are."""
+    return "".join(each if each.isprintable() or "\udc80" <= each <= "\udcff" else byte_escapes(each) for each in text)
+
+
+def as_heapmark_spells(text: str) -> str:
+    """Spells control characters as heapmark does in its messages."""
     return re.sub("[\0-\x1f\x7f-\x9f]", lambda it: "".join(f"\\x{byte:02x}" for byte in it[0].encode()), text)
 
 

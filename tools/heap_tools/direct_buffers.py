@@ -9,6 +9,9 @@ from heap_tools.humanize import counted
 
 #: The class of direct buffers. Views of the other types have no memory of their own.
 BUFFER = "java/nio/DirectByteBuffer"
+#: The least share in percent of the growth that is said: what is less explains nothing of it, and each program's direct
+#: memory changes by some bytes.
+WORTH_SAYING = 5
 #: The number of bytes of a buffer, and what a view was made of: slices and duplicates name the buffer with the memory.
 CAPACITY, ATTACHMENT = "java/nio/Buffer.capacity", "att"
 
@@ -54,3 +57,10 @@ def more_direct_memory(before: DirectMemory, after: DirectMemory) -> str:
         f"direct buffers have {counted(after.bytes - before.bytes, 'byte')} more outside the heap{buffers}: "
         f"{before.bytes:,}, then {after.bytes:,}"
     )
+
+
+def worth_saying(before: DirectMemory, after: DirectMemory, growth: int) -> bool:
+    """Tests whether direct memory grew by at least `WORTH_SAYING` percent of the `growth` of the heap in bytes, or if that
+    did not grow, of what it was."""
+    more = after.bytes - before.bytes
+    return more > 0 and 100 * more >= WORTH_SAYING * (growth if growth > 0 else before.bytes)

@@ -7,7 +7,7 @@ import sys
 from typing import BinaryIO, Iterable, List, NamedTuple, Optional, Sequence
 
 from heap_tools.child_process import Call, Feed, NotStarted, Ran, run_all
-from heap_tools.console import in_one_line, is_terminal, say
+from heap_tools.console import as_heapmark_spells, is_terminal, say
 from heap_tools.faults import NO_HEAPMARK, UNREADABLE, WRONG_USE, Fault
 from heap_tools.reports import Report, may_be_report, read_report
 
@@ -114,7 +114,7 @@ class Heapmark:
 
 def _reason(said: Iterable[str], path: str) -> str:
     """Returns why heapmark refused the file that it got as `path`: its advice, if it gave any, and the refusal."""
-    lines, name = [re.sub("^heapmark: ", "", line) for line in said], f"{in_one_line(path)}: "
+    lines, name = [re.sub("^heapmark: ", "", line) for line in said], f"{as_heapmark_spells(path)}: "
     advice = next((line[len(name) :] for line in lines if line.startswith(name)), "no dump that heapmark accepts")
     return f"{advice} ({lines[0]})" if lines else advice
 

@@ -7,7 +7,7 @@ from typing import List, NamedTuple, Optional, Sequence
 from heap_tools.candidates import joint_name
 from heap_tools.comparison import Comparison
 from heap_tools.console import say
-from heap_tools.direct_buffers import more_direct_memory
+from heap_tools.direct_buffers import more_direct_memory, worth_saying
 from heap_tools.humanize import counted
 from heap_tools.leak_lines import Answer, Line, LineObjects
 from heap_tools.thread_counts import ThreadCount, grown_thread_counts
@@ -27,7 +27,8 @@ class Notes(NamedTuple):
 
 def notes_of(comparison: Comparison, answer: Answer, shows_values: bool) -> Notes:
     """Returns what is to be said beside the lines of an answer."""
-    direct = more_direct_memory(*comparison.direct)
+    grew = comparison.last.report.reachable.minus(comparison.first.report.reachable)
+    direct = more_direct_memory(*comparison.direct) if worth_saying(*comparison.direct, grew.bytes) else ""
     threads = grown_thread_counts(comparison.first.dump, comparison.last.dump)[:PATTERNS]
     every = (comparison.weak_words(answer.probe), direct, captured_words(answer.lines))
     sentences = [each for each in every if each]

@@ -35,6 +35,12 @@ class EndTest(unittest.TestCase):
         ):
             self.assertEqual(self.ended(body), (1, f"{line}\n"))
 
+    def test_warnings(self) -> None:
+        """Warnings of Python are no errors, and are not printed, whatever PYTHONWARNINGS says."""
+        with mock.patch.dict(os.environ, PYTHONWARNINGS="error"):
+            for body in ("import warnings; warnings.warn('old'); return 3", "open('/dev/null'); return 3"):
+                self.assertEqual(self.ended(body), (3, ""))
+
     def test_signals(self) -> None:
         """Each signal ends the tool with one line, also if more of them come."""
         for name in ("SIGINT", "SIGTERM", "SIGHUP"):
@@ -42,13 +48,19 @@ class EndTest(unittest.TestCase):
             self.assertEqual(self.ended(body), (130, "tool: interrupted\n"), name)
 
     def test_early(self) -> None:
-        """An interrupt while the modules of a tool are read takes one line, too."""
+        """An interrupt while the modules of a tool are read takes one line, too, and so does one that is missing."""
+        missing = "No module named 'mmap'"
+        needed = f"{missing}: the tools need all of Python 3.7 or later, and the folder heap_tools"
         for tool in ("grown", "held", "holders", "leaks"):
             text = (TOOLS / tool).read_text(encoding="utf-8")
-            text = text.replace("from heap_tools", "raise KeyboardInterrupt\n    from x")
-            words = [sys.executable, "-c", f"__file__ = {str(TOOLS / tool)!r}\n{text}"]
-            ended = subprocess.run(words, stdout=subprocess.PIPE, stderr=subprocess.PIPE, check=False)
-            self.assertEqual((ended.returncode, ended.stderr.decode()), (130, f"{tool}: interrupted\n"))
+            for raised, status, line in (
+                ("KeyboardInterrupt", 130, "interrupted"),
+                (f'ModuleNotFoundError("{missing}")', 5, needed),
+            ):
+                body = text.replace("from heap_tools", f"raise {raised}\n    from x")
+                words = [sys.executable, "-c", f"__file__ = {str(TOOLS / tool)!r}\n{body}"]
+                ended = subprocess.run(words, stdout=subprocess.PIPE, stderr=subprocess.PIPE, check=False)
+                self.assertEqual((ended.returncode, ended.stderr.decode()), (status, f"{tool}: {line}\n"))
 
 
 class NumberTest(unittest.TestCase):
@@ -85,9 +97,22 @@ class LineTest(unittest.TestCase):
     """What is said in one line."""
 
     def test_controls(self) -> None:
-        """Control characters are spelled as heapmark spells them, all else stays."""
-        for text, spelled in (("a\nb", r"a\x0ab"), ("\x1b[1m", r"\x1b[1m"), ("\x85", r"\xc2\x85"), ("Größe", "Größe")):
+        """What does not print is spelled as heapmark spells control characters, all else stays."""
+        for text, spelled in (
+            ("a\nb", r"a\x0ab"),
+            ("\x1b[1m", r"\x1b[1m"),
+            ("\x85", r"\xc2\x85"),
+            ("Größe 订单", "Größe 订单"),
+            ('"a\\', '"a\\'),
+        ):
             self.assertEqual(console.in_one_line(text), spelled)
+            self.assertEqual(console.as_heapmark_spells(text), spelled)
+        for text, spelled in (
+            ("\u202egnp.\u2066", r"\xe2\x80\xaegnp.\xe2\x81\xa6"),
+            ("a\u200b\u2028\ufeff", r"a\xe2\x80\x8b\xe2\x80\xa8\xef\xbb\xbf"),
+        ):
+            self.assertEqual(console.in_one_line(text), spelled)
+            self.assertEqual(console.as_heapmark_spells(text), text)
 
     def test_surrogates(self) -> None:
         """Bytes of a file's name that are no text stay as they are."""

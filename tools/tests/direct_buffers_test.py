@@ -3,7 +3,7 @@
 import tempfile
 import unittest
 
-from heap_tools.direct_buffers import DirectMemory, direct_memory, more_direct_memory
+from heap_tools.direct_buffers import DirectMemory, direct_memory, more_direct_memory, worth_saying
 from heap_tools.heap_dump import HeapDump
 from tests.support.dump_writer import DumpWriter, word
 
@@ -45,6 +45,24 @@ class DirectBuffersTest(unittest.TestCase):
         self.assertIn("heap: 1,000, then 1,001", more_direct_memory(few, DirectMemory(1, 1001)))
         for after in (few, DirectMemory(2, 999)):
             self.assertEqual(more_direct_memory(few, after), "")
+
+    def test_worth_saying(self) -> None:
+        """A twentieth of the growth of the heap is worth a line, or if that did not grow, of what there was."""
+        for was, now, growth, wanted in (
+            (1000, 1002, 10_000_000, False),
+            (0, 2, 10_000_000, False),
+            (0, 500_000, 10_000_000, True),
+            (0, 499_999, 10_000_000, False),
+            (10**10, 10**10 + 10**8, 50_000_000, True),
+            (1000, 1050, 0, True),
+            (1000, 1049, -7, False),
+            (1000, 1000, 0, False),
+            (0, 0, 0, False),
+            (0, 2, 0, True),
+            (1000, 900, 10, False),
+        ):
+            found = worth_saying(DirectMemory(1, was), DirectMemory(1, now), growth)
+            self.assertEqual(found, wanted, (was, now, growth))
 
 
 if __name__ == "__main__":
