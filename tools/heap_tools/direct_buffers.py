@@ -60,7 +60,7 @@ def more_direct_memory(before: DirectMemory, after: DirectMemory) -> str:
 
 
 def worth_saying(before: DirectMemory, after: DirectMemory, growth: int) -> bool:
-    """Tests whether direct memory grew by at least `WORTH_SAYING` percent of the `growth` of the heap in bytes, or if that
-    did not grow, of what it was."""
+    """Tests whether direct memory grew by at least `WORTH_SAYING` percent of the `growth` of the heap in bytes, or if
+    that did not grow, of what it was."""
     more = after.bytes - before.bytes
     return more > 0 and 100 * more >= WORTH_SAYING * (growth if growth > 0 else before.bytes)

@@ -10,7 +10,7 @@ from heap_tools.reference_paths import ReferencePaths
 from heap_tools.reports import Amount
 from heap_tools.search import Search
 from heap_tools.search_progress import SearchProgress
-from heap_tools.which_object import HoldingObject, ObjectSearch, objects_that_grew
+from heap_tools.which_object import HoldingObject, objects_that_grew, objects_that_hold
 
 
 class Line(NamedTuple):
@@ -80,7 +80,7 @@ class Lines:
         """Returns which objects gained most of what `held` did, or of one dump hold most."""
         if isinstance(self.probe, GrowthProbe):
             return objects_that_grew(self.probe, held)
-        return ObjectSearch(self.probe, held).find()
+        return objects_that_hold(self.probe, held)
 
     def _order(self) -> LineOrder:
         return LineOrder(self.features, self._holds_all, self.probe.unit.of(self.probe.growth), self.scoring)
