@@ -55,10 +55,9 @@ class Candidate:
         return self.kind in (THREAD, THREADS) or is_own(self.name)
 
     @property
-    def weight(self) -> int:
-        """The number of holders by which lines are ordered. A field of the JDK counts as one with nearly twice as many:
-        a field of an own class just below it says more."""
-        return self.count if self.is_own else 2 * self.count - 1
+    def is_of_machine(self) -> bool:
+        """Tests whether the virtual machine keeps the field with its class, such as `<resolved_references>`."""
+        return ".<" in self.name
 
     def __str__(self) -> str:
         if self.kind in (THREAD, THREADS):
@@ -72,7 +71,7 @@ NAMED = 3
 
 def joint_name(candidates: Sequence[Candidate]) -> str:
     """Returns the names of candidates that hold something together, in one line: of many only the first ones."""
-    names = sorted(map(str, candidates))
+    names = list(map(str, candidates))
     if len(names) > NAMED + 1:
         names[NAMED - 1 :] = [f"{names[NAMED - 1]} .. and {len(names) - NAMED} more"]
     return ("together " if len(names) > 1 else "") + ", ".join(names)
@@ -157,7 +156,7 @@ class Candidates:
             led = [each for each in fields if not each.is_null]
             if kind == STATIC and led:
                 found.append(Candidate(kind, name, len(led), self._field_changes(led)))
-        return sorted(found, key=lambda each: (".<" in each.name, each.count, each.name))
+        return sorted(found, key=lambda each: (each.is_of_machine, each.count, each.name))
 
     def fields(self, report: Report) -> List[Candidate]:
         """Returns the fields of classes with reachable instances. Those with few holders come first."""

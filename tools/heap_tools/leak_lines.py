@@ -4,12 +4,13 @@ import dataclasses
 from typing import Callable, List, NamedTuple, Optional, Sequence, Tuple
 
 from heap_tools.candidates import Candidate, joint_name
-from heap_tools.line_order import CHAIN, FEW, HARDLY_ANY, Features, LineOrder, Scoring
+from heap_tools.line_order import CHAIN, HARDLY_ANY, Features, LineOrder, Scoring
 from heap_tools.probe import EarlierProbe, GrowthProbe, Probe, Retained
 from heap_tools.reference_paths import ReferencePaths
 from heap_tools.reports import Amount
 from heap_tools.search import Search
 from heap_tools.search_progress import SearchProgress
+from heap_tools.search_together import SearchTogether
 from heap_tools.which_object import HoldingObject, objects_that_grew, objects_that_hold
 
 
@@ -37,10 +38,12 @@ class LineObjects(NamedTuple):
 
 
 class Answer(NamedTuple):
-    """The lines, the objects that gained most of one of them, the search that found them, and what it asked."""
+    """The first lines, the objects that gained most of one line, how many more lines there are, the search that found
+    them, and what it asked."""
 
     lines: List[Line]
     objects: Optional[LineObjects]
+    hidden: int
     search: Search
     probe: GrowthProbe
 
@@ -133,11 +136,6 @@ def kin_of(candidate: Candidate, probe: Probe) -> List[Candidate]:
     return [each for each in every if each.kind == candidate.kind and each.name.rpartition(".")[0] == owner]
 
 
-def by_holders(held: Retained) -> int:
-    """Returns what is found first: what has few holders."""
-    return held.weight
-
-
 def answer_of(
     probe: GrowthProbe,
     at_least: int,
@@ -145,17 +143,26 @@ def answer_of(
     progress: SearchProgress,
     probes_between: Callable[[], List[EarlierProbe]] = lambda: [],
 ) -> Answer:
-    """Searches the dumps for what holds `at_least` percent of the growth, and returns at most `top` lines."""
-    search = Search(probe, at_least, top, by_holders, progress, FEW)
-    search.find(probe.candidates.fields(probe.base))
-    lines, objects = lines_found(search, probe, top, probes_between() if search.found else [])
-    return Answer(lines, objects, search, probe)
+    """Searches the dumps for what holds `at_least` percent of the growth, and returns the `top` first lines."""
+    search = searched(probe, at_least, progress)
+    return Answer(*lines_found(search, probe, top, probes_between() if search.found else []), search, probe)
+
+
+def searched(probe: Probe, at_least: int, progress: SearchProgress) -> Search:
+    """Searches for what holds `at_least` percent of what the probe asks for, alone or together."""
+    search, fields = Search(probe, at_least, progress), probe.candidates.fields(probe.base)
+    search.find(fields)
+    together = SearchTogether(search)
+    together.find_statics()
+    together.find_few(fields)
+    return search
 
 
 def lines_found(
     search: Search, probe: Probe, top: int, between: Sequence[EarlierProbe] = ()
-) -> Tuple[List[Line], Optional[LineObjects]]:
-    """Returns at most `top` lines of what a search has found, and the objects that gained most of one."""
+) -> Tuple[List[Line], Optional[LineObjects], int]:
+    """Returns the `top` first lines of what a search has found, the objects that gained most of one, and how many more
+    lines there are."""
     found = Lines(search, probe, between)
     objects = found.ask_for_objects()
     ranked = found.sorted()
@@ -163,4 +170,5 @@ def lines_found(
     for held in ranked[:top]:
         before, share = probe.before(held.candidates).amount, probe.share(held.candidates)
         lines.append(Line(held, before, share, paths.above(held), probe.instances_before(held.candidates)))
-    return lines, objects and objects._replace(number=1 + ranked.index(objects.held))
+    objects = objects and objects._replace(number=1 + ranked.index(objects.held))
+    return lines, objects, len(ranked) - len(lines)

@@ -137,14 +137,14 @@ class LineOrder:
         if answer is None:
             return None
         found = [it for it in self.numbers if self._is_own_telling(it) and not self._is_on_path(it, answer)]
-        return max(found, key=self._score_and_name) if found else None
+        return self._largest(found) if found else None
 
     def answer(self) -> Optional[int]:
         """Returns the number of the answer, None if there is no line."""
         if not self.numbers:
             return None
-        best, largest = self.best(), max(self.lines[it].gain for it in self.numbers if self._is_steady(it))
-        return self.deepest_with(best) if self.scores[best] >= LASTS * min(self.growth, largest) else self.topmost()
+        best = self.best()
+        return self.deepest_with(best) if self._lasts(best) else self.topmost()
 
     def score(self, number: int) -> float:
         """Returns the score of a line."""
@@ -160,16 +160,27 @@ class LineOrder:
         return score
 
     def best(self) -> int:
-        """Returns the line with the best score. A single one comes before several together, and one that is of no
-        collection before one that is, unless it has less than half of the score: a collection of the JDK has what all
-        of its kind hold."""
-        chosen = max(self.numbers, key=self._score_and_name)
-        for is_wanted in self._is_single, self._is_no_collection:
-            found = [number for number in self.numbers if is_wanted(number)]
-            other = max(found, key=self._score_and_name, default=chosen)
-            if self.scores[other] >= MOST * self.scores[chosen]:
-                chosen = other
+        """Returns the line with the best score. One that is of a collection comes after one that is not and has most of
+        its score: a collection of the JDK has what all of its kind hold. Several together come after a single one that
+        lasts."""
+        chosen = self._largest(self.numbers)
+        others = [it for it in self.numbers if not self.lines[it].is_collection]
+        if others and self.scores[self._largest(others)] >= MOST * self.scores[chosen]:
+            chosen = self._largest(others)
+        single = [it for it in self.numbers if self.lines[it].is_telling and len(self.lines[it].kinds) == 1]
+        if single and len(self.lines[chosen].kinds) > 1 and self._lasts(self._largest(single)):
+            chosen = self._largest(single)
         return chosen
+
+    def _largest(self, numbers: Sequence[int]) -> int:
+        """Returns the line of `numbers` with the largest score, of those with the same one that which says most."""
+        lines, scores = self.lines, self.scores
+        return max(numbers, key=lambda it: (scores[it], lines[it].is_own_telling, -lines[it].heap, lines[it].name))
+
+    def _lasts(self, number: int) -> bool:
+        """Tests whether the score of a line is enough of the growth, or of what lines gained if that is less."""
+        largest = max(self.lines[it].gain for it in self.numbers if self._is_steady(it))
+        return self.scores[number] >= LASTS * min(self.growth, largest)
 
     def topmost(self) -> int:
         """Returns the line that no other one holds, of several a thread, else the one that gained most."""
@@ -220,22 +231,11 @@ class LineOrder:
     def _is_on_path(self, number: int, best: int) -> bool:
         return number == best or self.holds_all(number, best) or self.holds_all(best, number)
 
-    def _is_single(self, number: int) -> bool:
-        return len(self.lines[number].kinds) == 1
-
-    def _is_no_collection(self, number: int) -> bool:
-        return self._is_single(number) and not self.lines[number].is_collection
-
     def _is_telling(self, number: int) -> bool:
         return self.lines[number].is_telling
 
     def _is_own_telling(self, number: int) -> bool:
         return self.lines[number].is_own_telling
-
-    def _score_and_name(self, number: int) -> Tuple[float, bool, int, str]:
-        """Returns what the best line is the largest by."""
-        line = self.lines[number]
-        return self.scores[number], line.is_own_telling, -line.heap, line.name
 
     def _depth(self, number: int) -> Tuple[bool, int, str]:
         """Returns what the deepest line is the smallest by, among those with one score."""

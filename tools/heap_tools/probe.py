@@ -23,11 +23,6 @@ class Retained(NamedTuple):
         return sum(each.count for each in self.candidates)
 
     @property
-    def weight(self) -> int:
-        """The number of holders by which lines are ordered."""
-        return sum(each.weight for each in self.candidates)
-
-    @property
     def is_own(self) -> bool:
         """Tests whether one of them is of an own class."""
         return any(each.is_own for each in self.candidates)

@@ -37,7 +37,7 @@ class LeakNotesTest(unittest.TestCase):
     def answer(self, *lines: Line) -> Answer:
         """Returns an answer with these lines."""
         nothing: Any = None
-        return Answer(list(lines), None, nothing, mock.Mock(unit=Unit.BYTES))
+        return Answer(list(lines), None, 0, nothing, mock.Mock(unit=Unit.BYTES))
 
     def test_objects(self) -> None:
         """Which objects gained most, or hold most; without texts of the dump if these are not to be shown."""

@@ -89,7 +89,7 @@ class LeaksTest(ToolTest):
         self.assertEqual(self.ran("monday", "friday").said.count("\n"), 1)
         first = self.ran("--top=1", "monday", "friday")
         self.assertEqual(first.out, lines.splitlines(True)[0])
-        self.assertIn("leaks: 1 more holds 30% or more: see --top\n", first.said)
+        self.assertIn("leaks: 2 more hold 30% or more: see --top\n", first.said)
 
     def test_class(self) -> None:
         """The growth of a class, and a class that did not grow."""

@@ -58,8 +58,9 @@ rule 4, a thread, if nothing else is there: *thread "main", java/util/HashMap.ta
 rule 4, no field of the JDK: *static shop/A.STORE > java/lang/Queue.list
 rule 4, one of the JDK, if what is above has less: static shop/A.a (899) > *java/lang/Queue.list
 rule 4, one of the JDK rather than a collection: *java/lang/Queue.list > java/util/HashMap.table
-rule 4, several together, if no single one has half: *two (together), static shop/A.a (499)
-rule 4, else a single one: two (together), *static shop/A.a (500)
+rule 4, several together, if no single one lasts: *two (together), static shop/A.a (249)
+rule 4, else the single one: two (together), *static shop/A.a (250)
+rule 4, several together, and a collection: *two (together), java/util/HashMap.table
 rules 1 and 2, one object refutes that nothing lasts: threads "job" (900 9..99), *shop/B.b (900 9..99 one)
 rules 1 and 2, what moved does not last: shop/Swap.s (moved) > shop/B.b (900), *shop/Order.text (10..110)
 rules 1 and 3, the payload is deeper: *static shop/A.STORE > shop/Order.text (10..110)

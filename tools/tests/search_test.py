@@ -4,7 +4,7 @@ made at random, where each candidate is also cut alone."""
 import os
 import tempfile
 import unittest
-from typing import FrozenSet, Iterator, List, Sequence, Tuple
+from typing import Any, FrozenSet, Iterator, List, Sequence, Tuple
 from unittest import mock
 
 from heap_tools.candidates import FIELD, LOCAL, STATIC, THREAD, THREADS, Candidate, Candidates, joint_name
@@ -12,14 +12,14 @@ from heap_tools.changed_copy import Changes
 from heap_tools.dump_runs import DumpRuns
 from heap_tools.heap_dump import HeapDump
 from heap_tools.heapmark import Heapmark
-from heap_tools.leak_lines import answer_of, by_holders
-from heap_tools.line_order import FEW
+from heap_tools.leak_lines import Line, answer_of
 from heap_tools.probe import EarlierProbe, GrowthProbe, Probe, Retained
 from heap_tools.reference_paths import ReferencePaths
 from heap_tools.reports import Amount, Unit
 from heap_tools.running_calls import DumpSide, without_running_calls
-from heap_tools.search import MOST_ASKED, NEXT, Search
+from heap_tools.search import MOST_QUESTIONS, Search
 from heap_tools.search_progress import SILENCE, SearchProgress
+from heap_tools.search_together import MOST_ASKED, SearchTogether
 from tests.support.marker import MarkedRuns
 from tests.support.random_heaps import random_pair
 from tests.support.told_probe import Things, Told, ToldGains, field
@@ -45,11 +45,11 @@ class NamesTest(unittest.TestCase):
 class SearchTest(unittest.TestCase):
     """What is asked for in a search."""
 
-    def search(self, probe: Probe, fields: Sequence[Candidate], top: int = 4, few: int = 64) -> List[str]:
+    def search(self, probe: Probe, fields: Sequence[Candidate]) -> List[str]:
         """Searches `fields`, and returns the names of what was found."""
-        found = Search(probe, 30, top, lambda held: (held.holders, str(held.candidates[0])), mock.Mock(), few)
-        found.expect(fields)
-        found.look_in_likely(fields)
+        found = Search(probe, 30, mock.Mock())
+        found.look_in(fields)
+        self.assertEqual((found.all, found.left), (len(fields), found.omitted))
         return sorted(str(held.candidates[0]) for held in found.found)
 
     def test_shrinking_part(self) -> None:
@@ -61,27 +61,33 @@ class SearchTest(unittest.TestCase):
         self.assertEqual(self.search(probe, fields), ["A.b"])
         self.assertEqual(sorted(probe.earlier.asked), [["A.a"], ["A.b"]])
 
-    def test_few_first(self) -> None:
-        """Own fields with many holders are not tried if fields of the JDK with few holders are enough."""
-        chain = [field(f"java/A.{name}", 3) for name in "abcd"]
-        many = [field(f"shop/Item.{number}", 9000) for number in range(20)]
-        probe = ToldGains([], [([[each.name] for each in chain], 100), ([[many[0].name]], 90)])
-        self.assertEqual(self.search(probe, [*chain, *many]), [each.name for each in chain])
-        self.assertFalse(any("shop/Item.0" in names for names in probe.asked))
-        probe = ToldGains([], [([[each.name] for each in chain[:2]], 100), ([[many[0].name]], 90)])
-        self.assertEqual(self.search(probe, [*chain, *many]), ["java/A.a", "java/A.b", "shop/Item.0"])
-
-    def test_next(self) -> None:
-        """After a field is found, those next to it are tried first; those farther away are found, too."""
-        fields = [field(f"java/A.{number:03}") for number in range(500)]
+    def test_questions(self) -> None:
+        """Fields with any number of instances are found, and those that are near each other take few questions."""
+        fields = [field(f"java/A.{number:03}", number) for number in range(500)]
         cases: List[Tuple[List[int], int]]
-        cases = [([300, 301, 303], 30), ([0, 250, 499], 45), ([490, 498, 499], 40), ([7], 15), ([], 1)]
+        cases = [([300, 301, 303], 30), ([0, 250, 499], 45), ([490, 498, 499], 40), ([7], 20), ([], 1)]
         for at, most in cases:
             names = [fields[number].name for number in at]
             probe = ToldGains([], [([[name] for name in names], 100)])
             self.assertEqual(self.search(probe, fields), names)
             self.assertLessEqual(len(probe.asked), most, at)
-        self.assertLess(NEXT, 20)
+
+    def test_most_questions(self) -> None:
+        """Where hundreds of fields hold as much as the growth, only the first ones are tried, and the rest is counted."""
+        fields = [field(f"app/A.{number:03}", number) for number in range(500)]
+        things: Things = [([[each.name]], 40) for each in fields]
+        probe = ToldGains(things[1:], things)
+        search = Search(probe, 30, mock.Mock())
+        search.look_in(fields)
+        self.assertEqual([str(held.candidates[0]) for held in search.found], ["app/A.000"])
+        self.assertLessEqual(probe.questions, MOST_QUESTIONS + 10)
+        self.assertEqual(len(search.found) + len(search.steady) + search.omitted, 500)
+        self.assertGreater(len(search.steady), 50)
+
+
+def candidates_of(statics: Sequence[Candidate]) -> Any:
+    """Returns the candidates of a dump with these static fields, in which threads hold nothing."""
+    return mock.Mock(**{"statics.return_value": statics, "all_threads.return_value": Candidate(THREADS, "", 0, {})})
 
 
 class KinTest(unittest.TestCase):
@@ -93,11 +99,11 @@ class KinTest(unittest.TestCase):
         """Searches `fields` with few holders after `known` was found, and returns what was found together, and how much
         was asked."""
         probe = ToldGains([], things)
-        search = Search(probe, 30, 4, lambda held: held.holders, mock.Mock(), FEW)
-        probe.candidates = mock.Mock(**{f"{kind}.return_value": [] for kind in ("statics", "threads", "threads_alike")})
+        search = Search(probe, 30, mock.Mock())
+        probe.candidates = candidates_of([])
         search.found = [probe.retained(group) for group in known]
         probe.asked.clear()
-        search.look_in_few_together(fields)
+        SearchTogether(search).find_few(fields)
         return [joint_name(held.candidates) for held in search.found[len(known) :]], len(probe.asked)
 
     def test_of_class(self) -> None:
@@ -154,17 +160,60 @@ class KinTest(unittest.TestCase):
             found, asked = self.found([([way], 100)], fields)
             self.assertEqual(len(found), is_found)
             self.assertLessEqual(asked, MOST_ASKED + 4)
-            search = Search(ToldGains([], [([way], 100)]), 30, 4, lambda held: held.holders, mock.Mock(), FEW)
-            search.look_together([Candidate(STATIC, each.name, 1, {}) for each in fields])
+            search = Search(ToldGains([], [([way], 100)]), 30, mock.Mock())
+            search.probe.candidates = candidates_of([Candidate(STATIC, each.name, 1, {}) for each in fields])
+            SearchTogether(search).find_statics()
             self.assertEqual(len(search.found), is_found)
             self.assertLessEqual(search.probe.questions, MOST_ASKED + 8)
 
     def test_names(self) -> None:
-        """Of many names only the first ones are in a line."""
+        """Of many names only the first ones are in a line: those that hold most alone. What the virtual machine keeps
+        with a class is none of them."""
         names = [field(f"A.{name}") for name in "edcba"]
         self.assertEqual(joint_name(names[:1]), "A.e")
-        self.assertEqual(joint_name(names[:4]), "together A.b, A.c, A.d, A.e")
-        self.assertEqual(joint_name(names), "together A.a, A.b, A.c .. and 2 more")
+        self.assertEqual(joint_name(names[:4]), "together A.e, A.d, A.c, A.b")
+        self.assertEqual(joint_name(names), "together A.e, A.d, A.c .. and 2 more")
+        statics = [Candidate(STATIC, f"app/{name}", 1, {}) for name in ("A.<init_lock>", "A.a", "A.b", "B.c")]
+        ways = [[each.name for each in statics[2:]], [each.name for each in statics[:2]]]
+        search = Search(ToldGains([], [(ways, 100), ([["app/B.c"]], 5)]), 30, mock.Mock())
+        search.probe.candidates = candidates_of(statics)
+        SearchTogether(search).find_statics()
+        self.assertEqual(
+            [joint_name(held.candidates) for held in search.found], ["together static app/B.c, static app/A.b"]
+        )
+
+    def test_package(self) -> None:
+        """If many fields of a package hold a little each, they are no line; those of a class are."""
+        fields = [field(f"app/A{number}.all") for number in range(26)]
+        self.assertEqual(self.found([([[each.name]], 5) for each in fields], fields)[0], [])
+
+    def test_nearly_enough(self) -> None:
+        """A field that gained a little too little alone is one of those that hold enough together."""
+        both = [field("app/A.a"), field("app/A.b")]
+        probe = ToldGains([([["app/A.a"]], 20)], [([["app/A.a"]], 49), ([["app/A.b"]], 29)])
+        search = Search(probe, 30, mock.Mock())
+        probe.candidates = candidates_of([])
+        search.look_in(both)
+        self.assertEqual((len(search.found), len(search.steady)), (0, 1))
+        SearchTogether(search).find_few(both)
+        self.assertEqual([joint_name(held.candidates) for held in search.found], ["together app/A.a, app/A.b"])
+
+    def test_beside_a_thread(self) -> None:
+        """A thread that holds all does not hide fields that hold it only together."""
+        both, thread = [field("app/A.a"), field("lib/B.b")], Candidate(THREAD, "main", 1, {})
+        found, _ = self.found([([["main"], ["app/A.a", "lib/B.b"]], 100)], both, [[thread]])
+        self.assertEqual(found, ["together app/A.a, lib/B.b"])
+
+    def test_roots(self) -> None:
+        """Roots that hold only together what a field holds are found, if no single root does."""
+        roots = [Candidate(STATIC, "app/A.a", 1, {}), Candidate(STATIC, "lib/B.b", 1, {})]
+        ways, queue = [["app/A.a", "lib/B.b"], ["app/C.queue"]], field("app/C.queue")
+        for known, wanted in (([[queue]], ["together static app/A.a, static lib/B.b"]), ([[queue], roots[:1]], [])):
+            probe = ToldGains([], [(ways, 100)])
+            search = Search(probe, 30, mock.Mock())
+            probe.candidates, search.found = candidates_of(roots), [probe.retained(group) for group in known]
+            SearchTogether(search).find_few([queue])
+            self.assertEqual([joint_name(held.candidates) for held in search.found[len(known) :]], wanted)
 
 
 class PathsTest(unittest.TestCase):
@@ -236,9 +285,9 @@ class RandomTest(unittest.TestCase):
         roots = [*of_dump.statics(), *of_dump.locals(), *of_dump.threads()]
         return [*roots, *of_dump.fields(probe.base)]
 
-    def searched(self, probe: Probe, top: int) -> Search:
+    def searched(self, probe: Probe) -> Search:
         """Searches, and returns the search."""
-        search = Search(probe, AT_LEAST, top, by_holders, mock.Mock(), FEW)
+        search = Search(probe, AT_LEAST, mock.Mock())
         search.find(probe.candidates.fields(probe.base))
         return search
 
@@ -248,23 +297,32 @@ class RandomTest(unittest.TestCase):
         return sorted(str(each) for each in found if each.kind != THREADS)
 
     def test_all_found(self) -> None:
-        """All that gained enough alone are found, and none too many. With a limit, those are left out beside which as
-        many with fewer holders are found."""
+        """All that gained enough alone are found, and none too many."""
         some = 0
         for seed, probe in self.pairs(PAIRS):
             every = [each for each in self.candidates(probe) if probe.share([each]) >= AT_LEAST]
-            search = self.searched(probe, 1000)
+            search = self.searched(probe)
             self.assertEqual(self.alone(search), sorted(map(str, every)), seed)
             self.assertTrue(all(probe.share(held.candidates) >= AT_LEAST for held in search.found), seed)
             some += len(every)
-            for top in (1, 4):
-                search = self.searched(probe, top)
-                found = self.alone(search)
-                self.assertLessEqual(set(found), set(map(str, every)), seed)
-                for each in every:
-                    before = sum(held.weight < each.weight for held in search.found)
-                    self.assertTrue(str(each) in found or before >= top, (seed, str(each)))
         self.assertGreater(some, PAIRS)
+
+    def test_top(self) -> None:
+        """Fewer lines are the first of all lines, and the others are counted."""
+        for seed, probe in self.pairs(PAIRS):
+            every = answer_of(probe, AT_LEAST, 1000, mock.Mock())
+            self.assertEqual(every.hidden, 0, seed)
+            for top in range(1, 9):
+                answer = answer_of(probe, AT_LEAST, top, mock.Mock())
+                self.assertEqual(
+                    [self.line(each) for each in answer.lines], [self.line(each) for each in every.lines[:top]]
+                )
+                self.assertEqual(len(answer.lines) + answer.hidden, len(every.lines), (seed, top))
+                self.assertEqual(answer.objects, every.objects, seed)
+
+    def line(self, line: Line) -> Tuple[str, Amount, Amount, Amount, int]:
+        """Returns what a line shows."""
+        return line.path(), line.held.amount, line.before, line.held.heap, line.held.holders
 
     def test_paths(self) -> None:
         """Each step of a path holds all that the next one does, object for object; no field is above a static one."""
@@ -305,8 +363,7 @@ class RandomTest(unittest.TestCase):
 
     def lines(self, probe: GrowthProbe) -> List[Tuple[str, Amount, Amount, Amount, int]]:
         """Returns the lines of the answer, with their amounts."""
-        lines = answer_of(probe, AT_LEAST, 8, mock.Mock()).lines
-        return [(line.path(), line.held.amount, line.before, line.held.heap, line.held.holders) for line in lines]
+        return list(map(self.line, answer_of(probe, AT_LEAST, 8, mock.Mock()).lines))
 
 
 if __name__ == "__main__":

@@ -20,9 +20,9 @@ from heap_tools.omissions import HIDDEN_HOLDERS, WHY_UNREACHABLE
 from heap_tools.probe import Probe, Retained
 from heap_tools.reports import Report, Unit
 from heap_tools.running_calls import DumpSide, without_running_calls
-from heap_tools.leak_lines import by_holders
 from heap_tools.search import Search
 from heap_tools.search_progress import SearchProgress
+from heap_tools.search_together import SearchTogether
 
 ABOUT = """
 Shows what holds the objects of a class in a heap dump: for each field, static
@@ -147,8 +147,9 @@ def searched(options: Namespace, name: Optional[str]) -> Found:
             require_objects(families[0], runs, side.base)
         (side,), _ = without_running_calls([side], families, unit, unit.of(side.base.total(families)))
         probe = Probe(side.runs, side.candidates, families, unit, shown.show, side.base)
-        search = Search(probe, options.at_least or (10 if name else 20), sys.maxsize, by_holders, shown)
+        search = Search(probe, options.at_least or (10 if name else 20), shown)
         search.find(side.candidates.fields(side.base))
+        SearchTogether(search).find_statics()
     finally:
         progress.clear()
     return Found(search, sorted(search.found, key=lambda held: order_of(held, probe)), options.top)

@@ -130,8 +130,11 @@ def lines_above(comparison: Comparison, probe: GrowthProbe, width: int) -> str:
 def say_remainder(answer: Answer, comparison: Comparison) -> None:
     """Says what the lines do not."""
     search, probe = answer.search, answer.probe
-    if search.hidden:
-        say(f"leaks: {search.hidden}: see --top")
+    if answer.hidden:
+        hold = "holds" if answer.hidden == 1 else "hold"
+        say(f"leaks: {answer.hidden} more {hold} {search.at_least}% or more: see --top")
+    if search.omitted:
+        say(f"leaks: {counted(search.omitted, 'field')} not tried, after {probe.questions} questions: see --at-least")
     if not answer.lines:
         more = ": see --at-least" * (search.at_least > 1)
         say(f"leaks: no field, local variable or thread alone holds {search.at_least}% of the growth{more}")

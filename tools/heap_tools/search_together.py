@@ -1,0 +1,165 @@
+"""The search for what holds enough only together: static fields, or fields with few instances and roots."""
+
+import math
+from typing import Callable, Dict, Iterable, List, NamedTuple, Sequence
+
+from heap_tools.candidates import STATIC, THREAD, THREADS, Candidate
+from heap_tools.class_names import package
+from heap_tools.line_order import FEW
+from heap_tools.reference_paths import is_root
+from heap_tools.search import Search, Tried
+
+#: The part of what several hold together that those of them that are needed must hold, and how many these may be.
+PART_NEEDED, MOST_NEEDED = 0.9, 6
+#: The most groups that are asked for to find which of many hold enough only together.
+MOST_ASKED = 110
+
+
+class Budget(NamedTuple):
+    """How many may be needed, and up to how many questions of the probe it is asked which."""
+
+    needed: float
+    questions: int
+
+
+class SearchTogether:
+    """Adds what holds enough only together to what `search` has found."""
+
+    def __init__(self, search: Search) -> None:
+        self.search, self.probe, self.at_least = search, search.probe, search.at_least
+        #: What the virtual machine keeps with a class is no place where a program puts something.
+        self.statics = [each for each in self.probe.candidates.statics() if not each.is_of_machine]
+
+    def find_statics(self) -> None:
+        """Finds static fields that hold enough only together, those of own classes first."""
+        whole = self.share_or_bound(self.statics, self.at_least)
+        roots = [held for held in self.search.found if all(each.kind == STATIC for each in held.candidates)]
+        alone = [each for held in roots for each in held.candidates]
+        best = max((self.probe.share(held.candidates) for held in roots), default=0.0)
+        base = self.share_or_bound(alone, 0.0) if whole - best >= self.at_least else whole
+        if whole - base < self.at_least:
+            return
+        least = max((base + whole) / 2, self.at_least)
+        rest = [each for each in self.statics if each.key not in {known.key for known in alone}]
+        own = [each for each in rest if each.is_own]
+        if own and self.share_or_bound([*own, *alone], least) >= least:
+            rest = own
+        budget = self.budget(math.inf)
+        if self.find_kin(self.unknown(rest), budget):
+            return
+        needed = self.needed(rest, alone, base, least, budget)
+        together = needed if self.has_share(needed) else [*alone, *needed]
+        if needed and self.has_share(together):
+            self.add(together)
+
+    def find_few(self, fields: Sequence[Candidate]) -> None:
+        """Finds those of `fields` with few instances that hold enough only together, if what is found leaves as much:
+        those of one class or package; else, if nothing with few instances is found, any of them and roots. If no root is
+        found, it finds roots that hold enough only together, whatever is found below. Threads do not count as found:
+        what they lead to may be held together below, too. Nor do roots that hold enough only together."""
+        single = [held for held in self.search.found if held.holders <= FEW and len(held.candidates) == 1]
+        single = [held for held in single if held.candidates[0].kind not in (THREAD, THREADS)]
+        largest = max((self.probe.share(held.candidates) for held in single), default=0.0)
+        budget, few = self.budget(MOST_NEEDED), self.unknown([each for each in fields if each.count <= FEW])
+        if largest <= 100 - self.at_least and self.has_share(few) and self.find_kin(few, budget):
+            return
+        if single and any(map(is_root, self.search.found)):
+            return
+        rest = self.unknown([*self.statics, *self.threads(), *([] if single else few)])
+        whole = self.share_or_bound(rest, self.at_least)
+        # All together may gain more than the growth, if something else shrank.
+        least = max(PART_NEEDED * min(whole, 100), self.at_least)
+        needed = self.needed(rest, [], 0, least, budget) if whole >= self.at_least else []
+        if self.has_share(needed):
+            self.add(needed)
+
+    def budget(self, needed: float) -> Budget:
+        """Returns a budget from now on."""
+        return Budget(needed, self.probe.questions + MOST_ASKED)
+
+    def add(self, together: Sequence[Candidate]) -> None:
+        """Adds what several hold together, those first that hold most alone."""
+        probe = self.probe
+        ordered = sorted(together, key=lambda each: (-probe.unit.of(probe.retained([each]).amount), str(each)))
+        self.search.found.append(probe.retained(ordered)._replace(candidates=ordered))
+
+    def share_or_bound(self, candidates: Sequence[Candidate], least: float) -> float:
+        """Returns the share of `candidates`, or a bound of it if that is below `least`."""
+        bound = self.probe.bound(candidates) if candidates else 0.0
+        return bound if bound < least else self.probe.share(candidates)
+
+    def has_share(self, candidates: Sequence[Candidate]) -> bool:
+        """Tests whether `candidates` have the share that each line must have."""
+        return self.share_or_bound(candidates, self.at_least) >= self.at_least
+
+    def threads(self) -> List[Candidate]:
+        """Returns threads of names that are alike, and each other thread, if they hold enough."""
+        candidates = self.probe.candidates
+        if not self.search.is_enough([candidates.all_threads()]):
+            return []
+        alike = candidates.threads_alike()
+        known = {place for each in alike for place in each.changes}
+        return [*alike, *(each for each in candidates.threads() if known.isdisjoint(each.changes))]
+
+    def unknown(self, group: Sequence[Candidate]) -> List[Candidate]:
+        """Returns those of `group` that are not found, without those that hold much, but gained hardly anything."""
+        little = (1 - PART_NEEDED) * self.at_least
+        steady = [held for held in self.search.steady if self.probe.share(held.candidates) < little]
+        known = {each.key for held in [*self.search.found, *steady] for each in held.candidates}
+        return [each for each in group if each.key not in known]
+
+    def find_kin(self, group: Sequence[Candidate], budget: Budget) -> bool:
+        """Finds those of `group` that hold enough only together, of one class or else of one package. Returns whether
+        there are any. All of a class may be needed, but a package says too little."""
+        for kin, is_class in (by_class(group), True), (by_package(group), False):
+            known = len(self.search.found)
+            for unit in self.search.heavy([each for each in kin if len(each) > 1], budget.questions):
+                if self.probe.share(unit) >= self.at_least:
+                    least = max(PART_NEEDED * self.probe.share(unit), self.at_least)
+                    needed = self.needed(list(unit), [], 0, least, budget._replace(needed=math.inf))
+                    needed = needed if self.has_share(needed) else list(unit) if is_class else []
+                    if needed:
+                        self.add(needed)
+            if len(self.search.found) > known:
+                return True
+        return False
+
+    def needed(
+        self, group: List[Candidate], others: List[Candidate], base: float, least: float, budget: Budget
+    ) -> List[Candidate]:
+        """Returns a small part of `group` that together with `others` holds `least` percent. Without `group`, `others`
+        hold `base` percent. Returns nothing if many of `group` hold a little each, or if that exceeds `budget`."""
+        if budget.needed < 1 or self.probe.questions >= budget.questions:
+            return []
+        if len(group) == 1:
+            return group
+        half, little, bounds = len(group) // 2, (least - base) / 2 + 2 * base, 0.0
+        parts = group[:half], group[half:]
+        for part in parts:
+            bound = self.share_or_bound([*part, *others], least)
+            if bound >= least:
+                return self.needed(part, others, base, least, budget)
+            bounds += bound
+        if bounds > little and sum(self.probe.share([*part, *others]) for part in parts) > little:
+            return []
+        right = self.needed(group[half:], [*others, *group[:half]], base, least, budget)
+        budget = budget._replace(needed=budget.needed - len(right))
+        left = right and self.needed(group[:half], [*others, *right], base, least, budget)
+        return left and left + right
+
+
+def by_class(group: Iterable[Candidate]) -> List[Tried]:
+    """Returns the fields of `group` by the class that declares them."""
+    return _by(group, lambda each: each.name.rpartition(".")[0])
+
+
+def by_package(group: Iterable[Candidate]) -> List[Tried]:
+    """Returns the fields of `group` by the package of their class."""
+    return _by(group, lambda each: package(each.name.rpartition(".")[0]))
+
+
+def _by(group: Iterable[Candidate], place: Callable[[Candidate], str]) -> List[Tried]:
+    found: Dict[str, List[Candidate]] = {}
+    for each in group:
+        found.setdefault(place(each), []).append(each)
+    return list(found.values())
