@@ -71,7 +71,9 @@ def cell(part: Part, box: Box, total: int) -> Html:
     texts = [fill("cell_line", y=LINE * at + 12, text=line) for at, line in enumerate(lines)]
     if not lines:
         turned = labels_of(part, Box(0, 0, box.height, box.width))
-        texts = [fill("cell_turned", x=f"{box.width - LINE * at - 12:.1f}", text=line) for at, line in enumerate(turned)]
+        texts = [
+            fill("cell_turned", x=f"{box.width - LINE * at - 12:.1f}", text=line) for at, line in enumerate(turned)
+        ]
     objects, size = humanize.counted(part.amount.objects, "object"), part.amount.bytes
     words = f"{plain(name_in_full(part), 120)}: {solid_size(size)}, {percent(100 * size / total)}, {objects}"
     return fill("cell", description=words, texts=joined(texts), **place_of(box))
