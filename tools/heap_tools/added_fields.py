@@ -1,0 +1,118 @@
+"""What a virtual machine adds to the objects of some classes, which no dump shows.
+
+It adds fields of its own to some classes of the JDK, and room around fields that several threads write; up to JDK 14
+there may be a hole after the fields of a superclass. Objects with such an addition are never as near to the next as
+their fields say. But so may be objects after each of which something lay that the dump does not have: an addition
+counts only if it cannot be that.
+"""
+
+from collections import Counter, defaultdict
+from typing import Counter as Counts
+from typing import Container, Dict, Iterator, List, NamedTuple, Tuple
+
+from heap_tools.heap_dump import HeapDump
+from heap_tools.heap_layout import MAJORITY, OVERLAPPING, WORD, Fields, Layout
+from heap_tools.heap_sample import CLASS_OBJECT, WITH_ADDED_FIELDS, Sample
+
+#: How many objects show an addition of which each could be the hole that an object left, if more than half of those of
+#: the class agree. In the order of references there are holes after garbage, so there no number of them shows it.
+MANY_ADDED = 4
+#: The least room that is left on one side of a field that several threads write, larger than most holes. The number of
+#: objects that show that, or what is added to a class of `WITH_ADDED_FIELDS`.
+ROOM, SOME_ADDED = 128, 2
+
+
+class Seen(NamedTuple):
+    """Objects of a class: the bytes of each by its fields, not aligned, how far it is to the next, and how many they
+    are."""
+
+    class_id: int
+    plain: int
+    gap: int
+    objects: int
+
+
+def added_fields(
+    dump: HeapDump, sample: Sample, fields: Dict[int, Fields], layout: Layout, stacks: Container[int] = ()
+) -> Dict[int, int]:
+    """Returns how many bytes the virtual machine adds to the objects of each class, inherited ones included. Classes to
+    which it adds none are omitted, and so are `stacks`, whose objects have no common size."""
+    return dict(_Additions(dump, sample, fields, layout, stacks).found())
+
+
+class _Additions:
+    """The search for additions, from superclasses down: what all objects of a class and its subclasses have belongs to
+    the class."""
+
+    def __init__(
+        self, dump: HeapDump, sample: Sample, fields: Dict[int, Fields], layout: Layout, stacks: Container[int]
+    ) -> None:
+        self.dump, self.layout, self.is_ascending = dump, layout, sample.is_ascending
+        self.seen: Dict[int, List[Seen]] = defaultdict(list)
+        self.below: Dict[int, List[int]] = defaultdict(list)
+        instances = (each for each in sample.neighbours if each.kind == 0 and each.class_id not in stacks)
+        gaps = Counter((each.class_id, each.gap) for each in instances)
+        for (class_id, gap), count in gaps.items():
+            one = Seen(class_id, layout.instance(fields.get(class_id, Fields())), gap, count)
+            while class_id in dump.classes:
+                self.seen[class_id].append(one)
+                class_id = dump.classes[class_id].superclass
+        for class_id, each in dump.classes.items():
+            self.below[each.superclass].append(class_id)
+
+    def found(self) -> Iterator[Tuple[int, int]]:
+        """Yields the classes to which something is added, and how many bytes that is."""
+        rest = [
+            (class_id, 0) for class_id, each in self.dump.classes.items() if each.superclass not in self.dump.classes
+        ]
+        while rest:
+            class_id, inherited = rest.pop()
+            added = self._added(class_id, inherited)
+            if added:
+                yield class_id, added
+            rest += [(each, added) for each in self.below[class_id]]
+
+    def _added(self, class_id: int, inherited: int) -> int:
+        """Returns how many bytes are added to the objects of a class, given how many to those of its superclass."""
+        seen, aligned = self.seen.get(class_id, []), self.layout.aligned
+        least = min((each.gap - aligned(each.plain + inherited) for each in seen), default=0)
+        if least <= 0:
+            return inherited
+        has_fields = self.dump.names[class_id] in WITH_ADDED_FIELDS
+        kinds = {each.class_id for each in seen}
+        if not has_fields and class_id not in kinds and len(kinds) == 1:
+            return inherited  # what one subclass shows is its own
+        added, votes = _most_agreed(seen, self.layout.alignment)
+        count = sum(each.objects for each in seen)
+        enough = votes >= MANY_ADDED and self.is_ascending or votes >= SOME_ADDED and (least >= ROOM or has_fields)
+        is_shown = least < aligned(self.layout.header) or enough and votes > MAJORITY * count
+        return added if added > inherited and is_shown else inherited
+
+
+def _most_agreed(seen: List[Seen], alignment: int) -> Tuple[int, int]:
+    """Returns the least number of added bytes that gives most objects the size that they have, and how many these are.
+    No object is larger than it is far to the next."""
+    ranges = [(each.gap - alignment + 1 - each.plain, each.gap - each.plain, each.objects) for each in seen]
+    most = min(last for _, last, _ in ranges)
+    votes = {low: sum(n for first, last, n in ranges if first <= low <= last) for low, _, _ in ranges if low <= most}
+    return min(votes.items(), key=lambda it: (-it[1], it[0]))
+
+
+def class_object_size(sample: Sample, statics: Dict[int, int], layout: Layout, plain: int) -> int:
+    """Returns where the static fields begin in a class object, as most of these have it. `statics` are the bytes of the
+    static fields of each class, `plain` those of the fields of `java/lang/Class`."""
+    seen: Counts[Tuple[int, int]] = Counter()
+    for class_id, kind, _, gap in sample.neighbours:
+        if kind == CLASS_OBJECT:
+            seen[statics[class_id], gap] += 1
+    first = -(-plain // WORD) * WORD
+    most = min((gap for _, gap in seen), default=first)
+    return max(range(first, most + 1, WORD), key=lambda it: _fitting(it, seen, layout), default=first)
+
+
+def _fitting(begin: int, seen: Counts[Tuple[int, int]], layout: Layout) -> int:
+    """Returns how many class objects have the size that they have if static fields begin at `begin`. Returns less than
+    nothing if more than a few would be larger than that."""
+    sizes = [(layout.aligned(begin + bytes_of_statics), gap, n) for (bytes_of_statics, gap), n in seen.items()]
+    larger = sum(n for size, gap, n in sizes if size > gap)
+    return -larger if larger > OVERLAPPING * sum(seen.values()) else sum(n for size, gap, n in sizes if size == gap)

@@ -1,0 +1,149 @@
+"""How a virtual machine lays objects out in its heap, found from a sample of objects and their neighbours.
+
+A dump has no sizes, but it has addresses: identifiers are that. Where two objects are neighbours, the difference is the
+size of the first. So the numbers of a layout are those with which most neighbours agree. What a dump lacks between two
+objects makes the difference larger, never smaller.
+"""
+
+from collections import Counter
+from itertools import product
+from typing import Counter as Counts
+from typing import Container, Dict, Iterable, List, NamedTuple, Tuple
+
+from heap_tools import hprof_format as hprof
+from heap_tools.heap_dump import HeapDump
+from heap_tools.heap_sample import Sample
+
+#: The fewest instances, and the fewest arrays, whose neighbours agree on a layout; the least share of both that does;
+#: and the least of either, since many objects of one kind may have a hole after them: garbage that the dump omits.
+FEWEST, AGREEMENT, MAJORITY = 300, 0.8, 0.5
+#: The largest share of objects that may be nearer to the next than they are long: objects do not overlap.
+OVERLAPPING = 0.01
+#: The class of the stacks of virtual threads that wait: the stack is in it, and the dump does not say how long it is.
+STACK = "jdk/internal/vm/StackChunk"
+#: The headers of instances and of arrays that virtual machines have, by the bytes of an identifier. That of an instance
+#: is one word (compact headers, or 32 bits), a word and a compressed class, or two words; an array has its length after
+#: that, and up to JDK 22 its elements begin at a multiple of 8.
+HEADERS = {4: [(8, 12)], 8: [(8, 12), (12, 16), (16, 20), (16, 24)]}
+REFERENCES = {4: (4,), 8: (4, 8)}
+#: Elements of this many bytes, and the static fields in a class object, begin at a multiple of it.
+WORD = 8
+
+
+class UnknownLayout(Exception):
+    """The layout cannot be found. The text is why."""
+
+
+class Layout(NamedTuple):
+    """The bytes of which each size is a multiple, those before the fields of an instance, those of a reference, and
+    those before the elements of an array."""
+
+    alignment: int
+    header: int
+    reference: int
+    array_header: int
+
+    def aligned(self, size: int) -> int:
+        """Returns what an object of `size` bytes takes in the heap."""
+        return -(-size // self.alignment) * self.alignment
+
+    def value(self, kind: int) -> int:
+        """Returns the bytes of a value of the type with the code `kind`."""
+        return self.reference if kind == hprof.OBJECT else hprof.PRIMITIVE_SIZES[kind]
+
+    def instance(self, fields: "Fields") -> int:
+        """Returns the bytes of an instance with these fields, before it is aligned."""
+        return self.header + fields.references * self.reference + fields.other
+
+    def array(self, kind: int, length: int) -> int:
+        """Returns what an array of `length` elements takes in the heap."""
+        element = self.value(kind)
+        begin = -(-self.array_header // WORD) * WORD if element == WORD else self.array_header
+        return self.aligned(begin + element * length)
+
+    def words(self) -> str:
+        """Says what the layout is."""
+        compressed = " (compressed)" if self.reference == 4 and self.header != 8 else ""
+        return (
+            f"header {self.header} bytes, of an array {self.array_header}, references {self.reference}{compressed}, "
+            f"sizes are multiples of {self.alignment}"
+        )
+
+
+class Fields(NamedTuple):
+    """The fields of an instance: how many references, and the bytes of the others."""
+
+    references: int = 0
+    other: int = 0
+
+    def plus(self, kinds: Counts[int]) -> "Fields":
+        """Returns these fields and others, given by the codes of their types."""
+        other = sum(count * hprof.PRIMITIVE_SIZES[kind] for kind, count in kinds.items() if kind != hprof.OBJECT)
+        return Fields(self.references + kinds[hprof.OBJECT], self.other + other)
+
+
+def fields_of(dump: HeapDump) -> Dict[int, Fields]:
+    """Returns the fields of the instances of each class, those of its superclasses included."""
+    found: Dict[int, Fields] = {}
+    for class_id in dump.classes:
+        chain = [class_id]
+        while chain[-1] in dump.classes and chain[-1] not in found:
+            chain.append(dump.classes[chain[-1]].superclass)
+        for each in reversed(chain[:-1]):
+            own = Counter(field.kind for field in dump.classes[each].fields if not field.is_static)
+            found[each] = found.get(dump.classes[each].superclass, Fields()).plus(own)
+    return found
+
+
+class _Votes(NamedTuple):
+    """How many objects have the size that a layout says, of how many, and how many are smaller."""
+
+    agree: int
+    overlap: int
+    total: int
+
+
+def layout_of(sample: Sample, fields: Dict[int, Fields], id_size: int, stacks: Container[int] = ()) -> Layout:
+    """Finds the layout with which most neighbours agree. The classes `stacks` do not count. Raises `UnknownLayout` if
+    too few objects have a neighbour, or if these do not agree."""
+    instances: Counts[Tuple[Fields, int]] = Counter()
+    arrays: Counts[Tuple[int, int, int]] = Counter()
+    for class_id, kind, length, gap in sample.neighbours:
+        if kind == 0 and class_id not in stacks:
+            instances[fields.get(class_id, Fields()), gap] += 1
+        elif kind > 0:
+            arrays[kind, length, gap] += 1
+    alignment = sample.bits & -sample.bits
+    found: List[Tuple[Layout, _Votes, _Votes]] = []
+    for (header, array_header), reference in product(HEADERS[id_size], REFERENCES[id_size]):
+        one = Layout(alignment, header, reference, array_header)
+        of_instances = _votes((one.aligned(one.instance(of)), gap, n) for (of, gap), n in instances.items())
+        of_arrays = _votes((one.array(kind, length), gap, n) for (kind, length, gap), n in arrays.items())
+        found.append((one, of_instances, of_arrays))
+    best = max(found, key=lambda it: it[1].agree + it[2].agree)
+    _require_agreement(*best[1:])
+    return best[0]
+
+
+def _votes(sizes: Iterable[Tuple[int, int, int]]) -> _Votes:
+    """Returns the votes, given sizes by a layout, the distances to the next, and how many objects have both."""
+    agree = overlap = total = 0
+    for size, gap, count in sizes:
+        agree += count * (size == gap)
+        overlap += count * (size > gap)
+        total += count
+    return _Votes(agree, overlap, total)
+
+
+def _require_agreement(*votes: _Votes) -> None:
+    """Raises `UnknownLayout` unless enough instances and enough arrays agree."""
+    total = sum(each.total for each in votes)
+    if min(each.total for each in votes) < FEWEST:
+        raise UnknownLayout("too few objects have a neighbour")
+    if (
+        sum(each.agree for each in votes) < AGREEMENT * total
+        or sum(each.overlap for each in votes) > OVERLAPPING * total
+    ):
+        raise UnknownLayout("too few neighbours agree")
+    if any(each.agree < max(FEWEST, MAJORITY * each.total) for each in votes):
+        raise UnknownLayout("too few neighbours agree")

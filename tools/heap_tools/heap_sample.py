@@ -1,0 +1,172 @@
+"""A sample of the objects of a heap dump, each with its neighbour in the heap.
+
+Virtual machines write objects in one of two orders. Where identifiers ascend, the next object of the file is the next
+one of the heap, and parts all over the file will do. Where they do not (ZGC and Shenandoah write objects in the order
+of their references), all objects of some ranges of addresses are found by a walk over the whole file.
+"""
+
+from bisect import bisect_left, bisect_right
+from itertools import islice, tee
+from typing import Dict, Iterable, List, NamedTuple, Sequence, Set, Tuple
+
+from heap_tools import hprof_format as hprof
+from heap_tools.heap_dump import HeapDump, Span
+from heap_tools.object_records import HeapObject, heap_objects, short_spans, some_instances
+from heap_tools.parallel import shared
+
+#: How many objects a sample has, about: enough that the classes which matter are in it.
+SAMPLED = 200_000
+#: In how many parts of the file the sample is taken. The first and the last are longer: they have the objects of the
+#: virtual machine's start.
+PARTS = 40
+#: What is farther from the next object is not taken as its neighbour: there may be others that the dump does not have.
+LONGEST = 1 << 16
+#: The bits of an address within a range, all of whose objects are taken. A range is at least `LONGEST` bytes long.
+RANGE_BITS = 16
+#: The least share of objects after which a larger identifier comes, for a file to be one in which they ascend.
+ASCENDING = 0.8
+#: The fewest parts of the file for which a process of its own pays.
+FEWEST_SPANS = 16
+#: The classes to which OpenJDK adds fields that no dump shows.
+WITH_ADDED_FIELDS = frozenset(
+    f"java/lang/{name}"
+    for name in (
+        "ClassLoader",
+        "InternalError",
+        "Module",
+        "StackFrameInfo",
+        "String",
+        "Thread",
+        "VirtualThread",
+        "invoke/MemberName",
+        "invoke/MethodHandleNatives$CallSiteContext",
+        "invoke/ResolvedMethodName",
+    )
+)
+#: The parts of the file, or ranges of addresses, that are read at most for the sake of special objects; how many class
+#: objects are such; and how many bytes at both ends of the heap are searched for an object of a class.
+MOST_SPECIAL, SOME_CLASSES, SEARCHED = 20, 8, 32 << 20
+#: The bytes of an object besides its values, about.
+HEADER = 16
+#: What a class object has as the code of its elements' type.
+CLASS_OBJECT = -1
+
+
+class Neighbours(NamedTuple):
+    """An object of a sample, and how far it is to the next one."""
+
+    class_id: int
+    kind: int
+    length: int
+    gap: int
+
+
+class Sample(NamedTuple):
+    """Objects with the distance to the next, and a number in which each bit is set that any of their identifiers has.
+    `is_ascending`: identifiers ascend in the file, so that nothing is omitted between objects but class objects that
+    were not loaded."""
+
+    neighbours: List[Neighbours]
+    bits: int
+    is_ascending: bool
+
+
+def sample_of(dump: HeapDump) -> Sample:
+    """Takes a sample of the objects of `dump`, the class objects between them included."""
+    spans = short_spans(dump)
+    stretches = [_beginning(dump, spans[number], count) for number, count in _parts(len(spans)).items()]
+    classes = sorted(dump.classes)
+    if _ascending(stretches) >= ASCENDING:
+        stretches += _with_their_next(dump, spans, _special(dump))
+        between = {class_id for each in stretches if each for class_id in classes[slice(*_places(classes, each))]}
+        return _sample({each for stretch in stretches for each in stretch}, between, True)
+    ranges = _ranges(dump, stretches)
+    parts = shared(lambda some: _within(dump, some, ranges), spans, FEWEST_SPANS)
+    between = {each for each in classes if each >> RANGE_BITS in ranges}
+    return _sample({each for part in parts for each in part}, between, False)
+
+
+def _parts(count: int) -> Dict[int, int]:
+    """Returns which of `count` parts of the file are read, and how many objects of each."""
+    numbers = sorted({number * (count - 1) // (PARTS - 1) for number in range(PARTS)})
+    ends = {numbers[0], numbers[-1]}
+    share = SAMPLED // (len(numbers) + 4 * len(ends))
+    return {number: 5 * share if number in ends else share for number in numbers}
+
+
+def _beginning(dump: HeapDump, span: Span, most: int) -> List[HeapObject]:
+    """Returns the first objects of a part of the file, at most `most`."""
+    return list(islice(heap_objects(dump, [span]), most))
+
+
+def _ascending(stretches: Iterable[List[HeapObject]]) -> float:
+    """Returns the share of objects after which one with a larger identifier comes, but not with a far larger one."""
+    total = near = 0
+    for stretch in stretches:
+        total += max(0, len(stretch) - 1)
+        near += sum(0 < after[0] - before[0] <= LONGEST for before, after in zip(stretch, stretch[1:]))
+    return near / max(1, total)
+
+
+def _places(classes: List[int], stretch: List[HeapObject]) -> Tuple[int, int]:
+    """Returns where in the sorted list `classes` those begin and end that are between the objects of a stretch."""
+    return bisect_left(classes, stretch[0][0]), bisect_right(classes, stretch[-1][0])
+
+
+def _special(dump: HeapDump) -> List[int]:
+    """Returns the identifiers of objects of which there are few, which a sample may lack: of class loaders, objects of
+    the other classes to which the virtual machine adds fields, some class objects, and threads."""
+    classes = sorted(dump.classes)
+    found = [*{each.loader for each in dump.classes.values() if each.loader}]
+    for class_id, name in dump.names.items():
+        if name in WITH_ADDED_FIELDS:
+            found += some_instances(dump, class_id, SEARCHED)
+    found += [classes[number * len(classes) // SOME_CLASSES] for number in range(SOME_CLASSES) if classes]
+    return found + [dump.id(root.place) for root in dump.roots if root.kind == hprof.THREAD_OBJECT]
+
+
+def _with_their_next(dump: HeapDump, spans: Sequence[Span], wanted: Sequence[int]) -> List[List[HeapObject]]:
+    """Returns pairs of objects of which the first is one of `wanted`, or has a class object of `wanted` after it.
+    Identifiers ascend in the file."""
+    begins = sorted((each[0], span) for span in spans for each in _beginning(dump, span, 1))
+    firsts = [identifier for identifier, _ in begins]
+    ascending = sorted(wanted)
+    chosen = [begins[place - 1][1] for place in (bisect_right(firsts, each) for each in wanted) if place]
+    found: List[List[HeapObject]] = []
+    for span in list(dict.fromkeys(chosen))[:MOST_SPECIAL]:
+        here, after = tee(heap_objects(dump, [span]))
+        next(after, None)
+        for one, following in zip(here, after):
+            if bisect_left(ascending, one[0]) < bisect_left(ascending, following[0]):
+                found.append([one, following])
+    return found
+
+
+def _ranges(dump: HeapDump, stretches: Iterable[List[HeapObject]]) -> Set[int]:
+    """Returns ranges of addresses, each as an address without its last bits, that have as many objects as a sample is
+    to have: some of the objects in `stretches`, from the lowest to the highest, and of those that are special."""
+    met = sorted(each for stretch in stretches for each in stretch)
+    if not met:
+        return set()
+    values = sum(length * dump.value_sizes[kind] if kind else length for _, _, kind, length in met)
+    count = max(1, SAMPLED * (values // len(met) + HEADER) >> RANGE_BITS)
+    even = {met[number * len(met) // count][0] >> RANGE_BITS for number in range(count)}
+    special = dict.fromkeys(each >> RANGE_BITS for each in _special(dump))
+    return even | set(list(special)[:MOST_SPECIAL])
+
+
+def _within(dump: HeapDump, spans: List[Span], ranges: Set[int]) -> List[HeapObject]:
+    """Returns the objects in `spans` whose addresses are in these ranges."""
+    return [each for each in heap_objects(dump, spans) if each[0] >> RANGE_BITS in ranges]
+
+
+def _sample(objects: Set[HeapObject], classes: Set[int], is_ascending: bool) -> Sample:
+    """Returns what is known of these objects and class objects, of which no other is between two."""
+    every = sorted([*objects, *((class_id, class_id, CLASS_OBJECT, 0) for class_id in classes)])
+    bits = 0
+    neighbours: List[Neighbours] = []
+    for (identifier, class_id, kind, length), following in zip(every, every[1:]):
+        bits |= identifier
+        if following[0] - identifier <= LONGEST:
+            neighbours.append(Neighbours(class_id, kind, length, following[0] - identifier))
+    return Sample(neighbours, bits, is_ascending)

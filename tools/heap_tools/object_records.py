@@ -1,0 +1,119 @@
+"""The objects of a heap dump as their records have them."""
+
+import struct
+from typing import Iterable, Iterator, List, Optional, Tuple
+
+from heap_tools import hprof_format as hprof
+from heap_tools.heap_dump import HeapDump, Span, UnknownTag
+
+#: An object: its identifier, that of its class (0 for an array of primitive values), the code of its elements' type (0
+#: for an instance), and how many elements it has, or how many bytes of fields. A plain tuple, since there are millions.
+HeapObject = Tuple[int, int, int, int]
+#: Up to JDK 8 a heap below 2 GB is one record. To be read in parts, records longer than this are cut.
+LONG_RECORD = 4 << 20
+#: How long the parts are into which a long record is cut, and how many objects are read to see that a cut is right.
+PART, PROOF = 1 << 20, 100
+#: The class whose instances show where a record can be cut: any dump has many of them.
+FREQUENT = "java/lang/String"
+
+
+def heap_objects(dump: HeapDump, spans: Iterable[Span]) -> Iterator[HeapObject]:
+    """Yields the objects in some parts of the file, in its order. Class dumps and roots are none."""
+    data, size, sizes = dump.bytes, dump.id_size, dump.value_sizes
+    number = "Q" if size == 8 else "I"
+    instance = struct.Struct(f">{number}4x{number}I").unpack_from
+    array = struct.Struct(f">{number}4xI{number}").unpack_from
+    primitive = struct.Struct(f">{number}4xIB").unpack_from
+    root_sizes = {**hprof.ROOT_SIZES, hprof.JNI_GLOBAL: size}
+    head = 9 + 2 * size
+    for at, end in spans:
+        while at < end:
+            tag = data[at]
+            if tag == hprof.INSTANCE:
+                identifier, class_id, length = instance(data, at + 1)
+                at += head + length
+                yield identifier, class_id, 0, length
+            elif tag == hprof.PRIMITIVE_ARRAY:
+                identifier, length, kind = primitive(data, at + 1)
+                at += 10 + size + length * sizes[kind]
+                yield identifier, 0, kind, length
+            elif tag == hprof.OBJECT_ARRAY:
+                identifier, length, class_id = array(data, at + 1)
+                at += head + length * size
+                yield identifier, class_id, hprof.OBJECT, length
+            elif tag == hprof.CLASS_DUMP:
+                at = _end_of_class(dump, at)
+            elif tag in root_sizes:
+                at += 1 + size + root_sizes[tag]
+            else:
+                raise UnknownTag(tag, at)
+
+
+def _end_of_class(dump: HeapDump, at: int) -> int:
+    """Returns where the class dump at `at` ends."""
+    size, at = dump.id_size, at + 9 + 7 * dump.id_size
+    for before, has_value in ((2, True), (size, True), (size, False)):  # constants, static fields, fields
+        count, at = dump.number(at, 2), at + 2
+        for _ in range(count):
+            at += before + 1 + (dump.value_sizes[dump.bytes[at + before]] if has_value else 0)
+    return at
+
+
+def short_spans(dump: HeapDump) -> List[Span]:
+    """Returns the records of the heap, long ones in parts that begin with an object."""
+    frequent = next((class_id for class_id, name in dump.names.items() if name == FREQUENT), None)
+    pattern = b"" if frequent is None else _head_of(dump, frequent)
+    spans: List[Span] = []
+    for begin, end in dump.segments:
+        cut = _cut_after(dump, pattern, begin + PART, end) if pattern and end - begin > LONG_RECORD else None
+        while cut:
+            spans.append((begin, cut))
+            begin, cut = cut, _cut_after(dump, pattern, cut + PART, end)
+        spans.append((begin, end))
+    return spans
+
+
+def some_instances(dump: HeapDump, class_id: int, searched: int) -> List[int]:
+    """Returns the identifiers of the first and the last instance of a class, if they are among the first and the last
+    `searched` bytes of the heap. They may be those of no object: other bytes may look like one."""
+    if not dump.segments:
+        return []
+    pattern, begin, end = _head_of(dump, class_id), dump.segments[0][0], dump.segments[-1][1]
+    places = {dump.bytes.find(pattern, begin, begin + searched), dump.bytes.rfind(pattern, end - searched, end)}
+    begins = [each - 5 - dump.id_size for each in places if each >= 0]
+    return [dump.id(each + 1) for each in begins if dump.bytes[each] == hprof.INSTANCE]
+
+
+def _head_of(dump: HeapDump, class_id: int) -> bytes:
+    """Returns how the records of all instances of a class go on after the trace: its identifier, and the number of
+    bytes of its fields."""
+    length, at = 0, class_id
+    while at in dump.classes:
+        length += sum(dump.value_sizes[each.kind] for each in dump.classes[at].fields if not each.is_static)
+        at = dump.classes[at].superclass
+    return class_id.to_bytes(dump.id_size, "big") + hprof.COUNT.pack(length)
+
+
+def _cut_after(dump: HeapDump, pattern: bytes, at: int, end: int) -> Optional[int]:
+    """Returns where the first instance begins whose head goes on with `pattern`, from the offset `at` on, or None if
+    none does before `end`. The objects after it show that it is one: other bytes may be `pattern`, too."""
+    while True:
+        found = dump.bytes.find(pattern, at, end)
+        if found < 0:
+            return None
+        begin, at = found - 5 - dump.id_size, found + 1
+        if dump.bytes[begin] == hprof.INSTANCE and _are_objects(dump, begin, end):
+            return begin
+
+
+def _are_objects(dump: HeapDump, begin: int, end: int) -> bool:
+    """Tests whether the bytes from `begin` on are objects, as far as one can see."""
+    try:
+        for number, (_, class_id, kind, _) in enumerate(heap_objects(dump, [(begin, end)])):
+            if kind in (0, hprof.OBJECT) and class_id not in dump.classes:
+                return False
+            if number == PROOF:
+                break
+    except (UnknownTag, KeyError, IndexError, struct.error):
+        return False
+    return True

@@ -1,0 +1,156 @@
+"""What the objects of a dump take in the heap, and what those of a report do."""
+
+from collections import Counter, defaultdict
+from typing import Counter as Counts
+from typing import Dict, List, NamedTuple, Set, Tuple
+
+from heap_tools import hprof_format as hprof
+from heap_tools.added_fields import added_fields, class_object_size
+from heap_tools.class_names import CLASSES, PRIMITIVES, is_array
+from heap_tools.heap_dump import HeapDump
+from heap_tools.heap_layout import STACK, Fields, Layout, fields_of, layout_of
+from heap_tools.heap_sample import CLASS_OBJECT, Sample, sample_of
+from heap_tools.reports import Amount, Report, Row
+
+
+#: The codes of the elements' types by the names of arrays of primitive values.
+ARRAY_KINDS = {f"{PRIMITIVES[letter]}[]": kind for kind, letter in hprof.LETTERS.items()}
+
+
+class Linear(NamedTuple):
+    """What the objects of a row take: so much for each object, and so much for each byte of the row."""
+
+    an_object: float
+    a_byte: float
+
+    def of(self, amount: Amount, alignment: int) -> Amount:
+        """Returns the amount in heap bytes, a multiple of `alignment`."""
+        taken = self.an_object * amount.objects + self.a_byte * amount.bytes
+        return Amount(amount.objects, round(taken / alignment) * alignment)
+
+
+class ObjectSizes:
+    """What each object of `dump` takes in the heap, by the layout that a sample of the objects shows. Raises
+    `UnknownLayout` if it shows none."""
+
+    def __init__(self, dump: HeapDump) -> None:
+        sample = sample_of(dump)
+        self.dump, self.fields = dump, fields_of(dump)
+        self.stacks = {class_id for class_id, name in dump.names.items() if name == STACK}
+        self.layout = layout_of(sample, self.fields, dump.id_size, self.stacks)
+        self.added = added_fields(dump, sample, self.fields, self.layout, self.stacks)
+        statics = {each: self._statics(each) for each in dump.classes}
+        of_class = next((each for each, name in dump.names.items() if name == "java/lang/Class"), 0)
+        self.class_object = class_object_size(sample, statics, self.layout, self._plain(of_class))
+        self._mean = self._mean_of(sample)
+        self._rows = {
+            **self._rows_of_instances(sample),
+            **self._rows_of_arrays(sample),
+            CLASSES: self._row_of_classes(),
+        }
+
+    def _plain(self, class_id: int) -> int:
+        return self.layout.instance(self.fields.get(class_id, Fields())) + self.added.get(class_id, 0)
+
+    def _statics(self, class_id: int) -> int:
+        """Returns the bytes of the static fields in a class object. Names with a `<` are those of what the dump shows
+        as static fields, but the virtual machine keeps elsewhere."""
+        fields = self.dump.classes[class_id].fields
+        return sum(self.layout.value(each.kind) for each in fields if each.is_static and not each.name.startswith("<"))
+
+    def instance(self, class_id: int) -> int:
+        """Returns what an instance of a class takes."""
+        return self.layout.aligned(self._plain(class_id))
+
+    def of_class_object(self, class_id: int) -> int:
+        """Returns what a class object takes: the fields of `java/lang/Class`, and the static fields of the class."""
+        return self.layout.aligned(self.class_object + self._statics(class_id))
+
+    # Rows of a report
+
+    def row(self, name: str, amount: Amount) -> Amount:
+        """Returns what the objects of a row take: as much as they do in the report, if the dump has no such class."""
+        if name not in self._rows:
+            return amount
+        kind = ARRAY_KINDS.get(name, hprof.OBJECT)
+        if amount.objects == 1 and is_array(name):
+            return Amount(1, self.layout.array(kind, amount.bytes // self.dump.value_sizes[kind]))
+        return self._rows[name].of(amount, self.layout.alignment)
+
+    def report(self, report: Report) -> Report:
+        """Returns a report in heap bytes. Since it has no classes of what is unreachable, that takes as much as the
+        mean of the sample."""
+        rows = [Row(name, self.row(name, amount)) for name, amount in report.rows]
+        reachable = Amount(report.reachable.objects, sum(each.amount.bytes for each in rows))
+        unreachable = self._mean.of(report.unreachable, self.layout.alignment)
+        return Report(rows, reachable, unreachable, report.unresolved)
+
+    def _mean_of(self, sample: Sample) -> Linear:
+        """Returns what an object of the sample takes besides its values, in the mean, and what a byte of values does."""
+        count = written = values = taken = 0
+        for class_id, kind, length, _ in sample.neighbours:
+            if kind == CLASS_OBJECT or class_id in self.stacks:
+                continue
+            count += 1
+            if kind:
+                written += length * self.dump.value_sizes[kind]
+                values += length * self.layout.value(kind)
+                taken += self.layout.array(kind, length)
+            else:
+                written += length
+                values += self.layout.instance(self.fields.get(class_id, Fields())) - self.layout.header
+                taken += self.instance(class_id)
+        return Linear((taken - values) / max(1, count), values / max(1, written))
+
+    def _rows_of_instances(self, sample: Sample) -> Dict[str, Linear]:
+        """Returns what rows of instances take. Classes of one name are one row: if their objects have two sizes, the
+        bytes of the row say how many there are of each."""
+        sizes: Dict[str, Set[Tuple[int, int]]] = defaultdict(set)
+        for class_id, name in self.dump.names.items():
+            fields = self.fields[class_id]
+            sizes[name].add((fields.references * self.dump.id_size + fields.other, self.instance(class_id)))
+        rows = {name: _line(sorted(pairs)) for name, pairs in sizes.items()}
+        stacks = [each.gap for each in sample.neighbours if each.kind == 0 and each.class_id in self.stacks]
+        if stacks:
+            rows[STACK] = Linear(sum(stacks) / len(stacks), 0)
+        return rows
+
+    def _rows_of_arrays(self, sample: Sample) -> Dict[str, Linear]:
+        """Returns what rows of arrays take: the elements, and of each array the header and the mean padding of those in
+        the sample."""
+        lengths: Dict[Tuple[int, int], Counts[int]] = defaultdict(Counter)
+        for each in sample.neighbours:
+            if each.kind > 0:
+                lengths[each.class_id, each.kind][each.length] += 1
+        names = {kind: name for name, kind in ARRAY_KINDS.items()}
+        kinds = [(0, kind) for kind in names]
+        kinds += [(each, hprof.OBJECT) for each, name in self.dump.names.items() if name.startswith("[")]
+        rows: Dict[str, Linear] = {}
+        for class_id, kind in kinds:
+            name = self.dump.names[class_id] if class_id else names[kind]
+            element = self.layout.value(kind)
+            seen = lengths.get((class_id, kind)) or Counter(range(self.layout.alignment))
+            more = sum(n * (self.layout.array(kind, length) - element * length) for length, n in seen.items())
+            rows[name] = Linear(more / sum(seen.values()), element / self.dump.value_sizes[kind])
+        return rows
+
+    def _row_of_classes(self) -> Linear:
+        """Returns what class objects take: static fields as in the mean of the dump's classes."""
+        sizes = [(self.written_statics(each), self.of_class_object(each)) for each in self.dump.classes]
+        written, taken = (sum(column) for column in zip(*sizes))
+        a_byte = min(1, (taken - self.class_object * len(sizes)) / max(1, written))
+        return Linear((taken - a_byte * written) / len(sizes), a_byte)
+
+    def written_statics(self, class_id: int) -> int:
+        """Returns the bytes of the static fields of a class in the dump."""
+        return sum(self.dump.value_sizes[each.kind] for each in self.dump.classes[class_id].fields if each.is_static)
+
+
+def _line(pairs: List[Tuple[int, int]]) -> Linear:
+    """Returns what objects take, of sizes in the dump and in the heap. Of more than two sizes, the objects are taken as
+    of the smallest and the largest."""
+    (least, smallest), (most, largest) = pairs[0], pairs[-1]
+    if least == most:
+        return Linear(sum(size for _, size in pairs) / len(pairs), 0)
+    a_byte = (largest - smallest) / (most - least)
+    return Linear(smallest - a_byte * least, a_byte)

@@ -1,0 +1,179 @@
+"""Tests of how the layout of a heap is found in a dump of it."""
+
+import random
+import struct
+import unittest
+from typing import Callable, List
+from unittest import mock
+
+from heap_tools import heap_sample, object_records
+from heap_tools.heap_dump import HeapDump
+from heap_tools.heap_layout import Layout, UnknownLayout, fields_of, layout_of
+from heap_tools.heap_sample import sample_of
+from heap_tools.object_records import heap_objects, short_spans
+from tests.support.dump_writer import BYTE, DumpWriter
+from tests.support.laid_out_heap import LaidOutHeap, read
+
+COMPRESSED = Layout(8, 12, 4, 16)
+#: Identifiers of so many bytes, and the layouts that virtual machines with such have.
+LAYOUTS = [
+    (8, COMPRESSED),
+    (8, Layout(8, 12, 8, 16)),  # no compressed references
+    (8, Layout(8, 16, 4, 24)),  # no compressed classes
+    (8, Layout(8, 16, 4, 20)),  # the same from JDK 23 on
+    (8, Layout(8, 16, 8, 24)),
+    (8, Layout(8, 8, 4, 12)),  # compact headers
+    (8, Layout(8, 8, 8, 12)),
+    (8, Layout(16, 12, 4, 16)),  # -XX:ObjectAlignmentInBytes=16
+    (8, Layout(32, 12, 4, 16)),
+    (4, Layout(8, 8, 4, 12)),  # 32 bits
+]
+
+
+def found_in(dump: HeapDump) -> Layout:
+    """Returns the layout that is found."""
+    return layout_of(sample_of(dump), fields_of(dump), dump.id_size)
+
+
+class LayoutTest(unittest.TestCase):
+    """The layout of a heap."""
+
+    def require_unknown(self, dump: HeapDump, why: str) -> None:
+        """Tests that no layout is found, and why."""
+        with self.assertRaisesRegex(UnknownLayout, why):
+            found_in(dump)
+
+    def test_layouts(self) -> None:
+        """Each layout is found, of objects in the order of their addresses and in no order."""
+        for id_size, layout in LAYOUTS:
+            for shuffled in (False, True):
+                with self.subTest(layout=layout, shuffled=shuffled):
+                    heap = LaidOutHeap(layout, id_size)
+                    heap.mixed(200)
+                    dump = heap.read(shuffled)
+                    self.assertEqual(sample_of(dump).is_ascending, not shuffled)
+                    self.assertEqual(found_in(dump), layout)
+
+    def test_holes(self) -> None:
+        """Holes make distances larger, so that fewer objects agree, but not on another layout."""
+        for hole in (16, 24, 1 << 17):
+            heap = LaidOutHeap(COMPRESSED)
+            heap.mixed(200, hole)
+            self.assertEqual(found_in(heap.read()), COMPRESSED)
+
+    def test_class_objects(self) -> None:
+        """A class object between two objects is no hole."""
+        heap = LaidOutHeap(COMPRESSED)
+        order = heap.of_class("shop/Order", 2)
+        for number in range(1000):
+            heap.instance(order)
+            heap.values(BYTE, number % 9)
+            if number % 2:
+                heap.of_class(f"shop/Class{number}", number=heap.place(112))
+        self.assertEqual(found_in(heap.read()), COMPRESSED)
+
+    def test_too_few(self) -> None:
+        """There is no layout without some hundreds of instances and of arrays."""
+        heap = LaidOutHeap(COMPRESSED)
+        heap.mixed(10)
+        self.require_unknown(heap.read(), "too few objects")
+        for only_arrays in (False, True):
+            heap = LaidOutHeap(COMPRESSED)
+            order = heap.of_class("shop/Order", 2)
+            for number in range(5000):
+                heap.values(BYTE, number % 9) if only_arrays else heap.instance(order)
+            self.require_unknown(heap.read(), "too few objects")
+        self.require_unknown(LaidOutHeap(COMPRESSED).read(), "too few objects")
+
+    def test_no_addresses(self) -> None:
+        """There is no layout if identifiers are numbers in a series, or at random."""
+        generator = random.Random(3)
+        steps: List[Callable[[], int]] = [lambda: 1, lambda: 8, lambda: 8 * generator.randrange(1, 9)]
+        for step in steps:
+            dump = DumpWriter()
+            dump.of_class(1, "shop/Order", fields=["next", "other"])
+            identifier = 1 << 20
+            for number in range(2000):
+                identifier += step()
+                dump.instance(identifier, 1, 0, 0)
+                identifier += step()
+                dump.values(identifier, BYTE, bytes(number % 40))
+            self.require_unknown(read(dump), "too few neighbours agree")
+
+    def test_holes_after_most(self) -> None:
+        """There is no layout if more than half of one kind of objects have a hole after them."""
+        heap = LaidOutHeap(COMPRESSED)
+        order = heap.of_class("shop/Order", 2)
+        for number in range(2000):
+            for _ in range(4):
+                heap.instance(order)
+            heap.values(BYTE, number % 9)
+            heap.place(16 + 8 * (number % 5))
+        self.require_unknown(heap.read(), "too few neighbours agree")
+
+    def test_words(self) -> None:
+        """A layout in words."""
+        for layout, references in ((COMPRESSED, "4 (compressed)"), (Layout(8, 12, 8, 16), "8")):
+            text = f"header 12 bytes, of an array 16, references {references}, sizes are multiples of 8"
+            self.assertEqual(layout.words(), text)
+
+
+class SampleTest(unittest.TestCase):
+    """What is read of a dump."""
+
+    def test_bound(self) -> None:
+        """A sample is about as large as it is to be, in either order, and is of the whole file."""
+        for shuffled in (False, True):
+            heap = LaidOutHeap(COMPRESSED)
+            heap.mixed(2500)
+            dump = heap.read(shuffled)
+            with mock.patch.object(heap_sample, "SAMPLED", 4000):
+                sample = sample_of(dump)
+            self.assertEqual(layout_of(sample, fields_of(dump), 8), COMPRESSED)
+            self.assertLess(2000, len(sample.neighbours))
+            self.assertLess(len(sample.neighbours), 10000)
+
+    def test_few_of_a_kind(self) -> None:
+        """A class loader and an instance of a class with added fields are in the sample, whatever it is of."""
+        heap = LaidOutHeap(COMPRESSED)
+        heap.mixed(1000)
+        loader = heap.of_class("shop/Loader", 3)
+        module = heap.of_class("java/lang/Module", 3)
+        numbers = [heap.instance(loader), heap.instance(module)]
+        heap.classes.clear()
+        heap.of_class("shop/Order", loader=numbers[0], number=4096)
+        heap.mixed(1000)
+        for shuffled in (False, True):
+            with mock.patch.object(heap_sample, "SAMPLED", 2000), mock.patch.object(heap_sample, "PARTS", 3):
+                sample = sample_of(heap.read(shuffled))
+            self.assertLessEqual({loader, module}, {each.class_id for each in sample.neighbours})
+
+
+class LongRecordTest(unittest.TestCase):
+    """A heap in one long record."""
+
+    def test_cut(self) -> None:
+        """It is read in parts that begin with an object, as a whole the same."""
+        dump, parts = DumpWriter(), []
+        dump.of_class(1, "java/lang/String", fields=["value", "coder"])
+        like_one = b"\x21" + bytes(12) + struct.pack(">QI", 1, 9) + bytes(20)
+        numbers = list(range(1 << 20, (1 << 20) + 9000))
+        for number in numbers:
+            if number % 3:
+                dump.instance(number, 1, 0, b"\0")
+            else:  # an array in which something like an instance is
+                dump.values(number, BYTE, like_one)
+            parts.append(dump.heap)
+            dump.heap = b""
+        dump.heap = b"".join(parts)
+        found = read(dump)
+        self.assertEqual(short_spans(found), found.segments)
+        with mock.patch.multiple(object_records, LONG_RECORD=1 << 16, PART=1 << 13):
+            spans = short_spans(found)
+        self.assertGreater(len(spans), 30)
+        self.assertEqual([each[0] for each in heap_objects(found, spans)], numbers)
+        self.assertEqual(spans, sorted(spans))
+
+
+if __name__ == "__main__":
+    unittest.main()

@@ -1,0 +1,246 @@
+"""Tests of what objects take in the heap, by a dump of it."""
+
+import lzma
+import pathlib
+import tempfile
+import unittest
+from typing import Dict, List, Sequence
+
+from heap_tools.class_names import CLASSES
+from heap_tools.heap_dump import HeapDump
+from heap_tools.heap_layout import STACK, Layout
+from heap_tools.object_sizes import Linear, ObjectSizes
+from heap_tools.object_totals import Total, totals_of
+from heap_tools.reports import Amount, Report, Row, read_text
+from tests.support.dump_writer import BYTE, LONG
+from tests.support.laid_out_heap import LaidOutHeap
+
+COMPRESSED = Layout(8, 12, 4, 16)
+COMPACT = Layout(8, 8, 4, 12)
+REAL = pathlib.Path(__file__).parent / "../../bench/real"
+
+
+def sizes_of(heap: LaidOutHeap, shuffled: bool = False) -> ObjectSizes:
+    """Returns the sizes in a heap to which some hundreds of other objects are added."""
+    heap.mixed(200)
+    return ObjectSizes(heap.read(shuffled))
+
+
+class AddedFieldsTest(unittest.TestCase):
+    """What the virtual machine adds."""
+
+    def sizes(
+        self, added: Sequence[int], name: str = "shop/Order", count: int = 1, shuffled: bool = False
+    ) -> List[int]:
+        """Returns the sizes that are found of classes with one reference and one int, which have 20 bytes, if `count`
+        objects of each have so many more."""
+        heap = LaidOutHeap(COMPRESSED)
+        classes = [heap.of_class(f"{name}{at or ''}", 1, 1) for at in range(len(added))]
+        for _ in range(count):
+            for each, more in zip(classes, added):
+                heap.instance(each, more)
+        found = sizes_of(heap, shuffled)
+        return [found.instance(each) for each in classes]
+
+    def test_too_small_for_an_object(self) -> None:
+        """What is smaller than any object is no hole: one object shows it."""
+        for shuffled in (False, True):
+            self.assertEqual(self.sizes([0, 8], shuffled=shuffled), [24, 32])
+
+    def test_holes(self) -> None:
+        """What is as large as an object counts if four objects show it, but not if garbage may have been there."""
+        for count, shuffled, size in ((3, False, 24), (4, False, 40), (9, True, 24)):
+            self.assertEqual(self.sizes([16], count=count, shuffled=shuffled), [size], (count, shuffled))
+
+    def test_classes_of_the_virtual_machine(self) -> None:
+        """Of classes to which the virtual machine adds fields two objects show how many."""
+        for count, size in ((1, 24), (2, 48)):
+            self.assertEqual(self.sizes([24], "java/lang/VirtualThread", count, shuffled=True), [size])
+
+    def test_room(self) -> None:
+        """Two objects show room around fields that several threads write."""
+        for count, size in ((1, 24), (2, 280)):
+            self.assertEqual(self.sizes([256], count=count, shuffled=True), [size])
+
+    def test_some_without(self) -> None:
+        """What some objects of a class lack is not added to any."""
+        heap = LaidOutHeap(COMPRESSED)
+        order = heap.of_class("shop/Order", 1, 1)
+        for more in (16, 16, 16, 16, 16, 0):
+            heap.instance(order, more)
+        self.assertEqual(sizes_of(heap).instance(order), 24)
+
+    def test_inherited(self) -> None:
+        """What is added to a superclass is added to its subclasses, and is so much that it suits all: alignment hides
+        some of it."""
+        for shuffled in (False, True):
+            heap = LaidOutHeap(COMPRESSED)
+            thread = heap.of_class("java/lang/Thread", 3, 2)  # 32 bytes
+            subclasses = [heap.of_class(f"shop/Thread{ints}", 0, ints, thread) for ints in range(3)]
+            unseen = heap.of_class("shop/Unseen", 0, 1, thread)
+            for _ in range(2):
+                for each in (thread, *subclasses):
+                    heap.instance(each, 266)
+            found = sizes_of(heap, shuffled)
+            sizes = [found.instance(each) for each in (thread, *subclasses, unseen)]
+            self.assertEqual(sizes, [304, 304, 304, 312, 304], shuffled)
+
+    def test_loaders(self) -> None:
+        """One object of each of some class loaders shows what is added to all."""
+        for layout in (COMPRESSED, COMPACT):
+            heap = LaidOutHeap(layout)
+            loader = heap.of_class("java/lang/ClassLoader", 3)
+            subclasses = [heap.of_class(f"shop/Loader{at}", at, 0, loader) for at in range(4)]
+            for each in subclasses[1:]:
+                heap.instance(each, 8)
+            found = sizes_of(heap)
+            wanted = [layout.aligned(layout.header + 12 + 4 * at + 8) for at in range(4)]
+            self.assertEqual([found.instance(each) for each in subclasses], wanted)
+
+    def test_one_subclass(self) -> None:
+        """What is added to one subclass is not added to the others."""
+        heap = LaidOutHeap(COMPRESSED)
+        error = heap.of_class("java/lang/VirtualMachineError", 3)
+        internal = heap.of_class("java/lang/InternalError", 0, 0, error)
+        other = heap.of_class("java/lang/OutOfMemoryError", 0, 0, error)
+        heap.instance(internal, 8)
+        found = sizes_of(heap)
+        self.assertEqual([found.instance(each) for each in (internal, other)], [32, 24])
+
+    def test_hole_between_fields(self) -> None:
+        """Up to JDK 14 the fields of a subclass begin at a multiple of 4, or of 8: a hole may be before them."""
+        heap = LaidOutHeap(COMPRESSED)
+        order = heap.of_class("shop/Order", 1, 2)  # 24 bytes
+        express = heap.of_class("shop/Express", 0, 0, order)
+        heap.instance(order)
+        heap.instance(express, 4)
+        found = sizes_of(heap)
+        self.assertEqual([found.instance(each) for each in (order, express)], [24, 32])
+
+
+class RowsTest(unittest.TestCase):
+    """What rows of a report take."""
+
+    def test_report(self) -> None:
+        """A report in heap bytes has the objects of the report, and the bytes of its rows; what is unreachable takes as
+        much as the mean of all."""
+        heap = LaidOutHeap(COMPRESSED)
+        order = heap.of_class("shop/Order", 2, 1)
+        table = heap.of_class("[Lshop/Order;")
+        for length in range(400):
+            heap.instance(order)
+            heap.values(BYTE, 8)
+            heap.array(table, 3)
+        found = ObjectSizes(heap.read())
+        rows = [("shop/Order", 10, 200), ("byte[]", 10, 80), ("[Lshop/Order;", 10, 240), ("shop/Other", 1, 9)]
+        given = Report([Row(name, Amount(*amount)) for name, *amount in rows], Amount(31, 529), Amount(30, 520), 7)
+        report = found.report(given)
+        wanted = [("shop/Order", 10, 240), ("byte[]", 10, 240), ("[Lshop/Order;", 10, 320), ("shop/Other", 1, 9)]
+        self.assertEqual(report.rows, [Row(name, Amount(*amount)) for name, *amount in wanted])
+        self.assertEqual((report.reachable, report.unresolved), (Amount(31, 809), 7))
+        self.assertEqual(report.unreachable, Amount(30, 800))
+
+    def test_padding(self) -> None:
+        """Arrays have the mean padding of those in the dump, each row a multiple of the alignment."""
+        heap = LaidOutHeap(COMPRESSED)
+        for length in range(800):
+            heap.values(BYTE, 1 if length % 2 else 8)  # 24 bytes
+            heap.values(LONG, 1)  # 24 bytes
+        found = sizes_of(heap)
+        self.assertEqual(found.row("byte[]", Amount(800, 3600)).bytes % 8, 0)
+        self.assertAlmostEqual(found.row("byte[]", Amount(800, 3600)).bytes, 19200, delta=600)
+        self.assertEqual(found.row("byte[]", Amount(1, 9)), Amount(1, 32))
+        self.assertEqual(found.row("long[]", Amount(1000, 8000)), Amount(1000, 24000))
+
+    def test_longs_of_compact_headers(self) -> None:
+        """Elements of 8 bytes begin at a multiple of 8."""
+        heap = LaidOutHeap(COMPACT)
+        for _ in range(800):
+            heap.values(LONG, 2)  # 16 + 16
+            heap.values(BYTE, 4)  # 12 + 4
+        found = sizes_of(heap)
+        self.assertEqual(found.row("long[]", Amount(1, 16)), Amount(1, 32))
+        self.assertEqual(found.row("byte[]", Amount(1, 4)), Amount(1, 16))
+
+    def test_classes_of_one_name(self) -> None:
+        """Objects of two classes of one name: the bytes of the row say how many there are of each."""
+        heap = LaidOutHeap(COMPRESSED)
+        for references in (1, 4):
+            heap.instance(heap.of_class("shop/Order", references))
+        found = sizes_of(heap)
+        self.assertEqual(found.row("shop/Order", Amount(5, 2 * 8 + 3 * 32)), Amount(5, 2 * 16 + 3 * 32))
+
+    def test_stacks(self) -> None:
+        """The stack of a waiting virtual thread is in an object that is as long as it is far to the next."""
+        sizes = list(range(400, 4400, 40))
+        for shuffled in (False, True):
+            heap = LaidOutHeap(COMPRESSED)
+            chunk = heap.of_class(STACK, 2, 3)
+            for size in sizes:
+                heap.instance(chunk, size - 32)
+                heap.values(BYTE, 3)
+            found = sizes_of(heap, shuffled)
+            self.assertEqual(found.row(STACK, Amount(100, 2800)), Amount(100, sum(sizes)))
+            self.assertEqual(totals_of(found.dump, found)[STACK], Total(Amount(100, 2800), Amount(100, sum(sizes))))
+
+    def test_class_objects(self) -> None:
+        """A class object has the fields of java/lang/Class, what is added to them, and the static fields; what the dump
+        shows as such, but is kept elsewhere, does not count."""
+        heap = LaidOutHeap(COMPRESSED)
+        heap.of_class("java/lang/Class", 10)  # 52 bytes, 104 with what is added
+        heap.of_class("shop/Far", statics=["FIRST"])
+        for number in range(20):
+            statics = [f"S{at}" for at in range(number % 4)] + ["<resolved_references>"]
+            size = 104 + 4 * (number % 4)
+            heap.of_class(f"shop/Class{number}", 0, 0, 0, statics, number=heap.place(size))
+            heap.values(BYTE, 3)
+        found = sizes_of(heap)
+        far = next(each for each, name in found.dump.names.items() if name == "shop/Far")
+        self.assertEqual((found.class_object, found.of_class_object(far)), (104, 112))
+        every = totals_of(found.dump, found)[CLASSES]
+        self.assertEqual(found.row(CLASSES, every.written).bytes, every.taken.bytes)
+
+    def test_totals(self) -> None:
+        """All objects are counted, reachable or not, in one process and in several."""
+        heap = LaidOutHeap(COMPRESSED)
+        order = heap.of_class("shop/Order", 2, 1)
+        for length in range(900):
+            heap.instance(order)
+            heap.values(BYTE, length % 5)
+        found = sizes_of(heap)
+        totals = totals_of(found.dump, found)
+        self.assertEqual(totals["shop/Order"], Total(Amount(900, 900 * 20), Amount(900, 900 * 24)))
+        self.assertEqual(totals["[Lshop/Entry;"].written.objects, 800)
+        self.assertEqual(sum(each.taken.bytes for name, each in totals.items() if name != CLASSES), heap.at - (1 << 20))
+
+    def test_linear(self) -> None:
+        """What a row takes grows with its objects and bytes."""
+        self.assertEqual(Linear(16.5, 0.5).of(Amount(3, 24), 8), Amount(3, 64))
+
+
+class RealDumpsTest(unittest.TestCase):
+    """The dumps of virtual machines that are kept, and their own histograms of the same moment."""
+
+    def test_histograms(self) -> None:
+        """All classes that have as many objects take as many bytes, to 1%, and all of them to 0.3%."""
+        for name in ("jdk17", "jdk21", "jdk25"):
+            with tempfile.TemporaryFile() as file, (REAL / f"{name}.histogram").open("rb") as text:
+                file.write(lzma.open(REAL / f"{name}.hprof.xz").read())
+                file.flush()
+                dump = HeapDump(file)
+                histogram = read_text(text, name)
+            assert histogram
+            sizes = ObjectSizes(dump)
+            here = {each: total.taken for each, total in totals_of(dump, sizes).items()}
+            here["java/lang/Class"] = here["java/lang/Class"].plus(here.pop(CLASSES))
+            there: Dict[str, Amount] = {row.name: row.amount for row in histogram[1].rows}
+            same = [each for each in there if here.get(each, Amount()).objects == there[each].objects]
+            off = [each for each in same if abs(here[each].bytes - there[each].bytes) > 0.01 * there[each].bytes]
+            self.assertLessEqual(len(off), 0.01 * len(same), (name, off))
+            total = sum(there[each].bytes for each in same)
+            self.assertAlmostEqual(sum(here[each].bytes for each in same) / total, 1, delta=0.003)
+            self.assertGreater(len(same), 0.95 * len(there), name)
+
+
+if __name__ == "__main__":
+    unittest.main()

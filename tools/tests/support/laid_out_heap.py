@@ -1,0 +1,100 @@
+"""Heap dumps whose identifiers are the addresses of objects in a heap with a known layout."""
+
+import random
+import tempfile
+from typing import Callable, Dict, List, Sequence, Tuple
+
+from heap_tools.heap_dump import HeapDump
+from heap_tools.heap_layout import Layout
+from tests.support.dump_writer import BYTE, INT, LONG, VALUE_SIZE, DumpWriter
+
+#: The address of the first object, and of the first class object.
+FIRST, FIRST_CLASS = 1 << 20, 1 << 28
+#: How many sub-records a segment has.
+IN_A_SEGMENT = 500
+
+
+class LaidOutHeap:
+    """Objects one after the other, in a heap with the layout `layout`."""
+
+    def __init__(self, layout: Layout, id_size: int = 8) -> None:
+        self.layout, self.dump, self.at = layout, DumpWriter(id_size), FIRST
+        self.classes: Dict[int, Tuple[int, int]] = {}
+        self._writers: List[Callable[[], None]] = []
+
+    def of_class(
+        self,
+        name: str,
+        references: int = 0,
+        ints: int = 0,
+        superclass: int = 0,
+        statics: Sequence[str] = (),
+        loader: int = 0,
+        number: int = 0,
+    ) -> int:
+        """Writes a class with these fields besides those of its superclass, and returns its identifier. Its object is
+        outside of the heap, unless `number` says where."""
+        number = number or FIRST_CLASS + 4096 * len(self.classes)
+        inherited = self.classes.get(superclass, (0, 0))
+        self.classes[number] = inherited[0] + references, inherited[1] + ints
+        fields = [f"field{at}" for at in range(references)] + [f"int{at}" for at in range(ints)]
+        self.dump.of_class(number, name, {each: 0 for each in statics}, fields, superclass, loader)
+        return number
+
+    def place(self, size: int) -> int:
+        """Takes `size` bytes, which need not be aligned, and returns where they begin."""
+        begin, self.at = self.at, self.at + self.layout.aligned(size)
+        return begin
+
+    def instance(self, of_class: int, added: int = 0) -> int:
+        """Puts an instance in the heap, with `added` bytes that the dump does not show. Returns its identifier."""
+        references, ints = self.classes[of_class]
+        number = self.place(self.layout.header + references * self.layout.reference + 4 * ints + added)
+        values = [0] * references + [bytes(4)] * ints
+        self._writers.append(lambda: self.dump.instance(number, of_class, *values))
+        return number
+
+    def values(self, kind: int, length: int) -> int:
+        """Puts an array of numbers in the heap."""
+        number = self.place(self.layout.array(kind, length))
+        self._writers.append(lambda: self.dump.values(number, kind, bytes(VALUE_SIZE[kind] * length)))
+        return number
+
+    def array(self, of_class: int, length: int) -> int:
+        """Puts an array of references in the heap."""
+        number = self.place(self.layout.array(2, length))
+        self._writers.append(lambda: self.dump.array(number, of_class, *[0] * length))
+        return number
+
+    def mixed(self, count: int, hole: int = 0) -> None:
+        """Puts `count` instances of each of four classes and as many arrays in the heap. After every ninth object are
+        `hole` bytes without an object."""
+        entries = [(1, 1), (3, 0), (2, 3), (0, 1)]
+        classes = [self.of_class(f"shop/Entry{at}", *fields) for at, fields in enumerate(entries)]
+        table = self.of_class("[Lshop/Entry;")
+        for number in range(count):
+            for at, each in enumerate(classes):
+                self.instance(each)
+                self.values((BYTE, INT, LONG)[at % 3], (number + at) % 7)
+                self.array(table, (number + at) % 5)
+                if hole and (4 * number + at) % 3 == 0:
+                    self.place(hole)
+
+    def read(self, shuffled: bool = False) -> HeapDump:
+        """Writes the dump, its objects in the order of their addresses or in no order, and reads it."""
+        writers = list(self._writers)
+        if shuffled:
+            random.Random(1).shuffle(writers)
+        for number, write in enumerate(writers):
+            if number % IN_A_SEGMENT == 0:
+                self.dump.cut()
+            write()
+        return read(self.dump)
+
+
+def read(dump: DumpWriter) -> HeapDump:
+    """Writes a dump and reads it."""
+    with tempfile.TemporaryFile() as file:
+        file.write(dump.bytes())
+        file.flush()
+        return HeapDump(file)
