@@ -9,6 +9,7 @@ from heap_tools.candidates import Candidate
 from heap_tools.class_growth import ClassGrowth
 from heap_tools.dump_runs import DumpRuns
 from heap_tools.field_list import Entry
+from heap_tools.heap_sizes import ClassSize, HeapSizes
 from heap_tools.probe import Probe, Retained
 from heap_tools.reports import Amount, Report, Unit
 from heap_tools.snapshots import Snapshot
@@ -77,6 +78,28 @@ def holder_entry(held: Retained, percent: float) -> Fields:
         "retained": amount_entry(held.amount),
         "share_percent": share_entry(percent),
         "instances": held.holders,
+    }
+
+
+def class_size_entry(each: ClassSize) -> Fields:
+    """Returns a class or a package of `sizes`."""
+    name = {"name": each.name, "all": amount_entry(each.every)}
+    return {**name, "reachable": amount_entry(each.reachable), "unreachable": amount_entry(each.unreachable)}
+
+
+def sizes_fields(
+    runs: DumpRuns, sizes: HeapSizes, shown: Sequence[ClassSize], is_by_package: bool, hidden: int
+) -> Fields:
+    """Returns the fields of the document of `sizes`: the classes or packages that are shown, and the number of the
+    others."""
+    whole = class_size_entry(sizes.whole)
+    return {
+        "file": dump_entry(runs),
+        "layout": sizes.layout and sizes.layout._asdict(),
+        **{name: whole[name] for name in ("all", "reachable", "unreachable")},
+        "waiting_stacks": amount_entry(sizes.stacks),
+        "packages" if is_by_package else "classes": [class_size_entry(each) for each in shown],
+        "hidden": hidden,
     }
 
 

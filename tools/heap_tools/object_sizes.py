@@ -136,14 +136,15 @@ class ObjectSizes:
 
     def _row_of_classes(self) -> Linear:
         """Returns what class objects take: static fields as in the mean of the dump's classes."""
-        sizes = [(self.written_statics(each), self.of_class_object(each)) for each in self.dump.classes]
+        sizes = [(written_statics(self.dump, each), self.of_class_object(each)) for each in self.dump.classes]
         written, taken = (sum(column) for column in zip(*sizes))
         a_byte = min(1, (taken - self.class_object * len(sizes)) / max(1, written))
         return Linear((taken - a_byte * written) / len(sizes), a_byte)
 
-    def written_statics(self, class_id: int) -> int:
-        """Returns the bytes of the static fields of a class in the dump."""
-        return sum(self.dump.value_sizes[each.kind] for each in self.dump.classes[class_id].fields if each.is_static)
+
+def written_statics(dump: HeapDump, class_id: int) -> int:
+    """Returns the bytes of the static fields of a class in the dump."""
+    return sum(dump.value_sizes[each.kind] for each in dump.classes[class_id].fields if each.is_static)
 
 
 def _line(pairs: List[Tuple[int, int]]) -> Linear:

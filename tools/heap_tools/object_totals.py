@@ -3,7 +3,7 @@
 from bisect import bisect_right
 from collections import Counter
 from typing import Counter as Counts
-from typing import Dict, List, NamedTuple, Tuple
+from typing import Dict, List, NamedTuple, Optional, Tuple
 
 from heap_tools import hprof_format as hprof
 from heap_tools.class_names import CLASSES, PRIMITIVES
@@ -11,7 +11,7 @@ from heap_tools.heap_dump import HeapDump, Span
 from heap_tools.heap_layout import STACK
 from heap_tools.heap_sample import FEWEST_SPANS, LONGEST
 from heap_tools.object_records import heap_objects, short_spans
-from heap_tools.object_sizes import ObjectSizes
+from heap_tools.object_sizes import ObjectSizes, written_statics
 from heap_tools.parallel import shared
 from heap_tools.reports import Amount
 
@@ -30,20 +30,23 @@ class Total(NamedTuple):
         return Total(self.written.plus(Amount(objects, written)), self.taken.plus(Amount(objects, taken)))
 
 
-def totals_of(dump: HeapDump, sizes: ObjectSizes) -> Dict[str, Total]:
-    """Returns the total of each row that a report would have if all objects were reachable. Walks over all objects."""
+def totals_of(dump: HeapDump, sizes: Optional[ObjectSizes]) -> Dict[str, Total]:
+    """Returns the total of each row that a report would have if all objects were reachable. If the sizes are not known,
+    objects take what they do in the dump. Walks over all objects."""
     found: Dict[str, Total] = {}
-    stacks = 0
     for (class_id, kind, length), count in shapes_of(dump).items():
         name = dump.names.get(class_id, "") if class_id else f"{PRIMITIVES[hprof.LETTERS[kind]]}[]"
-        written = length * dump.value_sizes[kind] if kind else length
-        taken = sizes.layout.array(kind, length) if kind else sizes.instance(class_id)
+        taken = written = length * dump.value_sizes[kind] if kind else length
+        if sizes:
+            taken = sizes.layout.array(kind, length) if kind else sizes.instance(class_id)
         found[name] = found.get(name, Total()).plus(count, count * written, count * taken)
-        stacks += count * (class_id in sizes.stacks)
-    if stacks:
-        found[STACK] = found[STACK]._replace(taken=Amount(stacks, sum(_stack_sizes(dump, sizes))))
+    if sizes and STACK in found:
+        taken = sum(_stack_sizes(dump, sizes))
+        found[STACK] = found[STACK]._replace(taken=Amount(found[STACK].written.objects, taken))
     for class_id in dump.classes:
-        written, taken = sizes.written_statics(class_id), sizes.of_class_object(class_id)
+        taken = written = written_statics(dump, class_id)
+        if sizes:
+            taken = sizes.of_class_object(class_id)
         found[CLASSES] = found.get(CLASSES, Total()).plus(1, written, taken)
     return found
 

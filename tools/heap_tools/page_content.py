@@ -130,10 +130,10 @@ def making_of(comparison: Comparison) -> page.Making:
     return page.Making(command, comparison.heapmark.runs, now - comparison.began, int(1000 * now), versions)
 
 
-def write_page(path: str, leak: page.Leak) -> None:
+def write_page(path: str, content: page.Content) -> None:
     """Writes the page into the file `path`."""
     try:
-        page.save(leak, path)
+        page.save(content, path)
     except OSError as fault:
         raise Fault(UNWRITABLE, f"{path}: the page cannot be written: {fault.strerror}") from None
 

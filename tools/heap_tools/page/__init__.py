@@ -1,6 +1,7 @@
-"""The pages of `leaks --html`: each is one HTML file that fetches nothing and runs no script.
+"""The pages of `leaks --html` and `sizes --html`: each is one HTML file that fetches nothing and runs no script.
 
-`model.py` has what the tools fill. `comparison_page.py` is the page of two or more dumps, `dump_page.py` that of one;
+`model.py` has what the tools fill. `comparison_page.py` is the page of two or more dumps, `dump_page.py` that of one, and
+`sizes_page.py` that of `sizes`;
 `sections.py` has what both have. The parts of the first are `top.py`, `chart.py` with `chart_labels.py`, `holders.py`
 and `classes.py`, those of the other `fullness.py` and `suspects.py`. `objects.py`, `treemap.py`, `treemap_picture.py`
 and `tables.py` are of both. `templates.py` escapes and fills, `names.py` and `words.py` spell; `page.html` has all
@@ -14,10 +15,11 @@ import stat
 from typing import Callable, Union
 
 from heap_tools.candidates import FIELD, LOCAL, STATIC, THREAD, THREADS
-from heap_tools.page import comparison_page, dump_page
+from heap_tools.page import comparison_page, dump_page, sizes_page
 from heap_tools.page.model import DumpEntry, FieldEntry, GrownClass, HeldShare, HolderEntry, Leak, Limits, Making
 from heap_tools.page.model import NameEntry, NextStep, ObjectEntry, OneDump, ProgramEntry, RanOutEntry, StepEntry
 from heap_tools.page.model import SuspectEntry, ThreadGroupEntry
+from heap_tools.page.sizes_page import Sizes
 from heap_tools.reports import Amount, Row, Unit
 
 __all__ = [
@@ -40,6 +42,7 @@ __all__ = [
     "RanOutEntry",
     "Row",
     "STATIC",
+    "Sizes",
     "StepEntry",
     "SuspectEntry",
     "THREAD",
@@ -51,7 +54,7 @@ __all__ = [
 ]
 
 #: What a page can be of.
-Content = Union[Leak, OneDump]
+Content = Union[Leak, OneDump, Sizes]
 #: The most bytes of a page.
 MOST_BYTES = 300_000
 #: How much is shown. The first that gives a page of at most `MOST_BYTES` is taken; only odd names need the later ones.
@@ -67,6 +70,8 @@ def html_of(content: Content) -> str:
     for limits in LIMITS:
         if isinstance(content, OneDump):
             text = dump_page.page_of(content, limits)
+        elif isinstance(content, Sizes):
+            text = sizes_page.page_of(content, limits)
         else:
             text = comparison_page.page_of(content, limits)
         if len(text.encode()) <= MOST_BYTES:

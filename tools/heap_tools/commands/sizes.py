@@ -1,0 +1,162 @@
+"""sizes: what the classes of a dump take in the heap, as the virtual machine counts."""
+
+import os
+import platform
+import shlex
+import sys
+import time
+from argparse import Namespace
+from typing import List, NoReturn, Sequence
+
+from heap_tools import command_line, page
+from heap_tools.command_line import Parser, number
+from heap_tools.console import Progress, is_terminal, say, write
+from heap_tools.documents import document, sizes_fields
+from heap_tools.dump_runs import DumpRuns
+from heap_tools.heap_sizes import ClassSize, HeapSizes, by_package, sizes_in, unreachable_first
+from heap_tools.heapmark import Heapmark
+from heap_tools.humanize import counted, size
+from heap_tools.omissions import WHY_UNREACHABLE
+from heap_tools.page_content import program_of, require_place, write_page
+from heap_tools.version import VERSION
+
+ABOUT = """
+Shows what the classes of a heap dump take in the heap: for each class, a line
+with the number of its objects, their bytes, the bytes an object, the share of
+the heap, and the bytes of those objects that are unreachable, the largest first.
+"""
+NOTES = """
+Bytes are those of the heap, with headers and padding, as a limit such as -Xmx,
+a monitor and `jcmd PID GC.class_histogram` count them. A dump does not have
+them: they are found by the identifiers of objects, which are addresses, since
+the difference of two neighbours is the size of the first. A line on standard
+error says which layout was found. If too few neighbours agree on one, it says
+so, and bytes are those of the dump, as in heapmark's report.
+
+The last three lines are what is reachable, what is not, and all. Objects are
+unreachable if they are garbage, in dumps with -all, or if dumps omit what holds
+them. The line java/lang/Class has class objects with their static fields. An
+array counts for the package of its elements.
+
+Dumps lack what the heap has besides: class objects that were not loaded, free
+memory, and what no object has, such as the stacks of threads. The stacks of
+virtual threads that wait are objects: a line on standard error says what these
+take.
+
+What holds the objects of a class: see holders. What grew: see grown and leaks.
+
+Exit status:
+  0  done
+  1  DUMP cannot be read or was refused; nothing was printed
+  2  the command line is wrong
+  4  the output or FILE cannot be written
+  5  heapmark cannot be run, or was ended by a signal
+
+Example:
+  $ sizes --top 20 friday.hprof
+"""
+
+
+def parser() -> Parser:
+    """Returns the options and operands."""
+    it = Parser("sizes", "[OPTIONS] <DUMP>", ABOUT, NOTES)
+    it.operand("dump", "A heap dump, in a plain file: it is read several times")
+    it.flag("--packages", "Show packages in place of classes")
+    it.flag("--unreachable", "Show only classes that have unreachable objects, those with most bytes of these first")
+    it.option("--top", "N", "Show at most N lines, besides the last three", type=number(1))
+    it.option("--html", "FILE", "Also write a page for a browser, with a picture of the heap, to FILE")
+    it.flag("--json", "Print all that lines and notes say as a JSON document")
+    return it
+
+
+def shown_of(sizes: HeapSizes, options: Namespace) -> List[ClassSize]:
+    """Returns the classes or packages, in the order of their lines."""
+    every = by_package(sizes.classes) if options.packages else sizes.classes
+    return unreachable_first(every) if options.unreachable else every
+
+
+def lines_of(shown: Sequence[ClassSize], whole: ClassSize, word: str) -> str:
+    """Returns a line for each class that is shown and for the totals, on a terminal below the heads of the columns."""
+    heads = f"{'objects':>10} {'bytes':>14} {'an object':>10} share {'unreachable':>14}  {word}\n"
+    lines = [heads] if is_terminal(sys.stdout) else []
+    lines += [line_of(each, whole) for each in shown]
+    lines.append(line_of(ClassSize("(reachable)", whole.reachable, whole.reachable.minus(whole.reachable)), whole))
+    lines.append(line_of(ClassSize("(unreachable)", whole.unreachable, whole.unreachable), whole))
+    lines.append(line_of(whole._replace(name="(all)"), whole))
+    return "".join(lines)
+
+
+def line_of(each: ClassSize, whole: ClassSize) -> str:
+    """Returns the line of a class."""
+    objects, taken = each.every
+    mean, share = taken / max(1, objects), 100 * taken / max(1, whole.every.bytes)
+    return f"{objects:10} {taken:14} {mean:10.1f} {share:4.1f}% {each.unreachable.bytes:14}  {each.name}\n"
+
+
+def notes_of(sizes: HeapSizes, hidden: int) -> List[str]:
+    """Returns what the lines do not say."""
+    notes = []
+    if hidden:
+        notes.append(f"{counted(hidden, 'line')} more: see --top")
+    if sizes.whole.unreachable.objects:
+        notes.append(f"{counted(sizes.whole.unreachable.objects, 'object')} are unreachable: {WHY_UNREACHABLE}")
+    if sizes.layout is None:
+        notes.append(f"the sizes of objects in the heap are not known, since {sizes.why_unknown}; bytes are the dump's")
+        return notes
+    if sizes.stacks.objects:
+        what = f"{counted(sizes.stacks.bytes, 'byte')} in {counted(sizes.stacks.objects, 'object')}"
+        notes.append(f"the stacks of virtual threads that wait take {what}")
+    return [*notes, f"the layout that neighbours show: {sizes.layout.words()}"]
+
+
+def page_of(runs: DumpRuns, sizes: HeapSizes, notes: Sequence[str], words: Sequence[str], began: float) -> page.Sizes:
+    """Returns what the page of `--html` shows."""
+    whole = sizes.whole
+    versions = [("sizes", VERSION), ("heapmark", runs.heapmark.version()), ("Python", platform.python_version())]
+    command, now = " ".join(map(shlex.quote, ["sizes", *words])), time.time()
+    return page.Sizes(
+        dump=page.DumpEntry(
+            runs.path,
+            os.path.getsize(runs.path),
+            runs.dump.time,
+            whole.reachable,
+            whole.unreachable,
+            runs.report.unresolved,
+        ),
+        classes={each.name: each.every for each in sizes.classes},
+        unreachable={each.name: each.unreachable for each in sizes.classes if each.unreachable.objects},
+        making=page.Making(command, runs.heapmark.runs, now - began, int(1000 * now), versions),
+        program=program_of(runs, False),
+        notes=[f"{each[0].upper()}{each[1:]}." for each in notes],
+    )
+
+
+def main(words: Sequence[str]) -> int:
+    """Does what the words of the command line ask for, and returns the exit status."""
+    options = parser().read(words)
+    if options.html is not None:
+        require_place(options.html)
+    began, progress = time.time(), Progress("sizes")
+    progress.show("reading the dump")
+    try:
+        runs = DumpRuns.of(Heapmark(), options.dump, "sizes")
+        sizes = sizes_in(runs)
+    finally:
+        progress.clear()
+    every = shown_of(sizes, options)
+    shown = every[: options.top]
+    notes = notes_of(sizes, len(every) - len(shown))
+    if options.json:
+        write(document("sizes", sizes_fields(runs, sizes, shown, options.packages, len(every) - len(shown)), notes))
+    else:
+        write(lines_of(shown, sizes.whole, "package" if options.packages else "class"))
+    if options.html is not None:
+        write_page(options.html, page_of(runs, sizes, notes, words, began))
+    for note in notes:
+        say(f"sizes: {note}")
+    return 0
+
+
+def run() -> NoReturn:
+    """Runs the command with the words of the command line."""
+    command_line.run("sizes", main)

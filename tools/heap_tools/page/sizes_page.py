@@ -1,0 +1,48 @@
+"""The page of `sizes --html`: what a heap is made of, as the virtual machine counts it."""
+
+from dataclasses import dataclass
+from typing import Dict, List
+
+from heap_tools.page.classes import made_of
+from heap_tools.page.model import DumpEntry, Limits, Making, ProgramEntry
+from heap_tools.page.sections import Top, facts, making, notes, whole_page
+from heap_tools.page.templates import Html, fill, joined
+from heap_tools.page.words import figure_in, full, period
+from heap_tools.reports import Amount, Unit
+
+
+@dataclass(frozen=True)
+class Sizes:
+    """All that the page shows. `classes`: all objects of each class, `unreachable`: those that are unreachable. `notes`:
+    sentences, of which one says how sizes were found."""
+
+    dump: DumpEntry
+    classes: Dict[str, Amount]
+    unreachable: Dict[str, Amount]
+    making: Making
+    program: ProgramEntry
+    notes: List[str]
+
+
+def page_of(sizes: Sizes, limits: Limits) -> Html:
+    """Returns the page."""
+    sections = [made_of(sizes.classes, "the heap", limits)]
+    if sizes.unreachable:
+        section = made_of(sizes.unreachable, "the unreachable part of the heap", limits)
+        sections.append(section._replace(id="unreachable", label="Unreachable"))
+    return whole_page(top(sizes, limits), [*sections, making(sizes.making, [sizes.dump], limits)], sizes.making.time)
+
+
+def top(sizes: Sizes, limits: Limits) -> Top:
+    """Returns the top of the page: how much the heap has, reachable and not."""
+    it = sizes.dump
+    whole = it.reachable.plus(it.unreachable)
+    parts = [figure_in(it.reachable.bytes, Unit.BYTES), " are reachable, ", figure_in(it.unreachable.bytes, Unit.BYTES)]
+    return Top(
+        title=f"Heap: {full(whole.bytes, Unit.BYTES)}",
+        facts=facts(sizes.program, period(it.time, it.time), limits),
+        headline=joined([figure_in(whole.bytes, Unit.BYTES), " in ", figure_in(whole.objects, Unit.OBJECTS)]),
+        through=Html(),
+        lead=fill("lead_of_one", heap=joined([*parts, " are not"])),
+        notes=notes(sizes.notes, limits),
+    )
