@@ -47,7 +47,7 @@ Total             1              8
 """
 
 
-class ComparisonsTest(unittest.TestCase):
+class BenchComparisonsTest(unittest.TestCase):
     """Each comparison on a whole dump and on a cut one."""
 
     def setUp(self) -> None:
