@@ -16,7 +16,7 @@ from heap_tools.humanize import counted
 from heap_tools.omissions import more_unreachable
 from heap_tools.probe import EarlierProbe, GrowthProbe
 from heap_tools.reports import Amount, Unit
-from heap_tools.running_calls import PASSING, Calls, DumpSide, without_running_calls
+from heap_tools.running_calls import PASSING, Calls, DumpSide, prepared, without, without_running_calls
 from heap_tools.same_program import Taken, other_main, other_program, same_file, wrong_order
 from heap_tools.search_progress import SearchProgress
 from heap_tools.weak_growth import MUCH_WEAKLY_HELD, weak_growth, weakly_held_words
@@ -84,10 +84,10 @@ class Comparison:
     def _sides(self, families: Optional[List[str]], unit: Unit) -> List[DumpSide]:
         """Returns the first and the last dump. Weak references are cut, unless the user follows them, or most of the
         growth is held by them alone, which is said."""
-        sides = [DumpSide.prepared(each, self.follows_weak) for each in (self.first, self.last)]
+        sides = prepared([self.first, self.last], self.follows_weak)
         if self.follows_weak:
             return sides
-        followed = [DumpSide.prepared(each, follows_weak=True) for each in (self.first, self.last)]
+        followed = prepared([self.first, self.last], follows_weak=True)
         growth = weak_growth(sides, followed, families)
         if unit.of(growth) <= max(0, grown(sides, families, unit)):
             self.weakly_held = growth
@@ -104,10 +104,8 @@ class Comparison:
     def probes_between(self, probe: GrowthProbe) -> List[EarlierProbe]:
         """Returns what asks some dumps between the first and the last what `probe` asks these: at most `BETWEEN`."""
         found = []
-        for runs in spread(self.dumps[1:-1], BETWEEN):
-            side = DumpSide.prepared(runs, self.follows_weak)
-            if self.omitted_calls:
-                side = side.without(self.omitted_calls)
+        sides = prepared(spread(self.dumps[1:-1], BETWEEN), self.follows_weak)
+        for side in without(sides, self.omitted_calls) if self.omitted_calls else sides:
             probe_of_side = EarlierProbe(
                 side.runs, side.candidates, probe.families, probe.unit, self.progress.show, side.base
             )

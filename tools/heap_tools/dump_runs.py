@@ -72,7 +72,7 @@ class DumpRuns:
 
     def base(self) -> Report:
         """Returns the report with which those of copies compare."""
-        return self.without({}) if self.cut or self.roots else self.report
+        return reports_of(Question(self))[0]
 
     def without(self, changes: Changes) -> Report:
         """Returns the report of the dump with these changes."""
@@ -99,9 +99,20 @@ class Question(NamedTuple):
     runs: DumpRuns
     changes: Changes = {}
 
+    @property
+    def is_open(self) -> bool:
+        """Tests whether heapmark has to run: the report without any change is known."""
+        return bool(self.changes or self.runs.cut or self.runs.roots)
+
 
 def reports_of(*questions: Question) -> List[Report]:
     """Returns the reports that are asked for. heapmark runs for all at once if each has a copy in memory of its own."""
+    found = iter(_reports_at_once([each for each in questions if each.is_open]))
+    return [next(found) if each.is_open else each.runs.report for each in questions]
+
+
+def _reports_at_once(questions: Sequence[Question]) -> List[Report]:
+    """Returns the reports of runs of heapmark: at once if there is room for that, else one after another."""
     with contextlib.ExitStack() as stack:
         copies = []
         for runs, changes in questions:

@@ -4,7 +4,7 @@ import enum
 from typing import List, NamedTuple, Optional, Sequence, Tuple
 
 from heap_tools.candidates import Candidates
-from heap_tools.dump_runs import DumpRuns
+from heap_tools.dump_runs import DumpRuns, Question, reports_of
 from heap_tools.reports import Report, Unit
 
 #: Local variables that hold at most this share of what is asked for, in percent, are those of calls that are running.
@@ -25,20 +25,25 @@ class DumpSide(NamedTuple):
     candidates: Candidates
     base: Report
 
-    @classmethod
-    def prepared(cls, runs: DumpRuns, follows_weak: bool) -> "DumpSide":
-        """Returns the dump with weak references cut, unless they are followed."""
-        candidates = Candidates(runs.dump, follows_weak)
-        prepared = candidates.prepared(runs)
-        return cls(prepared, candidates, prepared.base())
 
-    def without(self, calls: Calls) -> "DumpSide":
-        """Returns the dump without the local variables of these calls."""
-        changes = self.candidates.running(calls.value)
-        if not changes:
-            return self
-        runs = self.runs.with_cut(changes)
-        return DumpSide(runs, self.candidates, runs.base())
+def prepared(dumps: Sequence[DumpRuns], follows_weak: bool) -> List[DumpSide]:
+    """Returns dumps with weak references cut, unless they are followed. They are asked at once."""
+    candidates = [Candidates(runs.dump, follows_weak) for runs in dumps]
+    return _asked([each.prepared(runs) for runs, each in zip(dumps, candidates)], candidates)
+
+
+def without(sides: Sequence[DumpSide], calls: Calls) -> List[DumpSide]:
+    """Returns dumps without the local variables of these calls. Those that have such variables are asked at once."""
+    changes = [side.candidates.running(calls.value) for side in sides]
+    busy = [(side, cut) for side, cut in zip(sides, changes) if cut]
+    asked = iter(_asked([side.runs.with_cut(cut) for side, cut in busy], [side.candidates for side, _ in busy]))
+    return [next(asked) if cut else side for side, cut in zip(sides, changes)]
+
+
+def _asked(dumps: Sequence[DumpRuns], candidates: Sequence[Candidates]) -> List[DumpSide]:
+    """Returns dumps with their candidates and with the reports of their runs without changes, asked at once."""
+    bases = reports_of(*map(Question, dumps))
+    return [DumpSide(*each) for each in zip(dumps, candidates, bases)]
 
 
 def without_running_calls(
@@ -48,7 +53,7 @@ def without_running_calls(
     lost by that; else without those of the JDK's calls, under the same condition; else as they are. Returns also which
     calls that are."""
     for calls in Calls:
-        cut = [side.without(calls) for side in sides]
+        cut = without(sides, calls)
         lost = [unit.of(side.base.total(families).minus(less.base.total(families))) for side, less in zip(sides, cut)]
         if 100 * max(lost) <= percent * whole:
             return cut, calls

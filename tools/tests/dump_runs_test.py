@@ -86,7 +86,7 @@ class DumpRunsTest(ToolTest):
         """Two dumps are asked at once. Their reports come in the order in which they were asked for, and both runs are
         counted. Both copies are then as they were."""
         first, last = self.both(WAITS)
-        asked = [Question(last.with_cut({25: b"c"}), {24: b"a"}), Question(first)]
+        asked = [Question(last.with_cut({25: b"c"}), {24: b"a"}), Question(first.with_cut({25: b"c"}))]
         for wanted in (2, 4):
             found = [each.amount("A").objects for each in reports_of(*asked)]
             self.assertEqual(found, [last.dump.size, first.dump.size])
@@ -101,19 +101,29 @@ class DumpRunsTest(ToolTest):
         first, last = self.both(alone)
         small = mock.patch("heap_tools.dump_runs.have_room", return_value=False)
         with small:
-            self.assertEqual(len(reports_of(Question(first), Question(last))), 2)
+            self.assertEqual(len(reports_of(Question(first, {24: b"a"}), Question(last, {24: b"a"}))), 2)
         self.assertEqual(len(reports_of(Question(last, {24: b"a"}), Question(last, {24: b"b"}))), 2)
         first.memory = None
-        self.assertEqual(len(reports_of(Question(first), Question(last))), 2)
-        self.assertEqual(len(reports_of(Question(first))), 1)
+        self.assertEqual(len(reports_of(Question(first, {24: b"a"}), Question(last, {24: b"a"}))), 2)
+        self.assertEqual(len(reports_of(Question(first, {24: b"a"}))), 1)
         self.assertEqual(pathlib.Path("together").read_text().split(), ["1"] * 7)
         self.assertEqual(first.heapmark.runs, 2 + 7)
+
+    def test_known(self) -> None:
+        """The report of a dump without any change is not asked for again, also beside one that is."""
+        first, last = self.both()
+        self.assertIs(first.base(), first.report)
+        found = reports_of(Question(first), Question(last, {24: b"a"}), Question(last))
+        self.assertIs(found[0], first.report)
+        self.assertIs(found[2], last.report)
+        self.assertEqual(found[1].amount("A").objects, last.dump.size)
+        self.assertEqual(first.heapmark.runs, 2 + 1)
 
     def test_put_back(self) -> None:
         """A copy is as it was after a run that failed, or one that another's failure ended."""
         for fails, why in (("exit 3", "status 3"), ("kill -9 $$", "signal 9"), ("echo no; exit 0", "no report")):
             first, last = self.both(f'[ "$(head -c 25 $$ | tail -c 1)" != a ] || {{ {fails}; }}')
-            for asked in [Question(first, {24: b"a"})], [Question(first), Question(last, {24: b"a"})]:
+            for asked in [Question(first, {24: b"a"})], [Question(first, {24: b"b"}), Question(last, {24: b"a"})]:
                 with self.assertRaisesRegex(LaterFault, f"on {asked[-1].runs.path} failed: {why}"):
                     reports_of(*asked)
             for runs in (first, last):
@@ -128,7 +138,7 @@ class DumpRunsTest(ToolTest):
                 runs.memory = None
             runs.without({})
             os.truncate("monday", runs.dump.size - 1)
-            for ask in lambda: [runs.without({})], lambda: reports_of(Question(runs), Question(runs)):
+            for ask in lambda: [runs.without({})], lambda: reports_of(*[Question(runs, {24: b"a"})] * 2):
                 self.assertRaisesRegex(Fault, "^monday: it became shorter while it was read$", ask)
             with open("monday", "ab") as file:
                 file.write(b"a")

@@ -1,8 +1,10 @@
 """Tests when the local variables of running calls lead nowhere."""
 
 import unittest
-from typing import Any, Dict, List, Optional, Tuple
+from typing import Any, Dict, List, Optional, Sequence, Tuple
 
+from heap_tools.changed_copy import Changes
+from heap_tools.dump_runs import DumpRuns
 from heap_tools.reports import Amount, Report, Row, Unit
 from heap_tools.running_calls import Calls, DumpSide, without_running_calls
 
@@ -10,20 +12,27 @@ from heap_tools.running_calls import Calls, DumpSide, without_running_calls
 OF_JDK, OF_OTHERS = 1, 2
 
 
-class Runs:
-    """Stands in for the runs on a dump with 1,000 orders, of which so many are lost with each place that is cut."""
+class Runs(DumpRuns):
+    """Stands in for the runs on a dump with 1,000 orders, of which `lost` says how many are lost with each place that is
+    cut."""
 
-    def __init__(self, lost: Dict[int, int], cut: Tuple[int, ...] = ()) -> None:
-        self.lost, self.cut = lost, cut
+    def __init__(self, lost: Dict[int, int], cut: Optional[Changes] = None) -> None:
+        no: Any = None
+        super().__init__(no, "", report_of(0), no, cut or {}, ())
+        self.lost = lost
 
-    def with_cut(self, changes: Dict[int, bytes]) -> "Runs":
+    def with_cut(self, changes: Changes, roots: Sequence[int] = ()) -> "Runs":
         """Returns the runs with these places cut."""
-        return Runs(self.lost, tuple(changes))
+        return Runs(self.lost, changes)
 
-    def base(self) -> Report:
+    def without(self, changes: Changes) -> Report:
         """Returns the report without what is lost."""
-        orders = Amount(1_000, 10).minus(Amount(sum(self.lost[place] for place in self.cut)))
-        return Report([Row("Order", orders)], reachable=Amount(9_999, 9_999))
+        return report_of(sum(self.lost[place] for place in [*self.cut, *changes]))
+
+
+def report_of(lost: int) -> Report:
+    """Returns the report without `lost` orders."""
+    return Report([Row("Order", Amount(1_000 - lost, 10))], reachable=Amount(9_999, 9_999))
 
 
 class Locals:

@@ -16,7 +16,7 @@ from heap_tools.leak_lines import Line, answer_of
 from heap_tools.probe import EarlierProbe, GrowthProbe, Probe, Retained
 from heap_tools.reference_paths import ReferencePaths
 from heap_tools.reports import Amount, Unit
-from heap_tools.running_calls import DumpSide, without_running_calls
+from heap_tools.running_calls import prepared, without_running_calls
 from heap_tools.search import MOST_QUESTIONS, Search
 from heap_tools.search_progress import SILENCE, SearchProgress
 from heap_tools.search_together import MOST_ASKED, SearchTogether
@@ -273,7 +273,7 @@ class RandomTest(unittest.TestCase):
 
     def probe(self, *both: DumpRuns) -> GrowthProbe:
         """Returns what asks two dumps about the growth of their bytes."""
-        sides = [DumpSide.prepared(runs, False) for runs in both]
+        sides = prepared(both, follows_weak=False)
         growth = sides[1].base.reachable.bytes - sides[0].base.reachable.bytes
         (first, last), _ = without_running_calls(sides, None, Unit.BYTES, growth, AT_LEAST - 1)
         earlier = EarlierProbe(first.runs, first.candidates, None, Unit.BYTES, base=first.base)

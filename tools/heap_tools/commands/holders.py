@@ -19,7 +19,7 @@ from heap_tools.humanize import counted
 from heap_tools.omissions import HIDDEN_HOLDERS, WHY_UNREACHABLE
 from heap_tools.probe import Probe, Retained
 from heap_tools.reports import Report, Unit
-from heap_tools.running_calls import DumpSide, without_running_calls
+from heap_tools.running_calls import prepared, without_running_calls
 from heap_tools.search import Search
 from heap_tools.search_progress import SearchProgress
 from heap_tools.search_together import SearchTogether
@@ -142,7 +142,7 @@ def searched(options: Namespace, name: Optional[str]) -> Found:
         unit = Unit.BYTES if in_bytes else Unit.OBJECTS
         shown = SearchProgress(progress, heapmark)
         shown.show()
-        side = DumpSide.prepared(runs, options.weak)
+        (side,) = prepared([runs], options.weak)
         if families:
             require_objects(families[0], runs, side.base)
         (side,), _ = without_running_calls([side], families, unit, unit.of(side.base.total(families)))
