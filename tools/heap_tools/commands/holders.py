@@ -53,10 +53,11 @@ Calls that are running do not count: their local variables lead into containers
 that fields hold. So local variables lead nowhere if at most 5% of what is asked
 for is lost by that; else those of methods of the JDK, if that loses no more.
 
-heapmark gets the dump from a pipe; no file is written. The heapmark that runs
-is what the variable HEAPMARK names, else the one beside this tool, else the one
-built in this repository, else that of PATH. If SIGINT, SIGTERM or SIGHUP ends
-this tool, the exit status is 130.
+heapmark gets a copy of the dump in memory, or by a pipe if there is no room for
+one; no file is written. The heapmark that runs is what the variable HEAPMARK
+names, else the one beside this tool, else the one built in this repository,
+else that of PATH. If SIGINT, SIGTERM or SIGHUP ends this tool, the exit status
+is 130.
 
 What fills a heap, with the path to it, and what grew between two dumps: see
 leaks.
