@@ -72,7 +72,7 @@ class Lines:
         for number in self._order().to_ask():
             objects = self._objects_of(self.every[number])
             if len(objects) == 1:
-                of_one = objects[0].percent / 100
+                of_one = objects[0].of_gain / 100
                 self.features[number] = dataclasses.replace(self.features[number], of_one=of_one)
                 return LineObjects(0, self.every[number], objects)
             if objects and several is None:

@@ -21,7 +21,8 @@ class HoldingObject(NamedTuple):
     """An object that holds much of what a field holds: its class, what names it, and what it holds. `percent` is its
     share of what the field holds now; if `has_gained`, the share of what it gained in what the field gained, both
     measured in both dumps. `of`: among how many objects it was looked for. `is_element`: these are the elements of the
-    field's list, not the instances that have the field."""
+    field's list, not the instances that have the field. `least_gain`: if it is not measured what it gained, the share
+    of the field's gain in percent that it gained at least."""
 
     class_name: str
     names: List[Name]
@@ -30,6 +31,12 @@ class HoldingObject(NamedTuple):
     has_gained: bool = False
     of: int = 0
     is_element: bool = False
+    least_gain: float = 0.0
+
+    @property
+    def of_gain(self) -> float:
+        """The share of what the field gained in percent that it gained, or the least that it can have gained."""
+        return self.percent if self.has_gained else self.least_gain
 
     @property
     def named_by(self) -> str:
@@ -125,7 +132,7 @@ def objects_that_hold(probe: Probe, held: Retained) -> List[HoldingObject]:
     for parts in ways(probe, held):
         found = parts.search(held.amount).find()
         if sum(probe.unit.percent(each.amount, held.amount) for each in found) >= OF_ALL:
-            return parts.described(found, held.amount)
+            return [it._replace(least_gain=it.percent) for it in parts.described(found, held.amount)]
     return []
 
 
@@ -163,7 +170,7 @@ class GrownParts:
             return []
         certain = self._grown(found)
         if sum(self.percent(each.amount) for each in certain) - self.most_before >= OF_ALL:
-            return self.now.described(certain, self.held.amount)
+            return self._described(certain)
         earlier = PartsOfField(self.probe.earlier, self.before, self.now.parts.are_elements)
         same = same_objects(self.now, [each.value.instance for each in found], earlier)
         self.known = {at: earlier.measure.amount([value]) for at, value in same.items()}
@@ -177,10 +184,15 @@ class GrownParts:
             return []
         # If they gained more than the field did, others shrank: then shares of the gain would be of more than there is.
         is_measured = all(each.value.instance in self.known for each in grown) and sum(gains) <= 100
-        described = self.now.described(grown, self.held.amount)
+        described = self._described(grown)
         if is_measured:
             described = [it._replace(percent=gain, has_gained=True) for it, gain in zip(described, gains)]
         return sorted(described, key=lambda each: -each.percent)
+
+    def _described(self, found: Sequence[Holding]) -> List[HoldingObject]:
+        """Returns these objects with what they hold now, and the least that each gained."""
+        described = self.now.described(found, self.held.amount)
+        return [it._replace(least_gain=self.least_gain(each)) for it, each in zip(described, found)]
 
     def _grown(self, found: Sequence[Holding]) -> List[Holding]:
         """Returns those of `found` that surely gained `OF_ONE` percent or more."""
@@ -212,11 +224,6 @@ def same_objects(now: PartsOfField, places: Sequence[int], earlier: PartsOfField
             if not set(now.names_of([at])[at]).isdisjoint(earlier.names_of([here.instance])[here.instance]):
                 found[at] = here
     return found
-
-
-def objects_to_show(probe: GrowthProbe, held: Retained, shows_values: bool) -> List[HoldingObject]:
-    """Returns the objects that gained most of what `held` did, without texts of the dump unless `shows_values`."""
-    return hidden(objects_that_grew(probe, held), shows_values)
 
 
 def hidden(found: Sequence[HoldingObject], shows_values: bool) -> List[HoldingObject]:

@@ -302,6 +302,7 @@ class RandomTest(unittest.TestCase):
                 for each in found:
                     name = by_size[each.amount.bytes]
                     self.assertTrue(percent[name] >= OF_ONE or kinds[name] == "twin", name)
+                    self.assertTrue(percent[name] >= each.of_gain - 0.001 or kinds[name] == "twin", name)
                     if each.has_gained:
                         called = shown[kinds[name]](name)
                         (was,) = (size for other, size in before.items() if shown[kinds[other]](other) == called)
