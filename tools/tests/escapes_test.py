@@ -10,7 +10,7 @@ from typing import List
 from heap_tools import page
 from heap_tools.page.templates import HIDDEN
 from tests.support.dump_writer import BYTE, DumpWriter
-from tests.support.hostile_names import HOSTILE, ODD, hostile_leak
+from tests.support.hostile_names import HOSTILE, ODD, hostile_leak, hostile_one_dump
 from tests.support.tool_test import ToolTest
 
 #: What each name of the dumps has in it: codes of a terminal, line ends, marks of direction, and markup.
@@ -23,8 +23,8 @@ def hidden_in(text: str) -> List[str]:
 
 
 def hostile_dump(count: int) -> DumpWriter:
-    """Returns a dump all of whose names are hostile, with `count` orders in each of the ways in which they are held, and
-    as many threads."""
+    """Returns a dump all of whose names are hostile, with `count` orders in the first of two baskets, and a thread for
+    ten of them."""
     dump = DumpWriter(time=1000 + count)
     dump.of_class(1, "java/lang/Thread", fields=["name", "target"])
     dump.of_class(2, "java/lang/String", fields=["value", "coder"])
@@ -36,12 +36,12 @@ def hostile_dump(count: int) -> DumpWriter:
     dump.array(100, 4, 200, 201)
     for number in range(2):
         dump.instance(200 + number, 5, 210 + number, 220 + number)
-        text(dump, 220 + number, f"basket {number}{CODES}")
+        text(dump, 220 + number, f"basket {number}{CODES}".replace("\n", ""))
     dump.array(210, 6, *range(1000, 1000 + count))
     dump.array(211, 6, 999)
     for number in range(999, 1000 + count):
         dump.instance(number, 7)
-    for serial in range(1, 1 + count):
+    for serial in range(1, 2 + count // 10):
         at = 5000 + 10 * serial
         dump.thread(serial, at, [(7, f"sell{CODES}"), (3, f"run{CODES}")])
         dump.instance(at, 1, at + 1, at + 2)
@@ -75,30 +75,32 @@ class EscapesTest(ToolTest):
         """Lines, messages and the page show names of classes, fields, methods and threads, and texts, by their bytes."""
         hostile_dump(3).write("before")
         hostile_dump(60).write("after")
-        for words in ([], ["--objects"], ["--weak"], ["--no-values"]):
+        every: List[List[str]] = [[], ["--objects", "--weak"], ["--no-values"]]
+        for words in every:
             said = self.check(*words, "--html", "page", "before", "after")
             self.assertEqual(hidden_in(pathlib.Path("page").read_text()), [], words)
-            self.assertIn(r"report\x1b[*J\x07" if words != ["--no-values"] else "report", said.replace("[2J", "[*J"))
-        said = self.check("--at-least", "1", "--top", "20", "before", "after")
-        for name in (r"basket 0\x1b[2J\x07\x0a\x0d\xe2\x80\xae", r"BASKETS\x1b", r"sell\x1b", r"orders\x1b"):
-            self.assertIn(name, said)
+            for name in (
+                r"BASKETS\x1b",
+                r"orders\x1b",
+                r"sell\x1b",
+                r"report\x1b[*J\x07\x0a\x0d\xe2\x80\xae\xe2\x81\xa6",
+            ):
+                self.assertIn(name, said)
+            if words == []:
+                self.assertIn(r"basket 0\x1b[2J\x07\x0d\xe2\x80\xae\xe2\x81\xa6", said)
         self.check("before", "after", tool="grown")
         self.check("after", tool="holders")
-        found = self.check(
-            "after",
-            r"shop/Order\x1b[2J\x07\x0a\x0d\xe2\x80\xae\xe2\x81\xa6\xe2\x80\x8b\xe2\x80\xa8\xc2\x85<b>&",
-            tool="holders",
-        )
-        for line in found.splitlines():
-            name = line.rpartition("  ")[2]
-            if line.startswith(" "):
-                self.check("after", name, tool="held")
+        order = r"shop/Order\x1b[2J\x07\x0a\x0d\xe2\x80\xae\xe2\x81\xa6\xe2\x80\x8b\xe2\x80\xa8\xc2\x85<b>&"
+        lines = [line for line in self.check("after", order, tool="holders").splitlines() if line.startswith(" ")]
+        self.assertGreater(len(lines), 0)
+        self.check("after", lines[0].rpartition("  ")[2], tool="held")
 
     def test_page(self) -> None:
         """All that a page shows is shown so, wherever it is."""
-        for names in (ODD[:4], [CODES, f"a/A{CODES}.b{CODES}"], HOSTILE + ODD):
-            content = page.html_of(hostile_leak(names, names))
-            self.assertEqual(hidden_in(content), [], names)
+        name = f"a{CODES}/b{CODES}/A{CODES}"
+        for names in (ODD[:3], [name, f"{name}.b{CODES}"], HOSTILE + ODD):
+            for content in (hostile_leak(names, names), hostile_one_dump(names, names)):
+                self.assertEqual(hidden_in(page.html_of(content)), [], names)
 
 
 class ReplacedTest(ToolTest):
