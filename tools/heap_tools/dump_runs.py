@@ -56,9 +56,12 @@ class DumpRuns:
     def of(cls, heapmark: Heapmark, path: str, tool: str) -> "DumpRuns":
         """Reads the dump `path` for `tool`. Raises `Fault` if that cannot be done."""
         require_plain_dump(path, tool)
+        length = os.path.getsize(path) if os.path.exists(path) else 0
         report = heapmark.first_report(path)
         try:
             dump = HeapDump(opened(path), report.has_nameless())
+            if dump.size != length:
+                raise ValueError("another length")
         except UnknownTag as unknown:
             raise Fault(UNREADABLE, f"{path}: {unknown}") from None
         except (IndexError, KeyError, ValueError, struct.error):

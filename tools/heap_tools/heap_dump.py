@@ -116,12 +116,17 @@ class HeapDump:
     # Records
 
     def records(self) -> Iterator[Tuple[int, int, int]]:
-        """Yields the tag of each record, where its body begins and where it ends."""
+        """Yields the tag of each record, where its body begins and where it ends. Raises `ValueError` if the last one does
+        not end where the file does: then that became shorter since heapmark accepted it."""
         at = hprof.HEADER_SIZE
         while at < self.size:
             tag, body = self.bytes[at], at + hprof.RECORD_HEAD_SIZE
             at = body + self.number(body - 4, 4)
+            if body > self.size or at > self.size:
+                break
             yield tag, body, at
+        if at != self.size:
+            raise ValueError(f"a record ends at {at}, and the file at {self.size}")
 
     def _read_records(self) -> None:
         """Keeps where strings and heap records are, how classes are called, and frames and traces."""

@@ -155,6 +155,26 @@ class CandidatesTest(unittest.TestCase):
             fields = {each.name: each.is_collection for each in known.fields(self.report(known.dump))}
             self.assertEqual(fields[f"{name}.cells"], wanted, (name, superclass))
 
+    def test_inherited_collections(self) -> None:
+        """What inherits from a collection of the JDK is one, whatever its name: a list, a map, or a table such as
+        Hashtable, of which Properties are."""
+        for above, wanted in (
+            (["java/util/AbstractCollection"], True),
+            (["java/util/AbstractMap"], True),
+            (["java/util/Dictionary"], True),
+            (["java/util/Dictionary", "java/util/Hashtable", "java/util/Properties"], True),
+            (["java/lang/Object"], False),
+        ):
+            dump, number = Application(), 40
+            for number, name in enumerate(above, 40):
+                dump.of_class(number, name, superclass=number - 1 if number > 40 else 0)
+            dump.of_class(60, "shop/Prices", fields=["cells"], superclass=number)
+            dump.instance(9000, 60, 0)
+            dump.root(9000)
+            known = self.candidates(dump)
+            fields = {each.name: each.is_collection for each in known.fields(self.report(known.dump))}
+            self.assertEqual(fields["shop/Prices.cells"], wanted, above)
+
     def test_order(self) -> None:
         """What the virtual machine keeps comes last."""
         dump = Application()

@@ -4,12 +4,17 @@ import os
 import tempfile
 import unittest
 from typing import IO, Any, Callable, List, Union
+from unittest import mock
 
 from heap_tools import heap_dump, hprof_format, parallel
 from heap_tools.changed_copy import NEAR, number_code, write_copy
-from heap_tools.faults import Fault
+from heap_tools.dump_runs import DumpRuns
+from heap_tools.faults import UNREADABLE, Fault
 from heap_tools.heap_objects import FEWEST_SEGMENTS, HeapObjects
+from heap_tools.heapmark import Heapmark
+from heap_tools.thread_counts import grown_thread_counts, number_of_threads
 from tests.support.dump_writer import BYTE, FRAME, LONG, ROOT_THREAD_OBJECT, STRING, TRACE, DumpWriter, word
+from tests.support.tool_test import ToolTest, report
 
 
 #: The code of the type `char`.
@@ -21,6 +26,12 @@ TEXTS = (
     ("5 \u20ac", CHAR, b"\0005\0 \x20\xac"),
     ("", 0, b""),
 )
+
+
+#: What is said of a thread that came.
+GREW = 'threads "main": 0, then 1; it is in shop/Order.sell'
+#: What is said of a file that became shorter.
+SHRUNK = "dump: it changed while it was read"
 
 
 class HprofTest(unittest.TestCase):
@@ -156,6 +167,44 @@ class ReadingTest(HprofTest):
             dump.objects(part[0] + 10)
         self.assertEqual([root.thread for root in self.read(dump).roots], [1])
 
+    def test_ended_threads(self) -> None:
+        """Threads that have ended have no thread object: their traces and local variables make them no threads."""
+        dump = Service()
+        dump.thread(1, 200, [(3, "sell")])
+        dump.named(200, b"main")
+        dump.record(TRACE, word(102), word(2), word(1), dump.form.spell([5100]))
+        dump.local(2, 0, 300)
+        dump.objects(300)
+        found = self.read(dump)
+        self.assertEqual(number_of_threads(found), 1)
+        self.assertEqual(HeapObjects(found).thread_names(), {1: "main"})
+        none = Service()
+        none.objects(300)
+        self.assertEqual([str(each) for each in grown_thread_counts(self.read(none), found)], [GREW])
+
+    def test_last_segment(self) -> None:
+        """All walks over the objects see those in the first, the middle and the last segments, in one process and in
+        several."""
+        for count in (3, 4 * FEWEST_SEGMENTS):
+            dump = Service()
+            dump.of_class(4, "[Lshop/Order;")
+            dump.of_class(6, "shop/Orders", {"ALL": 5000})
+            for number in range(count):
+                dump.cut()
+                dump.instance(1000 + number, 3, 5000)
+                dump.array(2000 + number, 4, 5000)
+                dump.instance(3000 + number, 2, 4000 + number, b"\0")
+                dump.values(4000 + number, BYTE, b"%d" % number)
+            objects = HeapObjects(self.read(dump))
+            self.assertEqual(len(objects.dump.segments), count + 1)
+            every = list(range(count))
+            self.assertEqual(len(objects.places_of(1000 + number for number in every)), count)
+            self.assertEqual(objects.count({"shop/Order"}), count)
+            self.assertEqual(len(objects.values_of(["shop/Order.next"], {5000})), count)
+            self.assertEqual(len(objects.referrers_of([5000])), 2 * count + 1)
+            texts = {3000 + number: str(number) for number in every}
+            self.assertEqual(objects.texts(texts), texts)
+
     def test_records(self) -> None:
         """The records one after the other, which are the whole dump but for its header; and the names of all fields."""
         found = self.read(Service(), nameless=True)
@@ -238,6 +287,44 @@ class ReadingTest(HprofTest):
         number = (dump.text("APP_LOADER"), LONG, bytes(6) + b"\1\x2d")
         dump.heap += dump.form.named_class_dump(7, (0, 0), [number], [])
         self.assertEqual(self.read(dump).lasting_classes(), [1, 2, 3, 4, 5, 7])
+
+
+class RunsTest(ToolTest):
+    """Dumps that a tool reads after heapmark accepted them."""
+
+    def runs(self, dump: DumpWriter, text: str) -> DumpRuns:
+        """Returns what is read of a dump after a stand-in for heapmark, a shell script."""
+        dump.write("dump")
+        with mock.patch.dict(os.environ, HEAPMARK=self.program(text)):
+            found = DumpRuns.of(Heapmark(), "dump", "test")
+        self.addCleanup(found.dump.file.close)
+        return found
+
+    def test_nameless(self) -> None:
+        """If the report has a class without a name, all segments are read for class dumps, else only the first ones."""
+        dump = Service()
+        dump.thread(1, 200)
+        dump.objects(300)
+        for number in range(3):
+            dump.cut()
+            dump.objects(310 + number)
+            if number == 1:
+                dump.of_class(5, None, {"MINE": 300})
+                dump.objects(320)
+        for name, wanted in (("?0x5", True), ("shop/Order", False)):
+            found = self.runs(dump, f"cat << 'END'\n{report((1, 8, name))}END")
+            self.assertEqual("?0x5" in found.dump.names.values(), wanted)
+
+    def test_shrinks(self) -> None:
+        """A file that became shorter after heapmark accepted it, or empty, is the file's fault, wherever it ends."""
+        dump = Service()
+        dump.values(400, BYTE, bytes(5000))
+        dump.objects(300, 301)
+        size = len(dump.bytes())
+        for length in (0, 10, 31, 35, 200, size - 5100, size - 3, size - 60):
+            with self.assertRaises(Fault) as raised:
+                self.runs(dump, f"truncate -s {length} dump\ncat << 'END'\n{report((1, 8, 'shop/Order'))}END")
+            self.assertEqual((raised.exception.status, str(raised.exception)), (UNREADABLE, SHRUNK), length)
 
 
 class CopyTest(HprofTest):
