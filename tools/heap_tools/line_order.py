@@ -132,19 +132,20 @@ class LineOrder:
         )
 
     def beside(self, answer: Optional[int]) -> Optional[int]:
-        """Returns the best own line whose name says what it is for, and which neither is above the answer nor below it,
-        None if there is none."""
+        """Returns the best own line whose name says what it is for among those that are neither above the answer nor
+        below it, or one that is deeper by the rule of the answer. Returns None if there is none."""
         if answer is None:
             return None
-        found = [it for it in self.numbers if self._is_own_telling(it) and not self._is_on_path(it, answer)]
-        return self._largest(found) if found else None
+        others = [it for it in self.numbers if not self._is_on_path(it, answer)]
+        found = [it for it in others if self._is_own_telling(it)]
+        return self.deepest_with(self._largest(found), others) if found else None
 
     def answer(self) -> Optional[int]:
         """Returns the number of the answer, None if there is no line."""
         if not self.numbers:
             return None
         best = self.best()
-        return self.deepest_with(best) if self._lasts(best) else self.topmost()
+        return self.deepest_with(best, self.numbers) if self._lasts(best) else self.topmost()
 
     def score(self, number: int) -> float:
         """Returns the score of a line."""
@@ -188,10 +189,11 @@ class LineOrder:
         top = [it for it in steady if not any(self.holds_all(upper, it) for upper in steady if upper != it)]
         return max(top or steady, key=lambda it: (lines[it].is_thread, not lines[it].is_collection, lines[it].gain))
 
-    def deepest_with(self, best: int) -> int:
-        """Returns the deepest line above or below `best` that has most of its score, of those whose names say most."""
+    def deepest_with(self, best: int, numbers: Sequence[int]) -> int:
+        """Returns the deepest line of `numbers` above or below `best` that has most of its score, of those whose names
+        say most."""
         whole = self.scores[best]
-        path = [it for it in self.numbers if self.scores[it] >= MOST * whole and self._is_on_path(it, best)]
+        path = [it for it in numbers if self.scores[it] >= MOST * whole and self._is_on_path(it, best)]
         for least in NEARLY * whole, MOST * whole:
             for is_wanted in self._is_own_telling, self._is_telling:
                 near = [it for it in path if self.scores[it] >= least and is_wanted(it)]

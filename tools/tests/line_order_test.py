@@ -176,6 +176,8 @@ class LineOrderTest(unittest.TestCase):
         for scoring, second in ((Scoring.SHARE, "static shop/B.b"), (Scoring.GAIN, "static shop/A.STORE")):
             order, names = Row.of(f"all: {row}, {others}").order(scoring)
             self.assertEqual([names[number] for number in order.sorted()][:2], ["shop/Store.map", second])
+        order, names = Row.of(f"deep: {row}, static shop/B.b (300) > shop/C.c (290)").order(Scoring.SHARE)
+        self.assertEqual([names[number] for number in order.sorted()][1], "shop/C.c")
         order, names = Row.of(f"none: {row}, java/util/Map.m (700)").order(Scoring.SHARE)
         self.assertEqual([names[number] for number in order.sorted()][1], "static shop/A.STORE")
 

@@ -1,0 +1,95 @@
+"""What fills the heap of one dump: the lines, which object holds most, and what is in it."""
+
+import sys
+from dataclasses import dataclass
+from typing import List, NamedTuple, Optional
+
+from heap_tools.class_lookup import family_of
+from heap_tools.dump_runs import DumpRuns
+from heap_tools.heap_dump import HeapDump
+from heap_tools.leak_lines import Line, LineObjects, by_holders, lines_found
+from heap_tools.leak_notes import shown_objects
+from heap_tools.probe import Probe, Retained
+from heap_tools.reports import Amount, Row, Unit
+from heap_tools.running_calls import PASSING, DumpSide, without_running_calls
+from heap_tools.search import Search
+from heap_tools.search_progress import SearchProgress
+
+#: The share from which on a line is shown: something else that holds a fifth may be a second suspect.
+AT_LEAST = 20
+
+
+class HeapOptions(NamedTuple):
+    """What is asked of one dump: of which class or of all, in which unit, from which percentage on, how many lines,
+    whether weak references are followed, and whether texts of the dump are shown."""
+
+    of_class: Optional[str] = None
+    unit: Unit = Unit.BYTES
+    at_least: int = AT_LEAST
+    top: int = 4
+    weak: bool = False
+    shows_values: bool = True
+
+
+@dataclass(frozen=True)
+class HeapQuestion:
+    """A dump, what asks it, and whether weak references are followed. `weakly_held`: what only these hold, if they are
+    not followed."""
+
+    runs: DumpRuns
+    probe: Probe
+    follows_weak: bool
+    weakly_held: Amount
+
+    @property
+    def dump(self) -> HeapDump:
+        """The records of the dump."""
+        return self.runs.dump
+
+
+@dataclass(frozen=True)
+class HeapAnswer:
+    """What was asked, the first lines, how many more there are, which objects hold most of one of them, and what the
+    first line retains, class by class, the largest first."""
+
+    question: HeapQuestion
+    search: Search
+    lines: List[Line]
+    hidden: int
+    objects: Optional[LineObjects]
+    contents: List[Row]
+
+
+def question_of(runs: DumpRuns, options: HeapOptions, progress: SearchProgress) -> HeapQuestion:
+    """Returns what asks a dump. Calls that are running do not count, nor do weak references, unless the user follows
+    them or they hold most."""
+    families = [family_of(options.of_class, runs.dump, runs.report)] if options.of_class else None
+    side, follows_weak, weakly_held = DumpSide.prepared(runs, options.weak), options.weak, Amount()
+    if not options.weak:
+        followed = DumpSide.prepared(runs, follows_weak=True)
+        weakly_held = followed.base.total(families).minus(side.base.total(families))
+        if options.unit.of(weakly_held) > options.unit.of(side.base.total(families)):
+            side, follows_weak, weakly_held = followed, True, Amount()
+    whole = options.unit.of(side.base.total(families))
+    percent = max(PASSING, options.at_least - 1)
+    (side,), _ = without_running_calls([side], families, options.unit, whole, percent)
+    probe = Probe(side.runs, side.candidates, families, options.unit, progress.show, side.base)
+    return HeapQuestion(runs, probe, follows_weak, weakly_held)
+
+
+def answer_of_one(question: HeapQuestion, options: HeapOptions, progress: SearchProgress) -> HeapAnswer:
+    """Searches a dump for what holds much of what is asked for. Fields that hold it only together are no line if they
+    are all static fields: together these hold nearly everything in any dump."""
+    probe = question.probe
+    search = Search(probe, options.at_least, sys.maxsize, by_holders, progress)
+    search.find(probe.candidates.fields(probe.base))
+    lines, objects = lines_found(search, probe, options.top)
+    contents = contents_of(lines[0].held, probe.unit) if lines else []
+    objects = shown_objects(objects, options.shows_values)
+    return HeapAnswer(question, search, lines, len(search.found) - len(lines), objects, contents)
+
+
+def contents_of(held: Retained, unit: Unit) -> List[Row]:
+    """Returns what is retained, class by class, the largest first."""
+    rows = [Row(name, amount) for name, amount in held.lost.items()]
+    return sorted(rows, key=lambda row: (-unit.of(row.amount), -unit.other.of(row.amount), row.name))
