@@ -37,7 +37,7 @@ class Comparison:
         self.omitted_calls: Optional[Calls] = None
         self.follows_weak: bool = options.weak
         self.weakly_held = Amount()
-        paths = [options.before, *options.after]
+        paths = [options.dump, *options.after]
         for number, path in enumerate(paths, 1):
             progress.show(f"reading dump {number} of {len(paths)}")
             self.dumps.append(DumpRuns.of(self.heapmark, path, "leaks"))

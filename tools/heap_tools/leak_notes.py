@@ -6,7 +6,6 @@ from typing import List, NamedTuple, Optional, Sequence
 
 from heap_tools.candidates import joint_name
 from heap_tools.comparison import Comparison
-from heap_tools.console import say
 from heap_tools.direct_buffers import more_direct_memory, worth_saying
 from heap_tools.humanize import counted
 from heap_tools.leak_lines import Answer, Line, LineObjects
@@ -58,11 +57,8 @@ def objects_words(found: LineObjects) -> str:
     return f"line {found.number}: {sentence(joint_name(found.held.candidates), found.objects)}"
 
 
-def say_notes(notes: Notes) -> None:
-    """Says what is beside the lines, a line each."""
-    if notes.objects:
-        say(f"leaks: {objects_words(notes.objects)}")
-    for each in notes.threads:
-        say(f"leaks: {counted(each.after - each.before, 'thread')} more: {each}")
-    for sentence in notes.sentences:
-        say(f"leaks: {sentence}")
+def notes_words(notes: Notes) -> List[str]:
+    """Returns what is beside the lines, a sentence each."""
+    objects = [objects_words(notes.objects)] if notes.objects else []
+    threads = [f"{counted(each.after - each.before, 'thread')} more: {each}" for each in notes.threads]
+    return [*objects, *threads, *notes.sentences]

@@ -1,19 +1,19 @@
 """What fills the heap of one dump: the lines, which object holds most, and what is in it."""
 
-import sys
 from dataclasses import dataclass
 from typing import List, NamedTuple, Optional
 
 from heap_tools.class_lookup import family_of
 from heap_tools.dump_runs import DumpRuns
 from heap_tools.heap_dump import HeapDump
-from heap_tools.leak_lines import Line, LineObjects, by_holders, lines_found
+from heap_tools.leak_lines import Line, LineObjects, lines_found
 from heap_tools.leak_notes import shown_objects
 from heap_tools.probe import Probe, Retained
 from heap_tools.reports import Amount, Row, Unit
 from heap_tools.running_calls import PASSING, DumpSide, without_running_calls
 from heap_tools.search import Search
 from heap_tools.search_progress import SearchProgress
+from heap_tools.search_together import SearchTogether
 
 #: The share from which on a line is shown: something else that holds a fifth may be a second suspect.
 AT_LEAST = 20
@@ -33,12 +33,13 @@ class HeapOptions(NamedTuple):
 
 @dataclass(frozen=True)
 class HeapQuestion:
-    """A dump, what asks it, and whether weak references are followed. `weakly_held`: what only these hold, if they are
-    not followed."""
+    """A dump, what asks it, and whether weak references are followed. `found_weak`: they are followed because they hold
+    most, not because the user wants it. `weakly_held`: what only these hold, if they are not followed."""
 
     runs: DumpRuns
     probe: Probe
     follows_weak: bool
+    found_weak: bool
     weakly_held: Amount
 
     @property
@@ -49,12 +50,13 @@ class HeapQuestion:
 
 @dataclass(frozen=True)
 class HeapAnswer:
-    """What was asked, the first lines, how many more there are, which objects hold most of one of them, and what the
-    first line retains, class by class, the largest first."""
+    """What was asked, the first lines, how many more there are that hold `at_least` percent, which objects hold most of
+    one of them, and what the first line retains, class by class, the largest first."""
 
     question: HeapQuestion
     search: Search
     lines: List[Line]
+    at_least: int
     hidden: int
     objects: Optional[LineObjects]
     contents: List[Row]
@@ -74,19 +76,20 @@ def question_of(runs: DumpRuns, options: HeapOptions, progress: SearchProgress) 
     percent = max(PASSING, options.at_least - 1)
     (side,), _ = without_running_calls([side], families, options.unit, whole, percent)
     probe = Probe(side.runs, side.candidates, families, options.unit, progress.show, side.base)
-    return HeapQuestion(runs, probe, follows_weak, weakly_held)
+    return HeapQuestion(runs, probe, follows_weak, follows_weak and not options.weak, weakly_held)
 
 
 def answer_of_one(question: HeapQuestion, options: HeapOptions, progress: SearchProgress) -> HeapAnswer:
-    """Searches a dump for what holds much of what is asked for. Fields that hold it only together are no line if they
-    are all static fields: together these hold nearly everything in any dump."""
+    """Searches a dump for what holds much of what is asked for. It is not asked what static fields hold only together:
+    in any dump that is nearly everything."""
     probe = question.probe
-    search = Search(probe, options.at_least, sys.maxsize, by_holders, progress)
-    search.find(probe.candidates.fields(probe.base))
-    lines, objects = lines_found(search, probe, options.top)
-    contents = contents_of(lines[0].held, probe.unit) if lines else []
+    search, fields = Search(probe, options.at_least, progress), probe.candidates.fields(probe.base)
+    search.find(fields)
+    SearchTogether(search).find_few(fields)
+    lines, objects, hidden = lines_found(search, probe, options.top)
     objects = shown_objects(objects, options.shows_values)
-    return HeapAnswer(question, search, lines, len(search.found) - len(lines), objects, contents)
+    contents = contents_of(lines[0].held, probe.unit) if lines else []
+    return HeapAnswer(question, search, lines, options.at_least, hidden, objects, contents)
 
 
 def contents_of(held: Retained, unit: Unit) -> List[Row]:

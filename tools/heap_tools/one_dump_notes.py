@@ -1,31 +1,75 @@
-"""What `leaks` says beside its lines of one dump."""
+"""What is said beside the lines of one dump: how full the heap is, which object holds most, what is in it, and which
+thread ran out of memory."""
 
-from typing import List, Sequence
+from dataclasses import dataclass
+from typing import List, NamedTuple, Optional, Sequence
 
 from heap_tools.candidates import LOCAL
-from heap_tools.direct_buffers import direct_memory
+from heap_tools.direct_buffers import DirectMemory, direct_memory
 from heap_tools.heap_capacity import heap_capacity
 from heap_tools.humanize import counted, size
 from heap_tools.leak_notes import captured_words, objects_words
 from heap_tools.omissions import WHY_UNREACHABLE
 from heap_tools.one_dump import HeapAnswer
 from heap_tools.reports import Row
-from heap_tools.thread_stacks import threads_in, threads_that_ran_out
+from heap_tools.thread_stacks import ThreadPlace, threads_in, threads_that_ran_out
 
-#: From which part of what is reachable on, in percent, it is said what else there is: unreachable, held by weak
-#: references only, or outside of the heap.
+#: From which part of what counts on, in percent, it is said what else there is: what is unreachable, what weak
+#: references hold, and what is outside of the heap.
 MUCH = 10
-#: What one dump cannot show.
-SECOND = "one dump shows what is held, not what is more than usual: give a later dump, too, to see what came"
-#: How many classes of what a line retains are said, and of how many threads where they are.
+#: How many classes of what a line retains are said, and of how many threads where their local variables are.
 CLASSES, THREADS = 3, 2
+#: What one dump cannot show. A large cache that is steady looks like a leak.
+SECOND = "one dump shows what is held, not what is more than usual: a second one, taken later, shows that"
 
 
-def fullness(answer: HeapAnswer) -> str:
+class LocalPlace(NamedTuple):
+    """A method whose local variable is a line, and a thread with a call of it."""
+
+    method: str
+    thread: ThreadPlace
+
+    def __str__(self) -> str:
+        return f"local {self.method} is of {self.thread}"
+
+
+@dataclass(frozen=True)
+class HeapNotes:
+    """How many bytes the heap may have, if the dump says it, the threads that ran out of memory, those whose local
+    variables are lines, the memory of direct buffers, a sentence on weak references, empty if they hold little, and
+    other sentences."""
+
+    capacity: Optional[int]
+    ran_out: List[ThreadPlace]
+    locals: List[LocalPlace]
+    direct: DirectMemory
+    weak: str
+    others: List[str]
+
+
+def notes_of_one(answer: HeapAnswer) -> HeapNotes:
+    """Returns what is to be said beside the lines of an answer."""
+    dump = answer.question.dump
+    direct = direct_memory(dump)
+    others = [captured_words(answer.lines), direct_words(answer, direct), unreachable_words(answer), remainder(answer)]
+    ran_out, capacity = threads_that_ran_out(dump), heap_capacity(dump)
+    return HeapNotes(capacity, ran_out, local_places(answer), direct, weak_words(answer), list(filter(None, others)))
+
+
+def sentences_of(answer: HeapAnswer, notes: HeapNotes) -> List[str]:
+    """Returns all that is said beside the lines."""
+    ran_out = [f"memory ran out in {place}" for place in notes.ran_out]
+    objects = objects_words(answer.objects) if answer.objects else ""
+    found = [fullness(answer, notes), objects, contents_words(answer.contents), *ran_out, *map(str, notes.locals)]
+    return [each for each in [*found, notes.weak, *notes.others, SECOND] if each]
+
+
+def fullness(answer: HeapAnswer, notes: HeapNotes) -> str:
     """Returns in words how much is in the heap, and how much may be."""
-    report, capacity = answer.question.runs.report, heap_capacity(answer.question.dump)
-    text = f"{size(report.reachable.bytes)} are reachable in {counted(report.reachable.objects, 'object')}"
-    return f"{text}; the heap may have {size(capacity)}, with headers and padding of objects" if capacity else text
+    reachable = answer.question.runs.report.reachable
+    text = f"{size(reachable.bytes)} are reachable, in {counted(reachable.objects, 'object')}"
+    more = f"; the heap may have {size(notes.capacity)}, with headers and padding" if notes.capacity else ""
+    return text + more
 
 
 def contents_words(contents: Sequence[Row]) -> str:
@@ -37,35 +81,45 @@ def contents_words(contents: Sequence[Row]) -> str:
     return f"line 1 holds {', '.join(parts)}" if parts else ""
 
 
-def local_words(answer: HeapAnswer) -> List[str]:
-    """Returns in words which threads have the local variables of lines, and what called their methods."""
+def local_places(answer: HeapAnswer) -> List[LocalPlace]:
+    """Returns which threads have the local variables of lines."""
     methods = [each.name for line in answer.lines for each in line.held.candidates if each.kind == LOCAL]
-    found = [(method, place) for method in methods for place in threads_in(answer.question.dump, method)[:THREADS]]
-    return [f"local {method} is in {place}" for method, place in found]
+    dump = answer.question.dump
+    return [LocalPlace(method, place) for method in methods for place in threads_in(dump, method)[:THREADS]]
 
 
-def notes_of_one(answer: HeapAnswer) -> List[str]:
-    """Returns all that is said beside the lines: what is in the heap, what the first line holds, who ran out of memory,
-    and what a second dump would show."""
-    ran_out = [f"memory ran out in {place}" for place in threads_that_ran_out(answer.question.dump)]
-    objects = objects_words(answer.objects) if answer.objects else ""
-    found = [fullness(answer), objects, contents_words(answer.contents), *ran_out, *local_words(answer)]
-    return [each for each in [*found, captured_words(answer.lines), *other_memory(answer), SECOND] if each]
-
-
-def other_memory(answer: HeapAnswer) -> List[str]:
-    """Returns in words what else there is, if it is much."""
+def weak_words(answer: HeapAnswer) -> str:
+    """Returns in words what weak references hold, empty if that is little."""
     question, unit = answer.question, answer.question.probe.unit
-    least, direct = MUCH * question.probe.whole.bytes / 100, direct_memory(question.dump)
-    found = []
-    if question.follows_weak:
-        found.append("only soft, weak, final or phantom references hold most of it; so these references are followed")
-    elif 100 * unit.of(question.weakly_held) >= MUCH * unit.of(question.probe.whole):
-        held = f"{counted(question.weakly_held.objects, 'object')}, {size(question.weakly_held.bytes)}"
-        found.append(f"only soft, weak, final or phantom references hold {held} more: see --weak")
-    if direct.bytes >= max(1, least):
-        found.append(f"{counted(direct.buffers, 'direct buffer')} have {size(direct.bytes)} outside the heap")
-    unreachable = question.runs.report.unreachable.bytes
-    if unreachable >= max(1, least):
-        found.append(f"{size(unreachable)} more are unreachable: {WHY_UNREACHABLE}")
-    return found
+    if question.found_weak:
+        return "only soft, weak, final or phantom references hold most of it; so these references are followed"
+    if 100 * unit.of(question.weakly_held) < MUCH * max(1, unit.of(question.probe.whole)):
+        return ""
+    held = f"{size(question.weakly_held.bytes)} in {counted(question.weakly_held.objects, 'object')}"
+    return f"only soft, weak, final or phantom references hold {held} more: see --weak"
+
+
+def direct_words(answer: HeapAnswer, direct: DirectMemory) -> str:
+    """Returns in words what direct buffers have, empty if that is little."""
+    if not direct.bytes or 100 * direct.bytes < MUCH * answer.question.runs.report.reachable.bytes:
+        return ""
+    have = "has" if direct.buffers == 1 else "have"
+    return f"{counted(direct.buffers, 'direct buffer')} {have} {size(direct.bytes)} outside the heap"
+
+
+def unreachable_words(answer: HeapAnswer) -> str:
+    """Returns in words what is unreachable, empty if that is little."""
+    report = answer.question.runs.report
+    if not report.unreachable.bytes or 100 * report.unreachable.bytes < MUCH * report.reachable.bytes:
+        return ""
+    return f"{size(report.unreachable.bytes)} more are unreachable: {WHY_UNREACHABLE}"
+
+
+def remainder(answer: HeapAnswer) -> str:
+    """Returns what the lines do not have: that there are more, or none; empty if neither is so."""
+    probe, at_least = answer.question.probe, answer.at_least
+    if answer.hidden:
+        return f"{answer.hidden} more {'holds' if answer.hidden == 1 else 'hold'} {at_least}% or more: see --top"
+    whole, more = counted(probe.unit.of(probe.whole), probe.unit.noun), ": see --at-least" * (at_least > 1)
+    none = f"no field, local variable or thread alone holds {at_least}% of {whole}{more}"
+    return "" if answer.lines else none

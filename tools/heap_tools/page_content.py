@@ -4,7 +4,7 @@ import os
 import platform
 import shlex
 import time
-from typing import List, Sequence
+from typing import List, Sequence, Union
 
 from heap_tools import VERSION, page
 from heap_tools.candidates import Candidate
@@ -13,6 +13,7 @@ from heap_tools.class_names import CLASSES, is_own
 from heap_tools.comparison import Comparison
 from heap_tools.dump_runs import DumpRuns, is_dump
 from heap_tools.faults import UNWRITABLE, WRONG_USE, Fault
+from heap_tools.heapmark import Heapmark
 from heap_tools.leak_lines import Answer, Line
 from heap_tools.leak_notes import Notes
 from heap_tools.omissions import on_page
@@ -36,7 +37,7 @@ def content_of(comparison: Comparison, answer: Answer, notes: Notes, shows_value
         last=reports[-1].families,
         growth=probe.growth,
         omitted=on_page(comparison.more_unreachable()),
-        making=making_of(comparison),
+        making=making_of(comparison.words, comparison.heapmark, comparison.began),
         by=probe.unit,
         of_class=of_class,
         is_of_grown=bool(probe.families) and of_class is None,
@@ -122,12 +123,12 @@ def command_line(command: Sequence[str], *operands: str) -> str:
     return " ".join(map(shlex.quote, [*command, *ends, *operands]))
 
 
-def making_of(comparison: Comparison) -> page.Making:
-    """Returns how the figures were found."""
-    command = " ".join(map(shlex.quote, ["leaks", *comparison.words]))
-    versions = [("leaks", VERSION), ("heapmark", comparison.heapmark.version()), ("Python", platform.python_version())]
+def making_of(words: Sequence[str], heapmark: Heapmark, began: float) -> page.Making:
+    """Returns how the figures were found: by these words of a command line, since `began`."""
+    command = " ".join(map(shlex.quote, ["leaks", *words]))
+    versions = [("leaks", VERSION), ("heapmark", heapmark.version()), ("Python", platform.python_version())]
     now = time.time()
-    return page.Making(command, comparison.heapmark.runs, now - comparison.began, int(1000 * now), versions)
+    return page.Making(command, heapmark.runs, now - began, int(1000 * now), versions)
 
 
 def write_page(path: str, content: page.Content) -> None:

@@ -4,24 +4,34 @@ import functools
 import sys
 import time
 from argparse import Namespace
-from typing import NoReturn, Sequence, Tuple
+from typing import List, NoReturn, Sequence, Tuple
 
 from heap_tools import command_line
 from heap_tools.command_line import Parser, number
 from heap_tools.comparison import Comparison
 from heap_tools.console import Progress, is_terminal, say, write
+from heap_tools.documents import document
+from heap_tools.dump_runs import DumpRuns
 from heap_tools.faults import WRONG_USE, Fault
+from heap_tools.heapmark import Heapmark
 from heap_tools.humanize import counted, duration, size
+from heap_tools.leak_documents import Cost, fields_of_growth, fields_of_one
 from heap_tools.leak_lines import Answer, Line, answer_of
-from heap_tools.leak_notes import Notes, notes_of, say_notes
-from heap_tools.page_content import content_of, require_place, write_page
+from heap_tools.leak_notes import Notes, notes_of, notes_words
+from heap_tools.one_dump import AT_LEAST, HeapOptions, answer_of_one, question_of
+from heap_tools.one_dump_notes import notes_of_one, sentences_of
+from heap_tools.one_dump_output import lines_of_one
+from heap_tools.one_dump_page import page_of_one
+from heap_tools.page_content import content_of, making_of, require_place, write_page
 from heap_tools.probe import GrowthProbe
 from heap_tools.reports import Unit
+from heap_tools.search_progress import SearchProgress
 
 ABOUT = """
 Shows what holds the objects that grew between heap dumps of one program: for
 each field, static field, local variable or thread that holds much of the
-growth, a line. The first line is the answer.
+growth, a line. The first line is the answer. Of one dump it shows what holds
+much of the heap.
 """
 NOTES = """
 The columns are the objects and the bytes that are held in the last dump and
@@ -63,37 +73,48 @@ and the last are asked what the lines held; of others only the reports are used.
 For what is held in one dump, see holders, which also says how it is found; for
 which classes grew, see grown.
 
+Of one dump, the columns are the objects and bytes that are held, their share of
+all that is reachable, and the number of instances. The score of a line is what
+it holds, unless it has more than 64 instances of which no one holds most. The
+second line is beside the first: something else may leak, too. Messages say how
+full the heap is, which object holds most, what is in it, and in which methods
+memory ran out: of an unlucky thread, which need not be the cause.
+
 Exit status:
   0  done: what holds the growth, if anything, was printed
   1  a dump cannot be read, was refused, or does not go with the others; nothing
      was printed
   2  the command line is wrong
-  3  nothing grew; nothing was printed
+  3  nothing grew, or no object of CLASS is reachable; nothing was printed
   4  the output or FILE cannot be written
   5  heapmark cannot be run, or a later run failed; nothing was printed
   6  no class of the last dump has the name CLASS; nothing was printed
 
-Example:
+Examples:
+  $ leaks oom.hprof
   $ leaks monday.hprof friday.hprof
 """
 #: The most files on a command line: each is read, and each has a place in the page's charts.
 MOST_FILES = 100
+#: The share of the growth from which on a line is shown.
+AT_LEAST_OF_GROWTH = 30
 
 
 def parser() -> Parser:
     """Returns the options and operands."""
-    it = Parser("leaks", "[OPTIONS] <BEFORE> <AFTER>...", ABOUT, NOTES)
-    it.operand("before", "A heap dump, in a plain file: it is read many times")
-    it.operand("after", "One or more later ones of the same program, the earliest first", nargs="*")
+    it = Parser("leaks", "[OPTIONS] <DUMP> [<AFTER>...]", ABOUT, NOTES)
+    it.operand("dump", "A heap dump, in a plain file: it is read many times")
+    it.operand("after", "Later ones of the same program, the earliest first", nargs="*")
     text = "Show what holds the growth of a class, as heapmark, grown or jmap shows it, not of the whole heap"
     it.option("--class", "CLASS", text, dest="of_class")
     it.flag("--objects", "Take shares of objects, not of bytes")
-    text = "Show what holds P percent or more of the growth, 1 to 100 [default: 30]"
-    it.option("--at-least", "P", text, type=number(1, 100), default=30)
+    text = "Show what holds P percent or more, 1 to 100 [default: 30 of the growth, 20 of the heap of one dump]"
+    it.option("--at-least", "P", text, type=number(1, 100))
     it.option("--top", "N", "Show at most N lines [default: 4]", type=number(1), default=4)
     it.option("--html", "FILE", "Also write a page for a browser, with charts, to FILE")
     it.flag("--weak", "Follow soft, weak, final and phantom references, too")
     it.flag("--no-values", "Show no text or number that the dump has in fields, except the names of threads")
+    it.flag("--json", "Print all that lines and notes say as a JSON document")
     return it
 
 
@@ -127,19 +148,21 @@ def lines_above(comparison: Comparison, probe: GrowthProbe, width: int) -> str:
     return f"{head}\n{'objects':>10} {'bytes':>14} share {'before':>14} {'after':>14} {'holders':>{width}}  field\n"
 
 
-def say_remainder(answer: Answer, comparison: Comparison) -> None:
-    """Says what the lines do not."""
-    search, probe = answer.search, answer.probe
+def remainder(answer: Answer, comparison: Comparison) -> List[str]:
+    """Returns what the lines do not have, a sentence each."""
+    search, probe, found = answer.search, answer.probe, []
     if answer.hidden:
         hold = "holds" if answer.hidden == 1 else "hold"
-        say(f"leaks: {answer.hidden} more {hold} {search.at_least}% or more: see --top")
+        found.append(f"{answer.hidden} more {hold} {search.at_least}% or more: see --top")
     if search.omitted:
-        say(f"leaks: {counted(search.omitted, 'field')} not tried, after {probe.questions} questions: see --at-least")
+        omitted = counted(search.omitted, "field")
+        found.append(f"{omitted} not tried, after {probe.questions} questions: see --at-least")
     if not answer.lines:
         more = ": see --at-least" * (search.at_least > 1)
-        say(f"leaks: no field, local variable or thread alone holds {search.at_least}% of the growth{more}")
+        found.append(f"no field, local variable or thread alone holds {search.at_least}% of the growth{more}")
     if probe.unit.of(comparison.more_unreachable()) > probe.unit.of(probe.growth):
-        say(f"leaks: {comparison.why_missing()}")
+        found.append(comparison.why_missing())
+    return found
 
 
 def compared(options: Namespace, words: Sequence[str]) -> Tuple[Comparison, Answer, Notes]:
@@ -155,25 +178,53 @@ def compared(options: Namespace, words: Sequence[str]) -> Tuple[Comparison, Answ
         progress.clear()
 
 
+def print_growth(options: Namespace, words: Sequence[str]) -> None:
+    """Prints what holds the growth between two dumps or more."""
+    comparison, answer, notes = compared(options, words)
+    has_heads = is_terminal(sys.stdout) and answer.lines
+    above = lines_above(comparison, answer.probe, width_of(answer.lines)) if has_heads else ""
+    cost = Cost(answer.search.all, comparison.heapmark.runs, time.time() - comparison.began)
+    sentences = [*notes_words(notes), *remainder(answer, comparison), str(cost)]
+    if options.json:
+        write(document("leaks", fields_of_growth(comparison, answer, notes, cost), sentences))
+    else:
+        write(above + printed(answer.lines, answer.probe.unit))
+    if options.html is not None:
+        write_page(options.html, content_of(comparison, answer, notes, not options.no_values))
+    for sentence in sentences:
+        say(f"leaks: {sentence}")
+
+
+def print_one(options: Namespace, words: Sequence[str]) -> None:
+    """Prints what fills the heap of one dump."""
+    unit = Unit.OBJECTS if options.objects else Unit.BYTES
+    asked = HeapOptions(options.of_class, unit, options.at_least, options.top, options.weak, not options.no_values)
+    began, heapmark, progress = time.time(), Heapmark(), Progress("leaks")
+    try:
+        progress.show("reading the dump")
+        runs, shown = DumpRuns.of(heapmark, options.dump, "leaks"), SearchProgress(progress, heapmark)
+        answer = answer_of_one(question_of(runs, asked, shown), asked, shown)
+        notes = notes_of_one(answer)
+    finally:
+        progress.clear()
+    cost = Cost(answer.search.all, heapmark.runs, time.time() - began)
+    sentences = [*sentences_of(answer, notes), str(cost)]
+    write(document("leaks", fields_of_one(answer, notes, cost), sentences) if options.json else lines_of_one(answer))
+    if options.html is not None:
+        write_page(options.html, page_of_one(answer, notes, making_of(words, heapmark, began), asked.shows_values))
+    for sentence in sentences:
+        say(f"leaks: {sentence}")
+
+
 def main(words: Sequence[str]) -> int:
     """Does what the words of the command line ask for, and returns the exit status."""
     options = parser().read(words)
-    if not options.after:
-        raise Fault(WRONG_USE, f"one dump: holders {options.before} shows what holds its objects")
     if 1 + len(options.after) > MOST_FILES:
         raise Fault(WRONG_USE, f"{1 + len(options.after)} dumps: at most {MOST_FILES}")
     if options.html is not None:
         require_place(options.html)
-    comparison, answer, notes = compared(options, words)
-    has_heads = is_terminal(sys.stdout) and answer.lines
-    above = lines_above(comparison, answer.probe, width_of(answer.lines)) if has_heads else ""
-    write(above + printed(answer.lines, answer.probe.unit))
-    if options.html is not None:
-        write_page(options.html, content_of(comparison, answer, notes, not options.no_values))
-    say_notes(notes)
-    say_remainder(answer, comparison)
-    cost = f"{counted(answer.search.all, 'field')}, {counted(comparison.heapmark.runs, 'run')} of heapmark"
-    say(f"leaks: {cost}, {time.time() - comparison.began:.1f} s")
+    options.at_least = options.at_least or (AT_LEAST_OF_GROWTH if options.after else AT_LEAST)
+    (print_growth if options.after else print_one)(options, words)
     return 0
 
 

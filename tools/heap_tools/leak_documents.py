@@ -1,0 +1,118 @@
+"""The documents that `leaks --json` prints, of one dump and of several. docs/JSON.md lists their fields."""
+
+from typing import List, NamedTuple, Optional, Sequence
+
+from heap_tools.comparison import Comparison
+from heap_tools.documents import Fields, amount_entry, candidates_entry, dump_entry, share_entry
+from heap_tools.humanize import counted
+from heap_tools.leak_lines import Answer, Line, LineObjects
+from heap_tools.leak_notes import Notes
+from heap_tools.one_dump import HeapAnswer, contents_of
+from heap_tools.one_dump_notes import HeapNotes
+from heap_tools.probe import Probe
+from heap_tools.reports import Row
+from heap_tools.which_object import HoldingObject
+
+
+class Cost(NamedTuple):
+    """What an answer cost: the fields that were tried, the runs of heapmark, and the seconds."""
+
+    fields: int
+    runs: int
+    seconds: float
+
+    def __str__(self) -> str:
+        fields, runs = counted(self.fields, "field"), counted(self.runs, "run")
+        return f"{fields}, {runs} of heapmark, {self.seconds:.1f} s"
+
+
+def fields_of_one(answer: HeapAnswer, notes: HeapNotes, cost: Cost) -> Fields:
+    """Returns the fields of the document of one dump."""
+    question, probe = answer.question, answer.question.probe
+    return {
+        "files": [dump_entry(question.runs)],
+        **asked(probe, answer.at_least, question.follows_weak),
+        "growth": None,
+        "lines": [line_entry(each, is_growth=False) for each in answer.lines],
+        "hidden": answer.hidden,
+        "objects": objects_entry(answer.objects),
+        "contents": contents_entry(answer.contents),
+        "more_threads": [],
+        "ran_out": [{"thread": it.name, "methods": it.methods, "before_own": it.before_own} for it in notes.ran_out],
+        "direct_bytes": [notes.direct.bytes],
+        "heap_capacity_bytes": notes.capacity,
+        **cost_entry(cost),
+    }
+
+
+def fields_of_growth(comparison: Comparison, answer: Answer, notes: Notes, cost: Cost) -> Fields:
+    """Returns the fields of the document of two dumps or more."""
+    probe, lines = answer.probe, answer.lines
+    return {
+        "files": [dump_entry(each) for each in comparison.dumps],
+        **asked(probe, answer.search.at_least, comparison.follows_weak),
+        "growth": amount_entry(probe.growth),
+        "lines": [line_entry(each, is_growth=True) for each in lines],
+        "hidden": answer.hidden,
+        "objects": objects_entry(notes.objects),
+        "contents": contents_entry(contents_of(lines[0].held, probe.unit)) if lines else [],
+        "more_threads": [
+            {"pattern": it.pattern, "before": it.before, "after": it.after, "methods": it.frames}
+            for it in notes.threads
+        ],
+        "ran_out": [],
+        "direct_bytes": [each.bytes for each in comparison.direct],
+        "heap_capacity_bytes": None,
+        **cost_entry(cost),
+    }
+
+
+def asked(probe: Probe, at_least: float, follows_weak: bool) -> Fields:
+    """Returns what was asked: of which classes, and how much of them is reachable."""
+    return {
+        "unit": probe.unit.value,
+        "classes": probe.families,
+        "at_least_percent": at_least,
+        "follows_weak": follows_weak,
+        "whole": amount_entry(probe.whole),
+    }
+
+
+def cost_entry(cost: Cost) -> Fields:
+    """Returns what an answer cost."""
+    return {"fields_tried": cost.fields, "runs": cost.runs, "seconds": round(cost.seconds, 1)}
+
+
+def line_entry(line: Line, is_growth: bool) -> Fields:
+    """Returns a line: what was held before only if there is a dump of that."""
+    return {
+        "path": [candidates_entry(each.candidates) for each in [*line.above, line.held]],
+        "before": amount_entry(line.before) if is_growth else None,
+        "retained": amount_entry(line.held.amount),
+        "share_percent": share_entry(line.share),
+        "instances_before": line.holders_before if is_growth else None,
+        "instances": line.held.holders,
+    }
+
+
+def objects_entry(found: Optional[LineObjects]) -> Optional[Fields]:
+    """Returns which objects gained or hold most of a line."""
+    return {"line": found.number, "objects": [object_entry(each) for each in found.objects]} if found else None
+
+
+def object_entry(found: HoldingObject) -> Fields:
+    """Returns an object, and what names it."""
+    return {
+        "class": found.class_name,
+        "names": [{"how": each.how, "text": each.text} for each in found.names],
+        "retained": amount_entry(found.amount),
+        "share_percent": share_entry(found.percent),
+        "share_of": "growth" if found.has_gained else "retained",
+        "of": found.of,
+        "is_element": found.is_element,
+    }
+
+
+def contents_entry(rows: Sequence[Row]) -> List[Fields]:
+    """Returns what the first line retains, class by class."""
+    return [{"class": row.name, "retained": amount_entry(row.amount)} for row in rows]

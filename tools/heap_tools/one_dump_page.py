@@ -1,0 +1,44 @@
+"""What `leaks` shows of one dump on the page of `--html`."""
+
+from heap_tools import page
+from heap_tools.leak_lines import Line
+from heap_tools.one_dump import HeapAnswer
+from heap_tools.one_dump_notes import HeapNotes
+from heap_tools.page_content import dump_of, fields_of, object_of, program_of, share_of, steps_from
+from heap_tools.probe import Probe
+
+
+def page_of_one(answer: HeapAnswer, notes: HeapNotes, making: page.Making, shows_values: bool) -> page.OneDump:
+    """Returns what the page shows. `shows_values`: of the program, too, what values of the dump say."""
+    question, probe = answer.question, answer.question.probe
+    names = probe.families or [row.name for row in answer.contents]
+    return page.OneDump(
+        dump=dump_of(question.runs),
+        suspects=[suspect_of(line, probe) for line in answer.lines],
+        classes=question.runs.report.families,
+        omitted=[],
+        making=making,
+        by=probe.unit,
+        of_class=probe.families[0] if probe.families else None,
+        program=program_of(question.runs, shows_values),
+        next_steps=steps_from(question.runs.path, answer.lines, names, question.follows_weak),
+        objects=[object_of(answer.objects.number, it) for it in answer.objects.objects] if answer.objects else [],
+        contents=answer.contents,
+        ran_out=[page.RanOutEntry(it.name, it.methods, it.before_own) for it in notes.ran_out],
+        notes=[sentence_of(each) for each in [*map(str, notes.locals), *notes.others]],
+        weak=sentence_of(notes.weak) if notes.weak else None,
+        capacity=notes.capacity,
+    )
+
+
+def suspect_of(line: Line, probe: Probe) -> page.SuspectEntry:
+    """Returns what the page shows of a line."""
+    above = [page.StepEntry(fields_of(each.candidates), share_of(each.amount, probe)) for each in line.above]
+    return page.SuspectEntry(
+        fields_of(line.held.candidates), line.held.holders, share_of(line.held.amount, probe), above
+    )
+
+
+def sentence_of(text: str) -> str:
+    """Returns a text as a sentence."""
+    return f"{text[0].upper()}{text[1:]}."
