@@ -4,6 +4,7 @@ from dataclasses import dataclass
 from typing import List, NamedTuple, Optional
 
 from heap_tools.class_lookup import family_of
+from heap_tools.class_objects import require_objects
 from heap_tools.dump_runs import DumpRuns
 from heap_tools.heap_dump import HeapDump
 from heap_tools.leak_lines import Line, LineObjects, lines_found
@@ -73,6 +74,8 @@ def question_of(runs: DumpRuns, options: HeapOptions, progress: SearchProgress) 
         if options.unit.of(weakly_held) > options.unit.of(side.base.total(families)):
             side, follows_weak, weakly_held = followed, True, Amount()
     whole = options.unit.of(side.base.total(families))
+    if families:
+        require_objects(families[0], runs, side.base)
     percent = max(PASSING, options.at_least - 1)
     (side,), _ = without_running_calls([side], families, options.unit, whole, percent)
     probe = Probe(side.runs, side.candidates, families, options.unit, progress.show, side.base)

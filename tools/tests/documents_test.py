@@ -7,7 +7,7 @@ from typing import Any, Dict, Iterator, List, NamedTuple
 
 from heap_tools.documents import document, path_entry
 from tests.support.held_objects import DUMPS
-from tests.support.services import cache
+from tests.support.services import cache, handler, of_customer, reporters
 from tests.support.tool_test import TOP, ToolTest, histogram, report
 
 
@@ -38,6 +38,51 @@ FORMS: Dict[str, Dict[str, Any]] = {
         "hours": Maybe(float),
         "classes": [{"class": str, "growth": AMOUNT, "steps": [int], "growth_per_hour": Maybe(float)}],
         "hidden": int,
+    },
+    "leaks": {
+        **HEAD,
+        "files": [FILE],
+        "unit": UNIT,
+        "classes": Maybe([str]),
+        "at_least_percent": float,
+        "follows_weak": bool,
+        "whole": AMOUNT,
+        "growth": Maybe(AMOUNT),
+        "lines": [
+            {
+                "path": [[FIELD]],
+                "before": Maybe(AMOUNT),
+                "retained": AMOUNT,
+                "share_percent": float,
+                "instances_before": Maybe(int),
+                "instances": int,
+            }
+        ],
+        "hidden": int,
+        "objects": Maybe(
+            {
+                "line": int,
+                "objects": [
+                    {
+                        "class": str,
+                        "names": [{"how": str, "text": str}],
+                        "retained": AMOUNT,
+                        "share_percent": float,
+                        "share_of": {"growth", "retained"},
+                        "of": int,
+                        "is_element": bool,
+                    }
+                ],
+            }
+        ),
+        "contents": [{"class": str, "retained": AMOUNT}],
+        "more_threads": [{"pattern": str, "before": int, "after": int, "methods": [str]}],
+        "ran_out": [{"thread": str, "methods": [str], "before_own": int}],
+        "direct_bytes": [int],
+        "heap_capacity_bytes": Maybe(int),
+        "fields_tried": int,
+        "runs": int,
+        "seconds": float,
     },
     "holders": {
         **HEAD,
@@ -162,10 +207,53 @@ class DocumentsTest(ToolTest):
         found = self.document("holders", "shop.hprof", "--at-least", "99")
         self.assertEqual((found["lines"], found["class"], found["unit"]), ([], None, "bytes"))
 
+    def test_leaks(self) -> None:
+        """Two dumps: paths as lists of steps, which object gained most, which threads there are more of."""
+        of_customer(20).write("before.hprof")
+        of_customer(400, 60).write("after.hprof")
+        for words, is_shown in ([], True), (["--no-values"], False):
+            found = self.document("leaks", *words, "before.hprof", "after.hprof")
+            line, kinds = found["lines"][0], [[each["kind"] for each in step] for step in found["lines"][0]["path"]]
+            self.assertEqual((kinds, line["instances"], line["instances_before"]), ([["static"], ["field"]], 80, 80))
+            self.assertEqual(line["path"][-1][0]["text"], "shop/Basket.items")
+            self.assertEqual(line["retained"]["objects"] - line["before"]["objects"], found["growth"]["objects"])
+            (one,) = found["objects"]["objects"]
+            self.assertEqual((one["class"], one["of"], found["objects"]["line"]), ("shop/Basket", 80, 1))
+            self.assertEqual("alice" in one["names"][0]["text"], is_shown)
+            self.assertEqual("alice" in json.dumps(found), is_shown)
+            self.assertEqual([len(found["files"]), found["ran_out"]], [2, []])
+        reporters(1).write("before.hprof")
+        reporters(9, 60).write("after.hprof")
+        (threads,) = self.document("leaks", "before.hprof", "after.hprof")["more_threads"]
+        self.assertEqual((threads["pattern"], threads["before"], threads["after"]), ("report-*", 1, 9))
+
+    def test_leaks_of_one(self) -> None:
+        """One dump has no growth; its contents are those of the first line."""
+        dump = handler(200)
+        dump.of_class(9, "java/lang/OutOfMemoryError")
+        dump.thread(2, 710, [(9, "<init>"), (4, "grow"), (8, "handle")])
+        dump.instance(710, 6, 701)
+        dump.write("one.hprof")
+        found = self.document("leaks", "one.hprof", "--at-least", "30")
+        line = found["lines"][0]
+        self.assertEqual([step[0]["kind"] for step in line["path"]], ["thread", "local"])
+        self.assertEqual((line["before"], line["instances_before"], found["growth"]), (None, None, None))
+        total = sum(each["retained"]["bytes"] for each in found["contents"])
+        self.assertEqual((total, found["at_least_percent"]), (line["retained"]["bytes"], 30))
+        (place,) = found["ran_out"]
+        self.assertEqual((place["thread"], place["methods"][place["before_own"]]), ("http-0", "shop/Handler.handle"))
+        found = self.document("leaks", "one.hprof", "--class", "shop/Order", "--objects", "--weak")
+        self.assertEqual((found["classes"], found["unit"], found["follows_weak"]), (["shop/Order"], "objects", True))
+
     def test_nothing(self) -> None:
         """Where no line is printed because nothing could be found, no document is."""
         DUMPS["shop"].write("shop.hprof")
-        for words, status in ((["held", "shop.hprof", "Order.none"], 6), (["held", "none.hprof", "A.x"], 1)):
+        for words, status in (
+            (["held", "shop.hprof", "Order.none"], 6),
+            (["held", "none.hprof", "A.x"], 1),
+            (["leaks", "shop.hprof", "shop.hprof"], 1),
+            (["leaks", "shop.hprof", "--class", "Ghost"], 3),
+        ):
             ended = self.ran("--json", *words[1:], tool=words[0])
             self.assertEqual((ended.status, ended.out), (status, ""))
 

@@ -7,18 +7,18 @@ from typing import List, NamedTuple, NoReturn, Optional, Sequence, Tuple
 from heap_tools import command_line
 from heap_tools.candidates import THREAD, THREADS, joint_name
 from heap_tools.class_lookup import family_of
-from heap_tools.class_names import family, is_array
+from heap_tools.class_objects import require_objects
+from heap_tools.class_names import is_array
 from heap_tools.command_line import Parser, number
 from heap_tools.console import Progress, is_terminal, say, write
 from heap_tools.documents import document, holders_fields
 from heap_tools.dump_runs import DumpRuns, is_dump
-from heap_tools.faults import NOTHING, WEAKLY_HELD, WRONG_USE, Fault
-from heap_tools.heap_objects import HeapObjects
+from heap_tools.faults import WRONG_USE, Fault
 from heap_tools.heapmark import Heapmark
 from heap_tools.humanize import counted
-from heap_tools.omissions import HIDDEN_HOLDERS, WHY_UNREACHABLE
+from heap_tools.omissions import WHY_UNREACHABLE
 from heap_tools.probe import Probe, Retained
-from heap_tools.reports import Report, Unit
+from heap_tools.reports import Unit
 from heap_tools.running_calls import prepared, without_running_calls
 from heap_tools.search import Search
 from heap_tools.search_progress import SearchProgress
@@ -93,22 +93,6 @@ def parser() -> Parser:
     it.flag("--weak", "Follow soft, weak, final and phantom references, too")
     it.flag("--json", "Print all that lines and notes say as a JSON document")
     return it
-
-
-def require_objects(name: str, runs: DumpRuns, base: Report) -> None:
-    """Raises `Fault` if no object of the class `name` is reachable, in the report `base`, or not without weak
-    references."""
-    if runs.report.amount(name).objects == 0:
-        of_family = {each for each in runs.dump.names.values() if family(each) == name} | {name}
-        count = HeapObjects(runs.dump).count(of_family)
-        inner = any(each.startswith(f"{name}$") for each in runs.dump.names.values())
-        why = "the dump has no object of it" + ": did the shell take a $ away? quote the name" * inner
-        if count:
-            are = "is" if count == 1 else "are"
-            why = f"no object of it is reachable, but {count:,} {are} in the dump: {HIDDEN_HOLDERS}"
-        raise Fault(NOTHING, f"{name}: {why}")
-    if base.amount(name).objects == 0:
-        raise Fault(WEAKLY_HELD, f"{name}: only soft, weak, final or phantom references hold its objects: see --weak")
 
 
 class Found(NamedTuple):
