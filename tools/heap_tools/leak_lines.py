@@ -71,7 +71,7 @@ class Lines:
         several = None
         for number in self._order().to_ask():
             objects = self._objects_of(self.every[number])
-            if len(objects) == 1:
+            if len(objects) == 1 and not objects[0].is_element:
                 of_one = objects[0].of_gain / 100
                 self.features[number] = dataclasses.replace(self.features[number], of_one=of_one)
                 return LineObjects(0, self.every[number], objects)

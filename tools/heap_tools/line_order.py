@@ -30,9 +30,7 @@ LARGE_CLASS = 0.1
 HARDLY_ANY = 0.1
 #: The part of its instances that a field must hold to be a chain.
 CHAIN = 0.5
-#: Of how many instances it is asked whether one object holds most.
-FEWEST_OBJECTS, MOST_OBJECTS = 2, 100_000
-#: Of how many lines at most that is asked: each takes some 10 runs.
+#: Of how many lines below the answer it is asked at most whether one object gained most: each takes some 10 runs.
 MOST_ASKED = 3
 
 
@@ -202,9 +200,9 @@ class LineOrder:
         return min(path, key=self._depth)
 
     def to_ask(self) -> List[int]:
-        """Returns the lines of which it is to be asked whether one object gained most: the answer, and fields of
-        instances below it that gained most of what it did; those first whose names say most, then those with fewest
-        instances."""
+        """Returns the lines of which it is to be asked whether one object gained most: fields of instances that gained
+        most of what the answer did and are below it, those first whose names say most, then those with the fewest
+        instances; then the answer."""
         answer = self.answer()
         if answer is None:
             return []
@@ -212,14 +210,14 @@ class LineOrder:
         found = [it for it in self.numbers if self._has_objects(it) and lines[it].gain >= least]
         found = [it for it in found if it == answer or self.holds_all(answer, it)]
         found.sort(key=lambda it: (not lines[it].is_own_telling, not lines[it].is_telling, lines[it].instances))
-        return found[:MOST_ASKED]
+        return [*found[:MOST_ASKED], *([] if answer in found else [answer])]
 
     def _has_objects(self, number: int) -> bool:
-        """Tests whether a line is about several instances, which can be asked one by one."""
+        """Tests whether a line is about several instances, of which one may hold most. Of many collections one that
+        does says little, and the first of a chain always does."""
         line = self.lines[number]
         is_few = line.is_telling or line.instances <= FEW
-        is_asked = line.kinds == (FIELD,) and FEWEST_OBJECTS <= line.instances <= MOST_OBJECTS
-        return is_asked and is_few and not line.is_chain
+        return line.kinds == (FIELD,) and line.instances > 1 and is_few and not line.is_chain
 
     def _own_below(self, number: int, path: Sequence[int]) -> int:
         """Returns the deepest own line of `path` below a line, else that line."""

@@ -65,11 +65,13 @@ class SearchTogether:
             return
         if single and any(map(is_root, self.search.found)):
             return
-        rest = self.unknown([*self.statics, *self.threads(), *([] if single else few)])
-        whole = self.share_or_bound(rest, self.at_least)
+        rest = self.unknown([*self.statics, *([] if single else few)])
+        if not self.has_share([*rest, self.probe.candidates.all_threads()]):
+            return
+        rest = [*rest, *self.unknown(self.threads())]
         # All together may gain more than the growth, if something else shrank.
-        least = max(PART_NEEDED * min(whole, 100), self.at_least)
-        needed = self.needed(rest, [], 0, least, budget) if whole >= self.at_least else []
+        least = max(PART_NEEDED * min(self.share_or_bound(rest, self.at_least), 100), self.at_least)
+        needed = self.needed(rest, [], 0, least, budget)
         if self.has_share(needed):
             self.add(needed)
 
@@ -93,10 +95,8 @@ class SearchTogether:
         return self.share_or_bound(candidates, self.at_least) >= self.at_least
 
     def threads(self) -> List[Candidate]:
-        """Returns threads of names that are alike, and each other thread, if they hold enough."""
+        """Returns threads of names that are alike, and each other thread."""
         candidates = self.probe.candidates
-        if not self.search.is_enough([candidates.all_threads()]):
-            return []
         alike = candidates.threads_alike()
         known = {place for each in alike for place in each.changes}
         return [*alike, *(each for each in candidates.threads() if known.isdisjoint(each.changes))]

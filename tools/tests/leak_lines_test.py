@@ -55,10 +55,10 @@ class LinesTest(unittest.TestCase):
         found, names, count = self.asked([holding(88)])
         assert found
         self.assertEqual((found.objects, names[0], count), (holding(88), "shop/Tenant.inbox", 1))
-        found, names, count = self.asked([[], holding(40, 30)])
+        found, names, count = self.asked([[], holding(40, 30), []])
         assert found
-        self.assertEqual((str(found.held.candidates[0]), names[0], count), ("shop/Mail.text", "static shop/A.ALL", 2))
-        self.assertEqual(self.asked([[], []])[::2], (None, 2))
+        self.assertEqual((str(found.held.candidates[0]), names[0], count), ("shop/Mail.text", "static shop/A.ALL", 3))
+        self.assertEqual(self.asked([[], [], []])[::2], (None, 3))
 
     def test_kin(self) -> None:
         """What a field of the same class held before did not grow."""

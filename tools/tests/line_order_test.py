@@ -10,7 +10,7 @@ from typing import Any, Dict, List, NamedTuple, Sequence, Set, Tuple
 from heap_tools import line_order
 from heap_tools.candidates import FIELD, LOCAL, STATIC, THREAD, THREADS
 from heap_tools.commands import leaks
-from heap_tools.line_order import FEW, LASTS, MOST, MOST_ASKED, MOST_OBJECTS, NEARLY, Features, LineOrder, Scoring
+from heap_tools.line_order import FEW, LASTS, MOST, MOST_ASKED, NEARLY, Features, LineOrder, Scoring
 
 GROWTH = 1000
 #: What words in parentheses mean. `moved`: what gained nothing, and is no line; `other`: it gained what others lost.
@@ -182,24 +182,25 @@ class LineOrderTest(unittest.TestCase):
         self.assertEqual([names[number] for number in order.sorted()][1], "static shop/A.STORE")
 
     def test_to_ask(self) -> None:
-        """It is asked of the answer and of fields of several instances below it that gained most of what it did: of
-        those first whose names say most, then of those with the fewest instances."""
+        """It is asked of fields of several instances that are below the answer and gained most of what it did: of those
+        first whose names say most, then of those with the fewest instances; last of the answer."""
         for asked, is_asked in (
-            ("shop/Tenant.inbox (500..500)", True),
+            ("shop/Tenant.inbox (5..500)", True),
             ("shop/Tenant.inbox (600 9..500)", True),
             ("shop/Tenant.inbox (499 9..500)", False),
-            ("shop/Tenant.inbox", False),
-            (f"shop/Tenant.inbox (1..{MOST_OBJECTS + 1})", False),
-            ("static shop/Tenant.inbox (2..2)", False),
-            ("shop/Node.next (500..500 chain)", False),
-            ("java/util/Node.value (2..64)", True),
-            ("java/util/Node.value (2..65)", False),
+            ("shop/Tenant.inbox (400)", False),
+            ("static shop/Tenant.inbox (600 1..500)", False),
+            ("shop/Node.next (600 9..500 chain)", False),
+            ("java/util/Node.value (600 9..64)", True),
+            ("java/util/Node.value (600 9..65)", False),
         ):
             order, names = Row.of(f"one: *static shop/A.a > {asked}, shop/Beside.b (9..9)").order()
-            self.assertEqual(order.to_ask(), [1] if is_asked else [], asked)
-        fields = ["java/util/M.m (3..3)", "java/lang/L.l (9..99)", "shop/C.c (8..99)", "shop/D.d (7..99)"]
+            self.assertEqual(order.to_ask(), [1, 0] if is_asked else [0], asked)
+        fields = ["java/util/M.m (600 1..3)", "java/lang/L.l (9..99)", "shop/C.c (8..98)", "shop/D.d (7..97)"]
         order, names = Row.of(f"all: *static shop/A.a > {' > '.join(fields)}").order()
-        self.assertEqual([names[number] for number in order.to_ask()], ["shop/C.c", "shop/D.d", "java/lang/L.l"])
+        self.assertEqual(
+            [names[number] for number in order.to_ask()], ["shop/D.d", "shop/C.c", "java/lang/L.l", "static shop/A.a"]
+        )
         self.assertEqual(LineOrder([], lambda upper, lower: False, GROWTH).to_ask(), [])
 
     def test_help(self) -> None:

@@ -87,7 +87,9 @@ class SearchTest(unittest.TestCase):
 
 def candidates_of(statics: Sequence[Candidate]) -> Any:
     """Returns the candidates of a dump with these static fields, in which threads hold nothing."""
-    return mock.Mock(**{"statics.return_value": statics, "all_threads.return_value": Candidate(THREADS, "", 0, {})})
+    nothing = {f"{kind}.return_value": [] for kind in ("threads", "threads_alike")}
+    every = {"statics.return_value": statics, "all_threads.return_value": Candidate(THREADS, "", 0, {})}
+    return mock.Mock(**nothing, **every)
 
 
 class KinTest(unittest.TestCase):
