@@ -29,7 +29,7 @@ def notes_of(comparison: Comparison, answer: Answer, shows_values: bool) -> Note
     grew = comparison.last.report.reachable.minus(comparison.first.report.reachable)
     direct = more_direct_memory(*comparison.direct) if worth_saying(*comparison.direct, grew.bytes) else ""
     threads = grown_thread_counts(comparison.first.dump, comparison.last.dump)[:PATTERNS]
-    every = (comparison.weak_words(answer.probe), direct, captured_words(answer.lines))
+    every = (comparison.weak_words, direct, captured_words(answer.lines))
     sentences = [each for each in every if each]
     return Notes(shown_objects(answer.objects, shows_values), threads, sentences)
 

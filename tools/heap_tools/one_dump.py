@@ -9,6 +9,7 @@ from heap_tools.dump_runs import DumpRuns
 from heap_tools.heap_dump import HeapDump
 from heap_tools.leak_lines import Line, LineObjects, lines_found
 from heap_tools.leak_notes import shown_objects
+from heap_tools.leak_options import Options
 from heap_tools.probe import Probe, Retained
 from heap_tools.reports import Amount, Row, Unit
 from heap_tools.running_calls import PASSING, DumpSide, without_running_calls
@@ -18,18 +19,6 @@ from heap_tools.search_together import SearchTogether
 
 #: The share from which on a line is shown: something else that holds a fifth may be a second suspect.
 AT_LEAST = 20
-
-
-class HeapOptions(NamedTuple):
-    """What is asked of one dump: of which class or of all, in which unit, from which percentage on, how many lines,
-    whether weak references are followed, and whether texts of the dump are shown."""
-
-    of_class: Optional[str] = None
-    unit: Unit = Unit.BYTES
-    at_least: int = AT_LEAST
-    top: int = 4
-    weak: bool = False
-    shows_values: bool = True
 
 
 @dataclass(frozen=True)
@@ -63,7 +52,7 @@ class HeapAnswer:
     contents: List[Row]
 
 
-def question_of(runs: DumpRuns, options: HeapOptions, progress: SearchProgress) -> HeapQuestion:
+def question_of(runs: DumpRuns, options: Options, progress: SearchProgress) -> HeapQuestion:
     """Returns what asks a dump. Calls that are running do not count, nor do weak references, unless the user follows
     them or they hold most."""
     families = [family_of(options.of_class, runs.dump, runs.report)] if options.of_class else None
@@ -82,7 +71,7 @@ def question_of(runs: DumpRuns, options: HeapOptions, progress: SearchProgress) 
     return HeapQuestion(runs, probe, follows_weak, follows_weak and not options.weak, weakly_held)
 
 
-def answer_of_one(question: HeapQuestion, options: HeapOptions, progress: SearchProgress) -> HeapAnswer:
+def answer_of_one(question: HeapQuestion, options: Options, progress: SearchProgress) -> HeapAnswer:
     """Searches a dump for what holds much of what is asked for. It is not asked what static fields hold only together:
     in any dump that is nearly everything."""
     probe = question.probe

@@ -23,7 +23,9 @@ from heap_tools.reports import Amount, Report, Unit
 from heap_tools.which_object import HoldingObject
 
 
-def content_of(comparison: Comparison, answer: Answer, notes: Notes, shows_values: bool) -> page.Leak:
+def content_of(
+    comparison: Comparison, answer: Answer, notes: Notes, making: page.Making, shows_values: bool
+) -> page.Leak:
     """Returns what the page of `--html` shows. `shows_values`: of the program, too, what values of the dump say."""
     probe = answer.probe
     of_class = probe.families[0] if probe.families and len(probe.families) == 1 else None
@@ -37,7 +39,7 @@ def content_of(comparison: Comparison, answer: Answer, notes: Notes, shows_value
         last=reports[-1].families,
         growth=probe.growth,
         omitted=on_page(comparison.more_unreachable()),
-        making=making_of(comparison.words, comparison.heapmark, comparison.began),
+        making=making,
         by=probe.unit,
         of_class=of_class,
         is_of_grown=bool(probe.families) and of_class is None,

@@ -4,6 +4,7 @@ import enum
 from typing import List, NamedTuple, Optional, Sequence, Tuple
 
 from heap_tools.candidates import Candidates
+from heap_tools.changed_copy import Changes
 from heap_tools.dump_runs import DumpRuns, Question, reports_of
 from heap_tools.reports import Report, Unit
 
@@ -26,10 +27,12 @@ class DumpSide(NamedTuple):
     base: Report
 
 
-def prepared(dumps: Sequence[DumpRuns], follows_weak: bool) -> List[DumpSide]:
-    """Returns dumps with weak references cut, unless they are followed. They are asked at once."""
+def prepared(dumps: Sequence[DumpRuns], follows_weak: bool, cuts: Sequence[Changes] = ()) -> List[DumpSide]:
+    """Returns dumps with weak references cut, unless they are followed, and with the changes `cuts`, one for each dump
+    if there are any. They are asked at once."""
     candidates = [Candidates(runs.dump, follows_weak) for runs in dumps]
-    return _asked([each.prepared(runs) for runs, each in zip(dumps, candidates)], candidates)
+    runs = [each.prepared(of_dump) for of_dump, each in zip(dumps, candidates)]
+    return _asked([each.with_cut(cut) for each, cut in zip(runs, cuts)] if cuts else runs, candidates)
 
 
 def without(sides: Sequence[DumpSide], calls: Calls) -> List[DumpSide]:

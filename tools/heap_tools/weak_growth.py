@@ -1,13 +1,53 @@
 """What grew and is held by soft, weak, final or phantom references alone: it is not reachable if these are cut."""
 
-from typing import List, Optional, Sequence
+from typing import List, NamedTuple, Optional, Sequence
 
+from heap_tools.dump_runs import DumpRuns
 from heap_tools.humanize import more_are
-from heap_tools.reports import Amount
-from heap_tools.running_calls import DumpSide
+from heap_tools.reports import Amount, Unit
+from heap_tools.running_calls import DumpSide, prepared
+from heap_tools.weak_kinds import WeakKind, WeakReferences
 
 #: The share of the growth, in percent, from which on it is said what is held by weak references alone.
 MUCH_WEAKLY_HELD = 5
+
+
+class Followed(NamedTuple):
+    """Which weak references are followed: none, those of one kind, or all. `amount`: what is held more by those alone
+    that are not. `why`: a sentence on it, if not the user wants it."""
+
+    is_any: bool
+    kind: Optional[WeakKind] = None
+    amount: Amount = Amount()
+    why: str = ""
+
+    def sides(self, dumps: Sequence[DumpRuns]) -> List[DumpSide]:
+        """Returns dumps in which only these references lead somewhere."""
+        cuts = [WeakReferences(each.dump).without_others(self.kind) for each in dumps] if self.kind else []
+        return prepared(dumps, self.is_any, cuts)
+
+
+def followed_of(runs: Sequence[DumpRuns], families: Optional[List[str]], unit: Unit) -> Followed:
+    """Returns which weak references are to be followed in the first and the last of some dumps, if the user leaves it
+    open: those of a kind that alone hold most of what grew then. Soft ones never are: what they hold is a cache."""
+    cut = prepared(runs, follows_weak=False)
+    whole = weak_growth(cut, prepared(runs, follows_weak=True), families)
+    growth = grown(cut, families, unit)
+    if not is_most(unit.of(whole), growth):
+        return Followed(False, amount=whole)
+    best = Followed(False, amount=whole)
+    for kind in (kind for kind in WeakKind if kind is not WeakKind.SOFT):
+        followed = Followed(True, kind)
+        amount = weak_growth(cut, followed.sides(runs), families)
+        is_better = best.kind is None or unit.of(amount) > unit.of(best.amount)
+        if is_better and is_most(unit.of(amount), growth):
+            best = followed._replace(amount=amount)
+    return best._replace(amount=Amount(), why=why_followed(best.kind, best.amount, runs[-1])) if best.kind else best
+
+
+def is_most(part: int, rest: int) -> bool:
+    """Tests whether a part is most of what grew, if all else grew by `rest`, or shrank if that is below 0."""
+    return part + rest > 0 and part > rest and part > 0
 
 
 def weak_growth(cut: Sequence[DumpSide], followed: Sequence[DumpSide], families: Optional[List[str]]) -> Amount:
@@ -15,6 +55,21 @@ def weak_growth(cut: Sequence[DumpSide], followed: Sequence[DumpSide], families:
     than in the first: `cut` are the two dumps without such references, `followed` the same with them."""
     first, last = (weak.base.total(families).minus(side.base.total(families)) for side, weak in zip(cut, followed))
     return last.minus(first)
+
+
+def grown(sides: Sequence[DumpSide], families: Optional[List[str]], unit: Unit) -> int:
+    """Returns how much more the last dump has of these families, or of all that is reachable if they are None."""
+    first, last = (unit.of(side.base.total(families)) for side in sides)
+    return last - first
+
+
+def why_followed(kind: WeakKind, growth: Amount, last: DumpRuns) -> str:
+    """Returns in words that references of a kind are followed, of which class most are, and where the thread is blocked
+    that handles them."""
+    references = WeakReferences(last.dump)
+    of_class, blocked = references.usual_class(kind), references.handler_words(kind)
+    held = f"{more_are(*growth)} held by {kind.noun} references alone, most of them {of_class}"
+    return f"{held}{blocked}: most of the growth; so these references are followed"
 
 
 def weakly_held_words(growth: Amount) -> str:

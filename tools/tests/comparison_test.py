@@ -7,11 +7,13 @@ from unittest import mock
 
 from heap_tools.candidates import FIELD, WEAK, Candidates
 from heap_tools.changed_copy import Changes
-from heap_tools.comparison import BETWEEN, Comparison, spread
+from heap_tools.comparison import BETWEEN, Comparison, require_one_program, spread
+from heap_tools.direct_buffers import DirectMemory
 from heap_tools.faults import Fault
 from heap_tools.heap_dump import HeapDump
 from heap_tools.reports import Unit
 from heap_tools.running_calls import Calls
+from heap_tools.weak_growth import Followed
 from tests.support.dump_writer import DumpWriter
 from tests.support.marker import MarkedRuns
 from tests.support.services import of_main, running
@@ -64,9 +66,11 @@ class BetweenTest(unittest.TestCase):
             (None, True, {}),
         ]
         for calls, follows_weak, cut in cases:
-            comparison = mock.Mock(dumps=[None, between, None], omitted_calls=calls, follows_weak=follows_weak)
-            probe = mock.Mock(families=["shop/Order"], unit=Unit.BYTES)
-            (found,) = Comparison.probes_between(comparison, probe)
+            probe: Any = mock.Mock(families=["shop/Order"], unit=Unit.BYTES)
+            dumps: Any = [None, between, None]
+            none = DirectMemory(), DirectMemory()
+            comparison = Comparison(dumps, none, probe, Followed(follows_weak), calls, [])
+            (found,) = comparison.probes_between()
             self.assertEqual(found.runs.cut, cut, (calls, follows_weak))
             self.assertEqual((found.families, found.unit), (["shop/Order"], Unit.BYTES))
 
@@ -76,13 +80,12 @@ class BetweenTest(unittest.TestCase):
         for name, runs in (("first", first), ("same", same), ("other", other)):
             runs.path = name
         for last, said in ((same, None), (other, "the main class shop/B, not the shop/A")):
-            comparison = mock.Mock(dumps=[first, last], first=first, last=last)
             with mock.patch("heap_tools.comparison.same_file", return_value=None):
                 if said is None:
-                    Comparison._require_one_program(comparison)
+                    require_one_program([first, last])
                 else:
                     with self.assertRaisesRegex(Fault, f"^other: another program. it has {said} of first$"):
-                        Comparison._require_one_program(comparison)
+                        require_one_program([first, last])
 
 
 if __name__ == "__main__":

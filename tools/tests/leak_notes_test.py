@@ -64,7 +64,7 @@ class LeakNotesTest(unittest.TestCase):
         counts = [ThreadCount(f"pool-{letter}-*", 1, 9, []) for letter in "abcdefgh"]
         with mock.patch("heap_tools.leak_notes.grown_thread_counts", return_value=counts):
             comparison = mock.Mock(direct=(DirectMemory(), DirectMemory()))
-            comparison.weak_words.return_value = ""
+            comparison.weak_words = ""
             found = notes_of(comparison, self.answer(), shows_values=True)
         self.assertEqual((found, PATTERNS), (Notes(None, counts[:3], []), 3))
 

@@ -1,14 +1,12 @@
 """leaks: which fields, static fields, local variables and threads hold what grew between dumps of one program."""
 
-import functools
 import sys
 import time
-from argparse import Namespace
-from typing import List, NoReturn, Sequence, Tuple
+from typing import List, NamedTuple, NoReturn, Optional, Sequence
 
 from heap_tools import command_line
 from heap_tools.command_line import Parser, number
-from heap_tools.comparison import Comparison
+from heap_tools.comparison import Comparison, comparison_of, dumps_of
 from heap_tools.console import Progress, is_terminal, say, write
 from heap_tools.documents import document
 from heap_tools.dump_runs import DumpRuns
@@ -17,14 +15,17 @@ from heap_tools.heapmark import Heapmark
 from heap_tools.humanize import counted, duration, size
 from heap_tools.leak_documents import Cost, fields_of_growth, fields_of_one
 from heap_tools.leak_lines import Answer, Line, answer_of
-from heap_tools.leak_notes import Notes, notes_of, notes_words
-from heap_tools.one_dump import AT_LEAST, HeapOptions, answer_of_one, question_of
+from heap_tools.leak_notes import notes_of, notes_words
+from heap_tools.leak_options import Options
+from heap_tools.one_dump import AT_LEAST, answer_of_one, question_of
 from heap_tools.one_dump_notes import notes_of_one, sentences_of
 from heap_tools.one_dump_output import lines_of_one
 from heap_tools.one_dump_page import page_of_one
+from heap_tools.page import Making
 from heap_tools.page_content import content_of, making_of, require_place, write_page
 from heap_tools.probe import GrowthProbe
 from heap_tools.reports import Unit
+from heap_tools.search import Search
 from heap_tools.search_progress import SearchProgress
 
 ABOUT = """
@@ -118,6 +119,25 @@ def parser() -> Parser:
     return it
 
 
+class Output(NamedTuple):
+    """What is printed, and how it came about: the words of the command line, what runs heapmark, when it began, whether
+    a document is printed, and the file of the page."""
+
+    words: Sequence[str]
+    heapmark: Heapmark
+    began: float
+    is_json: bool
+    page: Optional[str]
+
+    def cost(self, search: Search) -> Cost:
+        """Returns what a search has cost."""
+        return Cost(search.all, self.heapmark.runs, time.time() - self.began)
+
+    def making(self) -> Making:
+        """Returns what the page says of how its figures were found."""
+        return making_of(self.words, self.heapmark, self.began)
+
+
 def printed(lines: Sequence[Line], unit: Unit) -> str:
     """Returns the lines as they are printed."""
     texts = []
@@ -165,53 +185,45 @@ def remainder(answer: Answer, comparison: Comparison) -> List[str]:
     return found
 
 
-def compared(options: Namespace, words: Sequence[str]) -> Tuple[Comparison, Answer, Notes]:
-    """Compares the dumps. Returns the comparison, its answer, and what is said beside the lines."""
+def print_growth(paths: Sequence[str], options: Options, output: Output) -> None:
+    """Prints what holds the growth between two dumps or more."""
     progress = Progress("leaks")
+    shown = SearchProgress(progress, output.heapmark)
     try:
-        comparison = Comparison(options, words, progress)
-        probe = comparison.probe()
-        between = functools.partial(comparison.probes_between, probe)
-        answer = answer_of(probe, options.at_least, options.top, comparison.progress, between)
-        return comparison, answer, notes_of(comparison, answer, not options.no_values)
+        comparison = comparison_of(dumps_of(paths, output.heapmark, progress), options, shown)
+        answer = answer_of(comparison.probe, options.at_least, options.top, shown, comparison.probes_between)
+        notes = notes_of(comparison, answer, options.shows_values)
     finally:
         progress.clear()
-
-
-def print_growth(options: Namespace, words: Sequence[str]) -> None:
-    """Prints what holds the growth between two dumps or more."""
-    comparison, answer, notes = compared(options, words)
     has_heads = is_terminal(sys.stdout) and answer.lines
     above = lines_above(comparison, answer.probe, width_of(answer.lines)) if has_heads else ""
-    cost = Cost(answer.search.all, comparison.heapmark.runs, time.time() - comparison.began)
-    sentences = [*notes_words(notes), *remainder(answer, comparison), str(cost)]
-    if options.json:
+    cost = output.cost(answer.search)
+    sentences = [*comparison.why, *notes_words(notes), *remainder(answer, comparison), str(cost)]
+    if output.is_json:
         write(document("leaks", fields_of_growth(comparison, answer, notes, cost), sentences))
     else:
         write(above + printed(answer.lines, answer.probe.unit))
-    if options.html is not None:
-        write_page(options.html, content_of(comparison, answer, notes, not options.no_values))
+    if output.page is not None:
+        write_page(output.page, content_of(comparison, answer, notes, output.making(), options.shows_values))
     for sentence in sentences:
         say(f"leaks: {sentence}")
 
 
-def print_one(options: Namespace, words: Sequence[str]) -> None:
+def print_one(path: str, options: Options, output: Output) -> None:
     """Prints what fills the heap of one dump."""
-    unit = Unit.OBJECTS if options.objects else Unit.BYTES
-    asked = HeapOptions(options.of_class, unit, options.at_least, options.top, options.weak, not options.no_values)
-    began, heapmark, progress = time.time(), Heapmark(), Progress("leaks")
+    progress = Progress("leaks")
     try:
         progress.show("reading the dump")
-        runs, shown = DumpRuns.of(heapmark, options.dump, "leaks"), SearchProgress(progress, heapmark)
-        answer = answer_of_one(question_of(runs, asked, shown), asked, shown)
+        runs, shown = DumpRuns.of(output.heapmark, path, "leaks"), SearchProgress(progress, output.heapmark)
+        answer = answer_of_one(question_of(runs, options, shown), options, shown)
         notes = notes_of_one(answer)
     finally:
         progress.clear()
-    cost = Cost(answer.search.all, heapmark.runs, time.time() - began)
+    cost = output.cost(answer.search)
     sentences = [*sentences_of(answer, notes), str(cost)]
-    write(document("leaks", fields_of_one(answer, notes, cost), sentences) if options.json else lines_of_one(answer))
-    if options.html is not None:
-        write_page(options.html, page_of_one(answer, notes, making_of(words, heapmark, began), asked.shows_values))
+    write(document("leaks", fields_of_one(answer, notes, cost), sentences) if output.is_json else lines_of_one(answer))
+    if output.page is not None:
+        write_page(output.page, page_of_one(answer, notes, output.making(), options.shows_values))
     for sentence in sentences:
         say(f"leaks: {sentence}")
 
@@ -223,8 +235,14 @@ def main(words: Sequence[str]) -> int:
         raise Fault(WRONG_USE, f"{1 + len(options.after)} dumps: at most {MOST_FILES}")
     if options.html is not None:
         require_place(options.html)
-    options.at_least = options.at_least or (AT_LEAST_OF_GROWTH if options.after else AT_LEAST)
-    (print_growth if options.after else print_one)(options, words)
+    at_least = options.at_least or (AT_LEAST_OF_GROWTH if options.after else AT_LEAST)
+    unit = Unit.OBJECTS if options.objects else Unit.BYTES
+    asked = Options(options.of_class, unit, at_least, options.top, options.weak, not options.no_values)
+    output = Output(words, Heapmark(), time.time(), options.json, options.html)
+    if options.after:
+        print_growth([options.dump, *options.after], asked, output)
+    else:
+        print_one(options.dump, asked, output)
     return 0
 
 

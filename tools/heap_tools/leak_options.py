@@ -1,0 +1,17 @@
+"""What a user asks of `leaks`."""
+
+from typing import NamedTuple, Optional
+
+from heap_tools.reports import Unit
+
+
+class Options(NamedTuple):
+    """Of which class it is asked or of all, in which unit, from which percentage on lines are shown, how many of them,
+    whether weak references are followed, and whether texts of the dump are shown."""
+
+    of_class: Optional[str] = None
+    unit: Unit = Unit.BYTES
+    at_least: int = 30
+    top: int = 4
+    weak: bool = False
+    shows_values: bool = True

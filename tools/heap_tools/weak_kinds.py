@@ -1,0 +1,80 @@
+"""The kinds of weak references: soft, weak, final and phantom ones, each by itself."""
+
+import collections
+import enum
+from collections import defaultdict
+from typing import Counter, Dict, List, Optional
+
+from heap_tools.candidates import WEAK
+from heap_tools.changed_copy import Changes
+from heap_tools.class_names import is_own
+from heap_tools.heap_dump import HeapDump
+from heap_tools.heap_objects import FieldValue, HeapObjects
+from heap_tools.thread_counts import method_of
+
+#: How many methods of a thread are said.
+METHODS = 3
+
+
+class WeakKind(enum.Enum):
+    """A kind of references. The value is the class that they inherit from."""
+
+    FINAL = "java/lang/ref/FinalReference"
+    PHANTOM = "java/lang/ref/PhantomReference"
+    WEAK = "java/lang/ref/WeakReference"
+    #: What only soft ones hold is freed when memory is short: a cache, and no leak.
+    SOFT = "java/lang/ref/SoftReference"
+
+    @property
+    def noun(self) -> str:
+        """What a user calls it."""
+        return self.name.lower()
+
+
+#: The threads of the virtual machine that handle what references of a kind name. If one is blocked, these pile up.
+HANDLERS = {WeakKind.FINAL: "Finalizer", WeakKind.PHANTOM: "Common-Cleaner"}
+
+
+class WeakReferences:
+    """The references of a dump that have a referent, by their kind. Walks over all objects."""
+
+    def __init__(self, dump: HeapDump) -> None:
+        self.dump, objects = dump, HeapObjects(dump)
+        self._by_kind: Dict[Optional[WeakKind], List[FieldValue]] = defaultdict(list)
+        self._classes: Dict[Optional[WeakKind], Counter[str]] = defaultdict(collections.Counter)
+        for each in objects.values_of([WEAK]):
+            if dump.id(each.value):
+                class_id = objects.class_of(each.instance)
+                kind = self._kind_of(class_id)
+                self._by_kind[kind].append(each)
+                self._classes[kind][dump.names[class_id]] += 1
+
+    def _kind_of(self, class_id: int) -> Optional[WeakKind]:
+        """Returns the kind of the references of a class, None if it is of no kind."""
+        kinds = {each.value: each for each in WeakKind}
+        while class_id in self.dump.classes:
+            if self.dump.names[class_id] in kinds:
+                return kinds[self.dump.names[class_id]]
+            class_id = self.dump.classes[class_id].superclass
+        return None
+
+    def without_others(self, kind: WeakKind) -> Changes:
+        """Returns the changes by which references of all other kinds lead nowhere."""
+        nowhere = bytes(self.dump.id_size)
+        return {each.value: nowhere for other, values in self._by_kind.items() if other is not kind for each in values}
+
+    def usual_class(self, kind: WeakKind) -> str:
+        """Returns the class that most references of a kind are of, or the kind's own if there are none."""
+        found = self._classes[kind].most_common(1)
+        return found[0][0] if found else kind.value
+
+    def handler_words(self, kind: WeakKind) -> str:
+        """Returns in words which own methods the thread is in that handles a kind, empty if it is in none: then it
+        waits for the next reference."""
+        name = HANDLERS.get(kind)
+        threads = [thread for thread, called in HeapObjects(self.dump).thread_names().items() if called == name]
+        stack = self.dump.stack(threads[0]) if threads else []
+        own = next((number for number, frame in enumerate(stack) if is_own(frame.class_name)), None)
+        if own is None:
+            return ""
+        return f'; thread "{name}" is in {", ".join(map(method_of, stack[own : own + METHODS]))}'
