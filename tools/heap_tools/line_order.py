@@ -77,13 +77,18 @@ class Features:
         return all(kind in (THREAD, THREADS) for kind in self.kinds)
 
     @property
+    def is_joint(self) -> bool:
+        """Tests whether several hold it only together."""
+        return len(self.kinds) > 1
+
+    @property
     def is_telling(self) -> bool:
-        """Tests whether its name says what it is for."""
-        return not (self.is_collection or self.is_thread or "$$Lambda" in self.name)
+        """Tests whether it is a single one whose name says what it is for."""
+        return not (self.is_joint or self.is_collection or self.is_thread or "$$Lambda" in self.name)
 
     @property
     def is_own_telling(self) -> bool:
-        """Tests whether its name says what it is for in the program."""
+        """Tests whether it is a single one whose name says what it is for in the program."""
         return self.is_own and self.is_telling
 
     @property
@@ -166,8 +171,8 @@ class LineOrder:
         others = [it for it in self.numbers if not self.lines[it].is_collection]
         if others and self.scores[self._largest(others)] >= MOST * self.scores[chosen]:
             chosen = self._largest(others)
-        single = [it for it in self.numbers if self.lines[it].is_telling and len(self.lines[it].kinds) == 1]
-        if single and len(self.lines[chosen].kinds) > 1 and self._lasts(self._largest(single)):
+        single = [it for it in self.numbers if self.lines[it].is_telling]
+        if single and self.lines[chosen].is_joint and self._lasts(self._largest(single)):
             chosen = self._largest(single)
         return chosen
 
@@ -193,7 +198,7 @@ class LineOrder:
         whole = self.scores[best]
         path = [it for it in numbers if self.scores[it] >= MOST * whole and self._is_on_path(it, best)]
         for least in NEARLY * whole, MOST * whole:
-            for is_wanted in self._is_own_telling, self._is_telling:
+            for is_wanted in self._is_own_telling, self._is_telling, self._is_joint:
                 near = [it for it in path if self.scores[it] >= least and is_wanted(it)]
                 if near:
                     return self._own_below(min(near, key=self._depth), path)
@@ -230,6 +235,9 @@ class LineOrder:
 
     def _is_on_path(self, number: int, best: int) -> bool:
         return number == best or self.holds_all(number, best) or self.holds_all(best, number)
+
+    def _is_joint(self, number: int) -> bool:
+        return self.lines[number].is_joint
 
     def _is_telling(self, number: int) -> bool:
         return self.lines[number].is_telling

@@ -11,8 +11,9 @@ from heap_tools.search import Search, Tried
 
 #: The part of what several hold together that those of them that are needed must hold, and how many these may be.
 PART_NEEDED, MOST_NEEDED = 0.9, 6
-#: The most groups that are asked for to find which of many hold enough only together.
-MOST_ASKED = 110
+#: The most groups that are asked for to find which of many hold enough only together: of fields, if nothing else is
+#: found, and of roots, if it is known what holds the growth, but not from where.
+MOST_ASKED, MOST_ASKED_OF_ROOTS = 110, 50
 
 
 class Budget(NamedTuple):
@@ -44,7 +45,7 @@ class SearchTogether:
         own = [each for each in rest if each.is_own]
         if own and self.share_or_bound([*own, *alone], least) >= least:
             rest = own
-        budget = self.budget(math.inf)
+        budget = self.budget()
         if self.find_kin(self.unknown(rest), budget):
             return
         needed = self.needed(rest, alone, base, least, budget)
@@ -60,8 +61,8 @@ class SearchTogether:
         single = [held for held in self.search.found if held.holders <= FEW and len(held.candidates) == 1]
         single = [held for held in single if held.candidates[0].kind not in (THREAD, THREADS)]
         largest = max((self.probe.share(held.candidates) for held in single), default=0.0)
-        budget, few = self.budget(MOST_NEEDED), self.unknown([each for each in fields if each.count <= FEW])
-        if largest <= 100 - self.at_least and self.has_share(few) and self.find_kin(few, budget):
+        few = self.unknown([each for each in fields if each.count <= FEW])
+        if largest <= 100 - self.at_least and self.has_share(few) and self.find_kin(few, self.budget()):
             return
         if single and any(map(is_root, self.search.found)):
             return
@@ -71,13 +72,14 @@ class SearchTogether:
         rest = [*rest, *self.unknown(self.threads())]
         # All together may gain more than the growth, if something else shrank.
         least = max(PART_NEEDED * min(self.share_or_bound(rest, self.at_least), 100), self.at_least)
+        budget = self.budget(MOST_NEEDED, MOST_ASKED_OF_ROOTS if single else MOST_ASKED)
         needed = self.needed(rest, [], 0, least, budget)
         if self.has_share(needed):
             self.add(needed)
 
-    def budget(self, needed: float) -> Budget:
-        """Returns a budget from now on."""
-        return Budget(needed, self.probe.questions + MOST_ASKED)
+    def budget(self, needed: float = math.inf, questions: int = MOST_ASKED) -> Budget:
+        """Returns a budget of so many more questions."""
+        return Budget(needed, self.probe.questions + questions)
 
     def add(self, together: Sequence[Candidate]) -> None:
         """Adds what several hold together, those first that hold most alone."""

@@ -69,6 +69,8 @@ rules 1 and 3, one object has less than half: *static shop/A.STORE > shop/Tenant
 rules 1 and 4, a name that says more did not last: shop/A.a (9..99) > *java/lang/Queue.list
 rules 2 and 3, of what does not last the topmost: *shop/Order.text (10..110) > shop/Order.id (900 10..110)
 rules 2 and 4, of what does not last no collection: java/util/HashMap.table (990 9..99), *shop/B.b (900 9..99)
+rules 3 and 4, one of the JDK below several together: two (together) > *java/lang/Thread.threadLocals
+rules 3 and 4, several together above a collection: *two (together) > java/util/HashMap.table
 rules 3 and 4, below a field of the JDK half: java/lang/Queue.list > *shop/A.a (500)
 rules 3 and 4, below a collection half: static shop/A.STORE > java/util/HashMap.table > *shop/Tenant.inbox (500)
 """
