@@ -1,10 +1,11 @@
-"""What `leaks` says beside its lines: which objects hold most, which threads there are more of, what is held by weak
-references alone, and what is outside the heap."""
+"""What `leaks` says beside its lines: which objects hold most, which threads and classes there are more of, what is held
+by weak references alone, and what is outside the heap."""
 
 import re
 from typing import List, NamedTuple, Optional, Sequence
 
 from heap_tools.candidates import joint_name
+from heap_tools.class_counts import grown_class_counts
 from heap_tools.comparison import Comparison
 from heap_tools.direct_buffers import more_direct_memory, worth_saying
 from heap_tools.humanize import counted
@@ -12,7 +13,7 @@ from heap_tools.leak_lines import Answer, Line, LineObjects
 from heap_tools.thread_counts import ThreadCount, grown_thread_counts
 from heap_tools.which_object import sentence
 
-#: How many patterns of names of threads are said.
+#: How many patterns of names of threads are said, and how many kinds of loaders.
 PATTERNS = 3
 
 
@@ -29,7 +30,8 @@ def notes_of(comparison: Comparison, answer: Answer, shows_values: bool) -> Note
     grew = comparison.last.report.reachable.minus(comparison.first.report.reachable)
     direct = more_direct_memory(*comparison.direct) if worth_saying(*comparison.direct, grew.bytes) else ""
     threads = grown_thread_counts(comparison.first.dump, comparison.last.dump)[:PATTERNS]
-    every = (comparison.weak_words, direct, captured_words(answer.lines))
+    classes = map(str, grown_class_counts(comparison.first.dump, comparison.last.dump)[:PATTERNS])
+    every = (*classes, comparison.weak_words, direct, captured_words(answer.lines))
     sentences = [each for each in every if each]
     return Notes(shown_objects(answer.objects, shows_values), threads, sentences)
 

@@ -65,6 +65,7 @@ class LeakNotesTest(unittest.TestCase):
         with mock.patch("heap_tools.leak_notes.grown_thread_counts", return_value=counts):
             comparison = mock.Mock(direct=(DirectMemory(), DirectMemory()))
             comparison.weak_words = ""
+            comparison.first.dump.classes = comparison.last.dump.classes = {}
             found = notes_of(comparison, self.answer(), shows_values=True)
         self.assertEqual((found, PATTERNS), (Notes(None, counts[:3], []), 3))
 
