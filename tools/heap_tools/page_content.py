@@ -4,7 +4,7 @@ import os
 import platform
 import shlex
 import time
-from typing import List, Sequence, Union
+from typing import List, Sequence
 
 from heap_tools import VERSION, page
 from heap_tools.candidates import Candidate
