@@ -18,7 +18,7 @@ from heap_tools.thread_stacks import ThreadPlace, threads_in, threads_that_ran_o
 #: references hold, and what is outside of the heap.
 MUCH = 10
 #: How many classes of what a line retains are said, and of how many threads where their local variables are.
-CLASSES, THREADS = 3, 2
+SHOWN_CLASSES, SHOWN_THREADS = 3, 2
 #: What one dump cannot show. A large cache that is steady looks like a leak.
 SECOND = "one dump shows what is held, not what is more than usual: a second one, taken later, shows that"
 
@@ -74,7 +74,7 @@ def fullness(answer: HeapAnswer, notes: HeapNotes) -> str:
 
 def contents_words(contents: Sequence[Row]) -> str:
     """Returns in words what the first line retains, empty if that is nothing."""
-    parts = [f"{row.amount.objects:,} {row.name} ({size(row.amount.bytes)})" for row in contents[:CLASSES]]
+    parts = [f"{row.amount.objects:,} {row.name} ({size(row.amount.bytes)})" for row in contents[:SHOWN_CLASSES]]
     more = len(contents) - len(parts)
     if more:
         parts.append(f"{more} more {'class' if more == 1 else 'classes'}")
@@ -85,7 +85,7 @@ def local_places(answer: HeapAnswer) -> List[LocalPlace]:
     """Returns which threads have the local variables of lines."""
     methods = [each.name for line in answer.lines for each in line.held.candidates if each.kind == LOCAL]
     dump = answer.question.dump
-    return [LocalPlace(method, place) for method in methods for place in threads_in(dump, method)[:THREADS]]
+    return [LocalPlace(method, place) for method in methods for place in threads_in(dump, method)[:SHOWN_THREADS]]
 
 
 def weak_words(answer: HeapAnswer) -> str:

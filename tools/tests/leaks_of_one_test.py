@@ -9,7 +9,7 @@ from tests.support.services import buffers, cache, finalizers, handler, of_custo
 from tests.support.tool_test import ToolTest
 
 SECOND = "leaks: one dump shows what is held, not what is more than usual: a second one, taken later, shows that"
-WORDS_OF_GROWTH = ("grew", "grow", "gained", "more than before")
+WORDS_OF_GROWTH = ("grew", "gained", "more than before")
 
 
 def line(objects: int, size: int, share: int, instances: int, path: str) -> str:
