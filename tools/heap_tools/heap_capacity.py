@@ -11,15 +11,13 @@ from heap_tools.program_facts import elements, pairs_in, static_value
 #: option -XX:MaxDirectMemorySize says otherwise, which is then among the properties that the same class keeps.
 MACHINE, MOST_DIRECT, PROPERTIES = "jdk/internal/misc/VM", "directMemory", "savedProps"
 OPTION = "sun.nio.MaxDirectMemorySize"
-#: What this class has before the heap's size is known.
-UNKNOWN = 64 << 20
 
 
 def heap_capacity(dump: HeapDump) -> Optional[int]:
     """Returns the most bytes that the heap may have, which is what the program gets as Runtime.maxMemory(), or None if
     the dump does not say it. Walks over all objects some ten times."""
     found = static_long(dump, MACHINE, MOST_DIRECT)
-    return None if found in (None, 0, UNKNOWN) or _has_option(HeapObjects(dump)) else found
+    return None if not found or _has_option(HeapObjects(dump)) else found
 
 
 def static_long(dump: HeapDump, class_name: str, field: str) -> Optional[int]:

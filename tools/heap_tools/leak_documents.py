@@ -32,6 +32,7 @@ def fields_of_one(answer: HeapAnswer, notes: HeapNotes, cost: Cost) -> Fields:
     return {
         "files": [dump_entry(question.runs)],
         **asked(probe, answer.at_least, question.follows_weak),
+        "whole": amount_entry(probe.growth),
         "growth": None,
         "lines": [line_entry(each, is_growth=False) for each in answer.lines],
         "hidden": answer.hidden,
@@ -51,6 +52,7 @@ def fields_of_growth(comparison: Comparison, answer: Answer, notes: Notes, cost:
     return {
         "files": [dump_entry(each) for each in comparison.dumps],
         **asked(probe, answer.search.at_least, comparison.follows_weak),
+        "whole": amount_entry(probe.whole),
         "growth": amount_entry(probe.growth),
         "lines": [line_entry(each, is_growth=True) for each in lines],
         "hidden": answer.hidden,
@@ -68,13 +70,12 @@ def fields_of_growth(comparison: Comparison, answer: Answer, notes: Notes, cost:
 
 
 def asked(probe: Probe, at_least: float, follows_weak: bool) -> Fields:
-    """Returns what was asked: of which classes, and how much of them is reachable."""
+    """Returns what was asked."""
     return {
         "unit": probe.unit.value,
         "classes": probe.families,
         "at_least_percent": at_least,
         "follows_weak": follows_weak,
-        "whole": amount_entry(probe.whole),
     }
 
 

@@ -54,7 +54,7 @@ class HeapAnswer:
 
 def question_of(runs: DumpRuns, options: Options, progress: SearchProgress) -> HeapQuestion:
     """Returns what asks a dump. Calls that are running do not count, nor do weak references, unless the user follows
-    them or they hold most."""
+    them or they hold most. Shares are of all that is reachable."""
     families = [family_of(options.of_class, runs.dump, runs.report)] if options.of_class else None
     side, follows_weak, weakly_held = DumpSide.prepared(runs, options.weak), options.weak, Amount()
     if not options.weak:
@@ -67,7 +67,8 @@ def question_of(runs: DumpRuns, options: Options, progress: SearchProgress) -> H
         require_objects(families[0], runs, side.base)
     percent = max(PASSING, options.at_least - 1)
     (side,), _ = without_running_calls([side], families, options.unit, whole, percent)
-    probe = Probe(side.runs, side.candidates, families, options.unit, progress.show, side.base)
+    of = runs.report.total(families)
+    probe = Probe(side.runs, side.candidates, families, options.unit, progress.show, side.base, of)
     return HeapQuestion(runs, probe, follows_weak, follows_weak and not options.weak, weakly_held)
 
 

@@ -51,7 +51,7 @@ def notes_of_one(answer: HeapAnswer) -> HeapNotes:
     """Returns what is to be said beside the lines of an answer."""
     dump = answer.question.dump
     direct = direct_memory(dump)
-    others = [captured_words(answer.lines), direct_words(answer, direct), unreachable_words(answer), remainder(answer)]
+    others = [captured_words(answer.lines), direct_words(answer, direct), unreachable_words(answer)]
     ran_out, capacity = threads_that_ran_out(dump), heap_capacity(dump)
     return HeapNotes(capacity, ran_out, local_places(answer), direct, weak_words(answer), list(filter(None, others)))
 
@@ -61,7 +61,7 @@ def sentences_of(answer: HeapAnswer, notes: HeapNotes) -> List[str]:
     ran_out = [f"memory ran out in {place}" for place in notes.ran_out]
     objects = objects_words(answer.objects) if answer.objects else ""
     found = [fullness(answer, notes), objects, contents_words(answer.contents), *ran_out, *map(str, notes.locals)]
-    return [each for each in [*found, notes.weak, *notes.others, SECOND] if each]
+    return [each for each in [*found, notes.weak, *notes.others, rest_of_one(answer), SECOND] if each]
 
 
 def fullness(answer: HeapAnswer, notes: HeapNotes) -> str:
@@ -115,11 +115,11 @@ def unreachable_words(answer: HeapAnswer) -> str:
     return f"{size(report.unreachable.bytes)} more are unreachable: {WHY_UNREACHABLE}"
 
 
-def remainder(answer: HeapAnswer) -> str:
+def rest_of_one(answer: HeapAnswer) -> str:
     """Returns what the lines do not have: that there are more, or none; empty if neither is so."""
     probe, at_least = answer.question.probe, answer.at_least
     if answer.hidden:
         return f"{answer.hidden} more {'holds' if answer.hidden == 1 else 'hold'} {at_least}% or more: see --top"
-    whole, more = counted(probe.unit.of(probe.whole), probe.unit.noun), ": see --at-least" * (at_least > 1)
+    whole, more = counted(probe.unit.of(probe.growth), probe.unit.noun), ": see --at-least" * (at_least > 1)
     none = f"no field, local variable or thread alone holds {at_least}% of {whole}{more}"
     return "" if answer.lines else none

@@ -4,8 +4,9 @@ from heap_tools import page
 from heap_tools.leak_lines import Line
 from heap_tools.one_dump import HeapAnswer
 from heap_tools.one_dump_notes import HeapNotes
-from heap_tools.page_content import dump_of, fields_of, object_of, program_of, share_of, steps_from
+from heap_tools.page_content import dump_of, fields_of, object_of, program_of, steps_from
 from heap_tools.probe import Probe
+from heap_tools.reports import Amount
 
 
 def page_of_one(answer: HeapAnswer, notes: HeapNotes, making: page.Making, shows_values: bool) -> page.OneDump:
@@ -31,11 +32,16 @@ def page_of_one(answer: HeapAnswer, notes: HeapNotes, making: page.Making, shows
     )
 
 
+def share_of_one(amount: Amount, probe: Probe) -> page.HeldShare:
+    """Returns an amount, and its share of all that is reachable."""
+    return page.HeldShare(amount, probe.unit.percent(amount, probe.growth))
+
+
 def suspect_of(line: Line, probe: Probe) -> page.SuspectEntry:
     """Returns what the page shows of a line."""
-    above = [page.StepEntry(fields_of(each.candidates), share_of(each.amount, probe)) for each in line.above]
+    above = [page.StepEntry(fields_of(each.candidates), share_of_one(each.amount, probe)) for each in line.above]
     return page.SuspectEntry(
-        fields_of(line.held.candidates), line.held.holders, share_of(line.held.amount, probe), above
+        fields_of(line.held.candidates), line.held.holders, share_of_one(line.held.amount, probe), above
     )
 
 

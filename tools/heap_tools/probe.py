@@ -31,7 +31,7 @@ class Retained(NamedTuple):
 class Probe:
     """Asks a dump what candidates hold of `families`, or of all that is reachable if that is None: `whole` is how much
     of it is reachable. Shares are in `unit`. Calls `before_run` before each run of heapmark. `base` is the report of
-    `runs` without changes, if it is known."""
+    `runs` without changes, if it is known, `of` what shares are of, if not of what `base` has."""
 
     def __init__(
         self,
@@ -41,13 +41,14 @@ class Probe:
         unit: Unit,
         before_run: Callable[[], None] = lambda: None,
         base: Optional[Report] = None,
+        of: Optional[Amount] = None,
     ) -> None:
         self.runs, self.candidates, self.families, self.unit = runs, candidates, families, unit
         self.before_run = before_run
         self.base = base or runs.base()
         self.whole = self.base.total(families)
         #: What shares are of: of one dump all that is asked for, as if the heap had been empty before.
-        self.growth = self.whole
+        self.growth = self.whole if of is None else of
         self._known: Dict[FrozenSet[Key], Retained] = {}
 
     def retained(self, group: Sequence[Candidate]) -> Retained:
@@ -89,7 +90,7 @@ class Probe:
 
     def bound(self, group: Sequence[Candidate]) -> float:
         """Returns a share in percent that the share of no part of `group` exceeds: that of what the group holds."""
-        return self.unit.percent(self.retained(group).amount, self.whole)
+        return self.unit.percent(self.retained(group).amount, self.growth)
 
     def share(self, group: Sequence[Candidate]) -> float:
         """Returns the share of `whole` that a group holds, in percent."""

@@ -7,7 +7,7 @@ import tempfile
 import unittest
 from typing import Optional
 
-from heap_tools.heap_capacity import OPTION, UNKNOWN, heap_capacity
+from heap_tools.heap_capacity import OPTION, heap_capacity
 from heap_tools.heap_dump import HeapDump
 from tests.support.dump_writer import BYTE, LONG, DumpWriter, word
 from tests.support.tool_test import TOP
@@ -53,10 +53,9 @@ class HeapCapacityTest(unittest.TestCase):
             self.assertEqual(self.capacity(content), 24 << 20, version)
 
     def test_direct_memory(self) -> None:
-        """Direct buffers have as much as the heap, unless an option says otherwise; early it is not known."""
+        """Direct buffers have as much as the heap, unless an option says otherwise."""
         self.assertEqual(self.capacity(machine(48 << 20, "java.home")), 48 << 20)
         self.assertIsNone(self.capacity(machine(48 << 20, OPTION)))
-        self.assertIsNone(self.capacity(machine(UNKNOWN, "java.home")))
         self.assertIsNone(self.capacity(machine(0, "java.home")))
 
     def test_nothing(self) -> None:

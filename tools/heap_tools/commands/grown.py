@@ -93,7 +93,7 @@ def program_note(first: Snapshot, last: Snapshot) -> str:
     return f"{last.path}: another program? it has {few} of {first.path}" if few else ""
 
 
-def notes_of(snapshots: Sequence[Snapshot]) -> List[str]:
+def grown_sentences(snapshots: Sequence[Snapshot]) -> List[str]:
     """Returns what is said beside the lines."""
     first, last = snapshots[0], snapshots[-1]
     every = order_note(snapshots), unreachable_note(first.report, last.report), program_note(first, last)
@@ -116,7 +116,7 @@ def main(words: Sequence[str]) -> int:
     found = growths([each.report for each in snapshots], unit, options.more_than)
     if options.own:
         found = [each for each in found if is_own(each.name)]
-    notes, shown = notes_of(snapshots), found[: options.top]
+    notes, shown = grown_sentences(snapshots), found[: options.top]
     try:
         if options.json:
             write(document("grown", grown_fields(snapshots, shown, len(found) - len(shown), unit, hours), notes))

@@ -113,7 +113,7 @@ class Found(NamedTuple):
         return len(self.lines) - len(self.shown)
 
 
-def searched(options: Namespace, name: Optional[str]) -> Found:
+def find_holders(options: Namespace, name: Optional[str]) -> Found:
     """Searches the dump, and returns what was found."""
     if name and is_dump(name):
         text = f"{name}: a file: leaks {options.dump} {name} shows what grew, and what holds it"
@@ -173,7 +173,7 @@ def without_statics(probe: Probe) -> int:
     return probe.unit.of(probe.whole) - probe.unit.of(probe.retained(probe.candidates.statics()).amount)
 
 
-def notes_of(found: Found) -> List[str]:
+def holders_sentences(found: Found) -> List[str]:
     """Returns what the lines do not say: whether there is more, or nothing, and how much is left."""
     search, probe, notes = found.search, found.search.probe, []
     what = counted(probe.unit.of(probe.whole), probe.unit.noun)
@@ -197,8 +197,8 @@ def main(words: Sequence[str]) -> int:
     options = parser().read(words)
     if sys.stdout is None:
         write("")
-    found = searched(options, getattr(options, "class"))
-    lines, notes = lines_of(found), notes_of(found)
+    found = find_holders(options, getattr(options, "class"))
+    lines, notes = lines_of(found), holders_sentences(found)
     if options.json:
         probe = found.search.probe
         fields = holders_fields(probe, found.search.at_least, found.shown, found.hidden, without_statics(probe))

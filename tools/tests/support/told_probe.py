@@ -16,7 +16,7 @@ class Told(Probe):
     def __init__(self, things: Things) -> None:
         self.things, self._known = things, {}
         self.asked: List[List[str]] = []
-        self.unit, self.whole = Unit.BYTES, Amount(1000, 1000)
+        self.unit, self.whole, self.growth = Unit.BYTES, Amount(1000, 1000), Amount(1000, 1000)
 
     def _difference(self, holders: Sequence[Candidate]) -> Retained:
         names = {holder.name for holder in holders}
