@@ -31,7 +31,7 @@ def fields_of_one(answer: HeapAnswer, notes: HeapNotes, cost: Cost) -> Fields:
     question, probe = answer.question, answer.question.probe
     return {
         "files": [dump_entry(question.runs)],
-        **asked(probe, answer.at_least, question.follows_weak),
+        **asked(probe, answer.at_least, question.followed.is_any),
         "whole": amount_entry(probe.growth),
         "growth": None,
         "lines": [line_entry(each, is_growth=False) for each in answer.lines],

@@ -11,11 +11,12 @@ from heap_tools.leak_lines import Line, LineObjects, lines_found
 from heap_tools.leak_notes import shown_objects
 from heap_tools.leak_options import Options
 from heap_tools.probe import Probe, Retained
-from heap_tools.reports import Amount, Row, Unit
+from heap_tools.reports import Row, Unit
 from heap_tools.running_calls import PASSING, DumpSide, without_running_calls
 from heap_tools.search import Search
 from heap_tools.search_progress import SearchProgress
 from heap_tools.search_together import SearchTogether
+from heap_tools.weak_growth import Followed, followed_of
 
 #: The share from which on a line is shown: something else that holds a fifth may be a second suspect.
 AT_LEAST = 20
@@ -23,14 +24,11 @@ AT_LEAST = 20
 
 @dataclass(frozen=True)
 class HeapQuestion:
-    """A dump, what asks it, and whether weak references are followed. `found_weak`: they are followed because they hold
-    most, not because the user wants it. `weakly_held`: what only these hold, if they are not followed."""
+    """A dump, what asks it, and which weak references are followed."""
 
     runs: DumpRuns
     probe: Probe
-    follows_weak: bool
-    found_weak: bool
-    weakly_held: Amount
+    followed: Followed
 
     @property
     def dump(self) -> HeapDump:
@@ -56,20 +54,15 @@ def question_of(runs: DumpRuns, options: Options, progress: SearchProgress) -> H
     """Returns what asks a dump. Calls that are running do not count, nor do weak references, unless the user follows
     them or they hold most. Shares are of all that is reachable."""
     families = [family_of(options.of_class, runs.dump, runs.report)] if options.of_class else None
-    side, follows_weak, weakly_held = DumpSide.prepared(runs, options.weak), options.weak, Amount()
-    if not options.weak:
-        followed = DumpSide.prepared(runs, follows_weak=True)
-        weakly_held = followed.base.total(families).minus(side.base.total(families))
-        if options.unit.of(weakly_held) > options.unit.of(side.base.total(families)):
-            side, follows_weak, weakly_held = followed, True, Amount()
-    whole = options.unit.of(side.base.total(families))
+    followed = Followed(True) if options.weak else followed_of([runs], families, options.unit)
+    side = followed.side(runs)
     if families:
         require_objects(families[0], runs, side.base)
-    percent = max(PASSING, options.at_least - 1)
+    whole, percent = options.unit.of(side.base.total(families)), max(PASSING, options.at_least - 1)
     (side,), _ = without_running_calls([side], families, options.unit, whole, percent)
     of = runs.report.total(families)
     probe = Probe(side.runs, side.candidates, families, options.unit, progress.show, side.base, of)
-    return HeapQuestion(runs, probe, follows_weak, follows_weak and not options.weak, weakly_held)
+    return HeapQuestion(runs, probe, followed)
 
 
 def answer_of_one(question: HeapQuestion, options: Options, progress: SearchProgress) -> HeapAnswer:

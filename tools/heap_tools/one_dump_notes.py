@@ -90,12 +90,10 @@ def local_places(answer: HeapAnswer) -> List[LocalPlace]:
 
 def weak_words(answer: HeapAnswer) -> str:
     """Returns in words what weak references hold, empty if that is little."""
-    question, unit = answer.question, answer.question.probe.unit
-    if question.found_weak:
-        return "only soft, weak, final or phantom references hold most of it; so these references are followed"
-    if 100 * unit.of(question.weakly_held) < MUCH * max(1, unit.of(question.probe.whole)):
-        return ""
-    held = f"{size(question.weakly_held.bytes)} in {counted(question.weakly_held.objects, 'object')}"
+    followed, probe = answer.question.followed, answer.question.probe
+    if 100 * probe.unit.of(followed.amount) < MUCH * max(1, probe.unit.of(probe.growth)):
+        return followed.why
+    held = f"{size(followed.amount.bytes)} in {counted(followed.amount.objects, 'object')}"
     return f"only soft, weak, final or phantom references hold {held} more: see --weak"
 
 

@@ -22,7 +22,7 @@ def page_of_one(answer: HeapAnswer, notes: HeapNotes, making: page.Making, shows
         by=probe.unit,
         of_class=probe.families[0] if probe.families else None,
         program=program_of(question.runs, shows_values),
-        next_steps=steps_from(question.runs.path, answer.lines, names, question.follows_weak),
+        next_steps=steps_from(question.runs.path, answer.lines, names, question.followed.is_any),
         objects=[object_of(answer.objects.number, it) for it in answer.objects.objects] if answer.objects else [],
         contents=answer.contents,
         ran_out=[page.RanOutEntry(it.name, it.methods, it.before_own) for it in notes.ran_out],

@@ -3,7 +3,7 @@
 from typing import List, NamedTuple, Optional, Sequence
 
 from heap_tools.dump_runs import DumpRuns
-from heap_tools.humanize import more_are
+from heap_tools.humanize import counted, more_are, size
 from heap_tools.reports import Amount, Unit
 from heap_tools.running_calls import DumpSide, prepared
 from heap_tools.weak_kinds import WeakKind, WeakReferences
@@ -28,8 +28,9 @@ class Followed(NamedTuple):
 
 
 def followed_of(runs: Sequence[DumpRuns], families: Optional[List[str]], unit: Unit) -> Followed:
-    """Returns which weak references are to be followed in the first and the last of some dumps, if the user leaves it
-    open: those of a kind that alone hold most of what grew then. Soft ones never are: what they hold is a cache."""
+    """Returns which weak references are to be followed in the first and the last of some dumps, or in one, if the user
+    leaves it open: those of a kind that alone hold most of what grew then, or of what is reachable in one dump. Soft
+    ones never are: what they hold is a cache."""
     cut = prepared(runs, follows_weak=False)
     whole = weak_growth(cut, prepared(runs, follows_weak=True), families)
     growth = grown(cut, families, unit)
@@ -42,7 +43,7 @@ def followed_of(runs: Sequence[DumpRuns], families: Optional[List[str]], unit: U
         is_better = best.kind is None or unit.of(amount) > unit.of(best.amount)
         if is_better and is_most(unit.of(amount), growth):
             best = followed._replace(amount=amount)
-    return best._replace(amount=Amount(), why=why_followed(best.kind, best.amount, runs[-1])) if best.kind else best
+    return best._replace(amount=Amount(), why=why_followed(best.kind, best.amount, runs)) if best.kind else best
 
 
 def is_most(part: int, rest: int) -> bool:
@@ -52,24 +53,27 @@ def is_most(part: int, rest: int) -> bool:
 
 def weak_growth(cut: Sequence[DumpSide], followed: Sequence[DumpSide], families: Optional[List[str]]) -> Amount:
     """Returns how much more of these families, or of all if they are None, only weak references hold in the last dump
-    than in the first: `cut` are the two dumps without such references, `followed` the same with them."""
-    first, last = (weak.base.total(families).minus(side.base.total(families)) for side, weak in zip(cut, followed))
-    return last.minus(first)
+    than in the first, or in one dump at all: `cut` are the dumps without such references, `followed` the same with
+    them."""
+    *before, last = (weak.base.total(families).minus(side.base.total(families)) for side, weak in zip(cut, followed))
+    return last.minus(*before[:1] or [Amount()])
 
 
 def grown(sides: Sequence[DumpSide], families: Optional[List[str]], unit: Unit) -> int:
-    """Returns how much more the last dump has of these families, or of all that is reachable if they are None."""
-    first, last = (unit.of(side.base.total(families)) for side in sides)
-    return last - first
+    """Returns how much more the last dump has of these families than the first, or one dump at all; or of all that is
+    reachable if they are None."""
+    *before, last = (unit.of(side.base.total(families)) for side in sides)
+    return last - sum(before[:1])
 
 
-def why_followed(kind: WeakKind, growth: Amount, last: DumpRuns) -> str:
-    """Returns in words that references of a kind are followed, of which class most are, and where the thread is blocked
-    that handles them."""
-    references = WeakReferences(last.dump)
+def why_followed(kind: WeakKind, amount: Amount, runs: Sequence[DumpRuns]) -> str:
+    """Returns in words that references of a kind are followed, which hold this amount, of which class most are, and
+    where the thread is blocked that handles them."""
+    references, is_growth = WeakReferences(runs[-1].dump), len(runs) > 1
     of_class, blocked = references.usual_class(kind), references.handler_words(kind)
-    held = f"{more_are(*growth)} held by {kind.noun} references alone, most of them {of_class}"
-    return f"{held}{blocked}: most of the growth; so these references are followed"
+    are = more_are(*amount) if is_growth else f"{counted(amount.objects, 'object')}, {size(amount.bytes)} are"
+    held = f"{are} held by {kind.noun} references alone, most of them {of_class}"
+    return f"{held}{blocked}: most of {'the growth' if is_growth else 'the heap'}; so these references are followed"
 
 
 def weakly_held_words(growth: Amount) -> str:

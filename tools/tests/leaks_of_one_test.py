@@ -89,7 +89,10 @@ class LeaksOfOneTest(ToolTest):
     def test_other_memory(self) -> None:
         """What weak references hold, direct buffers, and what is unreachable: if it is much."""
         finalizers(200, 20).write("weak.hprof")
-        followed = "leaks: only soft, weak, final or phantom references hold most of it; so these references are *"
+        followed = (
+            "leaks: 400 objects, 21.6 kB are held by final references alone, most of them java/lang/ref/Finalizer: "
+        )
+        followed += "most of the heap; so these references are followed"
         pathlib.Path("direct.hprof").write_bytes(buffers(60, 20))
         garbage = cache(20)
         garbage.values(90000, BYTE, bytes(900))

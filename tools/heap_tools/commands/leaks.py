@@ -90,6 +90,7 @@ Exit status:
   4  the output or FILE cannot be written
   5  heapmark cannot be run, or a later run failed; nothing was printed
   6  no class of the last dump has the name CLASS; nothing was printed
+  7  of one dump, only weak references hold the objects of CLASS: see --weak
 
 Examples:
   $ leaks oom.hprof
