@@ -99,7 +99,7 @@ class FollowedTest(unittest.TestCase):
             (Followed(True, WeakKind.WEAK), 3),
             (Followed(True, WeakKind.FINAL), 4),
         ):
-            held = followed.side(runs).base.amount("byte[]").minus(Amount(2, 18))
+            held = followed.sides([runs])[0].base.amount("byte[]").minus(Amount(2, 18))
             self.assertEqual(held, Amount(arrays, 100 * arrays), followed)
         self.assertEqual(WeakReferences(runs.dump).usual_class(WeakKind.SOFT), "java/lang/ref/SoftReference")
 
