@@ -1,5 +1,6 @@
 """A browser opens pages of `leaks --html`: of dumps, and of what no dump has."""
 
+import dataclasses
 import pathlib
 import re
 import tempfile
@@ -28,6 +29,15 @@ new Promise(done => {
 ACCENT = """
 (it => getComputedStyle(it.lastChild.nodeType === 3 ? it : it.lastElementChild).color.match(/[0-9.]+/g).map(Number))(
   document.querySelector('h1 .name'))
+"""
+#: Returns the selectors of the style, without what follows a colon, that nothing of the page has.
+UNUSED = """
+(() => {
+  const rules = list => [...list].flatMap(rule => rule.cssRules ? [rule, ...rules(rule.cssRules)] : [rule]);
+  const every = rules(document.styleSheets[0].cssRules).flatMap(rule => (rule.selectorText || '').split(','));
+  return [...new Set(every.map(it => it.trim().replace(/:(before|after|:before|:after|hover|focus-visible)/g, '')))]
+    .filter(it => it && !it.startsWith(':') && !document.querySelector(it));
+})()
 """
 #: Returns the dots of the drawn path that are not below the one before them.
 DOTS_OUT_OF_LINE = """
@@ -58,10 +68,10 @@ class ToolPageTest(InBrowser, ToolTest):
         self.open("page.html")
         self.check_screens()
         *above, name = way.split(" > ")
-        self.assertEqual(self.texts("#holders .holders tbody tr:first-child th > .name"), [name])
-        self.assertEqual(self.texts("#holders .holders tbody tr:first-child li"), above)
+        self.assertEqual(self.texts("#holders .holders tbody:first-of-type th > .name"), [name])
+        self.assertEqual(self.texts("#holders .holders tbody:first-of-type .way li"), above)
         self.assertEqual(self.texts("header li"), above)
-        row = "#holders .holders tbody tr:first-child td:nth-of-type"
+        row = "#holders .holders tbody:first-of-type tr:first-child td:nth-of-type"
         self.assertEqual(self.figures(f"{row}(1) data"), [int(instances)])
         self.assertEqual(self.figures(f"{row}(2) data")[2], int(objects))
         self.assertEqual(self.figures(f"{row}(3) data"), [int(before), int(after), int(size)])
@@ -148,7 +158,7 @@ class BrowserTest(InBrowser):
         self.check_screens()
         name = "com/acme/shop/metrics/MetricsService.METERS"
         self.assertEqual(self.texts("h1"), [f"Static field {name} holds 20.4 MB, up from 4.0 MB"])
-        cell = "#holders tbody tr:first-child td:nth-of-type(3)"
+        cell = "#holders tbody:first-of-type tr:first-child td:nth-of-type(3)"
         self.assertEqual(self.texts(f"{cell} data"), ["4.0 MB", "20.4 MB", "+16.4 MB"])
         self.assertEqual(self.texts("#grown tbody th"), [it.name for it in leak.grown[:-1]])
         exact = set(self.figures("#making td data"))
@@ -156,7 +166,7 @@ class BrowserTest(InBrowser):
             self.assertLessEqual({*dump.reachable, *dump.unreachable, dump.size, dump.unresolved}, exact)
         self.assertEqual(self.texts("#last tfoot data"), ["1,304,914", "58.3 MB"])
         above = [field for step in leak.holders[-1].above for field in step.fields]
-        steps = self.texts("#holders .holders tbody tr:last-child .path li")
+        steps = self.texts("#holders .holders tbody:last-of-type .path li")
         self.assertEqual([page_sample.field(step) for step in steps], above)
         self.assertEqual(self.texts("title")[0], f"{name}: 4.0 MB to 20.4 MB")
 
@@ -281,6 +291,25 @@ class BrowserTest(InBrowser):
             regions = [name for role, name in parts if role == "region"]
             self.assertTrue(all(regions))
             self.assertIn("What holds what grew", regions)
+
+    def test_style_has_no_rest(self) -> None:
+        """Each selector of the style names something of a page; the colours of packages are as many as there may be."""
+        first, middle, _ = page_sample.leak().dumps
+        last = page_sample.dump(2, (1, 58_000_000), (1, 30_000_000))
+        dumps, lines = [first] + [middle] * 60 + [last], page_sample.holders()[::-1]
+        many = page_sample.full_leak(dumps=dumps, holders=lines, last=page_sample.many_packages())
+        above = [page_sample.step(f"a/B.c{number}") for number in range(9)]
+        deep = [dataclasses.replace(page_sample.one_dump().suspects[0], above=above)]
+        unused = []
+        for it in (
+            page_sample.full_leak(),
+            many,
+            page_sample.one_dump(),
+            page_sample.one_dump(suspects=deep, objects=[]),
+        ):
+            self.open_page_of(it)
+            unused.append(set(self.browser.value(UNUSED)))
+        self.assertEqual(set.intersection(*unused), set())
 
     def test_policy(self) -> None:
         """If a name ever were more than text, the policy of the page would still refuse to fetch or to run it."""

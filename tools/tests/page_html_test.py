@@ -151,9 +151,9 @@ class PageOfTwoTest(HtmlOfPage):
     def test_what_objects_gained(self) -> None:
         """The shares of objects are those of what all hold, or of what all gained."""
         it = full_leak()
-        self.check_texts(it, "these hold the most by it", "shares are of what all objects with the field hold.")
+        self.check_texts(it, "these hold most by it", "shares are of what all of them hold.")
         gained = [dataclasses.replace(each, has_gained=True) for each in it.objects]
-        wanted = "these gained the most by it", "shares are of what all objects with the field gained."
+        wanted = "these gained most by it", "shares are of what all of them gained."
         self.check_texts(dataclasses.replace(it, objects=gained), *wanted)
 
     def test_line_numbers(self) -> None:

@@ -1,7 +1,7 @@
 """The section of what holds the growth: the holders, the objects and threads among them, and what to do next."""
 
 from heap_tools.page.model import HolderEntry, Leak, Limits, ThreadGroupEntry
-from heap_tools.page.names import kind_of, names_of, path_to, thread_name
+from heap_tools.page.names import kind_of, names_of, path_row, thread_name
 from heap_tools.page.objects import frames, object_table
 from heap_tools.page.sections import Section, next_steps
 from heap_tools.page.tables import body, left_out, share, table
@@ -22,10 +22,10 @@ def holders(leak: Leak, limits: Limits) -> Section:
 def holder_table(leak: Leak, limits: Limits) -> Html:
     """Returns the table of what holds the growth."""
     shown, of_whole = leak.holders[: limits.holders], f"Of {whole_words(leak)}"
-    rows = body(holder_row(line, it, of_whole, limits) for line, it in enumerate(shown, 1))
+    rows = (holder_row(line, it, of_whole, limits) for line, it in enumerate(shown, 1))
     heads = {"Held by": "name", "Instances": "number", "Objects": "number", "Bytes": "number"}
     heads.update({"Of the growth": "shares", of_whole: "number"})
-    parts = [fill("about", text=about(leak)), table("holders", "What holds what grew", heads, [rows])]
+    parts = [fill("about", text=about(leak)), table("holders", "What holds what grew", heads, rows)]
     return joined([*parts, left_out(len(leak.holders) - len(shown), "row")], "\n")
 
 
@@ -50,7 +50,7 @@ def holder_row(line: int, it: HolderEntry, of_whole: str, limits: Limits) -> Htm
         line=line,
         kind=kind_of(it.fields),
         name=names_of(it.fields, limits),
-        path=path_to(it.above, limits),
+        path=path_row(it.above, 6, limits),
         instances=instance_count(it),
         objects=change_of(before.objects, after.objects, "object"),
         bytes=change_of(before.bytes, after.bytes, "byte"),

@@ -152,3 +152,9 @@ def path_to(above: Sequence[StepEntry], limits: Limits) -> Html:
     if len(above) > len(shown):
         steps.insert(len(steps) - 1, escaped(f"{len(above) - len(shown)} more"))
     return fill("path", steps=joined((fill("item", text=step) for step in steps), " "))
+
+
+def path_row(above: Sequence[StepEntry], columns: int, limits: Limits) -> Html:
+    """Returns the fields above what holds as a row of a table with `columns` columns, below that of the name, which has no
+    room for them."""
+    return fill("path_row", columns=columns, path=path_to(above, limits)) if above else Html()

@@ -5,10 +5,10 @@ from typing import Optional
 
 from heap_tools.page.classes import class_table
 from heap_tools.page.model import HeldShare, Limits, ObjectEntry, OneDump, RanOutEntry, SuspectEntry
-from heap_tools.page.names import kind_of, name_of, names_of, path_to, shown_steps, thread_name
+from heap_tools.page.names import kind_of, name_of, names_of, path_row, shown_steps, thread_name
 from heap_tools.page.objects import frames, names_of_object, object_table
 from heap_tools.page.sections import Section, next_steps
-from heap_tools.page.tables import body, left_out, share, table
+from heap_tools.page.tables import left_out, share, table
 from heap_tools.page.templates import Html, fill, joined
 from heap_tools.page.words import figure, figure_in
 
@@ -97,9 +97,9 @@ def suspect_table(dump: OneDump, limits: Limits) -> Html:
         f"above, below or beside it. Shares are of {dump.whole}."
     )
     heads = {"Held by": "name", "Instances": "number", "Objects": "number", "Bytes": "number", "Share": "shares"}
-    rows = body(suspect_row(line, it, limits) for line, it in enumerate(shown, 1))
+    rows = (suspect_row(line, it, limits) for line, it in enumerate(shown, 1))
     parts = [fill("subhead", text="All that holds much"), fill("about", text=about)]
-    parts.append(table("holders", "What holds much of the heap", heads, [rows]))
+    parts.append(table("holders", "What holds much of the heap", heads, rows))
     return joined([*parts, left_out(len(dump.suspects) - len(shown), "row")], "\n")
 
 
@@ -110,7 +110,7 @@ def suspect_row(line: int, it: SuspectEntry, limits: Limits) -> Html:
         line=line,
         kind=kind_of(it.fields),
         name=names_of(it.fields, limits),
-        path=path_to(it.above, limits),
+        path=path_row(it.above, 5, limits),
         instances=figure(it.instances, "instance"),
         objects=figure(it.held.amount.objects, "object"),
         bytes=figure(it.held.amount.bytes, "byte"),

@@ -87,6 +87,13 @@ def classes() -> Dict[str, page.Amount]:
     return {name: page.Amount(objects, size) for name, objects, size in kinds + many + more}
 
 
+def many_packages() -> Dict[str, page.Amount]:
+    """Returns the classes of a report, with more packages of the program and of the JDK than have colours."""
+    own = {f"com/acme/part{number}/Kind": page.Amount(10, 100_000) for number in range(9)}
+    jdk = {f"java/util/part{number}/Kind": page.Amount(10, 100_000) for number in range(6)}
+    return {**own, **jdk}
+
+
 def grown_classes() -> List[page.GrownClass]:
     """Returns the classes that grew."""
     return [
