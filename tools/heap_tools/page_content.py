@@ -4,7 +4,7 @@ import os
 import platform
 import shlex
 import time
-from typing import List, Sequence
+from typing import List, Optional, Sequence
 
 from heap_tools import VERSION, page
 from heap_tools.candidates import Candidate
@@ -45,7 +45,7 @@ def content_of(
         is_of_grown=bool(probe.families) and of_class is None,
         program=program_of(comparison.last, shows_values),
         next_steps=steps_from(comparison.last.path, answer.lines, names, comparison.follows_weak),
-        objects=objects_of(notes),
+        objects=objects_of(notes, len(answer.lines)),
         threads=[page.ThreadGroupEntry(it.pattern, it.before, it.after, it.frames) for it in notes.threads],
         notes=[f"{sentence[0].upper()}{sentence[1:]}." for sentence in notes.sentences],
     )
@@ -58,15 +58,20 @@ def growth_entries(reports: Sequence[Report], unit: Unit) -> List[page.GrownClas
     return [page.GrownClass(name, [report.amount(name) for report in reports]) for name in names]
 
 
-def objects_of(notes: Notes) -> List[page.ObjectEntry]:
-    """Returns the objects that hold most of what a line holds."""
-    return [object_of(notes.objects.number, it) for it in notes.objects.objects] if notes.objects else []
+def objects_of(notes: Notes, lines: int) -> List[page.ObjectEntry]:
+    """Returns the objects that hold most of what a line holds. The page has the first `lines` lines."""
+    if not notes.objects:
+        return []
+    number, held = notes.objects.number, notes.objects.held
+    field = None if number <= lines else fields_of(held.candidates)[0]
+    return [object_of(number, it, field) for it in notes.objects.objects]
 
 
-def object_of(line: int, it: HoldingObject) -> page.ObjectEntry:
-    """Returns what the page shows of an object that has the field of a line."""
+def object_of(line: int, it: HoldingObject, field: Optional[page.FieldEntry] = None) -> page.ObjectEntry:
+    """Returns what the page shows of an object that has the field of a line. `field`: that, if the page has no such
+    line."""
     names = [page.NameEntry(name.how, name.text) for name in it.names]
-    return page.ObjectEntry(line, it.class_name, names, it.amount.bytes, it.percent, it.has_gained)
+    return page.ObjectEntry(line, it.class_name, names, it.amount.bytes, it.percent, it.has_gained, field)
 
 
 def dump_of(runs: DumpRuns) -> page.DumpEntry:

@@ -107,7 +107,7 @@ class NameEntry:
 class ObjectEntry:
     """One of the objects that have the field of a line. `line`: the number of the line, the first is 1. `bytes`: what it
     holds through the field in the last dump, which is `percent` of what all of them do. `has_gained`: what it gained is
-    `percent` of what all did."""
+    `percent` of what all did. `field`: the field, if the line is not among those of the page."""
 
     line: int
     class_name: str
@@ -115,6 +115,7 @@ class ObjectEntry:
     bytes: int
     percent: float
     has_gained: bool = False
+    field: Optional[FieldEntry] = None
 
 
 @dataclass(frozen=True)

@@ -4,7 +4,7 @@ from typing import Dict, Optional, Sequence
 
 from heap_tools import humanize
 from heap_tools.page.model import Limits, NameEntry, ObjectEntry
-from heap_tools.page.names import breakable, name_of
+from heap_tools.page.names import breakable, field_name, kind_of, name_of
 from heap_tools.page.tables import body, left_out, share, table
 from heap_tools.page.templates import Html, fill, joined, plain
 from heap_tools.page.words import figure
@@ -20,7 +20,7 @@ def object_table(objects: Sequence[ObjectEntry], limits: Limits) -> Html:
         f"Of the objects that have the field of a line, these {verb} most by it. Bytes are what each holds by it now, "
         f"shares are of what all of them {verb}."
     )
-    heads = {"Object": "name", "Field of": "number", "Bytes": "number", "Share of the line": "shares"}
+    heads = {"Object": "name", "Field of": "of-line", "Bytes": "number", "Share of the line": "shares"}
     parts = [fill("subhead", text="Which objects"), fill("about", text=about)]
     rows = body(object_row(it, limits) for it in shown)
     parts.append(table("objects", "The objects that hold most", heads, [rows]))
@@ -29,7 +29,8 @@ def object_table(objects: Sequence[ObjectEntry], limits: Limits) -> Html:
 
 def object_row(it: ObjectEntry, limits: Limits) -> Html:
     """Returns the row of an object."""
-    parts: Dict[str, object] = {"name": name_of(it.class_name, limits.name), "line": it.line}
+    of = joined([kind_of([it.field]), " ", field_name(it.field, limits)]) if it.field else Html(f"line {it.line}")
+    parts: Dict[str, object] = {"name": name_of(it.class_name, limits.name), "of": of}
     parts["names"] = names_of_object(it.names, limits)
     return fill("object_row", bytes=figure(it.bytes, "byte"), share=share(it.percent, "part"), **parts)
 
