@@ -39,13 +39,14 @@ class LineObjects(NamedTuple):
 
 class Answer(NamedTuple):
     """The first lines, the objects that gained most of one line, how many more lines there are, the search that found
-    them, and what it asked."""
+    them, and what it asked: `probe`, and `between` of dumps between the first and the last."""
 
     lines: List[Line]
     objects: Optional[LineObjects]
     hidden: int
     search: Search
     probe: GrowthProbe
+    between: Sequence[EarlierProbe] = ()
 
 
 class Lines:
@@ -145,7 +146,8 @@ def answer_of(
 ) -> Answer:
     """Searches the dumps for what holds `at_least` percent of the growth, and returns the `top` first lines."""
     search = searched(probe, at_least, progress)
-    return Answer(*lines_found(search, probe, top, probes_between() if search.found else []), search, probe)
+    between = probes_between() if search.found else []
+    return Answer(*lines_found(search, probe, top, between), search, probe, between)
 
 
 def searched(probe: Probe, at_least: int, progress: SearchProgress) -> Search:

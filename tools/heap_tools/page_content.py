@@ -4,7 +4,7 @@ import os
 import platform
 import shlex
 import time
-from typing import List, Optional, Sequence
+from typing import Dict, List, Optional, Sequence
 
 from heap_tools import VERSION, page
 from heap_tools.candidates import Candidate
@@ -35,7 +35,7 @@ def content_of(
     return page.Leak(
         dumps=[dump_of(runs) for runs in comparison.dumps],
         grown=grown,
-        holders=[holder_of(line, probe) for line in answer.lines],
+        holders=[holder_of(line, probe, measured_between(line, answer, comparison)) for line in answer.lines],
         last=reports[-1].families,
         growth=probe.growth,
         omitted=on_page(comparison.more_unreachable()),
@@ -48,7 +48,18 @@ def content_of(
         objects=objects_of(notes, len(answer.lines)),
         threads=[page.ThreadGroupEntry(it.pattern, it.before, it.after, it.frames) for it in notes.threads],
         notes=[f"{sentence[0].upper()}{sentence[1:]}." for sentence in notes.sentences],
+        weak=weak_words(comparison),
     )
+
+
+def weak_words(comparison: Comparison) -> Optional[str]:
+    """Returns a sentence on the weak references that are followed, or None if none are."""
+    if not comparison.follows_weak:
+        return None
+    kinds = "soft, weak, final or phantom references"
+    if comparison.options.weak:
+        return f"What {kinds} hold counts, too, as --weak asks."
+    return f"Most of what grew is held by {kinds} alone. So what these hold counts, too."
 
 
 def growth_entries(reports: Sequence[Report], unit: Unit) -> List[page.GrownClass]:
@@ -87,8 +98,14 @@ def program_of(runs: DumpRuns, shows_values: bool) -> page.ProgramEntry:
     return page.ProgramEntry(facts.name, facts.process, facts.machine)
 
 
-def holder_of(line: Line, probe: GrowthProbe) -> page.HolderEntry:
-    """Returns what the page shows of a line."""
+def measured_between(line: Line, answer: Answer, comparison: Comparison) -> Dict[int, Amount]:
+    """Returns what a line holds in the dumps between the first and the last that were asked, by their places."""
+    places = {runs.path: place for place, runs in enumerate(comparison.dumps)}
+    return {places[each.runs.path]: each.retained(line.held.candidates).amount for each in answer.between}
+
+
+def holder_of(line: Line, probe: GrowthProbe, between: Dict[int, Amount]) -> page.HolderEntry:
+    """Returns what the page shows of a line. `between`: what it holds in dumps between, by their places."""
     return page.HolderEntry(
         fields=fields_of(line.held.candidates),
         instances=line.held.holders,
@@ -97,6 +114,7 @@ def holder_of(line: Line, probe: GrowthProbe) -> page.HolderEntry:
         share=line.share,
         above=[page.StepEntry(fields_of(each.candidates), share_of(each.amount, probe)) for each in line.above],
         instances_before=line.holders_before,
+        between=between,
     )
 
 
