@@ -130,8 +130,9 @@ class PageOfTwoTest(HtmlOfPage):
         """The page says which bytes it counts: those of the dumps, or those of the heap and how these were found."""
         self.check_texts(leak(), "Bytes are those of fields and elements as the dump writes them")
         layout = "Bytes are those of the heap: objects begin at each 8th byte."
-        text = self.check_texts(leak(layout=layout), layout)
+        text = self.check_texts(leak(layout=layout), layout, "counts times sizes that were found in the dump")
         self.assertNotIn("as the dump writes them", text)
+        self.assertNotIn("counts times sizes", self.outline(leak()).text())
 
     def test_much_is_unreachable(self) -> None:
         """What the dumps do not show is warned of at the top if it is much, and only then."""

@@ -123,7 +123,10 @@ class PageOfOneTest(HtmlOfPage):
         """If weak references are followed, the top says so; the page says which bytes it counts."""
         self.assertIn("Soft references are followed.", self.top_of(one_dump(weak="Soft references are followed.")))
         self.check_texts(one_dump(), "Bytes are those of fields and elements as the dump writes them")
-        text = self.check_texts(one_dump(layout="Bytes are those of the heap."), "Bytes are those of the heap.")
+        found = "counts times sizes that were found in the dump"
+        text = self.check_texts(
+            one_dump(layout="Objects begin at each 8th byte."), "Objects begin at each 8th byte.", found
+        )
         self.assertNotIn("as the dump writes them", text)
 
     def test_nothing_found(self) -> None:

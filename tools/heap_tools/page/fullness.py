@@ -4,7 +4,7 @@ from typing import List, NamedTuple
 
 from heap_tools.page.model import Limits, OneDump
 from heap_tools.page.names import names_of
-from heap_tools.page.sections import Section
+from heap_tools.page.sections import Section, what_bytes_are
 from heap_tools.page.templates import Html, escaped, fill, joined
 from heap_tools.page.words import figure, figure_in, percent
 from heap_tools.reports import Unit
@@ -22,7 +22,8 @@ def fullness(dump: OneDump, limits: Limits) -> Section:
     """Returns the section of how full the heap is."""
     parts = parts_of(dump, limits)
     shown = fill("above", tiles=tiles(dump), picture=bar_of(parts, dump.by))
-    return Section("heap", "Heap", "How full the heap is", shown)
+    body = joined([shown, what_bytes_are(dump.layout, limits)], "\n")
+    return Section("heap", "Heap", "How full the heap is", body)
 
 
 def free_bytes(dump: OneDump) -> int:

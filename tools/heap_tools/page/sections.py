@@ -11,6 +11,10 @@ from heap_tools.page.templates import FOLDER, LONGEST_SENTENCE, Html, fill, join
 from heap_tools.page.words import figure, when
 
 
+#: What is said of bytes that are not those of the dumps.
+OF_LAYOUT = "Bytes are those of the heap: counts times sizes that were found in the dump, which is only tested. "
+
+
 class Section(NamedTuple):
     """A section of a page: its place in an address, what the list of sections calls it, its head, and what is in it."""
 
@@ -32,8 +36,8 @@ class Top(NamedTuple):
     notes: Html
 
 
-def whole_page(top: Top, sections: Sequence[Section], made: int) -> Html:
-    """Returns a page that was made at the time `made`."""
+def whole_page(top: Top, sections: Sequence[Section], made: int, layout: Optional[str]) -> Html:
+    """Returns a page that was made at the time `made`. `layout`: what bytes are, if they are not those of the dumps."""
     links = (fill("nav", id=section.id, label=section.label) for section in sections)
     shown = (fill("section", id=section.id, head=section.head, body=section.body) for section in sections)
     return fill(
@@ -42,6 +46,7 @@ def whole_page(top: Top, sections: Sequence[Section], made: int) -> Html:
         nav=joined(links, "\n"),
         sections=joined(shown, "\n"),
         made=when(made),
+        bytes=OF_LAYOUT if layout else "",
         **top._asdict(),
     )
 
@@ -62,6 +67,11 @@ def notes(sentences: Iterable[Optional[str]], limits: Limits) -> Html:
     """Returns what else is to be known, each as a note."""
     shown = [plain(each, 3 * limits.name) for each in sentences if each][: limits.sentences]
     return joined((fill("note", text=each) for each in shown), "\n")
+
+
+def what_bytes_are(layout: Optional[str], limits: Limits) -> Html:
+    """Returns what bytes are, if they are not those of the dumps."""
+    return fill("about", text=plain(layout, 3 * limits.name)) if layout else Html()
 
 
 def next_steps(steps: Sequence[NextStep]) -> Html:
@@ -85,7 +95,7 @@ def omitted(sentences: Sequence[str], dumps: Sequence[DumpEntry], layout: Option
     unreachable = dumps[-1].unreachable.objects
     if unreachable > 0 and not any("unreachable" in each for each in shown):
         shown.append(unreachable_on_page(unreachable, "the last dump" if len(dumps) > 1 else "the dump"))
-    shown += [*NEVER_SHOWN, plain(layout, 3 * limits.name) if layout else SIZES]
+    shown += NEVER_SHOWN if layout else [*NEVER_SHOWN, SIZES]
     items = joined((fill("item", text=sentence) for sentence in shown), "\n")
     return Section("omitted", "Not shown", "What dumps do not show", fill("list", items=items))
 
