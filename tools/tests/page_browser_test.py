@@ -172,8 +172,9 @@ class BrowserTest(InBrowser):
 
     def test_other_pages(self) -> None:
         """Pages of which nothing was found, and some that have all that there can be."""
-        for leak in page_sample.bare_leak(), page_sample.full_leak(), page_sample.bare_dump(), page_sample.one_dump():
-            self.open_page_of(leak)
+        leaks = page_sample.bare_leak(), page_sample.full_leak()
+        for it in *leaks, page_sample.bare_dump(), page_sample.one_dump(), page_sample.sizes():
+            self.open_page_of(it)
             self.check_screens()
 
     def test_figures_of_one_dump(self) -> None:

@@ -71,26 +71,27 @@ def grown_row(it: GrownClass, leak: Leak, shown: List[GrownClass], limits: Limit
     )
 
 
-def made_of(classes: Mapping[str, Amount], which: str, limits: Limits) -> Section:
-    """Returns the section of what a heap is made of. `which`: the words for the heap, such as `the last heap`."""
+def made_of(classes: Mapping[str, Amount], which: str, limits: Limits, place: str = "last") -> Section:
+    """Returns the section of what a heap is made of. `which`: the words for the heap, such as `the last heap`; `place`:
+    what the section is called in an address."""
     whole = total_of(classes.values())
     groups, total = groups_of(classes, limits.groups, limits.parts), max(1, whole.bytes)
     head, label = f"What {which} is made of", f"{which[0].upper()}{which[1:]}"
     if not groups:
         text = "The dump has no reachable objects."
-        return Section("last", label, head, fill("paragraph", text=text))
+        return Section(place, label, head, fill("paragraph", text=text))
     number, colours = humanize.counted(len(classes), "class"), colours_of(groups)
     caption = (
         f"{number}. Each colour is a package, and each box a class, as large as its bytes. Grey and blue are the JDK "
         "and arrays of numbers; the other colours are the program and its libraries."
     )
-    picture = fill("figure_of", picture=treemap(groups), caption=caption) if whole.bytes else Html()
+    picture = fill("figure_of", picture=treemap(groups, place), caption=caption) if whole.bytes else Html()
     about = fill("about", text="Packages and classes as a table. Small ones are added together.")
     heads = {"Package and class": "name", "Objects": "number", "Bytes": "number", "Share of the heap": "shares"}
     parts = [group_rows(colour, it, total, limits) for colour, it in zip(colours, groups)]
     parts.append(fill("total", cells=amount_cells(whole, total)))
-    rows = table("last", f"{label} by package and class", heads, parts)
-    return Section("last", label, head, joined([picture, about, rows], "\n"))
+    rows = table("last", f"{label} by package and class", heads, parts, place)
+    return Section(place, label, head, joined([picture, about, rows], "\n"))
 
 
 def group_rows(colour: str, group: Group, total: int, limits: Limits) -> Html:

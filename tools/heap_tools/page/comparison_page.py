@@ -28,4 +28,4 @@ def page_of(leak: Leak, limits: Limits) -> Html:
         terms(),
         making(leak.making, leak.dumps, limits),
     ]
-    return whole_page(top(leak, limits), sections, leak.making.time, leak.layout)
+    return whole_page(top(leak, limits), sections, leak.making.time, bool(leak.layout))

@@ -88,4 +88,4 @@ def page_of(dump: OneDump, limits: Limits) -> Html:
         terms(),
         making(dump.making, [dump.dump], limits),
     ]
-    return whole_page(top(dump, limits), sections, dump.making.time, dump.layout)
+    return whole_page(top(dump, limits), sections, dump.making.time, bool(dump.layout))

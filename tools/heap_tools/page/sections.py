@@ -12,7 +12,7 @@ from heap_tools.page.words import figure, when
 
 
 #: What is said of bytes that are not those of the dumps.
-OF_LAYOUT = "Bytes are those of the heap: counts times sizes that were found in the dump, which is only tested. "
+HEAP_BYTES = "Bytes are those of the heap: counts times sizes that were found in the dump, which is only tested. "
 
 
 class Section(NamedTuple):
@@ -26,7 +26,7 @@ class Section(NamedTuple):
 
 class Top(NamedTuple):
     """The top of a page: the title, which a browser shows in its tab, what was dumped, the headline, the path to what it
-    names, what is said first, and what else is to be known."""
+    names, what is said first, what else is to be known, and the tool that made the page."""
 
     title: str
     facts: Html
@@ -34,10 +34,11 @@ class Top(NamedTuple):
     through: Html
     lead: Html
     notes: Html
+    tool: str = "leaks"
 
 
-def whole_page(top: Top, sections: Sequence[Section], made: int, layout: Optional[str]) -> Html:
-    """Returns a page that was made at the time `made`. `layout`: what bytes are, if they are not those of the dumps."""
+def whole_page(top: Top, sections: Sequence[Section], made: int, has_heap_bytes: bool) -> Html:
+    """Returns a page that was made at the time `made`. `has_heap_bytes`: its bytes are not those of the dumps."""
     links = (fill("nav", id=section.id, label=section.label) for section in sections)
     shown = (fill("section", id=section.id, head=section.head, body=section.body) for section in sections)
     return fill(
@@ -46,7 +47,7 @@ def whole_page(top: Top, sections: Sequence[Section], made: int, layout: Optiona
         nav=joined(links, "\n"),
         sections=joined(shown, "\n"),
         made=when(made),
-        bytes=OF_LAYOUT if layout else "",
+        bytes=HEAP_BYTES if has_heap_bytes else "",
         **top._asdict(),
     )
 

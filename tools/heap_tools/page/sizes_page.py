@@ -28,21 +28,24 @@ def page_of(sizes: Sizes, limits: Limits) -> Html:
     """Returns the page."""
     sections = [made_of(sizes.classes, "the heap", limits)]
     if sizes.unreachable:
-        section = made_of(sizes.unreachable, "the unreachable part of the heap", limits)
-        sections.append(section._replace(id="unreachable", label="Unreachable"))
-    return whole_page(top(sizes, limits), [*sections, making(sizes.making, [sizes.dump], limits)], sizes.making.time)
+        section = made_of(sizes.unreachable, "the unreachable part of the heap", limits, "unreachable")
+        sections.append(section._replace(label="Unreachable"))
+    sections.append(making(sizes.making, [sizes.dump], limits))
+    return whole_page(top(sizes, limits), sections, sizes.making.time, has_heap_bytes=True)
 
 
 def top(sizes: Sizes, limits: Limits) -> Top:
     """Returns the top of the page: how much the heap has, reachable and not."""
     it = sizes.dump
     whole = it.reachable.plus(it.unreachable)
-    parts = [figure_in(it.reachable.bytes, Unit.BYTES), " are reachable, ", figure_in(it.unreachable.bytes, Unit.BYTES)]
+    reachable, unreachable = (figure_in(each.bytes, Unit.BYTES) for each in (it.reachable, it.unreachable))
+    parts = [reachable, " that are reachable, and ", unreachable, " that are not"]
     return Top(
         title=f"Heap: {full(whole.bytes, Unit.BYTES)}",
         facts=facts(sizes.program, period(it.time, it.time), limits),
         headline=joined([figure_in(whole.bytes, Unit.BYTES), " in ", figure_in(whole.objects, Unit.OBJECTS)]),
         through=Html(),
-        lead=fill("lead_of_one", heap=joined([*parts, " are not"])),
+        lead=fill("lead_of_one", heap=joined(parts)),
         notes=notes(sizes.notes, limits),
+        tool="sizes",
     )

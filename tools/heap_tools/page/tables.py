@@ -1,6 +1,6 @@
 """Parts that several sections of the page have: tables, bars, shares, and lines on what is not shown."""
 
-from typing import Dict, Iterable
+from typing import Dict, Iterable, Optional
 
 from heap_tools import humanize
 from heap_tools.page.templates import Html, fill, joined
@@ -18,10 +18,11 @@ def share(part: float, kind: str) -> Html:
     return fill("share", bar=bar(part, 100, kind), percent=percent(part))
 
 
-def table(kind: str, caption: str, heads: Dict[str, str], parts: Iterable[Html]) -> Html:
-    """Returns a table of this kind. `heads`: the heads of its columns, each the kind of the column by its text."""
+def table(kind: str, caption: str, heads: Dict[str, str], parts: Iterable[Html], place: Optional[str] = None) -> Html:
+    """Returns a table of this kind. `heads`: the heads of its columns, each the kind of the column by its text. `place`:
+    what it is called in an address, if that is not its kind."""
     shown = joined((fill("head", text=text, kind=of_column) for text, of_column in heads.items()), "\n")
-    return fill("table", kind=kind, caption=caption, heads=shown, body=joined(parts, "\n"))
+    return fill("table", kind=kind, place=place or kind, caption=caption, heads=shown, body=joined(parts, "\n"))
 
 
 def body(rows: Iterable[Html]) -> Html:

@@ -96,8 +96,8 @@ def group_box(group: Group, colour: str, box: Box, total: int) -> Html:
     return fill("group_box", colour=colour, name=text, cells=cells, **place_of(box))
 
 
-def treemap(groups: Sequence[Group]) -> Html:
-    """Returns the treemap of a heap, for each width."""
+def treemap(groups: Sequence[Group], place: str) -> Html:
+    """Returns the treemap of a heap, for each width. `place`: what its section is called in an address."""
     shown = [(group, colour) for group, colour in zip(groups, colours_of(groups)) if group.amount.bytes > 0]
     sizes = [group.amount.bytes for group, _ in shown]
     named = zip((plain(group.name or "other packages", 120) for group, _ in shown), sizes)
@@ -107,5 +107,6 @@ def treemap(groups: Sequence[Group]) -> Html:
     for kind, width, height in TREEMAPS:
         boxes = boxes_of(sizes, Box(0, 0, width, height))
         drawn = joined(group_box(*each, box, sum(sizes)) for each, box in zip(shown, boxes))
-        pictures.append(fill("treemap", kind=kind, width=width, height=height, description=description, boxes=drawn))
+        size: Dict[str, object] = {"kind": kind, "width": width, "height": height, "place": place}
+        pictures.append(fill("treemap", description=description, boxes=drawn, **size))
     return joined(pictures, "\n")

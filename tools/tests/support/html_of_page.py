@@ -2,7 +2,6 @@
 
 import re
 import unittest
-from typing import Union
 
 from heap_tools import page
 from tests.support.outline import Outline
@@ -14,7 +13,7 @@ ACTIVE = {"script", "img", "link", "iframe", "object", "embed", "form", "base", 
 class HtmlOfPage(unittest.TestCase):
     """A test of pages as HTML."""
 
-    def outline(self, it: Union[page.Leak, page.OneDump]) -> Outline:
+    def outline(self, it: page.Content) -> Outline:
         """Returns the outline of a page that is well formed and small enough."""
         text = page.html_of(it)
         self.assertLessEqual(len(text.encode()), page.MOST_BYTES)
@@ -22,7 +21,7 @@ class HtmlOfPage(unittest.TestCase):
         self.assertEqual((outline.faults, outline.open), ([], []))
         return outline
 
-    def check_texts(self, it: Union[page.Leak, page.OneDump], *wanted: str) -> str:
+    def check_texts(self, it: page.Content, *wanted: str) -> str:
         """Requires texts of a page, and returns all of its text."""
         text = self.outline(it).text()
         for each in wanted:
@@ -30,7 +29,7 @@ class HtmlOfPage(unittest.TestCase):
                 self.assertTrue(each in text, "missing")
         return text
 
-    def check_structure(self, it: Union[page.Leak, page.OneDump]) -> None:
+    def check_structure(self, it: page.Content) -> None:
         """Requires what a screen reader needs: headings in order, captions, scopes, landmarks, labels that exist."""
         outline = self.outline(it)
         levels = [int(tag[1]) for tag, _ in outline.elements if re.fullmatch("h[1-6]", tag)]
@@ -47,7 +46,7 @@ class HtmlOfPage(unittest.TestCase):
         targets = [target[1:] for target in outline.values("href")]
         self.assertLessEqual({*labels, *targets}, set(ids))
 
-    def check_not_active(self, it: Union[page.Leak, page.OneDump]) -> None:
+    def check_not_active(self, it: page.Content) -> None:
         """Requires that nothing in a page fetches or runs something."""
         outline = self.outline(it)
         self.assertEqual(ACTIVE & {tag for tag, _ in outline.elements}, set())

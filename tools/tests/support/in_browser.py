@@ -4,7 +4,7 @@ import atexit
 import pathlib
 import tempfile
 import unittest
-from typing import Any, List, Union
+from typing import Any, List
 
 from heap_tools import page
 from tests.support import chromium
@@ -96,8 +96,8 @@ class InBrowser(unittest.TestCase):
         self.assertEqual(self.browser.logged(), [])
         self.assertEqual(self.browser.value("document.scripts.length"), 0)
 
-    def open_page_of(self, content: Union[page.Leak, page.OneDump]) -> None:
-        """Opens the page of a leak, or of one dump."""
+    def open_page_of(self, content: page.Content) -> None:
+        """Opens a page."""
         with tempfile.TemporaryDirectory() as room:
             page.save(content, f"{room}/leak.html")
             self.open(f"{room}/leak.html")
@@ -118,7 +118,10 @@ class InBrowser(unittest.TestCase):
             self.assertEqual((self.browser.value(SCROLLING), self.browser.value(CUT)), ([], []))
         for kind in "chart", "treemap":
             pictures = f"[...document.querySelectorAll('svg.{kind}')].map(it => it.clientWidth > 0)"
-            self.assertIn(sorted(self.browser.value(pictures)), ([], [False, False, True]))
+            shown = self.browser.value(pictures)
+            # Each picture is drawn for three widths, one after the other.
+            each = [shown[at : at + 3] for at in range(0, len(shown), 3)]
+            self.assertTrue(all(sorted(three) == [False, False, True] for three in each), (kind, shown))
 
     def texts(self, selector: str) -> List[str]:
         """Returns the texts of the elements that a selector names, with plain blanks."""

@@ -230,3 +230,17 @@ def bare_dump(**changes: Any) -> page.OneDump:
     nothing: Dict[str, Any] = {"suspects": [], "classes": {}, "objects": [], "contents": [], "ran_out": []}
     nothing.update({"next_steps": [], "capacity": None, "program": page.ProgramEntry()})
     return one_dump(**{**nothing, **changes})
+
+
+def sizes(**changes: Any) -> page.Sizes:
+    """Returns the sizes of one dump, as the heap has them."""
+    unreachable = {name: page.Amount(amount.objects // 9, amount.bytes // 9) for name, amount in classes().items()}
+    found = page.Sizes(
+        dump=dump(1, (1_002_300, 49_624_118), (120_441, 6_112_800)),
+        classes=classes(),
+        unreachable=unreachable,
+        making=making("sizes --html heap.html /tmp/mail.hprof"),
+        program=page.ProgramEntry("mail-server.jar", 4711, "OpenJDK 64-Bit Server VM, Java 21.0.4"),
+        notes=["Bytes are those of the heap: objects begin at each 8th byte."],
+    )
+    return dataclasses.replace(found, **changes)
