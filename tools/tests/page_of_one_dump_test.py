@@ -29,11 +29,11 @@ class PageOfOneTest(HtmlOfPage):
             "Static field com/acme/mail/Tenants.BY_NAME holds 40.3 MB, 81% of the reachable heap",
             "The heap has 49.6 MB in 1,002,300 objects that are reachable, and 6.1 MB that are not.",
             'Thread "http-nio-8080-exec-7" ran out of memory in com/acme/mail/Inbox.add.',
-            "In use 93% of 60.0 MB that the heap may have",
-            "40.3 MB held by com/acme/mail/Tenants.BY_NAME 9.3 MB other reachable bytes 6.1 MB unreachable bytes 4.3 MB free",
-            "What is in it",
-            "com/acme/mail/Message 98,117 7.2 MB 19%",
-            "java/lang/Object[] 60,733 5.3 MB 14%",
+            "The heap may have 60.0 MB with headers and padding of objects, which are not counted here",
+            "40.3 MB held by com/acme/mail/Tenants.BY_NAME 9.3 MB other reachable bytes 6.1 MB unreachable bytes",
+            "What line 1 holds",
+            "com/acme/mail/Message 98,117 7.2 MB 18%",
+            "java/lang/Object[] 60,733 5.3 MB 13%",
             "leaks FIRST SECOND",
             "The counts of each single report of heapmark are proved exact",
         )
@@ -81,12 +81,15 @@ class PageOfOneTest(HtmlOfPage):
         self.assertIn("One dump shows what holds the heap, not what grows", self.top_of(one_dump()))
 
     def test_fullness(self) -> None:
-        """The parts of the bar are as long as their bytes, and all of what the heap may have if that is known."""
-        it = one_dump()
+        """The parts of the bar are as long as their bytes, and all of what the heap may have if that is known, and bytes
+        are those of the heap."""
+        it = one_dump(layout="Bytes are those of the heap.")
+        self.check_texts(it, "In use 93% of 60.0 MB that the heap may have", "4.3 MB free")
         for given, wanted in [
             (it, [("held", 672), ("reachable", 155), ("unreachable", 102), ("free", 71)]),
+            (one_dump(), [("held", 723), ("reachable", 167), ("unreachable", 110)]),
             (one_dump(capacity=None), [("held", 723), ("reachable", 167), ("unreachable", 110)]),
-            (one_dump(capacity=1), [("held", 723), ("reachable", 167), ("unreachable", 110)]),
+            (one_dump(capacity=1, layout="x"), [("held", 723), ("reachable", 167), ("unreachable", 110)]),
             (one_dump(suspects=[], objects=[], capacity=None), [("reachable", 890), ("unreachable", 110)]),
         ]:
             found = re.findall(r'<rect class="(\w+)" x="[\d.]+" width="([\d.]+)" height="40"/>', page.html_of(given))

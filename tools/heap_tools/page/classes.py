@@ -116,4 +116,4 @@ def class_table(contents: Sequence[Row], total: int, limits: Limits) -> Html:
     cells = ((name_of(it.name, limits.name), amount_cells(it.amount, total)) for it in contents)
     rows = body(fill("last_row", name=name, cells=amounts) for name, amounts in cells)
     heads = {"Class": "name", "Objects": "number", "Bytes": "number", "Share": "shares"}
-    return table("contents", "What is in it", heads, [rows])
+    return table("contents", "What line 1 holds, by class", heads, [rows])

@@ -5,7 +5,7 @@ from typing import List
 from heap_tools.page.classes import made_of
 from heap_tools.page.fullness import fullness
 from heap_tools.page.model import Limits, OneDump, RanOutEntry
-from heap_tools.page.names import in_java, name_of, names_of, path_to, subject_of, thread_words, verb_of
+from heap_tools.page.names import in_java, name_of, names_of, subject_of, thread_words, verb_of
 from heap_tools.page.sections import Section, Top, facts, making, notes, omitted, terms, whole_page
 from heap_tools.page.suspects import ran_out, suspects
 from heap_tools.page.templates import Html, escaped, fill, joined, plain
@@ -26,7 +26,7 @@ def top(dump: OneDump, limits: Limits) -> Top:
         title=title(dump),
         facts=facts(dump.program, period(dump.dump.time, dump.dump.time), limits),
         headline=headline(dump, limits),
-        through=path_to(dump.suspects[0].above, limits) if dump.suspects else Html(),
+        through=Html(),  # it is drawn below
         lead=lead(dump),
         notes=notes(said, limits),
     )

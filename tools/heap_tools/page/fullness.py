@@ -27,8 +27,9 @@ def fullness(dump: OneDump, limits: Limits) -> Section:
 
 
 def free_bytes(dump: OneDump) -> int:
-    """Returns how many bytes the heap may have more, 0 if that is not known."""
-    if dump.capacity is None or dump.by is not Unit.BYTES:
+    """Returns how many bytes the heap may have more, 0 if that is not known: bytes of the dump are no bytes of the
+    heap."""
+    if dump.capacity is None or dump.layout is None or dump.by is not Unit.BYTES:
         return 0
     return max(0, dump.capacity - dump.dump.reachable.bytes - dump.dump.unreachable.bytes)
 
@@ -76,7 +77,15 @@ def tiles(dump: OneDump) -> Html:
         )
     )
     if dump.capacity:
-        used = it.reachable.bytes + it.unreachable.bytes
-        note = joined(["of ", figure(dump.capacity, "byte"), " that the heap may have, garbage included"])
-        parts.append(fill("tile", name="In use", value=percent(100 * used / dump.capacity), note=note))
+        parts.append(capacity_tile(dump, dump.capacity))
     return joined(parts, "\n")
+
+
+def capacity_tile(dump: OneDump, capacity: int) -> Html:
+    """Returns how much the heap may have, and how much of that is in use, if bytes are those of the heap."""
+    if dump.layout is None:
+        note = "with headers and padding of objects, which are not counted here"
+        return fill("tile", name="The heap may have", value=figure(capacity, "byte"), note=note)
+    used = dump.dump.reachable.bytes + dump.dump.unreachable.bytes
+    note = joined(["of ", figure(capacity, "byte"), " that the heap may have, with what is unreachable"])
+    return fill("tile", name="In use", value=percent(100 * used / capacity), note=note)

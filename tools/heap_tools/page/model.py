@@ -213,9 +213,9 @@ class Leak:
 class OneDump:
     """All that the page of one dump shows. `suspects`: what holds much of the heap; the first is the headline: the
     accumulation point. `classes`: those of the report. `objects`: those that have the field of a suspect and hold most
-    by it. `contents`: the classes that the first suspect holds most of, or the first object if there is one.
-    `ran_out`: the threads that ran out of memory. `capacity`: how many bytes the heap may have at most, if that is
-    known. All else is as in `Leak`."""
+    by it. `contents`: the classes of what the first suspect holds, the largest first. `ran_out`: the threads that ran
+    out of memory. `capacity`: how many bytes the heap may have at most, if that is known: as a monitor counts them,
+    which the others do only with a `layout`. All else is as in `Leak`."""
 
     dump: DumpEntry
     suspects: List[SuspectEntry]

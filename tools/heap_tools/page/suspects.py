@@ -79,13 +79,11 @@ def object_link(it: ObjectEntry, suspect: SuspectEntry, dump: OneDump, limits: L
 
 
 def contents(dump: OneDump, limits: Limits) -> Html:
-    """Returns the classes of what the end of the path holds."""
+    """Returns the classes of what the first suspect holds."""
     if not dump.contents:
         return Html()
-    drawn = drawn_object(dump)
-    size = drawn.bytes if drawn else dump.suspects[0].held.amount.bytes
-    shown = dump.contents[: limits.parts]
-    parts = [fill("subhead", text="What is in it"), class_table(shown, max(1, size), limits)]
+    size, shown = dump.suspects[0].held.amount.bytes, dump.contents[: limits.parts]
+    parts = [fill("subhead", text="What line 1 holds"), class_table(shown, max(1, size), limits)]
     return joined([*parts, left_out(len(dump.contents) - len(shown), "class")], "\n")
 
 
