@@ -302,12 +302,8 @@ class BrowserTest(InBrowser):
         above = [page_sample.step(f"a/B.c{number}") for number in range(9)]
         deep = [dataclasses.replace(page_sample.one_dump().suspects[0], above=above)]
         unused = []
-        for it in (
-            page_sample.full_leak(),
-            many,
-            page_sample.one_dump(),
-            page_sample.one_dump(suspects=deep, objects=[]),
-        ):
+        full, one = page_sample.full_leak(), page_sample.one_dump(layout="Bytes are those of the heap.")
+        for it in full, many, one, page_sample.one_dump(suspects=deep, objects=[]):
             self.open_page_of(it)
             unused.append(set(self.browser.value(UNUSED)))
         self.assertEqual(set.intersection(*unused), set())
