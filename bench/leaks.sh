@@ -220,7 +220,7 @@ judge/StampService 17 2
 judge/ExportService 17 2
     static java/io/DeleteOnExitHook.files
 judge/LaneService 17 2
-    java/util/concurrent/ThreadPoolExecutor.workQueue | judge/LaneService$Lane.executor
+    java/util/concurrent/ThreadPoolExecutor.workQueue
     says pdf
 judge/JsonService 17 2 libjackson2-databind-java jackson-core,jackson-databind,jackson-annotations
     com/fasterxml/jackson/databind/ObjectMapper._rootDeserializers

@@ -9,7 +9,7 @@ import java.util.List;
 /** Writes to a hundred peers by channels of Netty. Nothing is flushed to peer-77: it is paused. */
 final class FlushService {
     static final int PEERS = 100;
-    static final int WRITES_A_DAY = 8_000 * Course.SCALE;
+    static final int WRITES_A_DAY = 4_500 * Course.SCALE;
 
     static final class Peer {
         final String name;

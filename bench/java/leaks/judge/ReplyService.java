@@ -12,7 +12,7 @@ import okhttp3.Response;
 
 /** Calls a server by OkHttp that accepts and never replies. The dispatcher keeps the calls that have to wait. */
 final class ReplyService {
-    static final int CALLS_A_DAY = 4_000 * Course.SCALE;
+    static final int CALLS_A_DAY = 1_400 * Course.SCALE;
 
     static final class Stored implements Callback {
         private final byte[] order = new byte[300];
@@ -28,10 +28,11 @@ final class ReplyService {
         }
     }
 
-    private final OkHttpClient client = new OkHttpClient.Builder().build();
+    private final OkHttpClient client = new OkHttpClient();
     private final String url;
 
     private ReplyService(ServerSocket server) {
+        client.dispatcher().setMaxRequests(5);
         url = "http://" + server.getInetAddress().getHostAddress() + ":" + server.getLocalPort() + "/orders/";
     }
 

@@ -12,7 +12,7 @@ import okhttp3.Response;
 /** Calls a server by OkHttp that accepts and never replies. The dispatcher keeps the calls that have to wait. */
 final class Calls {
     static final class Stored implements Callback {
-        private final byte[] order = new byte[500];
+        private final byte[] order = new byte[3_000];
 
         @Override
         public void onFailure(Call call, IOException fault) {
@@ -25,10 +25,11 @@ final class Calls {
         }
     }
 
-    private final OkHttpClient client = new OkHttpClient.Builder().build();
+    private final OkHttpClient client = new OkHttpClient();
     private final String url;
 
     private Calls(ServerSocket server) {
+        client.dispatcher().setMaxRequests(5);
         url = "http://" + server.getInetAddress().getHostAddress() + ":" + server.getLocalPort() + "/orders/";
     }
 

@@ -32,7 +32,7 @@ final class Chat {
     static final Map<String, Session> SESSIONS_BY_USER = new ConcurrentHashMap<>();
 
     static void say(String user, String text) {
-        SESSIONS_BY_USER.computeIfAbsent(user, Session::new).add(new Message(text, new byte[200]));
+        SESSIONS_BY_USER.computeIfAbsent(user, Session::new).add(new Message(text, new byte[600]));
     }
 
     static void serve(int number) {

@@ -14,7 +14,8 @@ final class Documents {
 
         @Override
         public int read() {
-            return at++ < 0 ? '[' : ORDER[(int) (at % ORDER.length)];
+            long place = at++;
+            return place < 0 ? '[' : ORDER[(int) (place % ORDER.length)];
         }
     }
 

@@ -7,7 +7,7 @@ import java.util.concurrent.Executors;
 /** Hands each job to a pool with one thread, which waits for a printer. */
 final class Lane {
     static final class Job implements Runnable {
-        private final byte[] content = new byte[250];
+        private final byte[] content = new byte[1_000];
 
         @Override
         public void run() {

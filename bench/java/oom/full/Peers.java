@@ -16,7 +16,7 @@ final class Peers {
         }
 
         void write(boolean flushes) {
-            channel.write(Unpooled.wrappedBuffer(new byte[300]));
+            channel.write(Unpooled.wrappedBuffer(new byte[1_000]));
             if (flushes) {
                 channel.flush();
                 channel.outboundMessages().clear();

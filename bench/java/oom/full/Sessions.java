@@ -19,7 +19,7 @@ final class Sessions {
         store.atom().swap(new AFn() {
             @Override
             public Object invoke(Object map) {
-                return ((PersistentHashMap) map).assoc(key, new byte[250]);
+                return ((PersistentHashMap) map).assoc(key, new byte[1_000]);
             }
         });
     }

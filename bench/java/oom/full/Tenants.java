@@ -44,7 +44,7 @@ final class Tenants {
     private void receive(int number) {
         Tenant tenant = tenants.get(number % 2 == 0 ? 317 : number / 2 % NUMBER);
         int kept = tenant.id.equals("tenant-317") ? Integer.MAX_VALUE : KEPT;
-        tenant.inbox.put(number, new Mail("invoice " + number, new byte[220]), kept);
+        tenant.inbox.put(number, new Mail("invoice " + number, new byte[1_500]), kept);
     }
 
     public static void main(String[] words) {
