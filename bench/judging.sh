@@ -13,7 +13,7 @@
 # - the holder. Between holders of which any is right stands ` | `; `*` stands for any letters. Fields that only
 #   together hold the leak are right, too, if each of them is;
 # - after `says`, the words that the output must have, too;
-# - after `ran out`, the name of the thread that runs out of memory and one of its frames.
+# - after `ran out`, the name of the thread that runs out of memory, and how its first own method begins.
 # shellcheck shell=bash disable=SC2034 # what is set here is used there
 
 top=$(cd "$(dirname "${BASH_SOURCE[0]}")/.." && pwd)

@@ -20,7 +20,7 @@
 # - the field of its first line is the holder of the table below, and the catalog is not in it;
 # - no step of that line's path is false: tools/held finds that at least as much hangs by what is above as by what is
 #   below it, and no more by both than by the first alone;
-# - the output names the thread that ran out of memory, and one of the frames of the table;
+# - the output names the thread that ran out of memory, and its first own method is one of the table;
 # - of a healthy program, the output has no word of a leak or of growth.
 #
 # It is partly right if the output lacks the words of the table, which say which of many objects it is. After an answer
@@ -66,7 +66,7 @@ full/Letters 17 1
 full/Tokens 17 1 libguava-java guava
     com/google/common/cache/LocalCache.segments | com/google/common/cache/LocalCache$LocalManualCache.localCache
         | full/Tokens$Login.tokens
-    ran out login-2 com/google/common/cache/ | full/Tokens
+    ran out login-2 com/google/common/ | full/Tokens
 full/Documents 17 1 libjackson2-databind-java jackson-core,jackson-databind,jackson-annotations
     com/fasterxml/jackson/databind/node/ArrayNode._children | local com/fasterxml/jackson/databind/deser/std/*
         | thread "reader"
@@ -93,12 +93,12 @@ full/Eternal 17 1 libehcache-java ehcache,slf4j-api
     net/sf/ehcache/store/MemoryStore.map
     says tokens
     ran out cart-1 net/sf/ehcache/ | full/Eternal
-full/Calls 17 1 libokhttp-java okhttp,okio
-    okhttp3/Dispatcher.readyAsyncCalls | okhttp3/OkHttpClient.dispatcher
-    ran out sender okhttp3/ | okio/ | full/Calls
 full/Pool 17 1 libcommons-pool2-java commons-pool2
     org/apache/commons/pool2/impl/GenericObjectPool.allObjects
     ran out db-7 org/apache/commons/pool2/ | full/Pool
+full/Calls 17 1 libokhttp-java okhttp,okio
+    okhttp3/Dispatcher.readyAsyncCalls | okhttp3/OkHttpClient.dispatcher
+    ran out sender okhttp3/ | okio/ | full/Calls
 steady/Pages 17 1
     static steady/Pages.RECENT
 steady/Prices 17 1
@@ -158,18 +158,18 @@ false_step() {
     done
 }
 
-# ran_out THREAD: tests whether the output says that this thread ran out of memory, in one of its frames. THREAD is its
-# name, a space, and beginnings of frames with ` | ` between them; `-` if the program did not run out.
+# ran_out THREAD: tests whether the output says that this thread ran out of memory, and begins its methods with one of
+# these. THREAD is its name, a space, and beginnings of methods with ` | ` between them; `-` if the program did not run
+# out.
 ran_out() {
-    local thread=${1%% *} frames=${1#* } said frame
+    local thread=${1%% *} methods=${1#* } said method
     said=$(grep -h 'ran out' "$room/lines" "$room/told" || true)
     [ "$1" != - ] || { [ -z "$said" ]; return; }
-    [[ $said == *"\"$thread\""* ]] || return 1
-    until [ -z "$frames" ]; do
-        frame=${frames%% | *}
-        frames=${frames#"$frame"}
-        frames=${frames# | }
-        [[ $said != *[\ \(]"$frame"* ]] || return 0
+    until [ -z "$methods" ]; do
+        method=${methods%% | *}
+        methods=${methods#"$method"}
+        methods=${methods# | }
+        [[ $said != *"ran out in thread \"$thread\" in $method"* ]] || return 0
     done
     return 1
 }

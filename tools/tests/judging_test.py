@@ -18,8 +18,8 @@ cat "$(dirname "$0")/lines"; cat "$(dirname "$0")/told" >&2
 #: Prints the line of the file `hanging` that begins with the fields and a colon, without these.
 HELD = '#!/bin/sh\nsed -n "s|^$2: ||p" "$(dirname "$0")/hanging"\n'
 FIGURES = "       30          2048     90%  0 -> 9        1  "
-RAN_OUT = 'leaks: memory ran out in thread "chat-3": full/Chat.say, full/Chat.serve\n'
-RAN_OUT_OF_TOKENS = 'leaks: cache "tokens"\nleaks: memory ran out in thread "cart-1": full/Eternal.serve\n'
+RAN_OUT = 'leaks: memory ran out in thread "chat-3" in full/Chat.say, full/Chat.serve\n'
+RAN_OUT_OF_TOKENS = 'leaks: cache "tokens"\nleaks: memory ran out in thread "cart-1" in full/Eternal.serve\n'
 
 
 class JudgingTest(unittest.TestCase):

@@ -88,6 +88,7 @@ final class BorrowService {
         config.setDataSource(new Database());
         config.setMaximumPoolSize(100_000);
         config.setMinimumIdle(4);
+        config.setMaxLifetime(0);
         source = new HikariDataSource(config);
     }
 

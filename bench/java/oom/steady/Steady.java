@@ -17,10 +17,14 @@ final class Steady {
         void serve(int number) throws Exception;
     }
 
+    /** What serves the requests: it lives as long as the program. */
+    static Request serving;
+
     static void run(String[] words, Request request) {
+        serving = request;
         try {
             for (int number = 0; number < REQUESTS; number++) {
-                request.serve(number);
+                serving.serve(number);
             }
             ManagementFactory.getPlatformMXBean(HotSpotDiagnosticMXBean.class).dumpHeap(words[0], true);
             Runtime.getRuntime().halt(0);
