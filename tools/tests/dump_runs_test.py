@@ -71,7 +71,8 @@ class DumpRunsTest(ToolTest):
         for cut, roots in cases:
             got = []
             for is_pipe in (False, True):
-                runs = self.both()[1].with_cut(cut, roots)
+                kind = "[ -p /dev/stdin ] && echo pipe >> kinds || echo file >> kinds"
+                runs = self.both(kind)[1].with_cut(cut, roots)
                 if is_pipe:
                     runs.memory = None
                 for changes in several:
@@ -81,6 +82,7 @@ class DumpRunsTest(ToolTest):
                     self.assertEqual(got[-1][24:26], changes.get(24, whole[24:25]) + cut.get(25, whole[25:26]))
             self.assertEqual(got[:2], got[2:])
         self.assertEqual(pathlib.Path("friday").read_bytes(), whole)
+        self.assertEqual(pathlib.Path("kinds").read_text().split(), ["file", "file", "pipe", "pipe"] * 3)
 
     def test_at_once(self) -> None:
         """Two dumps are asked at once. Their reports come in the order in which they were asked for, and both runs are
@@ -103,11 +105,13 @@ class DumpRunsTest(ToolTest):
         with small:
             self.assertEqual(len(reports_of(Question(first, {24: b"a"}), Question(last, {24: b"a"}))), 2)
         self.assertEqual(len(reports_of(Question(last, {24: b"a"}), Question(last, {24: b"b"}))), 2)
+        other = self.both(alone)[0]
         first.memory = None
-        self.assertEqual(len(reports_of(Question(first, {24: b"a"}), Question(last, {24: b"a"}))), 2)
+        found = reports_of(*[Question(runs, {24: b"a"}) for runs in (first, last, other)])
+        self.assertEqual([each.amount("A").objects for each in found], [it.dump.size for it in (first, last, other)])
         self.assertEqual(len(reports_of(Question(first, {24: b"a"}))), 1)
-        self.assertEqual(pathlib.Path("together").read_text().split(), ["1"] * 7)
-        self.assertEqual(first.heapmark.runs, 2 + 7)
+        self.assertEqual(pathlib.Path("together").read_text().split(), ["1"] * 8)
+        self.assertEqual(first.heapmark.runs + other.heapmark.runs, 4 + 8)
 
     def test_known(self) -> None:
         """The report of a dump without any change is not asked for again, also beside one that is."""
