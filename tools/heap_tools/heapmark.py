@@ -60,7 +60,7 @@ class Heapmark:
         """Returns the version that heapmark prints, or nothing if it prints none."""
         (ran,) = self._run(Call(["--version"], lambda out: len(out) <= LONGEST_VERSION))
         line = ran.out.split(b"\n")[0].decode(errors="replace")
-        return line.partition(" ")[2] if ran.status == 0 and not ran.was_stopped else ""
+        return line.partition(" ")[2] if ran.status == 0 else ""
 
     def check_fields(self, fields: str) -> None:
         """Raises `Fault` if `fields` is no list. heapmark refuses such a text before it opens a file: with refusal 21,

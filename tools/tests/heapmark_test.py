@@ -78,7 +78,7 @@ class HeapmarkTest(ToolTest):
         self.assertEqual(len(self.heapmark("cat report").first_report("dump").rows), 20_001)
 
     def test_feed(self) -> None:
-        """What is fed arrives whole, also if it is more than a pipe holds."""
+        """What is fed arrives whole, also if it is more than a pipe holds. If it is not read, the status says why."""
         heapmark = self.heapmark(f"cat > all\ncat << 'END'\n{report((1, 8, 'A'))}END")
         content = bytes(range(256)) * 20_000
 
@@ -89,6 +89,8 @@ class HeapmarkTest(ToolTest):
 
         heapmark.later_reports(Copy("dump", feed=feed))
         self.assertEqual(pathlib.Path("all").read_bytes(), content)
+        with self.assertRaisesRegex(LaterFault, "run 1 on dump failed: status 3"):
+            self.heapmark("exit 3").later_reports(Copy("dump", feed=feed))
 
     def test_signals(self) -> None:
         """heapmark heeds the signals that end a tool, and none that ends it for the size of a file."""
