@@ -61,8 +61,8 @@ class SearchTogether:
         single = [held for held in self.search.found if held.holders <= FEW and len(held.candidates) == 1]
         single = [held for held in single if held.candidates[0].kind not in (THREAD, THREADS)]
         largest = max((self.probe.share(held.candidates) for held in single), default=0.0)
-        few = self.unknown([each for each in fields if each.count <= FEW])
-        if largest <= 100 - self.at_least and self.has_share(few) and self.find_kin(few, self.budget()):
+        budget, few = self.budget(MOST_NEEDED), self.unknown([each for each in fields if each.count <= FEW])
+        if largest <= 100 - self.at_least and self.has_share(few) and self.find_kin(few, budget):
             return
         if single and any(map(is_root, self.search.found)):
             return
@@ -72,8 +72,7 @@ class SearchTogether:
         rest = [*rest, *self.unknown(self.threads())]
         # All together may gain more than the growth, if something else shrank.
         least = max(PART_NEEDED * min(self.share_or_bound(rest, self.at_least), 100), self.at_least)
-        budget = self.budget(MOST_NEEDED, MOST_ASKED_OF_ROOTS if single else MOST_ASKED)
-        needed = self.needed(rest, [], 0, least, budget)
+        needed = self.needed(rest, [], 0, least, self.budget(MOST_NEEDED, MOST_ASKED_OF_ROOTS) if single else budget)
         if self.has_share(needed):
             self.add(needed)
 
