@@ -54,12 +54,12 @@ def content_of(
 
 def weak_words(comparison: Comparison) -> Optional[str]:
     """Returns a sentence on the weak references that are followed, or None if none are."""
-    if not comparison.follows_weak:
+    followed = comparison.followed
+    if not followed.is_any:
         return None
-    kinds = "soft, weak, final or phantom references"
-    if comparison.options.weak:
-        return f"What {kinds} hold counts, too, as --weak asks."
-    return f"Most of what grew is held by {kinds} alone. So what these hold counts, too."
+    if followed.kind is None:
+        return "What soft, weak, final or phantom references hold counts, too, as --weak asks."
+    return f"{followed.why[0].upper()}{followed.why[1:]}."
 
 
 def growth_entries(reports: Sequence[Report], unit: Unit) -> List[page.GrownClass]:
