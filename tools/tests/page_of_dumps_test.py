@@ -71,7 +71,7 @@ class PageOfDumpsTest(ToolTest):
         """That weak references are followed is said at the top, whether it was asked for or most of what grew is held
         by them alone; else it is not said."""
         both = finalizers(20, 20), finalizers(80, 80, 12)
-        most = "Most of what grew is held by soft, weak, final or phantom references alone."
+        most = " are held by final references alone, most of them "
         self.assertIn(most, self.page_of(*both))
         html = self.page_of(*both, options=("--weak",))
         self.assertIn("hold counts, too, as --weak asks.", html)
