@@ -46,7 +46,7 @@ Figures = tuple[Amount, Amount, int]
 def report_of(plain: str, runs: DumpRuns, changes: Changes) -> Report:
     """Returns the plain marker's report of a copy of the dump with these changes."""
     with tempfile.NamedTemporaryFile(dir=os.environ.get("TMPDIR")) as file:
-        write_copy(runs.dump, open(file.name, "wb", 0), {**runs.cut, **changes}, runs.roots)
+        write_copy(runs.dump, file.fileno(), {**runs.cut, **changes}, runs.roots)
         ran = subprocess.run([plain, file.name], stdout=subprocess.PIPE, stderr=subprocess.DEVNULL, check=True)
     report = read_report(ran.stdout.splitlines(), plain)
     assert report, f"{plain}: no report"

@@ -18,7 +18,7 @@ final class Eternal {
 
     private void serve(int number) {
         for (String name : caches.getCacheNames()) {
-            caches.getCache(name).put(new Element(name + number, new byte[1_000]));
+            caches.getCache(name).put(new Element(name + number, new byte[name.equals("tokens") ? 3_000 : 60]));
         }
     }
 

@@ -8,7 +8,7 @@ import org.apache.commons.pool2.impl.GenericObjectPool;
 /** Borrows a connection of Commons Pool for each request, and does not return those of every third. */
 final class Pool {
     static final class Connection {
-        private final byte[] buffer = new byte[1_000];
+        private final byte[] buffer = new byte[8_000];
     }
 
     static final class Connections extends BasePooledObjectFactory<Connection> {
