@@ -76,10 +76,10 @@ class TreemapTest(unittest.TestCase):
         rest = treemap.Part(None, 95, Amount(100, 1_100_000))
         for it, width, height, wanted in [
             (part, 300, 100, ["ConcurrentHashMap$Node", "2.2\u00a0MB"]),
-            (part, 135, 100, ["ConcurrentHashMap$", "Node", "2.2\u00a0MB"]),
-            (part, 90, 100, ["Concurrent", "HashMap$Node", "2.2\u00a0MB"]),
-            (part, 90, 32, ["Concurrent", "HashMap$Node"]),
-            (part, 90, 20, []),
+            (part, 140, 100, ["ConcurrentHashMap$", "Node", "2.2\u00a0MB"]),
+            (part, 96, 100, ["Concurrent", "HashMap$Node", "2.2\u00a0MB"]),
+            (part, 96, 32, ["Concurrent", "HashMap$Node"]),
+            (part, 96, 20, []),
             (part, 60, 100, []),
             (rest, 60, 100, ["95 more", "1.1\u00a0MB"]),
             (rest, 20, 100, []),
@@ -95,7 +95,7 @@ class TreemapTest(unittest.TestCase):
         group = treemap.Group("java/util/concurrent", [treemap.Part("java/util/concurrent/A", 1, Amount(1, 3_400_000))])
         for width, wanted in [
             (300, "java/util/concurrent  3.4\u00a0MB"),
-            (160, "java/util/concurrent"),
+            (166, "java/util/concurrent"),
             (150, "concurrent  3.4\u00a0MB"),
             (90, "concurrent"),
             (40, ""),

@@ -11,7 +11,7 @@ from heap_tools.page.words import percent, solid_size
 #: The treemap is drawn three times, for wide and for narrow screens and for paper: name, width, height of each.
 TREEMAPS = [("wide", 1080, 460), ("narrow", 360, 520), ("paper", 700, 220)]
 #: The height of a group's name, of a line of text, and the width of a letter, and of one in bold.
-HEAD, LINE, LETTER, BOLD = 18, 14, 6.9, 7.6
+HEAD, LINE, LETTER, BOLD = 18, 14, 7.3, 7.9
 #: How many colours packages of the program and its libraries have, and how many those of the JDK.
 OWN_COLOURS, JDK_COLOURS = 6, 4
 

@@ -56,6 +56,14 @@ CUT = """
   return cut;
 })()
 """
+#: Returns the texts of the boxes of a treemap that reach out of their box.
+OUT_OF_BOX = """
+[...document.querySelectorAll('svg.treemap .cell text, svg.treemap .group-name')].filter(text => {
+  const box = (text.closest('svg.cell') || text.parentElement).querySelector('rect').getBoundingClientRect();
+  const it = text.getBoundingClientRect();
+  return it.width && (it.left < box.left - 1 || it.right > box.right + 1 || it.bottom > box.bottom + 1);
+}).map(text => text.textContent)
+"""
 #: Returns the kinds of the tables that are wider than their place.
 SCROLLING = (
     "[...document.querySelectorAll('.scroll')].filter(it => it.scrollWidth > it.clientWidth + 1)"
@@ -114,6 +122,7 @@ class InBrowser(unittest.TestCase):
         """Requires that of the page in a window of this width."""
         self.assertLessEqual(self.browser.value("document.documentElement.scrollWidth"), width)
         self.assertEqual(self.browser.value(LOW_CONTRAST), [])
+        self.assertEqual(self.browser.value(OUT_OF_BOX), [])
         if not may_scroll:
             self.assertEqual((self.browser.value(SCROLLING), self.browser.value(CUT)), ([], []))
         for kind in "chart", "treemap":
