@@ -47,19 +47,21 @@ def content_of(
         next_steps=steps_from(comparison.last.path, answer.lines, names, comparison.follows_weak),
         objects=objects_of(notes, len(answer.lines)),
         threads=[page.ThreadGroupEntry(it.pattern, it.before, it.after, it.frames) for it in notes.threads],
-        notes=[f"{sentence[0].upper()}{sentence[1:]}." for sentence in notes.sentences],
+        notes=[sentence_of(text) for text in (*comparison.why, *notes.sentences) if text != comparison.followed.why],
         weak=weak_words(comparison),
     )
 
 
+def sentence_of(text: str) -> str:
+    """Returns a text as a sentence."""
+    return f"{text[0].upper()}{text[1:]}."
+
+
 def weak_words(comparison: Comparison) -> Optional[str]:
     """Returns a sentence on the weak references that are followed, or None if none are."""
-    followed = comparison.followed
-    if not followed.is_any:
-        return None
-    if followed.kind is None:
-        return "What soft, weak, final or phantom references hold counts, too, as --weak asks."
-    return f"{followed.why[0].upper()}{followed.why[1:]}."
+    if comparison.followed.why:
+        return sentence_of(comparison.followed.why)
+    return "What soft, weak, final or phantom references hold counts, too." if comparison.follows_weak else None
 
 
 def growth_entries(reports: Sequence[Report], unit: Unit) -> List[page.GrownClass]:

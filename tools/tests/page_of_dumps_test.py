@@ -7,7 +7,7 @@ from typing import Tuple
 
 from tests.support.dump_writer import BYTE, DumpWriter
 from tests.support.outline import Outline
-from tests.support.services import Service, cache, finalizers, handler, noisy
+from tests.support.services import Service, buffers, cache, finalizers, handler, noisy
 from tests.support.tool_test import ToolTest
 
 
@@ -71,12 +71,24 @@ class PageOfDumpsTest(ToolTest):
         """That weak references are followed is said at the top, whether it was asked for or most of what grew is held
         by them alone; else it is not said."""
         both = finalizers(20, 20), finalizers(80, 80, 12)
-        most = " are held by final references alone, most of them "
-        self.assertIn(most, self.page_of(*both))
-        html = self.page_of(*both, options=("--weak",))
-        self.assertIn("hold counts, too, as --weak asks.", html)
-        self.assertNotIn(most, html)
-        self.assertNotIn("counts, too", self.page_of(cache(40), cache(160, 12)))
+        most, asked = "so these references are followed.", "phantom references hold counts, too."
+        for dumps, options, wanted in (
+            (both, (), [most]),
+            (both, ("--weak",), [asked]),
+            ((cache(40), cache(160, 12)), (), []),
+        ):
+            top = Outline(self.page_of(*dumps, options=options)).text().partition(" The heap over the dumps ")[0]
+            self.assertEqual([each for each in (most, asked) if each in top], wanted)
+
+    def test_what_is_asked(self) -> None:
+        """If it is not the growth of the heap that counts, the top says what does, and why."""
+        files = [pathlib.Path(f"{name}.hprof") for name in ("before", "after")]
+        files[0].write_bytes(buffers(10, 20))
+        files[1].write_bytes(buffers(60, 21, 12))
+        ended = self.ran("--html", "page.html", *map(str, files))
+        self.assertEqual(ended.status, 0, ended.said)
+        top = Outline(pathlib.Path("page.html").read_text(encoding="utf-8")).text()
+        self.assertIn("the heap grew by less; so the shares are of the objects of java/nio/DirectByteBuffer.", top)
 
     def test_classes_without_a_name(self) -> None:
         """A class that no record names has its number for a name: in the headline, on its line, and in the command."""
