@@ -18,7 +18,7 @@ from tests.support.tool_test import ENDING, TOOLS, ToolTest, heed_signals, repor
 
 #: Waits until two runs have begun, and notes how many that are.
 WAITS = """touch began.$$
-for _ in $(seq 100); do [ "$(ls began.* | wc -l)" -lt 2 ] || break; sleep 0.1; done
+for _ in $(seq 600); do [ "$(ls began.* | wc -l)" -lt 2 ] || break; sleep 0.1; done
 ls began.* | wc -l >> together"""
 #: A tool that asks two dumps at once.
 TOOL = """
