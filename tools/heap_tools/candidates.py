@@ -110,8 +110,8 @@ class Candidates:
         found = self._root(key)
         return found.changes if found else {}
 
-    def holders(self, key: Key, report: Report) -> int:
-        """Returns how many holders what is called `key` has if `report` is that of the dump."""
+    def instances(self, key: Key, report: Report) -> int:
+        """Returns how many instances what is called `key` has if `report` is that of the dump."""
         fields = self._fields.get(key, [])
         if key[0] == FIELD:
             return self._count(self._classes_with(fields), report)

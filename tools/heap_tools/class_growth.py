@@ -35,7 +35,7 @@ def growth_of(name: str, reports: Sequence[Report], unit: Unit) -> ClassGrowth:
 
 
 def lines_to_print(found: Sequence[ClassGrowth], unit: Unit = Unit.OBJECTS, hours: Optional[float] = None) -> str:
-    """Returns a line for each of `found`: with its steps if there are several, with its growth an hour if `hours` are
+    """Returns a line for each of `found`: with its steps if there are several, with its growth per hour if `hours` are
     given, and on a terminal with a bar, below the heads of the columns."""
     terminal = is_terminal(sys.stdout)
     lines = [heads(found, hours)] if terminal and found else []
@@ -54,7 +54,7 @@ def lines_to_print(found: Sequence[ClassGrowth], unit: Unit = Unit.OBJECTS, hour
 
 
 def rate(per_hour: float) -> str:
-    """Spells a growth an hour: without decimals, unless it is below 10."""
+    """Spells a growth per hour: without decimals, unless it is below 10."""
     return f"{per_hour:.0f}" if abs(per_hour) >= 10 or per_hour == int(per_hour) else f"{per_hour:.1f}"
 
 
@@ -64,5 +64,5 @@ def heads(found: Sequence[ClassGrowth], hours: Optional[float]) -> str:
     if len(found[0].steps) > 1:
         line += "".join(f" {f'step {number}':>10}" for number in range(1, len(found[0].steps) + 1))
     if hours:
-        line += f" {'an hour':>12}"
+        line += f" {'per hour':>12}"
     return f"{line}  {'':10}  class\n"

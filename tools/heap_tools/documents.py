@@ -77,7 +77,7 @@ def holder_entry(held: Retained, percent: float) -> Fields:
         "fields": candidates_entry(held.candidates),
         "retained": amount_entry(held.amount),
         "share_percent": share_entry(percent),
-        "instances": held.holders,
+        "instances": held.instances,
     }
 
 
@@ -104,7 +104,7 @@ def sizes_fields(
 
 
 def growth_entry(growth: ClassGrowth, unit: Unit, hours: Optional[float]) -> Fields:
-    """Returns how a class grew: `steps` and the growth an hour are in the unit of the document."""
+    """Returns how a class grew: `steps` and the growth per hour are in the unit of the document."""
     per_hour = round(unit.of(growth.amount) / hours, 2) if hours else None
     return {
         "class": growth.name,

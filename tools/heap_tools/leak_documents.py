@@ -91,8 +91,8 @@ def line_entry(line: Line, is_growth: bool) -> Fields:
         "before": amount_entry(line.before) if is_growth else None,
         "retained": amount_entry(line.held.amount),
         "share_percent": share_entry(line.share),
-        "instances_before": line.holders_before if is_growth else None,
-        "instances": line.held.holders,
+        "instances_before": line.instances_before if is_growth else None,
+        "instances": line.held.instances,
     }
 
 

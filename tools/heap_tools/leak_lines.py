@@ -16,13 +16,13 @@ from heap_tools.which_object import HoldingObject, objects_that_grew, objects_th
 
 class Line(NamedTuple):
     """What was found: what it held, what it holds, the share of the growth in percent, what is above it, and how many
-    holders there were."""
+    instances had it."""
 
     held: Retained
     before: Amount
     share: float
     above: List[Retained]
-    holders_before: int
+    instances_before: int
 
     def path(self) -> str:
         """Returns the way from the top down to what was found."""
@@ -101,14 +101,14 @@ class Lines:
             kinds=tuple(each.kind for each in candidates),
             is_own=held.is_own,
             is_collection=all(each.is_collection for each in candidates),
-            instances=held.holders,
+            instances=held.instances,
             instances_before=probe.instances_before(candidates),
             amount=probe.unit.of(held.amount),
             before=probe.unit.of(was.amount),
             heap=held.heap.objects,
             gains={name: amount.minus(was.lost.get(name, Amount())).objects for name, amount in held.lost.items()},
             grew_at_each_step=not is_line or self._grew_at_each_step(held),
-            is_chain=sum(held.lost.get(name, Amount()).objects for name in classes) > CHAIN * held.holders,
+            is_chain=sum(held.lost.get(name, Amount()).objects for name in classes) > CHAIN * held.instances,
             is_line=is_line,
         )
 

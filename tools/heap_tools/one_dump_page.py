@@ -41,7 +41,7 @@ def suspect_of(line: Line, probe: Probe) -> page.SuspectEntry:
     """Returns what the page shows of a line."""
     above = [page.StepEntry(fields_of(each.candidates), share_of_one(each.amount, probe)) for each in line.above]
     return page.SuspectEntry(
-        fields_of(line.held.candidates), line.held.holders, share_of_one(line.held.amount, probe), above
+        fields_of(line.held.candidates), line.held.instances, share_of_one(line.held.amount, probe), above
     )
 
 

@@ -110,12 +110,12 @@ def holder_of(line: Line, probe: GrowthProbe, between: Dict[int, Amount]) -> pag
     """Returns what the page shows of a line. `between`: what it holds in dumps between, by their places."""
     return page.HolderEntry(
         fields=fields_of(line.held.candidates),
-        instances=line.held.holders,
+        instances=line.held.instances,
         before=share_of(line.before, probe.earlier),
         after=share_of(line.held.amount, probe),
         share=line.share,
         above=[page.StepEntry(fields_of(each.candidates), share_of(each.amount, probe)) for each in line.above],
-        instances_before=line.holders_before,
+        instances_before=line.instances_before,
         between=between,
     )
 

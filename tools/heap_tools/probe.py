@@ -18,8 +18,8 @@ class Retained(NamedTuple):
     lost: Dict[str, Amount]
 
     @property
-    def holders(self) -> int:
-        """How many holders there are in all."""
+    def instances(self) -> int:
+        """How many instances have the fields, or threads the local variables, in all."""
         return sum(each.count for each in self.candidates)
 
     @property
@@ -112,9 +112,9 @@ class EarlierProbe(Probe):
         """Returns the changes by which what has the name of the candidate leads nowhere in this dump."""
         return self.candidates.changes(candidate.key)
 
-    def holders(self, group: Sequence[Candidate]) -> int:
-        """Returns how many holders what has the names of the candidates has in this dump."""
-        return sum(self.candidates.holders(each.key, self.base) for each in group)
+    def instances(self, group: Sequence[Candidate]) -> int:
+        """Returns how many instances what has the names of the candidates has in this dump."""
+        return sum(self.candidates.instances(each.key, self.base) for each in group)
 
 
 class GrowthProbe(Probe):
@@ -142,7 +142,7 @@ class GrowthProbe(Probe):
 
     def instances_before(self, group: Sequence[Candidate]) -> int:
         """Returns how many instances a group had before."""
-        return self.earlier.holders(group)
+        return self.earlier.instances(group)
 
     def bound(self, group: Sequence[Candidate]) -> float:
         """Returns a share of the growth in percent that no part of `group` exceeds: that of what the group holds."""

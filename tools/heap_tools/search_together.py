@@ -58,7 +58,7 @@ class SearchTogether:
         those of one class or package; else, if nothing with few instances is found, any of them and roots. If no root is
         found, it finds roots that hold enough only together, whatever is found below. Threads do not count as found:
         what they lead to may be held together below, too. Nor do roots that hold enough only together."""
-        single = [held for held in self.search.found if held.holders <= FEW and len(held.candidates) == 1]
+        single = [held for held in self.search.found if held.instances <= FEW and len(held.candidates) == 1]
         single = [held for held in single if held.candidates[0].kind not in (THREAD, THREADS)]
         largest = max((self.probe.share(held.candidates) for held in single), default=0.0)
         budget, few = self.budget(MOST_NEEDED), self.unknown([each for each in fields if each.count <= FEW])

@@ -133,7 +133,7 @@ class CandidatesTest(unittest.TestCase):
             ((THREAD, "nobody"), 0),
             ((THREADS, ""), 1),
         ):
-            self.assertEqual(known.holders(key, report), wanted, key)
+            self.assertEqual(known.instances(key, report), wanted, key)
 
     def test_collections(self) -> None:
         """A class is a collection if its name, or that of a class around it, ends like one, or by what it inherits."""

@@ -28,7 +28,7 @@ def grew(*rows: Sequence[Any]) -> str:
 
 
 def an_hour(*rows: Sequence[Any]) -> str:
-    """Returns lines of growth whose last number is the growth an hour."""
+    """Returns lines of growth whose last number is the growth per hour."""
     lines = []
     for *numbers, rate, name in rows:
         line = grew([*numbers, "@"]).rstrip("\n")
@@ -94,7 +94,7 @@ class GrownTest(ToolTest):
         self.expect(["day1", "day2", "day2", "day3"], grew(*alike, (1, 8, 0, 0, 1, "Late"), (0, 3, 0, 0, 0, "Table")))
 
     def test_times(self) -> None:
-        """The times of dumps: their order, and the growth an hour. `other` stands in for heapmark."""
+        """The times of dumps: their order, and the growth per hour. `other` stands in for heapmark."""
         timed("early.hprof", 480000)
         timed("late.hprof", 480004)
         later = "grown: early.hprof: wrong order? it was dumped earlier than late.hprof"
@@ -301,13 +301,13 @@ class HeadsTest(unittest.TestCase):
     """What grown prints on a terminal: the heads of the columns above the lines."""
 
     def test_heads(self) -> None:
-        """A step is numbered from one, and the growth an hour comes after the steps; neither is there without need."""
+        """A step is numbered from one, and the growth per hour comes after the steps; neither is there without need."""
         for steps, hours, heads, line in (
             ([7], None, "   objects          bytes              class", "         7             70  ##########  New"),
             (
                 [3, 4],
                 2.0,
-                "   objects          bytes     step 1     step 2      an hour              class",
+                "   objects          bytes     step 1     step 2     per hour              class",
                 "         7             70          3          4          3.5  ##########  New",
             ),
             (

@@ -38,7 +38,7 @@ class LinesTest(unittest.TestCase):
         probe.candidates = mock.Mock(**{"statics.return_value": [], "fields.return_value": FIELDS})
         probe.base = mock.Mock()
         search = mock.Mock(found=[probe.retained([each]) for each in found], steady=[])
-        with mock.patch.object(type(probe.earlier), "holders", return_value=before):
+        with mock.patch.object(type(probe.earlier), "instances", return_value=before):
             return Lines(search, probe, [])
 
     def asked(self, objects: Sequence[List[HoldingObject]]) -> Tuple[Optional[LineObjects], List[str], int]:

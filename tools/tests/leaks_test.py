@@ -517,7 +517,7 @@ class LeaksTest(ToolTest):
         ended, seen = self.on_terminal("monday", "friday", stream="stdout")
         top, heads, first = seen.splitlines()[:3]
         self.assertEqual((ended.status, top), (0, "reachable 4.3 kB to 6.5 kB in 12 min"))
-        self.assertEqual(heads.split(), ["objects", "bytes", "share", "before", "after", "holders", "field"])
+        self.assertEqual(heads.split(), ["objects", "bytes", "share", "before", "after", "instances", "field"])
         self.assertTrue(first.endswith("shop/Cache.table"), seen)
         _, seen = self.on_terminal("monday", "friday")
         parts = seen.split("\r")

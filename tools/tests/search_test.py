@@ -324,7 +324,7 @@ class RandomTest(unittest.TestCase):
 
     def line(self, line: Line) -> Tuple[str, Amount, Amount, Amount, int]:
         """Returns what a line shows."""
-        return line.path(), line.held.amount, line.before, line.held.heap, line.held.holders
+        return line.path(), line.held.amount, line.before, line.held.heap, line.held.instances
 
     def test_paths(self) -> None:
         """Each step of a path holds all that the next one does, object for object; no field is above a static one."""

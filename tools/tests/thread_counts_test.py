@@ -122,7 +122,7 @@ class ThreadCountsTest(unittest.TestCase):
                 self.assertEqual(len(candidates.threads()), 601)
                 self.assertEqual([each.count for each in candidates.threads_alike()], [600])
                 self.assertEqual(len(grown_thread_counts(self.read(threads(["main"])), dump)), 1)
-                self.assertEqual(Candidates(dump).holders((THREADS, "report-*"), Report()), 600)
+                self.assertEqual(Candidates(dump).instances((THREADS, "report-*"), Report()), 600)
         self.assertEqual(walks.call_count, 3)
         self.assertLess(decoded.call_count, 20)
 

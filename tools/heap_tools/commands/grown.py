@@ -24,7 +24,7 @@ growth in objects, the growth in bytes, and the class, the largest growth first.
 NOTES = """
 With several files AFTER, each line also shows the growth at each step, before
 the class. Classes that grew at every step come first: a cache that fills and
-then stops is no leak. The steps and the growth an hour are in objects, with
+then stops is no leak. The steps and the growth per hour are in objects, with
 --bytes in bytes. On a terminal, a bar compares each growth with the largest.
 
 Classes of the same name are added together. So are hidden classes, such as
@@ -67,7 +67,7 @@ def parser() -> Parser:
     it.flag("--bytes", "Sort by the growth in bytes, not in objects")
     text = "Show only classes with more than N objects more; if there are any, the exit status is 3"
     it.option("--more-than", "N", text, type=number())
-    text = "Show the growth an hour, too; the first and the last file must be dumps, since only a dump has its time"
+    text = "Show the growth per hour, too; the first and the last file must be dumps, since only a dump has its time"
     it.flag("--per-hour", text)
     it.flag("--own", "Show only classes that are not of the JDK")
     it.option("--top", "N", "Show at most N lines", type=number(1))

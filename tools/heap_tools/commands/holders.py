@@ -144,7 +144,7 @@ def order_of(held: Retained, probe: Probe) -> Tuple[int, int, bool, bool, int]:
     """Returns what lines are sorted by: a large share, as it is shown, few holders, own classes, fields before threads,
     much of the heap."""
     is_thread = all(each.kind in (THREAD, THREADS) for each in held.candidates)
-    return -round(probe.share(held.candidates)), held.holders, not held.is_own, is_thread, -held.heap.bytes
+    return -round(probe.share(held.candidates)), held.instances, not held.is_own, is_thread, -held.heap.bytes
 
 
 def lines_of(found: Found) -> str:
@@ -154,7 +154,9 @@ def lines_of(found: Found) -> str:
         lines.append(f"{'objects':>10} {'bytes':>14} share   holders  field\n")
     for held in found.shown:
         share, amount = found.search.probe.share(held.candidates), held.amount
-        line = f"{amount.objects:10} {amount.bytes:14} {share:4.0f}% {held.holders:9}  {joint_name(held.candidates)}\n"
+        line = (
+            f"{amount.objects:10} {amount.bytes:14} {share:4.0f}% {held.instances:9}  {joint_name(held.candidates)}\n"
+        )
         lines.append(line)
     return "".join(lines)
 

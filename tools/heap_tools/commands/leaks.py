@@ -38,11 +38,10 @@ NOTES = """
 The columns are the objects and the bytes that are held in the last dump and
 were not in the first, their share of the growth, the bytes that were held in
 the first dump and are in the last (with --objects, objects), the number of
-holders, in the first dump too if it was another, and the field. The holders of
-a field are the instances that have it; a static field has one holder; those of
-a local variable are the threads in its method. Fields above a field, from a
-static field, a local variable or a thread down, stand before it: in `A > B`, A
-holds all that B does.
+instances that have the field, in the first dump too if it was another, and the
+field. A static field has one instance; those of a local variable are the
+threads in its method. Fields above a field, from a static field, a local
+variable or a thread down, stand before it: in `A > B`, A holds all that B does.
 
 A line's score is what it gained without what came with new instances (unless
 one object gained most), without what moved there from above it or from a field
@@ -145,19 +144,19 @@ def printed(lines: Sequence[Line], unit: Unit) -> str:
     for line in lines:
         gain, was, now = line.held.amount.minus(line.before), unit.of(line.before), unit.of(line.held.amount)
         text = f"{gain.objects:10} {gain.bytes:14} {line.share:4.0f}% {was:14} {now:14}"
-        texts.append(f"{text} {holders_of(line):>{width_of(lines)}}  {line.path()}\n")
+        texts.append(f"{text} {instances_of(line):>{width_of(lines)}}  {line.path()}\n")
     return "".join(texts)
 
 
-def holders_of(line: Line) -> str:
-    """Returns the number of holders of a line, and before it the one in the first dump if that differs."""
-    was, now = line.holders_before, line.held.holders
+def instances_of(line: Line) -> str:
+    """Returns the number of instances of a line, and before it the one in the first dump if that differs."""
+    was, now = line.instances_before, line.held.instances
     return str(now) if was == now else f"{was} to {now}"
 
 
 def width_of(lines: Sequence[Line]) -> int:
-    """Returns the width of the column of holders."""
-    return max([9, *(len(holders_of(line)) for line in lines)])
+    """Returns the width of the column of instances."""
+    return max([9, *(len(instances_of(line)) for line in lines)])
 
 
 def lines_above(comparison: Comparison, probe: GrowthProbe, width: int) -> str:
@@ -166,7 +165,7 @@ def lines_above(comparison: Comparison, probe: GrowthProbe, width: int) -> str:
     what = probe.families[0] if probe.families and len(probe.families) == 1 else "reachable"
     took = comparison.last.dump.time - comparison.first.dump.time
     head = f"{what} {was} to {now}" + f" in {duration(took)}" * (took > 0)
-    return f"{head}\n{'objects':>10} {'bytes':>14} share {'before':>14} {'after':>14} {'holders':>{width}}  field\n"
+    return f"{head}\n{'objects':>10} {'bytes':>14} share {'before':>14} {'after':>14} {'instances':>{width}}  field\n"
 
 
 def remainder(answer: Answer, comparison: Comparison) -> List[str]:
