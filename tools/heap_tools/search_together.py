@@ -81,9 +81,10 @@ class SearchTogether:
         return Budget(needed, self.probe.questions + questions)
 
     def add(self, together: Sequence[Candidate]) -> None:
-        """Adds what several hold together, those first that hold most alone."""
-        probe = self.probe
-        ordered = sorted(together, key=lambda each: (-probe.unit.of(probe.retained([each]).amount), str(each)))
+        """Adds what several hold together, those first that hold most alone; that is not asked of very many."""
+        probe, ordered = self.probe, list(together)
+        if len(ordered) <= MOST_NEEDED:
+            ordered.sort(key=lambda each: (-probe.unit.of(probe.retained([each]).amount), str(each)))
         self.search.found.append(probe.retained(ordered)._replace(candidates=ordered))
 
     def share_or_bound(self, candidates: Sequence[Candidate], least: float) -> float:
