@@ -9,14 +9,14 @@ from heap_tools.program_facts import elements, pairs_in, static_value
 
 #: The class of the JDK that keeps how much memory direct buffers may have in all: as much as the heap, unless the
 #: option -XX:MaxDirectMemorySize says otherwise, which is then among the properties that the same class keeps.
-MACHINE, MOST_DIRECT, PROPERTIES = "jdk/internal/misc/VM", "directMemory", "savedProps"
+MEMORY_CLASS, MOST_DIRECT, SAVED = "jdk/internal/misc/VM", "directMemory", "savedProps"
 OPTION = "sun.nio.MaxDirectMemorySize"
 
 
 def heap_capacity(dump: HeapDump) -> Optional[int]:
     """Returns the most bytes that the heap may have, which is what the program gets as Runtime.maxMemory(), or None if
     the dump does not say it. Walks over all objects some ten times."""
-    found = static_long(dump, MACHINE, MOST_DIRECT)
+    found = static_long(dump, MEMORY_CLASS, MOST_DIRECT)
     return None if not found or _has_option(HeapObjects(dump)) else found
 
 
@@ -31,7 +31,7 @@ def static_long(dump: HeapDump, class_name: str, field: str) -> Optional[int]:
 
 def _has_option(objects: HeapObjects) -> bool:
     """Tests whether the option is among the properties, or these cannot be read."""
-    at = objects.places_of([static_value(objects.dump, MACHINE, PROPERTIES)])
+    at = objects.places_of([static_value(objects.dump, MEMORY_CLASS, SAVED)])
     tables = [objects.reference(each, "java/util/HashMap", "table") for each in at.values()]
     nodes = [node for each in objects.places_of(tables).values() for node in elements(objects.dump, each)]
     keys = {key for key, _ in pairs_in(objects, nodes)}
