@@ -3,7 +3,7 @@ thread."""
 
 from typing import List, Sequence
 
-from heap_tools.candidates import FIELD, STATIC
+from heap_tools.candidates import FIELD, LOCAL, STATIC
 from heap_tools.probe import Probe, Retained
 
 
@@ -17,12 +17,20 @@ def is_static(held: Retained) -> bool:
     return all(each.kind == STATIC for each in held.candidates)
 
 
+def depth_of(held: Retained) -> int:
+    """Returns which of those that hold the same comes first on a path: static fields and threads, then the local
+    variables of threads, then fields."""
+    if not is_root(held):
+        return 2
+    return 1 if any(each.kind == LOCAL for each in held.candidates) else 0
+
+
 class ReferencePaths:
     """The paths to what a search has `found`: each step of a path holds all that the next one does."""
 
     def __init__(self, probe: Probe, found: Sequence[Retained]) -> None:
         self.probe = probe
-        self.found = sorted(found, key=lambda held: (-held.heap.objects, -held.heap.bytes, not is_root(held)))
+        self.found = sorted(found, key=lambda held: (-held.heap.objects, -held.heap.bytes, depth_of(held)))
 
     def above(self, held: Retained) -> List[Retained]:
         """Returns what is above `held`, from the top down. It begins with a static field, if one is above: what holds

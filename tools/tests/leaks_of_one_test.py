@@ -53,6 +53,16 @@ class LeaksOfOneTest(ToolTest):
             self.assertNotIn(word, ended.out + ended.said)
         self.assertIn('leaks: local shop/Handler.handle is of thread "http-0" in shop/Handler.handle\n', ended.said)
 
+    def test_thread_above_local(self) -> None:
+        """A thread that holds no more than its local variable stands above it."""
+        dump = handler(200)
+        dump.root(700)
+        dump.write("rooted.hprof")
+        lines = self.ran("rooted.hprof", "--top", "9").out.splitlines()
+        self.assertEqual(lines[0], line(401, 7200, 66, 1, "local shop/Handler.handle").rstrip("\n"))
+        text = line(200, 4000, 37, 200, 'thread "http-0" > local shop/Handler.handle > shop/Order.text')
+        self.assertIn(text.rstrip("\n"), lines)
+
     def test_class(self) -> None:
         """The objects of one class, by their number; and classes of which none is reachable."""
         cache(400).write("cache.hprof")
