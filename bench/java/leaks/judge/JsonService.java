@@ -18,7 +18,7 @@ import java.util.concurrent.CopyOnWriteArrayList;
 
 /** Reads JSON by Jackson as a type that is made for the request. The mapper keeps what reads each type it ever had. */
 final class JsonService {
-    static final int REQUESTS_A_DAY = 120 * Course.SCALE;
+    static final int REQUESTS_A_DAY = 2_000 * Course.SCALE;
     static final List<Class<? extends java.util.Collection>> KINDS = List.of(ArrayList.class, LinkedList.class,
             Vector.class, HashSet.class, LinkedHashSet.class, TreeSet.class, ArrayDeque.class, PriorityQueue.class,
             ConcurrentLinkedQueue.class, CopyOnWriteArrayList.class);
@@ -28,8 +28,8 @@ final class JsonService {
     private JavaType type(int number) {
         TypeFactory types = mapper.getTypeFactory();
         JavaType type = types.constructType(String.class);
-        for (int rest = 100_000 + number; rest > 0; rest /= KINDS.size()) {
-            type = types.constructCollectionType(KINDS.get(rest % KINDS.size()), type);
+        for (char digit : Integer.toString(10_000 + number).toCharArray()) {
+            type = types.constructCollectionType(KINDS.get(digit - '0'), type);
         }
         return type;
     }

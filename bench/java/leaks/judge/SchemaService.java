@@ -9,17 +9,18 @@ import org.apache.xerces.xni.parser.XMLInputSource;
 
 /** Validates documents by Xerces. Each partner's schema has a namespace with a date, so the pool keeps all of them. */
 final class SchemaService {
-    static final int SCHEMAS_A_DAY = 90 * Course.SCALE;
+    static final int SCHEMAS_A_DAY = 300 * Course.SCALE;
 
     private final XMLGrammarPoolImpl pool = new XMLGrammarPoolImpl();
-    private final XMLGrammarPreparser parser = new XMLGrammarPreparser();
 
-    private SchemaService() {
+    private XMLGrammarPreparser parser() {
+        XMLGrammarPreparser parser = new XMLGrammarPreparser();
         parser.registerPreparser(XMLGrammarDescription.XML_SCHEMA, null);
         parser.setProperty("http://apache.org/xml/properties/internal/grammar-pool", pool);
         parser.setFeature("http://xml.org/sax/features/namespaces", true);
         parser.setFeature("http://xml.org/sax/features/validation", true);
         parser.setFeature("http://apache.org/xml/features/validation/schema", true);
+        return parser;
     }
 
     private void read(String namespace) throws Exception {
@@ -29,7 +30,7 @@ final class SchemaService {
                 + "<xs:element name='price' type='xs:decimal'/>"
                 + "</xs:sequence></xs:complexType></xs:element></xs:schema>";
         XMLInputSource source = new XMLInputSource(null, namespace + ".xsd", null, new StringReader(schema), null);
-        pool.putGrammar(parser.preparseGrammar(XMLGrammarDescription.XML_SCHEMA, source));
+        pool.putGrammar(parser().preparseGrammar(XMLGrammarDescription.XML_SCHEMA, source));
     }
 
     private void day(int day) throws Exception {
