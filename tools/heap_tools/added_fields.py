@@ -50,9 +50,9 @@ class _Additions:
         self.dump, self.layout, self.is_ascending = dump, layout, sample.is_ascending
         self.seen: Dict[int, List[Seen]] = defaultdict(list)
         self.below: Dict[int, List[int]] = defaultdict(list)
-        instances = (each for each in sample.neighbours if each.kind == 0 and each.class_id not in stacks)
-        gaps = Counter((each.class_id, each.gap) for each in instances)
-        for (class_id, gap), count in gaps.items():
+        for (class_id, kind, _, gap), count in sample.neighbours.items():
+            if kind != 0 or class_id in stacks:
+                continue
             one = Seen(class_id, layout.instance(fields.get(class_id, Fields())), gap, count)
             while class_id in dump.classes:
                 self.seen[class_id].append(one)
@@ -102,9 +102,9 @@ def class_object_size(sample: Sample, statics: Dict[int, int], layout: Layout, p
     """Returns where the static fields begin in a class object, as most of these have it. `statics` are the bytes of the
     static fields of each class, `plain` those of the fields of `java/lang/Class`."""
     seen: Counts[Tuple[int, int]] = Counter()
-    for class_id, kind, _, gap in sample.neighbours:
+    for (class_id, kind, _, gap), count in sample.neighbours.items():
         if kind == CLASS_OBJECT:
-            seen[statics[class_id], gap] += 1
+            seen[statics[class_id], gap] += count
     first = -(-plain // WORD) * WORD
     most = min((gap for _, gap in seen), default=first)
     return max(range(first, most + 1, WORD), key=lambda it: _fitting(it, seen, layout), default=first)

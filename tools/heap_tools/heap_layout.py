@@ -108,11 +108,11 @@ def layout_of(sample: Sample, fields: Dict[int, Fields], id_size: int, stacks: C
     too few objects have a neighbour, or if these do not agree."""
     instances: Counts[Tuple[Fields, int]] = Counter()
     arrays: Counts[Tuple[int, int, int]] = Counter()
-    for class_id, kind, length, gap in sample.neighbours:
+    for (class_id, kind, length, gap), count in sample.neighbours.items():
         if kind == 0 and class_id not in stacks:
-            instances[fields.get(class_id, Fields()), gap] += 1
+            instances[fields.get(class_id, Fields()), gap] += count
         elif kind > 0:
-            arrays[kind, length, gap] += 1
+            arrays[kind, length, gap] += count
     alignment = sample.bits & -sample.bits
     found: List[Tuple[Layout, _Votes, _Votes]] = []
     for (header, array_header), reference in product(HEADERS[id_size], REFERENCES[id_size]):

@@ -6,7 +6,11 @@ of their references), all objects of some ranges of addresses are found by a wal
 """
 
 from bisect import bisect_left, bisect_right
-from itertools import islice, tee
+from collections import Counter
+from functools import reduce
+from itertools import chain, islice, tee
+from operator import or_
+from typing import Counter as Counts
 from typing import Dict, Iterable, List, NamedTuple, Sequence, Set, Tuple
 
 from heap_tools import hprof_format as hprof
@@ -45,15 +49,16 @@ WITH_ADDED_FIELDS = frozenset(
 )
 #: The parts of the file, or ranges of addresses, that are read at most for the sake of special objects; how many class
 #: objects are such; and how many bytes at both ends of the heap are searched for an object of a class.
-MOST_SPECIAL, SOME_CLASSES, SEARCHED = 20, 8, 32 << 20
+MOST_SPECIAL, SOME_CLASSES, SEARCHED = 20, 8, 8 << 20
 #: The bytes of an object besides its values, about.
 HEADER = 16
 #: What a class object has as the code of its elements' type.
 CLASS_OBJECT = -1
 
 
-class Neighbours(NamedTuple):
-    """An object of a sample, and how far it is to the next one."""
+class Neighbour(NamedTuple):
+    """An object of a sample: the identifier of its class, the code of its elements' type, its length, and how far it is
+    to the next object."""
 
     class_id: int
     kind: int
@@ -62,11 +67,11 @@ class Neighbours(NamedTuple):
 
 
 class Sample(NamedTuple):
-    """Objects with the distance to the next, and a number in which each bit is set that any of their identifiers has.
-    `is_ascending`: identifiers ascend in the file, so that nothing is omitted between objects but class objects that
-    were not loaded."""
+    """Objects with the distance to the next, and how many are alike; and a number in which each bit is set that any of
+    their identifiers has. `is_ascending`: identifiers ascend in the file, so that nothing is omitted between objects but
+    class objects that were not loaded."""
 
-    neighbours: List[Neighbours]
+    neighbours: Counts[Neighbour]
     bits: int
     is_ascending: bool
 
@@ -162,11 +167,8 @@ def _within(dump: HeapDump, spans: List[Span], ranges: Set[int]) -> List[HeapObj
 
 def _sample(objects: Set[HeapObject], classes: Set[int], is_ascending: bool) -> Sample:
     """Returns what is known of these objects and class objects, of which no other is between two."""
-    every = sorted([*objects, *((class_id, class_id, CLASS_OBJECT, 0) for class_id in classes)])
-    bits = 0
-    neighbours: List[Neighbours] = []
-    for (identifier, class_id, kind, length), following in zip(every, every[1:]):
-        bits |= identifier
-        if following[0] - identifier <= LONGEST:
-            neighbours.append(Neighbours(class_id, kind, length, following[0] - identifier))
-    return Sample(neighbours, bits, is_ascending)
+    every = sorted(chain(objects, ((class_id, class_id, CLASS_OBJECT, 0) for class_id in classes)))
+    pairs = zip(every, islice(every, 1, None))
+    found = Counter((*one[1:], following[0] - one[0]) for one, following in pairs)
+    near = Counter({Neighbour(*each): count for each, count in found.items() if each[-1] <= LONGEST})
+    return Sample(near, reduce(or_, (each[0] for each in every[:-1]), 0), is_ascending)

@@ -60,12 +60,17 @@ def sizes_in(runs: DumpRuns) -> HeapSizes:
     except UnknownLayout as unknown:
         why = str(unknown)
     totals = totals_of(runs.dump, sizes)
-    taken = {name: total.taken for name, total in totals.items()}
-    reachable = _reachable(runs.report, totals, sizes)
-    for amounts in taken, reachable:
-        amounts[CLASS_OBJECTS] = amounts.get(CLASS_OBJECTS, Amount()).plus(amounts.pop(CLASSES, Amount()))
+    taken = in_rows_of_histogram({name: total.taken for name, total in totals.items()})
+    reachable = in_rows_of_histogram(_reachable(runs.report, totals, sizes))
     found = [ClassSize(name, it, it.minus(reachable.get(name, Amount()))) for name, it in taken.items() if it.objects]
     return HeapSizes(_sorted(found), sizes.layout if sizes else None, why)
+
+
+def in_rows_of_histogram(rows: Dict[str, Amount]) -> Dict[str, Amount]:
+    """Returns rows of a report as a histogram has them: class objects are objects of `java/lang/Class`."""
+    found = {name: amount for name, amount in rows.items() if name != CLASSES}
+    found[CLASS_OBJECTS] = found.get(CLASS_OBJECTS, Amount()).plus(rows.get(CLASSES, Amount()))
+    return found
 
 
 def _reachable(report: Report, totals: Dict[str, Total], sizes: Optional[ObjectSizes]) -> Dict[str, Amount]:

@@ -74,12 +74,12 @@ def short_spans(dump: HeapDump) -> List[Span]:
 
 
 def some_instances(dump: HeapDump, class_id: int, searched: int) -> List[int]:
-    """Returns the identifiers of the first and the last instance of a class, if they are among the first and the last
-    `searched` bytes of the heap. They may be those of no object: other bytes may look like one."""
+    """Returns the identifiers of the first instances of a class among the first and among the last `searched` bytes of
+    the heap, if there are any. They may be those of no object: other bytes may look like one."""
     if not dump.segments:
         return []
     pattern, begin, end = _head_of(dump, class_id), dump.segments[0][0], dump.segments[-1][1]
-    places = {dump.bytes.find(pattern, begin, begin + searched), dump.bytes.rfind(pattern, end - searched, end)}
+    places = {dump.bytes.find(pattern, begin, begin + searched), dump.bytes.find(pattern, end - searched, end)}
     begins = [each - 5 - dump.id_size for each in places if each >= 0]
     return [dump.id(each + 1) for each in begins if dump.bytes[each] == hprof.INSTANCE]
 

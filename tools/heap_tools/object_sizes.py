@@ -87,20 +87,20 @@ class ObjectSizes:
 
     def _mean_of(self, sample: Sample) -> Linear:
         """Returns what an object of the sample takes besides its values, in the mean, and what a byte of values does."""
-        count = written = values = taken = 0
-        for class_id, kind, length, _ in sample.neighbours:
+        objects = written = values = taken = 0
+        for (class_id, kind, length, _), count in sample.neighbours.items():
             if kind == CLASS_OBJECT or class_id in self.stacks:
                 continue
-            count += 1
+            objects += count
             if kind:
-                written += length * self.dump.value_sizes[kind]
-                values += length * self.layout.value(kind)
-                taken += self.layout.array(kind, length)
+                written += count * length * self.dump.value_sizes[kind]
+                values += count * length * self.layout.value(kind)
+                taken += count * self.layout.array(kind, length)
             else:
-                written += length
-                values += self.layout.instance(self.fields.get(class_id, Fields())) - self.layout.header
-                taken += self.instance(class_id)
-        return Linear((taken - values) / max(1, count), values / max(1, written))
+                written += count * length
+                values += count * (self.layout.instance(self.fields.get(class_id, Fields())) - self.layout.header)
+                taken += count * self.instance(class_id)
+        return Linear((taken - values) / max(1, objects), values / max(1, written))
 
     def _rows_of_instances(self, sample: Sample) -> Dict[str, Linear]:
         """Returns what rows of instances take. Classes of one name are one row: if their objects have two sizes, the
@@ -110,18 +110,20 @@ class ObjectSizes:
             fields = self.fields[class_id]
             sizes[name].add((fields.references * self.dump.id_size + fields.other, self.instance(class_id)))
         rows = {name: _line(sorted(pairs)) for name, pairs in sizes.items()}
-        stacks = [each.gap for each in sample.neighbours if each.kind == 0 and each.class_id in self.stacks]
+        stacks = Counter(
+            {it.gap: n for it, n in sample.neighbours.items() if it.kind == 0 and it.class_id in self.stacks}
+        )
         if stacks:
-            rows[STACK] = Linear(sum(stacks) / len(stacks), 0)
+            rows[STACK] = Linear(sum(gap * n for gap, n in stacks.items()) / sum(stacks.values()), 0)
         return rows
 
     def _rows_of_arrays(self, sample: Sample) -> Dict[str, Linear]:
         """Returns what rows of arrays take: the elements, and of each array the header and the mean padding of those in
         the sample."""
         lengths: Dict[Tuple[int, int], Counts[int]] = defaultdict(Counter)
-        for each in sample.neighbours:
+        for each, count in sample.neighbours.items():
             if each.kind > 0:
-                lengths[each.class_id, each.kind][each.length] += 1
+                lengths[each.class_id, each.kind][each.length] += count
         names = {kind: name for name, kind in ARRAY_KINDS.items()}
         kinds = [(0, kind) for kind in names]
         kinds += [(each, hprof.OBJECT) for each, name in self.dump.names.items() if name.startswith("[")]

@@ -1,0 +1,102 @@
+#!/usr/bin/env python3
+"""Compares what the tools say that objects take in the heap with the virtual machine's own histogram.
+
+usage: size_figures.py DUMP HISTOGRAM, both of one moment
+
+HISTOGRAM is what `jcmd PID GC.class_histogram` printed; other lines before and after it are skipped. Its arrays of
+FillerElement, which fill gaps in the heap, are arrays of int in a dump.
+
+Prints a line of a table: the dump, the layout that was found (alignment, headers of instances and of arrays, bytes of a
+reference), how many classes have as many objects in both, of how many; the bytes of these classes in the heap, as a
+part of those in the histogram; the same of all classes; how many of the classes that have as many objects are off by
+more than 1%; and the seconds and the megabytes of memory that finding the layout took. Then a line for each class that
+is off. Exit status 1 if the whole is off by more than 0.3%, or more than one class in a hundred is.
+
+All classes together are less than in the histogram if the heap has class objects that were not loaded: a dump has not.
+"""
+
+from __future__ import annotations
+
+import argparse
+import pathlib
+import resource
+import sys
+import time
+from itertools import dropwhile
+
+TOP = pathlib.Path(__file__).resolve().parent.parent
+sys.dont_write_bytecode = True
+sys.path.insert(0, str(TOP / "tools"))
+
+from heap_tools.heap_dump import HeapDump  # noqa: E402
+from heap_tools.heap_layout import UnknownLayout  # noqa: E402
+from heap_tools.heap_sizes import in_rows_of_histogram  # noqa: E402
+from heap_tools.object_sizes import ObjectSizes  # noqa: E402
+from heap_tools.object_totals import totals_of  # noqa: E402
+from heap_tools.reports import Amount, read_histogram  # noqa: E402
+
+#: The most by which the whole may be off, and a class, and the part of the classes that may be.
+WHOLE, ONE, PART = 0.003, 0.01, 0.01
+FILLER = "[Ljdk/internal/vm/FillerElement;"
+
+
+def histogram_of(path: str) -> dict[str, Amount]:
+    """Returns the rows of the histogram in a file, by class."""
+    with open(path, "rb") as file:
+        lines = dropwhile(lambda line: b"#instances" not in line, (line.rstrip(b"\r\n") for line in file))
+        kept = []
+        for line in lines:
+            kept.append(line)
+            if line.startswith(b"Total"):
+                break
+    found = read_histogram(iter(kept), path)
+    assert found, f"{path}: no histogram"
+    rows: dict[str, Amount] = {}
+    for name, amount in found.rows:
+        name = "int[]" if name == FILLER else name
+        rows[name] = rows.get(name, Amount()).plus(amount)
+    return rows
+
+
+def compared(here: dict[str, Amount], there: dict[str, Amount]) -> tuple[str, list[str], bool]:
+    """Returns the columns of a comparison, the lines of the classes that are off, and whether it is good."""
+    same = [name for name, amount in there.items() if here.get(name, Amount()).objects == amount.objects]
+    off = [name for name in same if abs(here[name].bytes - there[name].bytes) > ONE * there[name].bytes]
+    part = sum(here[name].bytes for name in same) / sum(there[name].bytes for name in same)
+    whole = sum(each.bytes for each in here.values()) / sum(each.bytes for each in there.values())
+    lines = [
+        f"    {name}: {here[name].objects} objects, {here[name].bytes} and {there[name].bytes} bytes" for name in off
+    ]
+    is_good = abs(part - 1) <= WHOLE and len(off) <= PART * len(same)
+    return f"| {len(same)} of {len(there)} | {part:.5f} | {whole:.5f} | {len(off)} |", lines, is_good
+
+
+def main() -> int:
+    """Prints the comparison of the files of the command line."""
+    parser = argparse.ArgumentParser(description=__doc__, formatter_class=argparse.RawDescriptionHelpFormatter)
+    parser.add_argument("dump")
+    parser.add_argument("histogram")
+    options = parser.parse_args()
+    name = pathlib.Path(options.dump).stem
+    with open(options.dump, "rb") as file:
+        dump = HeapDump(file)
+        began, used = time.monotonic(), time.process_time()
+        try:
+            sizes = ObjectSizes(dump)
+        except UnknownLayout as unknown:
+            print(f"| {name} | {unknown} |")
+            return 1
+        took = f"{time.monotonic() - began:.1f} s, {time.process_time() - used:.1f} s of a processor"
+        peak = resource.getrusage(resource.RUSAGE_SELF).ru_maxrss // 1024
+        here = in_rows_of_histogram({each: total.taken for each, total in totals_of(dump, sizes).items()})
+    columns, lines, is_good = compared(here, histogram_of(options.histogram))
+    layout = sizes.layout
+    numbers = f"{layout.alignment}, {layout.header}, {layout.array_header}, {layout.reference}"
+    print(f"| {name} | {numbers} {columns} {took}, {peak} MB |")
+    for line in lines:
+        print(line)
+    return 0 if is_good else 1
+
+
+if __name__ == "__main__":
+    sys.exit(main())

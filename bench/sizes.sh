@@ -1,0 +1,94 @@
+#!/usr/bin/env bash
+# Compares what the tools say that objects take in the heap with the virtual machine's own histogram of the same moment.
+#
+# usage: bench/sizes.sh [DIR [MEGABYTES]]
+#
+# Dumps bench/java/Filler.java with 40 MB by each collector and mode that Java has; without compressed references, or
+# classes; with objects at multiples of 16 bytes; with compact object headers; from Java 21 on 3,000 parked virtual
+# threads; and Filler with MEGABYTES (500) by G1, ZGC and Shenandoah. Then prints a table, as bench/size_figures.py says,
+# and fails if a comparison does. Java is that of JAVA_HOME, else that of PATH; bench/debian_jdk.sh unpacks others.
+#
+# DIR (/tmp/heapmark-sizes) gets the dumps with their histograms; those that are there are not made again, and each dump
+# NAME.hprof in DIR with a NAME.histogram is compared. HEAP_SIZES_KEEP=no: a dump with MEGABYTES is removed once it was
+# compared.
+set -euo pipefail
+
+top=$(cd "$(dirname "$0")/.." && pwd)
+# shellcheck source=bench/machine.sh
+. "$top/bench/machine.sh"
+room=${1:-/tmp/heapmark-sizes} large=${2:-500}
+require_number MEGABYTES "$large"
+mkdir -p "$room/classes"
+status=0
+
+# accepts OPTION..: tests whether the virtual machine takes these options without a word.
+accepts() {
+    local said
+    said=$("${java}java" "$@" -version 2>&1) && ! grep -q -i warning <<< "$said"
+}
+
+# dumped NAME OPTION.. PROGRAM NUMBER: starts a program, and makes a histogram and a dump of its live objects, so that
+# little happens between the two. Garbage is collected twice before: what waits to be finalized outlives the first.
+dumped() {
+    local name=$room/$1
+    shift
+    [ ! -s "$name.hprof" ] || return 0
+    started "${java}java" -cp "$room/classes" "$@"
+    "${java}jcmd" "$PROGRAM_PID" GC.run > "$room/request"
+    sleep 0.5
+    "${java}jcmd" "$PROGRAM_PID" GC.class_histogram > "$room/request"
+    printf 'GC.class_histogram\nGC.heap_dump %s\n' "$name.hprof" > "$room/request"
+    "${java}jcmd" "$PROGRAM_PID" -f "$room/request" > "$name.histogram"
+    ended
+}
+
+# compared NAME: prints the line of a dump.
+compared() {
+    "$top/bench/size_figures.py" "$room/$1.hprof" "$room/$1.histogram" || status=1
+}
+
+# filler NAME OPTION..: dumps and compares Filler with 40 MB, if the virtual machine takes the options.
+filler() {
+    local name=j$number-$1
+    shift
+    if accepts "$@"; then
+        dumped "$name" -Xmx700m "$@" Filler 40
+        compared "$name"
+    fi
+}
+
+# large NAME OPTION..: dumps and compares Filler with many megabytes.
+large() {
+    local name=j$number-$1
+    shift
+    if accepts "$@"; then
+        dumped "$name" "-Xmx$((large * 5 / 2))m" "$@" Filler "$large"
+        compared "$name"
+        [ "${HEAP_SIZES_KEEP:-yes}" = yes ] || rm -f "$room/$name.hprof"
+    fi
+}
+
+number=$(version)
+"${java}javac" -encoding UTF-8 -d "$room/classes" "$top/bench/java/Filler.java"
+printf '| Dump | Layout | Classes | Bytes | All bytes | Off | Took |\n|---|---|---|---|---|---|---|\n'
+filler g1 -XX:+UseG1GC
+filler serial -XX:+UseSerialGC
+filler parallel -XX:+UseParallelGC
+filler z -XX:+UseZGC
+filler generational-z -XX:+UseZGC -XX:+ZGenerational
+filler shenandoah -XX:+UseShenandoahGC
+filler generational-shenandoah -XX:+UseShenandoahGC -XX:ShenandoahGCMode=generational
+filler uncompressed -XX:-UseCompressedOops
+filler uncompressed-classes -XX:-UseCompressedClassPointers
+filler aligned-16 -XX:ObjectAlignmentInBytes=16
+filler compact -XX:+UseCompactObjectHeaders
+filler compact-z -XX:+UseCompactObjectHeaders -XX:+UseZGC
+if [ "$number" -ge 21 ]; then
+    "${java}javac" -encoding UTF-8 -d "$room/classes" "$top/bench/java/newer/Virtual.java"
+    dumped "j$number-virtual" -Xmx700m Virtual 3000
+    compared "j$number-virtual"
+fi
+large large-g1 -XX:+UseG1GC
+large large-z -XX:+UseZGC
+large large-shenandoah -XX:+UseShenandoahGC
+exit $status
