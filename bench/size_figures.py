@@ -19,8 +19,9 @@ from __future__ import annotations
 
 import argparse
 import pathlib
-import resource
+import re
 import sys
+import threading
 import time
 from itertools import dropwhile
 
@@ -58,6 +59,27 @@ def histogram_of(path: str) -> dict[str, Amount]:
     return rows
 
 
+class PeakMemory(threading.Thread):
+    """Looks how much memory this process has, without the pages of the dump that it has read, until it is asked for the
+    most."""
+
+    def __init__(self) -> None:
+        super().__init__(daemon=True)
+        self.ends, self.most = threading.Event(), 0
+        self.start()
+
+    def run(self) -> None:
+        while not self.ends.wait(0.01):
+            found = re.search(r"^RssAnon:\s+(\d+) kB$", pathlib.Path("/proc/self/status").read_text(), re.M)
+            self.most = max(self.most, int(found[1]) if found else 0)
+
+    def megabytes(self) -> int:
+        """Returns the most that was seen."""
+        self.ends.set()
+        self.join()
+        return self.most // 1024
+
+
 def compared(here: dict[str, Amount], there: dict[str, Amount]) -> tuple[str, list[str], bool]:
     """Returns the columns of a comparison, the lines of the classes that are off, and whether it is good."""
     same = [name for name, amount in there.items() if here.get(name, Amount()).objects == amount.objects]
@@ -80,19 +102,19 @@ def main() -> int:
     name = pathlib.Path(options.dump).stem
     with open(options.dump, "rb") as file:
         dump = HeapDump(file)
-        began, used = time.monotonic(), time.process_time()
+        peak, began, used = PeakMemory(), time.monotonic(), time.process_time()
         try:
             sizes = ObjectSizes(dump)
         except UnknownLayout as unknown:
             print(f"| {name} | {unknown} |")
             return 1
         took = f"{time.monotonic() - began:.1f} s, {time.process_time() - used:.1f} s of a processor"
-        peak = resource.getrusage(resource.RUSAGE_SELF).ru_maxrss // 1024
+        memory = peak.megabytes()
         here = in_rows_of_histogram({each: total.taken for each, total in totals_of(dump, sizes).items()})
     columns, lines, is_good = compared(here, histogram_of(options.histogram))
     layout = sizes.layout
     numbers = f"{layout.alignment}, {layout.header}, {layout.array_header}, {layout.reference}"
-    print(f"| {name} | {numbers} {columns} {took}, {peak} MB |")
+    print(f"| {name} | {numbers} {columns} {took}, {memory} MB |")
     for line in lines:
         print(line)
     return 0 if is_good else 1

@@ -49,7 +49,7 @@ WITH_ADDED_FIELDS = frozenset(
 )
 #: The parts of the file, or ranges of addresses, that are read at most for the sake of special objects; how many class
 #: objects are such; and how many bytes at both ends of the heap are searched for an object of a class.
-MOST_SPECIAL, SOME_CLASSES, SEARCHED = 20, 8, 8 << 20
+MOST_SPECIAL, SOME_CLASSES, SEARCHED = 20, 8, 32 << 20
 #: The bytes of an object besides its values, about.
 HEADER = 16
 #: What a class object has as the code of its elements' type.
@@ -82,7 +82,7 @@ def sample_of(dump: HeapDump) -> Sample:
     stretches = [_beginning(dump, spans[number], count) for number, count in _parts(len(spans)).items()]
     classes = sorted(dump.classes)
     if _ascending(stretches) >= ASCENDING:
-        stretches += _with_their_next(dump, spans, _special(dump))
+        stretches += _with_their_next(dump, spans, _special(dump, stretches))
         between = {class_id for each in stretches if each for class_id in classes[slice(*_places(classes, each))]}
         return _sample({each for stretch in stretches for each in stretch}, between, True)
     ranges = _ranges(dump, stretches)
@@ -118,13 +118,14 @@ def _places(classes: List[int], stretch: List[HeapObject]) -> Tuple[int, int]:
     return bisect_left(classes, stretch[0][0]), bisect_right(classes, stretch[-1][0])
 
 
-def _special(dump: HeapDump) -> List[int]:
+def _special(dump: HeapDump, stretches: Iterable[List[HeapObject]]) -> List[int]:
     """Returns the identifiers of objects of which there are few, which a sample may lack: of class loaders, objects of
-    the other classes to which the virtual machine adds fields, some class objects, and threads."""
-    classes = sorted(dump.classes)
+    the other classes to which the virtual machine adds fields if none are in `stretches`, some class objects, and
+    threads."""
+    classes, met = sorted(dump.classes), {each[1] for stretch in stretches for each in stretch}
     found = [*{each.loader for each in dump.classes.values() if each.loader}]
     for class_id, name in dump.names.items():
-        if name in WITH_ADDED_FIELDS:
+        if name in WITH_ADDED_FIELDS and class_id not in met:
             found += some_instances(dump, class_id, SEARCHED)
     found += [classes[number * len(classes) // SOME_CLASSES] for number in range(SOME_CLASSES) if classes]
     return found + [dump.id(root.place) for root in dump.roots if root.kind == hprof.THREAD_OBJECT]
@@ -133,13 +134,17 @@ def _special(dump: HeapDump) -> List[int]:
 def _with_their_next(dump: HeapDump, spans: Sequence[Span], wanted: Sequence[int]) -> List[List[HeapObject]]:
     """Returns pairs of objects of which the first is one of `wanted`, or has a class object of `wanted` after it.
     Identifiers ascend in the file."""
-    begins = sorted((each[0], span) for span in spans for each in _beginning(dump, span, 1))
-    firsts = [identifier for identifier, _ in begins]
-    ascending = sorted(wanted)
-    chosen = [begins[place - 1][1] for place in (bisect_right(firsts, each) for each in wanted) if place]
+    begins = sorted((each[0], number) for number, span in enumerate(spans) for each in _beginning(dump, span, 1))
+    firsts, ascending = [identifier for identifier, _ in begins], sorted(wanted)
+    chosen: List[int] = []
+    for each in wanted:
+        place = bisect_right(firsts, each)
+        # Mostly one part; not where the addresses of a part go on from those of the last space to those of the first.
+        chosen += [begins[place - 1][1]] if place else []
+        chosen += [max(0, begins[place][1] - 1)] if place < len(begins) else []
     found: List[List[HeapObject]] = []
-    for span in list(dict.fromkeys(chosen))[:MOST_SPECIAL]:
-        here, after = tee(heap_objects(dump, [span]))
+    for number in list(dict.fromkeys(chosen))[:MOST_SPECIAL]:
+        here, after = tee(heap_objects(dump, [spans[number]]))
         next(after, None)
         for one, following in zip(here, after):
             if bisect_left(ascending, one[0]) < bisect_left(ascending, following[0]):
@@ -156,7 +161,7 @@ def _ranges(dump: HeapDump, stretches: Iterable[List[HeapObject]]) -> Set[int]:
     values = sum(length * dump.value_sizes[kind] if kind else length for _, _, kind, length in met)
     count = max(1, SAMPLED * (values // len(met) + HEADER) >> RANGE_BITS)
     even = {met[number * len(met) // count][0] >> RANGE_BITS for number in range(count)}
-    special = dict.fromkeys(each >> RANGE_BITS for each in _special(dump))
+    special = dict.fromkeys(each >> RANGE_BITS for each in _special(dump, []))
     return even | set(list(special)[:MOST_SPECIAL])
 
 
