@@ -51,7 +51,7 @@ class EndTest(unittest.TestCase):
         """An interrupt while the modules of a tool are read takes one line, too, and so does one that is missing."""
         missing = "No module named 'mmap'"
         needed = f"{missing}: the tools need all of Python 3.7 or later, and the folder heap_tools"
-        for tool in ("grown", "held", "holders", "leaks"):
+        for tool in ("grown", "held", "holders", "leaks", "sizes"):
             text = (TOOLS / tool).read_text(encoding="utf-8")
             for raised, status, line in (
                 ("KeyboardInterrupt", 130, "interrupted"),

@@ -8,6 +8,7 @@ from typing import Any, Dict, Iterator, List, NamedTuple
 from heap_tools.documents import document, path_entry
 from tests.support.held_objects import DUMPS
 from tests.support.services import cache, handler, of_customer, reporters
+from tests.sizes_test import shop
 from tests.support.tool_test import TOP, ToolTest, histogram, report
 
 
@@ -19,7 +20,7 @@ class Maybe(NamedTuple):
 
 #: The form of a value: a type, the texts that it may be, a list with the form of its elements, or fields with forms.
 AMOUNT = {"objects": int, "bytes": int}
-HEAD = {"format": int, "tool": {"grown", "held", "holders", "leaks"}, "version": str, "notes": [str]}
+HEAD = {"format": int, "tool": {"grown", "held", "holders", "leaks", "sizes"}, "version": str, "notes": [str]}
 UNIT = {"objects", "bytes"}
 FILE = {
     "path": str,
@@ -94,6 +95,17 @@ FORMS: Dict[str, Dict[str, Any]] = {
         "lines": [{"fields": [FIELD], "retained": AMOUNT, "share_percent": float, "instances": int}],
         "hidden": int,
         "without_statics": int,
+    },
+    "sizes": {
+        **HEAD,
+        "file": FILE,
+        "layout": Maybe({"alignment": int, "header": int, "reference": int, "array_header": int}),
+        "all": AMOUNT,
+        "reachable": AMOUNT,
+        "unreachable": AMOUNT,
+        "waiting_stacks": AMOUNT,
+        "classes": [{"name": str, "all": AMOUNT, "reachable": AMOUNT, "unreachable": AMOUNT}],
+        "hidden": int,
     },
     "held": {
         **HEAD,
@@ -178,6 +190,20 @@ class DocumentsTest(ToolTest):
         with open("h", "w") as file:
             file.write(histogram((1, 16, "A")))
         self.assertEqual([each["reachable"] for each in self.document("grown", "h", "h")["files"]], [None, None])
+
+    def test_sizes(self) -> None:
+        """Classes, and packages, with and without a layout."""
+        shop().written().write("shop.hprof")
+        found = self.document("sizes", "--top", "1", "shop.hprof")
+        self.assertEqual(found["layout"], {"alignment": 8, "header": 12, "reference": 4, "array_header": 16})
+        (first,) = found["classes"]
+        self.assertEqual(first["all"], {"objects": 400, "bytes": 9600})
+        self.assertEqual((first["unreachable"]["bytes"], found["hidden"] > 0), (7200, True))
+        FORMS["packages"] = {**FORMS["sizes"], "packages": FORMS["sizes"]["classes"]}
+        del FORMS["packages"]["classes"]
+        self.document("sizes", "--packages", "shop.hprof", form="packages")
+        cache(5).write("few.hprof")
+        self.assertIsNone(self.document("sizes", "few.hprof")["layout"])
 
     def test_held(self) -> None:
         """What fields retain, and entries that name none."""

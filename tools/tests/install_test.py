@@ -15,7 +15,7 @@ from heap_tools import VERSION
 from tests.support.services import cache
 from tests.support.tool_test import HEAPMARK, TOOLS, ToolTest
 
-NAMES = ("leaks", "grown", "holders", "held")
+NAMES = ("leaks", "grown", "holders", "held", "sizes")
 #: The version of Python that the tools need, and the version of setuptools that reads pyproject.toml.
 NEEDED, SETUPTOOLS = (3, 7), 61
 
@@ -104,6 +104,7 @@ class InstallTest(ToolTest):
         self.assertIn("shop/Order", ran(oldest, str(TOOLS / "grown"), "monday", "friday"))
         self.assertIn("shop/Order", ran(oldest, str(TOOLS / "held"), "friday", "shop/Service.CACHE"))
         self.assertIn("CACHE", ran(oldest, str(TOOLS / "holders"), "friday", "shop/Order"))
+        self.assertIn("shop/Order", ran(oldest, str(TOOLS / "sizes"), "friday"))
 
 
 if __name__ == "__main__":

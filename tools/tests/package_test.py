@@ -19,7 +19,7 @@ TOP = pathlib.Path(__file__).resolve().parents[2]
 DATA = TOP / "crates/heapmark/data"
 DUMP = str(DATA / "two_objects.hprof")
 BINARY = os.path.realpath(os.environ.get("HEAPMARK") or TOP / "crates/heapmark/out/heapmark")
-TOOLS = ("leaks", "grown", "holders", "held")
+TOOLS = ("leaks", "grown", "holders", "held", "sizes")
 DOCUMENTS = ("README.md", "docs/FORMAT.md", "docs/HISTOGRAM.md")
 #: The headings of the help, and those of a manual page.
 HEADINGS = {"Usage: ": "", **{f"{head}:": head.upper() for head in ("Arguments", "Options", "Exit status", "Example")}}
@@ -123,6 +123,7 @@ class PackageTest(unittest.TestCase):
             (["held", DUMP, "A.b"], "held: A.b: A itself declares no such field"),
             (["holders", DUMP], "holders: "),
             (["leaks", before, after], "leaks: "),
+            (["sizes", DUMP], "sizes: the sizes of objects in the heap are not known"),
             (["leaks", DUMP, DUMP], f"leaks: {DUMP}: the same file as {DUMP}"),
         ):
             ended = ran(programs / words[0], *words[1:], env={**self.environment, "PATH": path})
@@ -135,7 +136,7 @@ class PackageTest(unittest.TestCase):
         self.assertEqual(len(found - library), 5 * (len(TOOLS) + 1) + len(DOCUMENTS))
         self.assertEqual([name for name in library if re.search(r"_test|testing|dump_writer|pycache|sample", name)], [])
         imported = (
-            "from heap_tools.commands import grown, held, holders, leaks; from heap_tools import page; page.html_of"
+            "from heap_tools.commands import grown, held, holders, leaks, sizes; from heap_tools import page; page.html_of"
         )
         ended = ran(sys.executable, "-B", "-c", imported, env={"PYTHONPATH": str(self.made / "lib/heapmark")})
         self.assertEqual((ended.returncode, ended.stderr), (0, ""))
@@ -208,6 +209,8 @@ class PackageTest(unittest.TestCase):
             (["leaks", "a", "b", two], dump),
             (["leaks", "a", "--html", two], dump),
             (["leaks", "--top", ""], ""),
+            (["sizes", two], dump),
+            (["sizes", "--html", two], dump),
         ):
             place = self.made / "share/bash-completion/completions" / words[0]
             ended = ran("bash", "-c", COMPLETE, "bash", place, *words, cwd=DATA)

@@ -80,8 +80,8 @@ class LaidOutHeap:
                 if hole and (4 * number + at) % 3 == 0:
                     self.place(hole)
 
-    def read(self, shuffled: bool = False) -> HeapDump:
-        """Writes the dump, its objects in the order of their addresses or in no order, and reads it."""
+    def written(self, shuffled: bool = False) -> DumpWriter:
+        """Returns the dump, its objects in the order of their addresses or in no order."""
         writers = list(self._writers)
         if shuffled:
             random.Random(1).shuffle(writers)
@@ -89,7 +89,11 @@ class LaidOutHeap:
             if number % IN_A_SEGMENT == 0:
                 self.dump.cut()
             write()
-        return read(self.dump)
+        return self.dump
+
+    def read(self, shuffled: bool = False) -> HeapDump:
+        """Writes the dump and reads it."""
+        return read(self.written(shuffled))
 
 
 def read(dump: DumpWriter) -> HeapDump:
