@@ -34,11 +34,13 @@ def growth_of(name: str, reports: Sequence[Report], unit: Unit) -> ClassGrowth:
     return ClassGrowth(name, series[-1].minus(series[0]), steps)
 
 
-def lines_to_print(found: Sequence[ClassGrowth], unit: Unit = Unit.OBJECTS, hours: Optional[float] = None) -> str:
+def lines_to_print(
+    found: Sequence[ClassGrowth], unit: Unit = Unit.OBJECTS, hours: Optional[float] = None, bytes_head: str = "bytes"
+) -> str:
     """Returns a line for each of `found`: with its steps if there are several, with its growth per hour if `hours` are
     given, and on a terminal with a bar, below the heads of the columns."""
     terminal = is_terminal(sys.stdout)
-    lines = [heads(found, hours)] if terminal and found else []
+    lines = [heads(found, hours, bytes_head)] if terminal and found else []
     most = max((unit.of(it.amount) for it in found), default=0)
     for it in found:
         growth = unit.of(it.amount)
@@ -58,9 +60,9 @@ def rate(per_hour: float) -> str:
     return f"{per_hour:.0f}" if abs(per_hour) >= 10 or per_hour == int(per_hour) else f"{per_hour:.1f}"
 
 
-def heads(found: Sequence[ClassGrowth], hours: Optional[float]) -> str:
+def heads(found: Sequence[ClassGrowth], hours: Optional[float], bytes_head: str = "bytes") -> str:
     """Returns the heads of the columns."""
-    line = f"{'objects':>10} {'bytes':>14}"
+    line = f"{'objects':>10} {bytes_head:>14}"
     if len(found[0].steps) > 1:
         line += "".join(f" {f'step {number}':>10}" for number in range(1, len(found[0].steps) + 1))
     if hours:

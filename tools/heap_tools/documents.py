@@ -50,6 +50,7 @@ def file_entry(path: str, kind: str, time: Optional[int], report: Report) -> Fie
         "path": path_entry(path),
         "kind": kind,
         "time_ms": time,
+        "bytes_of": "heap" if report.in_heap else "dump",
         "reachable": amount_entry(report.reachable) if has_totals else None,
         "unreachable": amount_entry(report.unreachable) if has_totals else None,
         "unresolved": report.unresolved if has_totals else None,

@@ -11,6 +11,7 @@ from heap_tools.heap_dump import HeapDump, UnknownTag
 from heap_tools.heapmark import Copy, Heapmark, opened
 from heap_tools.hprof_format import MAGIC
 from heap_tools.memory_copy import CopyInMemory, have_room
+from heap_tools.object_sizes import RowSizes
 from heap_tools.reports import Report, read_text
 
 
@@ -34,10 +35,24 @@ def require_plain_dump(path: str, tool: str) -> None:
         raise Fault(UNREADABLE, f"{path}: a {found[0]}: {tool} needs a dump")
 
 
+def read_dump(path: str, length: int, report: Report) -> HeapDump:
+    """Returns the records of a dump of which heapmark has made `report`, when it had `length` bytes. Raises `Fault` if
+    they are not as heapmark read them."""
+    try:
+        dump = HeapDump(opened(path), report.has_nameless())
+        if dump.size != length:
+            raise ValueError("another length")
+        return dump
+    except UnknownTag as unknown:
+        raise Fault(UNREADABLE, f"{path}: {unknown}") from None
+    except (IndexError, KeyError, ValueError, struct.error):
+        raise Fault(UNREADABLE, f"{path}: it changed while it was read") from None
+
+
 class DumpRuns:
     """A dump in a plain file, and the runs of heapmark on it. `report` is that of the dump as it is. Later runs are on
     copies in which `cut` is changed, too, and the objects `roots` are roots: on the copy in `memory`, if it is there
-    and free, else on one that a pipe brings."""
+    and free, else on one that a pipe brings. With `sizes`, all reports are in bytes of the heap."""
 
     def __init__(
         self,
@@ -48,9 +63,10 @@ class DumpRuns:
         cut: Changes,
         roots: Sequence[int],
         memory: Optional[CopyInMemory] = None,
+        sizes: Optional[RowSizes] = None,
     ) -> None:
         self.heapmark, self.path, self.report, self.dump = heapmark, path, report, dump
-        self.cut, self.roots, self.memory = cut, roots, memory
+        self.cut, self.roots, self.memory, self.sizes = cut, roots, memory, sizes
 
     @classmethod
     def of(cls, heapmark: Heapmark, path: str, tool: str) -> "DumpRuns":
@@ -58,20 +74,23 @@ class DumpRuns:
         require_plain_dump(path, tool)
         length = os.path.getsize(path) if os.path.exists(path) else 0
         report = heapmark.first_report(path)
-        try:
-            dump = HeapDump(opened(path), report.has_nameless())
-            if dump.size != length:
-                raise ValueError("another length")
-        except UnknownTag as unknown:
-            raise Fault(UNREADABLE, f"{path}: {unknown}") from None
-        except (IndexError, KeyError, ValueError, struct.error):
-            raise Fault(UNREADABLE, f"{path}: it changed while it was read") from None
+        dump = read_dump(path, length, report)
         return cls(heapmark, path, report, dump, {}, (), CopyInMemory(dump))
 
     def with_cut(self, changes: Changes, roots: Sequence[int] = ()) -> "DumpRuns":
         """Returns the same dump, in whose copies `changes` are made and `roots` are roots, too."""
         cut: Dict[int, bytes] = {**self.cut, **changes}
-        return DumpRuns(self.heapmark, self.path, self.report, self.dump, cut, [*self.roots, *roots], self.memory)
+        every = [*self.roots, *roots]
+        return DumpRuns(self.heapmark, self.path, self.report, self.dump, cut, every, self.memory, self.sizes)
+
+    def in_heap(self, sizes: RowSizes) -> "DumpRuns":
+        """Returns the same dump, with reports in bytes of the heap."""
+        report = sizes.report(self.report)
+        return DumpRuns(self.heapmark, self.path, report, self.dump, self.cut, self.roots, self.memory, sizes)
+
+    def counted(self, report: Report) -> Report:
+        """Returns a report of heapmark on this dump in the bytes that count."""
+        return self.sizes.report(report) if self.sizes else report
 
     def base(self) -> Report:
         """Returns the report with which those of copies compare."""
@@ -81,7 +100,7 @@ class DumpRuns:
         """Returns the report of the dump with these changes."""
         with self.in_memory(changes) as file:
             (report,) = self.heapmark.later_reports(self._copy(changes, file))
-        return report
+        return self.counted(report)
 
     def _copy(self, changes: Changes, file: Optional[int]) -> Copy:
         """Returns the copy in memory, which `file` is, or one by a pipe if that is None."""
@@ -123,5 +142,6 @@ def _reports_at_once(questions: Sequence[Question]) -> List[Report]:
             if file is not None:
                 copies.append(Copy(runs.path, file))
         if 1 < len(copies) == len(questions) and have_room([runs.dump for runs, _ in questions]):
-            return questions[0].runs.heapmark.later_reports(*copies)
+            reports = questions[0].runs.heapmark.later_reports(*copies)
+            return [runs.counted(report) for (runs, _), report in zip(questions, reports)]
     return [runs.without(changes) for runs, changes in questions]

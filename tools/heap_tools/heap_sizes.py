@@ -84,7 +84,7 @@ def _reachable(report: Report, totals: Dict[str, Total], sizes: Optional[ObjectS
         elif amount == total.written:
             found[name] = total.taken
         else:
-            taken, most = sizes.row(name, amount).bytes, sizes.row(name, total.written).bytes
+            taken, most = sizes.rows.of(name, amount).bytes, sizes.rows.of(name, total.written).bytes
             share = total.taken.bytes / max(1, most)  # which makes the mean padding that of all objects
             found[name] = Amount(amount.objects, min(total.taken.bytes, round(share * taken)))
     return found

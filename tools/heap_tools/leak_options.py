@@ -7,7 +7,8 @@ from heap_tools.reports import Unit
 
 class Options(NamedTuple):
     """Of which class it is asked or of all, in which unit, from which percentage on lines are shown, how many of them,
-    whether weak references are followed, and whether texts of the dump are shown."""
+    whether weak references are followed, whether texts of the dump are shown, and whether bytes are those of the dump.
+    """
 
     of_class: Optional[str] = None
     unit: Unit = Unit.BYTES
@@ -15,3 +16,4 @@ class Options(NamedTuple):
     top: int = 4
     weak: bool = False
     shows_values: bool = True
+    dump_bytes: bool = False

@@ -6,7 +6,7 @@ from typing import Dict, List, NamedTuple, Set, Tuple
 
 from heap_tools import hprof_format as hprof
 from heap_tools.added_fields import added_fields, class_object_size
-from heap_tools.class_names import CLASSES, PRIMITIVES, is_array
+from heap_tools.class_names import CLASSES, PRIMITIVES
 from heap_tools.heap_dump import HeapDump
 from heap_tools.heap_layout import STACK, Fields, Layout, fields_of, layout_of
 from heap_tools.heap_sample import CLASS_OBJECT, Sample, sample_of
@@ -15,6 +15,10 @@ from heap_tools.reports import Amount, Report, Row
 
 #: The codes of the elements' types by the names of arrays of primitive values.
 ARRAY_KINDS = {f"{PRIMITIVES[letter]}[]": kind for kind, letter in hprof.LETTERS.items()}
+
+
+#: How many arrays have each length, by their class and the type of their elements.
+Lengths = Dict[Tuple[int, int], Counts[int]]
 
 
 class Linear(NamedTuple):
@@ -27,6 +31,33 @@ class Linear(NamedTuple):
         """Returns the amount in heap bytes, a multiple of `alignment`."""
         taken = self.an_object * amount.objects + self.a_byte * amount.bytes
         return Amount(amount.objects, round(taken / alignment) * alignment)
+
+
+class RowSizes(NamedTuple):
+    """What the objects of each row of a report take in a heap with a layout, and what those take of which a report has
+    no rows: the unreachable ones."""
+
+    layout: Layout
+    rows: Dict[str, Linear]
+    others: Linear
+
+    def of(self, name: str, amount: Amount) -> Amount:
+        """Returns what the objects of a row take: as much as they do in the report, if the dump has no such class."""
+        return self.rows[name].of(amount, self.layout.alignment) if name in self.rows else amount
+
+    def report(self, report: Report) -> Report:
+        """Returns a report in heap bytes."""
+        rows = [Row(name, self.of(name, amount)) for name, amount in report.rows]
+        reachable = Amount(report.reachable.objects, sum(each.amount.bytes for each in rows))
+        unreachable = self.others.of(report.unreachable, self.layout.alignment)
+        return Report(rows, reachable, unreachable, report.unresolved, True)
+
+    def like(self, other: "RowSizes") -> "RowSizes":
+        """Returns what objects of a heap with the same layout take, in rows that `other` has, too, as much as by it: so
+        a row that is the same in two dumps takes as much in both, though their samples differ."""
+        if self.layout != other.layout:
+            return self
+        return RowSizes(self.layout, {**self.rows, **other.rows}, other.others)
 
 
 class ObjectSizes:
@@ -42,12 +73,8 @@ class ObjectSizes:
         statics = {each: self._statics(each) for each in dump.classes}
         of_class = next((each for each, name in dump.names.items() if name == "java/lang/Class"), 0)
         self.class_object = class_object_size(sample, statics, self.layout, self._plain(of_class))
-        self._mean = self._mean_of(sample)
-        self._rows = {
-            **self._rows_of_instances(sample),
-            **self._rows_of_arrays(sample),
-            CLASSES: self._row_of_classes(),
-        }
+        rows = {**self._rows_of_instances(sample), **self._rows_of_arrays(lengths_in(sample))}
+        self.rows = RowSizes(self.layout, {**rows, CLASSES: self._row_of_classes()}, self._mean_of(sample))
 
     def _plain(self, class_id: int) -> int:
         return self.layout.instance(self.fields.get(class_id, Fields())) + self.added.get(class_id, 0)
@@ -67,23 +94,6 @@ class ObjectSizes:
         return self.layout.aligned(self.class_object + self._statics(class_id))
 
     # Rows of a report
-
-    def row(self, name: str, amount: Amount) -> Amount:
-        """Returns what the objects of a row take: as much as they do in the report, if the dump has no such class."""
-        if name not in self._rows:
-            return amount
-        kind = ARRAY_KINDS.get(name, hprof.OBJECT)
-        if amount.objects == 1 and is_array(name):
-            return Amount(1, self.layout.array(kind, amount.bytes // self.dump.value_sizes[kind]))
-        return self._rows[name].of(amount, self.layout.alignment)
-
-    def report(self, report: Report) -> Report:
-        """Returns a report in heap bytes. Since it has no classes of what is unreachable, that takes as much as the
-        mean of the sample."""
-        rows = [Row(name, self.row(name, amount)) for name, amount in report.rows]
-        reachable = Amount(report.reachable.objects, sum(each.amount.bytes for each in rows))
-        unreachable = self._mean.of(report.unreachable, self.layout.alignment)
-        return Report(rows, reachable, unreachable, report.unresolved)
 
     def _mean_of(self, sample: Sample) -> Linear:
         """Returns what an object of the sample takes besides its values, in the mean, and what a byte of values does."""
@@ -117,13 +127,17 @@ class ObjectSizes:
             rows[STACK] = Linear(sum(gap * n for gap, n in stacks.items()) / sum(stacks.values()), 0)
         return rows
 
-    def _rows_of_arrays(self, sample: Sample) -> Dict[str, Linear]:
-        """Returns what rows of arrays take: the elements, and of each array the header and the mean padding of those in
-        the sample."""
-        lengths: Dict[Tuple[int, int], Counts[int]] = defaultdict(Counter)
-        for each, count in sample.neighbours.items():
-            if each.kind > 0:
-                lengths[each.class_id, each.kind][each.length] += count
+    def of_all(self, shapes: Counts[Tuple[int, int, int]]) -> RowSizes:
+        """Returns what rows take, given how many objects the whole dump has of each class, type of elements and length:
+        then the mean padding is not that of a sample."""
+        lengths: Lengths = defaultdict(Counter)
+        for (class_id, kind, length), count in shapes.items():
+            lengths[class_id, kind][length] += count
+        return self.rows._replace(rows={**self.rows.rows, **self._rows_of_arrays(lengths)})
+
+    def _rows_of_arrays(self, lengths: Lengths) -> Dict[str, Linear]:
+        """Returns what rows of arrays take: the elements, and of each array the header and the mean padding of arrays of
+        these lengths."""
         names = {kind: name for name, kind in ARRAY_KINDS.items()}
         kinds = [(0, kind) for kind in names]
         kinds += [(each, hprof.OBJECT) for each, name in self.dump.names.items() if name.startswith("[")]
@@ -157,3 +171,12 @@ def _line(pairs: List[Tuple[int, int]]) -> Linear:
         return Linear(sum(size for _, size in pairs) / len(pairs), 0)
     a_byte = (largest - smallest) / (most - least)
     return Linear(smallest - a_byte * least, a_byte)
+
+
+def lengths_in(sample: Sample) -> Lengths:
+    """Returns the lengths of the arrays in a sample."""
+    found: Lengths = defaultdict(Counter)
+    for each, count in sample.neighbours.items():
+        if each.kind > 0:
+            found[each.class_id, each.kind][each.length] += count
+    return found

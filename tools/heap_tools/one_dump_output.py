@@ -5,12 +5,11 @@ import sys
 from heap_tools.console import is_terminal
 from heap_tools.one_dump import HeapAnswer
 
-HEADS = f"{'objects':>10} {'bytes':>14} share instances  field\n"
-
 
 def lines_of_one(answer: HeapAnswer) -> str:
     """Returns the lines as they are printed, on a terminal below the heads of the columns."""
-    found = [HEADS] if answer.lines and is_terminal(sys.stdout) else []
+    heads = f"{'objects':>10} {answer.question.runs.report.bytes_head:>14} share instances  field\n"
+    found = [heads] if answer.lines and is_terminal(sys.stdout) else []
     for line in answer.lines:
         amount = line.held.amount
         text = f"{amount.objects:10} {amount.bytes:14} {line.share:4.0f}% {line.held.instances:9}  {line.path()}\n"

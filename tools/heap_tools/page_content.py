@@ -14,6 +14,7 @@ from heap_tools.comparison import Comparison
 from heap_tools.dump_runs import DumpRuns, is_dump
 from heap_tools.faults import UNWRITABLE, WRONG_USE, Fault
 from heap_tools.heapmark import Heapmark
+from heap_tools.heap_bytes import layout_words
 from heap_tools.leak_lines import Answer, Line
 from heap_tools.leak_notes import Notes
 from heap_tools.omissions import on_page
@@ -49,6 +50,7 @@ def content_of(
         threads=[page.ThreadGroupEntry(it.pattern, it.before, it.after, it.frames) for it in notes.threads],
         notes=[sentence_of(text) for text in (*comparison.why, *notes.sentences) if text != comparison.followed.why],
         weak=weak_words(comparison),
+        layout=layout_sentence(comparison.last),
     )
 
 
@@ -62,6 +64,12 @@ def weak_words(comparison: Comparison) -> Optional[str]:
     if comparison.followed.why:
         return sentence_of(comparison.followed.why)
     return "What soft, weak, final or phantom references hold counts, too." if comparison.follows_weak else None
+
+
+def layout_sentence(runs: DumpRuns) -> Optional[str]:
+    """Returns a sentence on what bytes are, if they are not those of the dump."""
+    words = layout_words(runs.sizes)
+    return sentence_of(words) if words else None
 
 
 def growth_entries(reports: Sequence[Report], unit: Unit) -> List[page.GrownClass]:

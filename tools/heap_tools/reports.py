@@ -65,12 +65,14 @@ class Row(NamedTuple):
 
 @dataclass
 class Report:
-    """What a report or a histogram says. A histogram has only rows."""
+    """What a report or a histogram says. A histogram has only rows. `in_heap`: bytes are those of objects in the heap,
+    not those of the dump."""
 
     rows: List[Row] = field(default_factory=list)
     reachable: Amount = Amount()
     unreachable: Amount = Amount()
     unresolved: int = 0
+    in_heap: bool = False
 
     def __post_init__(self) -> None:
         self.families: Dict[str, Amount] = {}
@@ -88,6 +90,11 @@ class Report:
             return self.reachable
         amounts = [self.amount(family) for family in families]
         return Amount(sum(each.objects for each in amounts), sum(each.bytes for each in amounts))
+
+    @property
+    def bytes_head(self) -> str:
+        """The head of a column of bytes."""
+        return "heap bytes" if self.in_heap else "bytes"
 
     def has_nameless(self) -> bool:
         """Tests whether it shows a class by its identifier."""
@@ -139,7 +146,7 @@ def read_histogram(lines: Iterator[bytes], path: str) -> Optional[Report]:
             is_whole = True
         elif not is_whole:
             return None
-    return Report(rows) if is_whole else None
+    return Report(rows, in_heap=True) if is_whole else None
 
 
 def read_text(file: BinaryIO, path: str) -> Optional[Tuple[str, Report]]:

@@ -50,16 +50,11 @@ class SnapshotReader:
 
 
 def read_snapshots(paths: Sequence[str], skip: Optional[str]) -> List[Snapshot]:
-    """Reads the files. Raises `Fault` if they cannot be compared."""
+    """Reads the files. Raises `Fault` if `skip` is for none of them."""
     reader = SnapshotReader(skip)
     snapshots = [reader.read(path) for path in paths]
     if skip is not None and all(each.kind != "dump" for each in snapshots):
         raise Fault(WRONG_USE, "--skip: none of the files is a dump")
-    histogram = next((each for each in snapshots if each.kind == "histogram"), None)
-    other = next((each for each in snapshots if each.kind != "histogram"), None)
-    if histogram and other:
-        text = f"{histogram.path}: a histogram: its bytes are not those of {other.path}, a {other.kind}"
-        raise Fault(UNREADABLE, text)
     return snapshots
 
 

@@ -26,6 +26,7 @@ FILE = {
     "path": str,
     "kind": {"dump", "report", "histogram"},
     "time_ms": Maybe(int),
+    "bytes_of": {"heap", "dump"},
     "reachable": Maybe(AMOUNT),
     "unreachable": Maybe(AMOUNT),
     "unresolved": Maybe(int),

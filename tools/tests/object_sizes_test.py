@@ -134,7 +134,7 @@ class RowsTest(unittest.TestCase):
         found = ObjectSizes(heap.read())
         rows = [("shop/Order", 10, 200), ("byte[]", 10, 80), ("[Lshop/Order;", 10, 240), ("shop/Other", 1, 9)]
         given = Report([Row(name, Amount(*amount)) for name, *amount in rows], Amount(31, 529), Amount(30, 520), 7)
-        report = found.report(given)
+        report = found.rows.report(given)
         wanted = [("shop/Order", 10, 240), ("byte[]", 10, 240), ("[Lshop/Order;", 10, 320), ("shop/Other", 1, 9)]
         self.assertEqual(report.rows, [Row(name, Amount(*amount)) for name, *amount in wanted])
         self.assertEqual((report.reachable, report.unresolved), (Amount(31, 809), 7))
@@ -147,10 +147,9 @@ class RowsTest(unittest.TestCase):
             heap.values(BYTE, 1 if length % 2 else 8)  # 24 bytes
             heap.values(LONG, 1)  # 24 bytes
         found = sizes_of(heap)
-        self.assertEqual(found.row("byte[]", Amount(800, 3600)).bytes % 8, 0)
-        self.assertAlmostEqual(found.row("byte[]", Amount(800, 3600)).bytes, 19200, delta=600)
-        self.assertEqual(found.row("byte[]", Amount(1, 9)), Amount(1, 32))
-        self.assertEqual(found.row("long[]", Amount(1000, 8000)), Amount(1000, 24000))
+        self.assertEqual(found.rows.of("byte[]", Amount(800, 3600)).bytes % 8, 0)
+        self.assertAlmostEqual(found.rows.of("byte[]", Amount(800, 3600)).bytes, 19200, delta=600)
+        self.assertEqual(found.rows.of("long[]", Amount(1000, 8000)), Amount(1000, 24000))
 
     def test_longs_of_compact_headers(self) -> None:
         """Elements of 8 bytes begin at a multiple of 8."""
@@ -159,8 +158,8 @@ class RowsTest(unittest.TestCase):
             heap.values(LONG, 2)  # 16 + 16
             heap.values(BYTE, 4)  # 12 + 4
         found = sizes_of(heap)
-        self.assertEqual(found.row("long[]", Amount(1, 16)), Amount(1, 32))
-        self.assertEqual(found.row("byte[]", Amount(1, 4)), Amount(1, 16))
+        self.assertEqual(found.rows.of("long[]", Amount(1, 16)), Amount(1, 32))
+        self.assertEqual(found.rows.of("byte[]", Amount(100, 400)).bytes % 8, 0)
 
     def test_classes_of_one_name(self) -> None:
         """Objects of two classes of one name: the bytes of the row say how many there are of each."""
@@ -168,7 +167,7 @@ class RowsTest(unittest.TestCase):
         for references in (1, 4):
             heap.instance(heap.of_class("shop/Order", references))
         found = sizes_of(heap)
-        self.assertEqual(found.row("shop/Order", Amount(5, 2 * 8 + 3 * 32)), Amount(5, 2 * 16 + 3 * 32))
+        self.assertEqual(found.rows.of("shop/Order", Amount(5, 2 * 8 + 3 * 32)), Amount(5, 2 * 16 + 3 * 32))
 
     def test_stacks(self) -> None:
         """The stack of a waiting virtual thread is in an object that is as long as it is far to the next."""
@@ -180,7 +179,7 @@ class RowsTest(unittest.TestCase):
                 heap.instance(chunk, size - 32)
                 heap.values(BYTE, 3)
             found = sizes_of(heap, shuffled)
-            self.assertEqual(found.row(STACK, Amount(100, 2800)), Amount(100, sum(sizes)))
+            self.assertEqual(found.rows.of(STACK, Amount(100, 2800)), Amount(100, sum(sizes)))
             self.assertEqual(totals_of(found.dump, found)[STACK], Total(Amount(100, 2800), Amount(100, sum(sizes))))
 
     def test_class_objects(self) -> None:
@@ -198,7 +197,7 @@ class RowsTest(unittest.TestCase):
         far = next(each for each, name in found.dump.names.items() if name == "shop/Far")
         self.assertEqual((found.class_object, found.of_class_object(far)), (104, 112))
         every = totals_of(found.dump, found)[CLASSES]
-        self.assertEqual(found.row(CLASSES, every.written).bytes, every.taken.bytes)
+        self.assertEqual(found.rows.of(CLASSES, every.written).bytes, every.taken.bytes)
 
     def test_totals(self) -> None:
         """All objects are counted, reachable or not, in one process and in several."""

@@ -14,6 +14,7 @@ from heap_tools.faults import MORE
 from heap_tools.omissions import more_unreachable
 from heap_tools.reports import Report, Unit
 from heap_tools.same_program import Taken, other_program, same_file, wrong_order
+from heap_tools.snapshot_bytes import in_common_bytes
 from heap_tools.snapshots import Snapshot, hours_between, read_snapshots
 
 ABOUT = """
@@ -33,9 +34,12 @@ those of lambdas, whose names differ only in a counter and an address:
 unreachable in the last file, which --more-than does not count, if a dump is
 older than the one before it, or if the files seem to be of two programs.
 
-The bytes of a histogram include headers and padding, those of a dump or a
-report do not, so histograms are not mixed with these. A file that is not plain,
-such as a pipe, must be a dump. Put a name that begins with a hyphen after `--`.
+Bytes are those of the heap, with headers and padding of objects, as a histogram
+has them: sizes --help says how they are found. Those of a saved report are not,
+so reports are not mixed with histograms, and dumps beside a report count as it
+does. So do dumps whose layout is not known, and those that come from a pipe. A
+file that is not plain must be a dump. Put a name that begins with a hyphen
+after `--`.
 
 heapmark is taken from the variable HEAPMARK, else from beside this tool, else
 from the build in this repository, else from PATH. It runs with
@@ -72,6 +76,7 @@ def parser() -> Parser:
     it.flag("--own", "Show only classes that are not of the JDK")
     it.option("--top", "N", "Show at most N lines", type=number(1))
     it.option("--skip", "LIST", "Fields that are not followed in dumps, as heapmark takes them")
+    it.flag("--dump-bytes", "Count bytes as dumps have them, without headers and padding of objects")
     it.flag("--json", "Print all that lines and notes say as a JSON document")
     return it
 
@@ -110,7 +115,8 @@ def why_nothing(files: Sequence[Snapshot], is_limited: bool) -> str:
 def main(words: Sequence[str]) -> int:
     """Does what the words of the command line ask for, and returns the exit status."""
     options = parser().read(words)
-    snapshots = read_snapshots([options.before, *options.after], options.skip)
+    files = read_snapshots([options.before, *options.after], options.skip)
+    snapshots, bytes_words = in_common_bytes(files, options.dump_bytes)
     hours = hours_between(snapshots[0], snapshots[-1]) if options.per_hour else None
     unit = Unit.BYTES if options.bytes else Unit.OBJECTS
     found = growths([each.report for each in snapshots], unit, options.more_than)
@@ -121,12 +127,14 @@ def main(words: Sequence[str]) -> int:
         if options.json:
             write(document("grown", grown_fields(snapshots, shown, len(found) - len(shown), unit, hours), notes))
         else:
-            write(lines_to_print(shown, unit, hours))
+            write(lines_to_print(shown, unit, hours, snapshots[-1].report.bytes_head))
     finally:
         if not found and is_terminal(sys.stderr):
             say(f"grown: {why_nothing(snapshots, options.own or options.more_than is not None)}")
         for note in notes:
             say(f"grown: {note}")
+        if bytes_words and is_terminal(sys.stderr):
+            say(f"grown: {bytes_words}")
     return MORE if found and options.more_than is not None else 0
 
 

@@ -1,5 +1,6 @@
 """held: what some fields of a dump retain."""
 
+import sys
 from typing import List, NamedTuple, NoReturn, Optional, Sequence, Tuple
 
 from heap_tools import command_line
@@ -7,11 +8,12 @@ from heap_tools.candidates import WEAK, Candidates
 from heap_tools.changed_copy import Changes
 from heap_tools.class_growth import ClassGrowth, growths, lines_to_print
 from heap_tools.command_line import Parser, number
-from heap_tools.console import say, write
+from heap_tools.console import is_terminal, say, write
 from heap_tools.documents import document, dump_entry, held_fields
 from heap_tools.dump_runs import DumpRuns, is_dump
 from heap_tools.faults import MORE, NO_SUCH_NAME, UNREADABLE, WRONG_USE, Fault
 from heap_tools.field_list import Entry, changes_of, entries_of, field_of, root_of
+from heap_tools.heap_bytes import counted_in_heap
 from heap_tools.heapmark import Heapmark, LaterFault
 from heap_tools.reports import Amount, Report, Unit
 
@@ -39,6 +41,9 @@ As for holders and leaks, soft, weak, final and phantom references lead nowhere,
 unless --weak is given or FIELDS names java/lang/ref/Reference.referent. Nor do
 the list of a group's threads (JDK 17), which are roots themselves, and that of
 references that are not in their queues yet.
+
+Bytes are those of the heap, with headers and padding of objects: sizes --help
+says how they are found.
 
 Calls that are running do not count: both reports are also made without the
 local variables that FIELDS does not name, and if FIELDS retain more then, that
@@ -69,18 +74,20 @@ def parser() -> Parser:
     text = "Show only classes with more than N such objects; if there are any, the exit status is 3"
     it.option("--more-than", "N", text, type=number())
     it.flag("--weak", "Follow soft, weak, final and phantom references, too")
+    it.flag("--dump-bytes", "Count bytes as the dump has them, without headers and padding of objects")
     it.flag("--json", "Print all that lines and notes say as a JSON document")
     return it
 
 
 class Difference(NamedTuple):
     """The dump, its report without some fields, None if the dump has none of them, and the one with them. `entries`:
-    those of the list of fields."""
+    those of the list of fields. `bytes_words`: what there is to say about the bytes."""
 
     runs: DumpRuns
     without: Optional[Report]
     whole: Report
     entries: List[Entry]
+    bytes_words: str
 
     @property
     def retained(self) -> Amount:
@@ -99,13 +106,14 @@ class Difference(NamedTuple):
         return notes
 
 
-def difference(path: str, text: str, follows_weak: bool = False) -> Difference:
-    """Runs heapmark on the dump `path`, and on it without what `text` names."""
+def difference(path: str, text: str, follows_weak: bool = False, dump_bytes: bool = False) -> Difference:
+    """Runs heapmark on the dump `path`, and on it without what `text` names. `dump_bytes`: bytes are those of the dump."""
     heapmark, words = Heapmark(), entries_of(text)
     fields = [field_of(each) for each in words if not root_of(each)]
     if fields:
         heapmark.check_fields(",".join(fields))
-    runs = DumpRuns.of(heapmark, path, "held")
+    dumps = counted_in_heap([DumpRuns.of(heapmark, path, "held")], dump_bytes)
+    runs = dumps.dump
     candidates = Candidates(runs.dump, follows_weak or any(each.endswith(WEAK) for each in fields))
     runs = runs.with_cut(candidates.not_counted())
     changes: Changes = {}
@@ -115,9 +123,9 @@ def difference(path: str, text: str, follows_weak: bool = False) -> Difference:
         changes.update(found)
         entries.append(Entry(word, problem))
     if not changes:
-        return Difference(runs, None, runs.report, entries)
+        return Difference(runs, None, runs.report, entries, dumps.words)
     try:
-        return Difference(runs, *largest(runs, changes), entries)
+        return Difference(runs, *largest(runs, changes), entries, dumps.words)
     except LaterFault:
         raise Fault(UNREADABLE, f"{path}: not read a second time") from None
 
@@ -137,6 +145,11 @@ def largest(runs: DumpRuns, changes: Changes) -> Tuple[Report, Report]:
     return max(plain, silent, key=lambda pair: pair[1].reachable.minus(pair[0].reachable))
 
 
+def lines_of_held(found: Difference, classes: Sequence[ClassGrowth], unit: Unit) -> str:
+    """Returns the lines."""
+    return lines_to_print(classes, unit, bytes_head=found.whole.bytes_head)
+
+
 def json_of(found: Difference, classes: Sequence[ClassGrowth], unit: Unit) -> str:
     """Returns the document for what was found."""
     return document(
@@ -150,14 +163,16 @@ def main(words: Sequence[str]) -> int:
     if is_dump(options.fields):
         text = f"{options.fields}: a file: leaks {options.dump} {options.fields} shows what grew, and what holds it"
         raise Fault(WRONG_USE, text)
-    found = difference(options.dump, options.fields, options.weak)
+    found = difference(options.dump, options.fields, options.weak, options.dump_bytes)
     unit = Unit.BYTES if options.bytes else Unit.OBJECTS
     classes = growths([found.without, found.whole], unit, options.more_than) if found.without else []
     try:
-        write(json_of(found, classes, unit) if options.json and found.without else lines_to_print(classes, unit))
+        write(json_of(found, classes, unit) if options.json and found.without else lines_of_held(found, classes, unit))
     finally:
         for note in found.notes:
             say(f"held: {note}")
+        if found.bytes_words and is_terminal(sys.stderr):
+            say(f"held: {found.bytes_words}")
     if classes and options.more_than is not None:
         return MORE
     return NO_SUCH_NAME if any(each.problem for each in found.entries) else 0

@@ -14,6 +14,7 @@ from heap_tools.console import Progress, is_terminal, say, write
 from heap_tools.documents import document, holders_fields
 from heap_tools.dump_runs import DumpRuns, is_dump
 from heap_tools.faults import WRONG_USE, Fault
+from heap_tools.heap_bytes import counted_in_heap
 from heap_tools.heapmark import Heapmark
 from heap_tools.humanize import counted
 from heap_tools.omissions import WHY_UNREACHABLE
@@ -59,6 +60,9 @@ names, else the one beside this tool, else the one built in this repository,
 else that of PATH. If SIGINT, SIGTERM or SIGHUP ends this tool, the exit status
 is 130.
 
+Bytes are those of the heap, with headers and padding of objects: sizes --help
+says how they are found. The counts are those of heapmark.
+
 What fills a heap, with the path to it, and what grew between two dumps: see
 leaks.
 
@@ -91,16 +95,19 @@ def parser() -> Parser:
     it.option("--top", "N", "Show at most N lines [default: 10]", type=number(1), default=10)
     it.flag("--bytes", "Take shares of bytes, not of objects")
     it.flag("--weak", "Follow soft, weak, final and phantom references, too")
+    it.flag("--dump-bytes", "Count bytes as the dump has them, without headers and padding of objects")
     it.flag("--json", "Print all that lines and notes say as a JSON document")
     return it
 
 
 class Found(NamedTuple):
-    """What a search has found, in the order of the lines, of which the first `top` are shown."""
+    """What a search has found, in the order of the lines, of which the first `top` are shown; and what there is to say
+    about the bytes."""
 
     search: Search
     lines: List[Retained]
     top: int
+    bytes_words: str
 
     @property
     def shown(self) -> List[Retained]:
@@ -121,7 +128,8 @@ def find_holders(options: Namespace, name: Optional[str]) -> Found:
     heapmark, progress = Heapmark(), Progress("holders")
     progress.show("reading the dump")
     try:
-        runs = DumpRuns.of(heapmark, options.dump, "holders")
+        dumps = counted_in_heap([DumpRuns.of(heapmark, options.dump, "holders")], options.dump_bytes)
+        runs = dumps.dump
         families = [family_of(name, runs.dump, runs.report)] if name else None
         in_bytes = options.bytes or not families or is_array(families[0])
         unit = Unit.BYTES if in_bytes else Unit.OBJECTS
@@ -137,7 +145,7 @@ def find_holders(options: Namespace, name: Optional[str]) -> Found:
         SearchTogether(search).find_statics()
     finally:
         progress.clear()
-    return Found(search, sorted(search.found, key=lambda held: order_of(held, probe)), options.top)
+    return Found(search, sorted(search.found, key=lambda held: order_of(held, probe)), options.top, dumps.words)
 
 
 def order_of(held: Retained, probe: Probe) -> Tuple[int, int, bool, bool, int]:
@@ -151,7 +159,8 @@ def lines_of(found: Found) -> str:
     """Returns a line for each holder that is shown, on a terminal below the heads of the columns."""
     lines = []
     if is_terminal(sys.stdout) and found.shown:
-        lines.append(f"{'objects':>10} {'bytes':>14} share   holders  field\n")
+        unit = found.search.probe.runs.report.bytes_head
+        lines.append(f"{'objects':>10} {unit:>14} share   holders  field\n")
     for held in found.shown:
         share, amount = found.search.probe.share(held.candidates), held.amount
         line = (
@@ -189,6 +198,7 @@ def holders_sentences(found: Found) -> List[str]:
     unreachable = probe.runs.report.unreachable.bytes
     if not probe.families and 100 * unreachable >= MUCH_UNREACHABLE * probe.whole.bytes and unreachable:
         notes.append(f"{counted(unreachable, 'byte')} more are unreachable: {WHY_UNREACHABLE}")
+    notes += filter(None, [found.bytes_words])
     cost = f"{counted(search.all, 'field')}, {counted(probe.runs.heapmark.runs, 'run')} of heapmark"
     rest = f"threads or the virtual machine hold {without_statics(probe):,} of {what} without any static field"
     return [*notes, f"{rest}; {cost}"]

@@ -11,6 +11,7 @@ from heap_tools.console import Progress, is_terminal, say, write
 from heap_tools.documents import document
 from heap_tools.dump_runs import DumpRuns
 from heap_tools.faults import WRONG_USE, Fault
+from heap_tools.heap_bytes import counted_in_heap
 from heap_tools.heapmark import Heapmark
 from heap_tools.humanize import counted, duration, size
 from heap_tools.leak_documents import Cost, fields_of_growth, fields_of_one
@@ -67,6 +68,9 @@ The growth is that of the reachable bytes, or of the objects and bytes of CLASS.
 If no more bytes are reachable than before, it is that of the objects of all
 classes that grew. A share is above 100% if what the field does not hold shrank.
 
+Bytes are those of the heap, with headers and padding of objects: sizes --help
+says how they are found. The counts are those of heapmark.
+
 Names of the last dump are looked up in the first one: hidden classes, such as
 those of lambdas, by what is common to them. Up to three dumps between the first
 and the last are asked what the lines held; of others only the reports are used.
@@ -115,6 +119,7 @@ def parser() -> Parser:
     it.option("--html", "FILE", "Also write a page for a browser, with charts, to FILE")
     it.flag("--weak", "Follow soft, weak, final and phantom references, too")
     it.flag("--no-values", "Show no text or number that the dump has in fields, except the names of threads")
+    it.flag("--dump-bytes", "Count bytes as dumps have them, without headers and padding of objects")
     it.flag("--json", "Print all that lines and notes say as a JSON document")
     return it
 
@@ -165,7 +170,8 @@ def lines_above(comparison: Comparison, probe: GrowthProbe, width: int) -> str:
     what = probe.families[0] if probe.families and len(probe.families) == 1 else "reachable"
     took = comparison.last.dump.time - comparison.first.dump.time
     head = f"{what} {was} to {now}" + f" in {duration(took)}" * (took > 0)
-    return f"{head}\n{'objects':>10} {'bytes':>14} share {'before':>14} {'after':>14} {'instances':>{width}}  field\n"
+    unit = comparison.last.report.bytes_head
+    return f"{head}\n{'objects':>10} {unit:>14} share {'before':>14} {'after':>14} {'instances':>{width}}  field\n"
 
 
 def remainder(answer: Answer, comparison: Comparison) -> List[str]:
@@ -190,7 +196,8 @@ def print_growth(paths: Sequence[str], options: Options, output: Output) -> None
     progress = Progress("leaks")
     shown = SearchProgress(progress, output.heapmark)
     try:
-        comparison = comparison_of(dumps_of(paths, output.heapmark, progress), options, shown)
+        dumps = counted_in_heap(dumps_of(paths, output.heapmark, progress), options.dump_bytes)
+        comparison = comparison_of(dumps.dumps, options, shown)
         answer = answer_of(comparison.probe, options.at_least, options.top, shown, comparison.probes_between)
         notes = notes_of(comparison, answer, options.shows_values)
     finally:
@@ -198,7 +205,8 @@ def print_growth(paths: Sequence[str], options: Options, output: Output) -> None
     has_heads = is_terminal(sys.stdout) and answer.lines
     above = lines_above(comparison, answer.probe, width_of(answer.lines)) if has_heads else ""
     cost = output.cost(answer.search)
-    sentences = [*comparison.why, *notes_words(notes), *remainder(answer, comparison), str(cost)]
+    sentences = [*comparison.why, *notes_words(notes), *remainder(answer, comparison)]
+    sentences += [*filter(None, [dumps.words]), str(cost)]
     if output.is_json:
         write(document("leaks", fields_of_growth(comparison, answer, notes, cost), sentences))
     else:
@@ -214,13 +222,14 @@ def print_one(path: str, options: Options, output: Output) -> None:
     progress = Progress("leaks")
     try:
         progress.show("reading the dump")
-        runs, shown = DumpRuns.of(output.heapmark, path, "leaks"), SearchProgress(progress, output.heapmark)
-        answer = answer_of_one(question_of(runs, options, shown), options, shown)
+        shown = SearchProgress(progress, output.heapmark)
+        dumps = counted_in_heap([DumpRuns.of(output.heapmark, path, "leaks")], options.dump_bytes)
+        answer = answer_of_one(question_of(dumps.dump, options, shown), options, shown)
         notes = notes_of_one(answer)
     finally:
         progress.clear()
     cost = output.cost(answer.search)
-    sentences = [*sentences_of(answer, notes), str(cost)]
+    sentences = [*sentences_of(answer, notes), *filter(None, [dumps.words]), str(cost)]
     write(document("leaks", fields_of_one(answer, notes, cost), sentences) if output.is_json else lines_of_one(answer))
     if output.page is not None:
         write_page(output.page, page_of_one(answer, notes, output.making(), options.shows_values))
@@ -237,7 +246,9 @@ def main(words: Sequence[str]) -> int:
         require_place(options.html)
     at_least = options.at_least or (AT_LEAST_OF_GROWTH if options.after else AT_LEAST)
     unit = Unit.OBJECTS if options.objects else Unit.BYTES
-    asked = Options(options.of_class, unit, at_least, options.top, options.weak, not options.no_values)
+    asked = Options(
+        options.of_class, unit, at_least, options.top, options.weak, not options.no_values, options.dump_bytes
+    )
     output = Output(words, Heapmark(), time.time(), options.json, options.html)
     if options.after:
         print_growth([options.dump, *options.after], asked, output)

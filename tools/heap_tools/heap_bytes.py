@@ -1,0 +1,52 @@
+"""Whether bytes are those of the heap, as the virtual machine counts, or those of the dump."""
+
+from typing import List, NamedTuple, Optional, Sequence
+
+from heap_tools.dump_runs import DumpRuns
+from heap_tools.heap_layout import UnknownLayout
+from heap_tools.object_sizes import ObjectSizes, RowSizes
+from heap_tools.reports import Report
+
+#: No virtual machine writes a dump with fewer objects: of such a one it is not said that its layout is not known.
+FEWEST = 3000
+
+
+class Counted(NamedTuple):
+    """Dumps whose reports are in bytes of one kind, and what there is to say about that, empty if nothing."""
+
+    dumps: List[DumpRuns]
+    words: str
+
+    @property
+    def dump(self) -> DumpRuns:
+        """The dump, if there is one."""
+        return self.dumps[0]
+
+
+def counted_in_heap(dumps: Sequence[DumpRuns], dump_bytes: bool) -> Counted:
+    """Returns the dumps with reports in bytes of the heap, or as they are, if `dump_bytes` is set, or if the layout of
+    one of them is not known."""
+    if dump_bytes:
+        return Counted([*dumps], "")
+    found: List[RowSizes] = []
+    for each in dumps:
+        try:
+            found.append(ObjectSizes(each.dump).rows)
+        except UnknownLayout as unknown:
+            return Counted([*dumps], unknown_words(each.path, each.report, str(unknown)))
+    counted = [each.in_heap(sizes.like(found[-1])) for each, sizes in zip(dumps, found)]
+    return Counted(counted, layout_words(found[-1]))
+
+
+def layout_words(sizes: Optional[RowSizes]) -> str:
+    """Says what bytes are, if `sizes` are known."""
+    if sizes is None:
+        return ""
+    return f"bytes are those of the heap, by its layout ({sizes.layout.words()}); --dump-bytes counts those of the dump"
+
+
+def unknown_words(path: str, report: Report, why: str) -> str:
+    """Says that bytes are those of the dump `path`, unless it has few objects."""
+    if report.reachable.objects + report.unreachable.objects < FEWEST:
+        return ""
+    return f"bytes are those of the dump, not of the heap, whose layout {path} does not show: {why}"
