@@ -55,8 +55,9 @@ def _in_heap(snapshots: Sequence[Snapshot]) -> Tuple[List[Snapshot], str]:
 def _sizes_of(snapshot: Snapshot, beside_histogram: bool) -> RowSizes:
     """Returns what rows of a dump take. Beside a histogram, which has the sizes of all objects, all are read."""
     dump = read_dump(snapshot.path, os.path.getsize(snapshot.path), snapshot.report)
-    sizes = ObjectSizes(dump)
-    return sizes.of_all(shapes_of(dump)) if beside_histogram else sizes.rows
+    with dump.file:
+        sizes = ObjectSizes(dump)
+        return sizes.of_all(shapes_of(dump)) if beside_histogram else sizes.rows
 
 
 def _counted(snapshot: Snapshot, sizes: RowSizes) -> Snapshot:

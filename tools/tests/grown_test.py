@@ -360,15 +360,6 @@ class RecipesTest(ToolTest):
         self.recipe("What a field holds", friday=whole, skipped=skipped)
         self.assertEqual([pathlib.Path(f"{name}.txt").read_text() for name in ("without", "with")], [skipped, whole])
 
-    def test_shares(self) -> None:
-        """The other two add up shares and packages."""
-        rows = [(2, 60, "com/acme/A"), (3, 20, "[Lcom/acme/B;"), (1, 15, "byte[]"), (1, 5, "[[Lcom/acme/x/C;")]
-        text = report(*rows).replace(f"{9:10d} {9:15d}  (reachable)", f"{7:10d} {100:15d}  (reachable)")
-        shares = self.recipe("The share of each class", friday=text)
-        self.assertEqual(shares.split(), [word for _, size, name in rows for word in (f"{size}.0%", name)])
-        packages = self.recipe("The sum of each package", friday=text)
-        self.assertEqual(packages, grew((5, 80, "com/acme"), (1, 15, "(no package)"), (1, 5, "com/acme/x")))
-
 
 if __name__ == "__main__":
     unittest.main()

@@ -60,12 +60,12 @@ class SizesTest(ToolTest):
         self.assertEqual(found["[Lshop/sale/Order;"], ["1", "416", "416.0", "2.1%", "0"])
         self.assertEqual(found["java/lang/Class"][0], "3")
         self.assertEqual(list(found)[-3:], ["(reachable)", "(unreachable)", "(all)"])
-        self.assertEqual(found["(unreachable)"][:2], ["600", "14400"])
+        self.assertEqual(found["(unreachable)"][:2], ["601", "14424"])
         whole = [int(found[name][1]) for name in ("(reachable)", "(unreachable)", "(all)")]
-        self.assertEqual((whole[0] + whole[1], found["(all)"][4]), (whole[2], "14400"))
+        self.assertEqual((whole[0] + whole[1], found["(all)"][4]), (whole[2], "14424"))
         self.assertEqual(list(found)[:2], ["byte[]", "shop/sale/Order"])
         said = ended.said.splitlines()
-        self.assertTrue(re.match("sizes: 600 objects are unreachable: garbage", said[0]), said)
+        self.assertTrue(re.match("sizes: 601 objects are unreachable: garbage", said[0]), said)
         self.assertEqual(said[1:], [LAYOUT])
 
     def test_options(self) -> None:
@@ -112,7 +112,7 @@ class SizesTest(ToolTest):
         for words in (
             "header 12 bytes",
             "What the heap is made of",
-            "What the unreachable part is made of",
+            "What the unreachable part of the heap is made of",
         ):
             self.assertIn(words, text)
         self.expect(["--html", "shop.hprof", "shop.hprof"], said="sizes: shop.hprof: a dump: *", status=2)

@@ -134,6 +134,8 @@ def page_of(runs: DumpRuns, sizes: HeapSizes, notes: Sequence[str], words: Seque
 def main(words: Sequence[str]) -> int:
     """Does what the words of the command line ask for, and returns the exit status."""
     options = parser().read(words)
+    if sys.stdout is None:
+        write("")
     if options.html is not None:
         require_place(options.html)
     began, progress = time.time(), Progress("sizes")

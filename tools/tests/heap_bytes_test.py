@@ -1,0 +1,124 @@
+"""Tests of which bytes count: those of the heap, or those of the dump."""
+
+import os
+import pathlib
+import tempfile
+import unittest
+from unittest import mock
+
+from heap_tools import heap_bytes
+from heap_tools.faults import Fault
+from heap_tools.heap_bytes import counted_in_heap
+from heap_tools.heap_layout import Layout
+from heap_tools.reports import Amount, Report, Row
+from heap_tools.snapshot_bytes import in_common_bytes
+from heap_tools.snapshots import Snapshot
+from tests.support.dump_writer import BYTE
+from tests.support.laid_out_heap import LaidOutHeap
+from tests.support.marker import MarkedRuns
+
+COMPRESSED = Layout(8, 12, 4, 16)
+
+
+def heap(lengths: int, layout: Layout = COMPRESSED) -> LaidOutHeap:
+    """Returns a heap with 400 orders of 24 bytes and 800 arrays of up to `lengths` bytes."""
+    it = LaidOutHeap(layout)
+    order = it.of_class("shop/Order", 2)
+    for number in range(400):
+        it.dump.root(it.instance(order))
+        for _ in range(2):
+            it.dump.root(it.values(BYTE, 1 + number % lengths))
+    return it
+
+
+class DumpsTest(unittest.TestCase):
+    """Dumps of leaks, holders and held."""
+
+    def test_heap(self) -> None:
+        """Bytes are those of the heap, which is said, unless the user wants those of the dump."""
+        runs = MarkedRuns(heap(8).read())
+        found = counted_in_heap([runs], False)
+        self.assertEqual(found.dump.report.amount("shop/Order"), Amount(400, 9600))
+        self.assertTrue(found.dump.report.in_heap)
+        words = (
+            "bytes are those of the heap, by its layout (header 12 bytes, of an array 16, references 4 (compressed), "
+        )
+        self.assertEqual(found.words, f"{words}sizes are multiples of 8); --dump-bytes counts those of the dump")
+        self.assertEqual(counted_in_heap([runs], True), ([runs], ""))
+        self.assertEqual(found.dump.counted(runs.report).rows, found.dump.report.rows)
+        self.assertIs(found.dump.with_cut({}).sizes, found.dump.sizes)
+
+    def test_unknown(self) -> None:
+        """If the layout of one dump is not known, bytes are those of the dumps, which is said of those that a virtual
+        machine may have written."""
+        few = LaidOutHeap(COMPRESSED)
+        few.mixed(2)
+        dumps = [MarkedRuns(heap(8).read()), MarkedRuns(few.read())]
+        self.assertEqual(counted_in_heap(dumps, False), (dumps, ""))
+        with mock.patch.object(heap_bytes, "FEWEST", 10):
+            self.assertRegex(
+                counted_in_heap(dumps, False).words, "those of the dump, .* too few objects have a neighbour"
+            )
+
+    def test_same_sizes(self) -> None:
+        """What is the same in two dumps takes the same, though the padding of the arrays in their samples differs."""
+        first, last = MarkedRuns(heap(1).read()), MarkedRuns(heap(7).read())
+        found = counted_in_heap([first, last], False).dumps
+        self.assertEqual(found[0].counted(last.report).rows, found[1].report.rows)
+
+    def test_two_layouts(self) -> None:
+        """Dumps with two layouts have their own sizes each."""
+        wide = Layout(8, 16, 4, 24)
+        dumps = [MarkedRuns(heap(8).read()), MarkedRuns(heap(8, wide).read())]
+        found = counted_in_heap(dumps, False).dumps
+        self.assertEqual([each.report.amount("byte[]").bytes for each in found], [800 * 24, 800 * 32])
+
+
+class FilesTest(unittest.TestCase):
+    """Files of grown."""
+
+    def setUp(self) -> None:
+        folder = tempfile.TemporaryDirectory()
+        self.addCleanup(folder.cleanup)
+        self.addCleanup(os.chdir, os.getcwd())
+        os.chdir(folder.name)
+        heap(8).written().write("dump")
+        report = MarkedRuns(heap(8).read()).report
+        self.dump = Snapshot("dump", "dump", report)
+        self.report = Snapshot("report", "report", report)
+        rows = [Row("shop/Order", Amount(300, 7200)), Row("java/lang/Class", Amount(2, 200))]
+        rows += [Row("int[]", Amount(1, 24)), Row("[Ljdk/internal/vm/FillerElement;", Amount(2, 48))]
+        self.histogram = Snapshot("histogram", "histogram", Report(rows, in_heap=True))
+
+    def test_dumps(self) -> None:
+        """Dumps count bytes of the heap, but not beside a report, not from a pipe, and not if the user says so."""
+        (found, _), words = in_common_bytes([self.dump, self.dump], False)
+        self.assertEqual(found.report.amount("shop/Order"), Amount(400, 9600))
+        self.assertIn("header 12 bytes", words)
+        pipe = self.dump._replace(path="/dev/null")
+        for files, dump_bytes in (
+            ([self.dump] * 2, True),
+            ([self.dump, self.report], False),
+            ([self.dump, pipe], False),
+        ):
+            self.assertEqual(in_common_bytes(files, dump_bytes), (files, ""))
+
+    def test_histograms(self) -> None:
+        """Histograms are compared with dumps whose layout is known, by rows that both have."""
+        (dump, histogram), _ = in_common_bytes([self.dump, self.histogram], False)
+        self.assertEqual(histogram.report.amount("int[]"), Amount(3, 72))
+        self.assertEqual(dump.report.amount("<class>"), Amount())
+        self.assertGreater(dump.report.amount("java/lang/Class").objects, 0)
+        self.assertEqual(dump.report.amount("byte[]"), Amount(800, 19200))
+        self.assertEqual(in_common_bytes([self.histogram] * 2, True), ([self.histogram] * 2, ""))
+        few = LaidOutHeap(COMPRESSED)
+        few.mixed(2)
+        few.written().write("few")
+        for other, dump_bytes in ((self.report, False), (self.dump, True), (self.dump._replace(path="few"), False)):
+            with self.assertRaisesRegex(Fault, "histogram: a histogram: its bytes are not those of"):
+                in_common_bytes([self.histogram, other], dump_bytes)
+        self.assertTrue(pathlib.Path("few").exists())
+
+
+if __name__ == "__main__":
+    unittest.main()
