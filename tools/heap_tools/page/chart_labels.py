@@ -5,8 +5,8 @@ from typing import Iterable, List, Sequence, Tuple
 
 #: The width of a digit in bold, and the height of a text above and below its foot.
 DIGIT, ASCENT, DESCENT = 7.8, 10.0, 3.0
-#: Where the foot of a number is, above or below its point.
-ABOVE, BELOW = -9.0, 17.0
+#: Where the foot of a number is: above its point, or below it, farther if the line itself is there.
+ABOVE, BELOW, FAR_BELOW = -9.0, 17.0, 28.0
 #: How far the texts are from the axis at least: that of a number near zero would be on it.
 CLEAR = 8.0
 #: How many points of a line are few: of these each has a number, as far as there is room.
@@ -65,7 +65,7 @@ def places_of(number: int, last: int) -> List[Tuple[str, float]]:
     anchor = anchor_of(number, last)
     return [
         (each, shift)
-        for shift in (ABOVE, BELOW)
+        for shift in (ABOVE, BELOW, FAR_BELOW)
         for each in (["middle", "end", "start"] if anchor == "middle" else [anchor])
     ]
 
