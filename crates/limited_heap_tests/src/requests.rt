@@ -44,17 +44,21 @@ fn boxes_made<A: Allocator + Copy>(heap: A, tries: u32) -> u32 {
     made
 }
 
+/// The number of requests of each of two threads: enough that both are at work at the same time. A count that is read
+/// in one step and written in another would then lose some.
+const MANY: u32 = 200_000;
+
 #[test]
 fn two_threads_draw_on_one_limit(rt: HostRuntime) -> Result<(), Fail> {
-    let heap = LimitedHeap::new(rt.alloc(), 700);
+    let heap = LimitedHeap::new(rt.alloc(), 300_000);
     let shared = &heap;
     let (one, other) = join(
         &rt,
-        move || boxes_made(shared, 500),
-        move || boxes_made(shared, 500),
+        move || boxes_made(shared, MANY),
+        move || boxes_made(shared, MANY),
     );
-    assert_eq!(rt; one.saturating_add(other), 700);
-    assert_eq!(rt; (heap.requests_left(), heap.refusals()), (0, 300));
+    assert_eq!(rt; one.saturating_add(other), 300_000);
+    assert_eq!(rt; (heap.requests_left(), heap.refusals()), (0, 100_000));
     Ok(())
 }
 
@@ -75,14 +79,14 @@ fn one_request_is_refused_alone(rt: HostRuntime) -> Result<(), Fail> {
 
 #[test]
 fn two_threads_meet_one_refusal(rt: HostRuntime) -> Result<(), Fail> {
-    let heap = LimitedHeap::refusing(rt.alloc(), 700);
+    let heap = LimitedHeap::refusing(rt.alloc(), 300_000);
     let shared = &heap;
     let (one, other) = join(
         &rt,
-        move || boxes_made(shared, 500),
-        move || boxes_made(shared, 500),
+        move || boxes_made(shared, MANY),
+        move || boxes_made(shared, MANY),
     );
-    assert_eq!(rt; one.saturating_add(other), 999);
+    assert_eq!(rt; one.saturating_add(other), 399_999);
     assert_eq!(rt; (heap.requests_left(), heap.refusals()), (0, 1));
     Ok(())
 }
