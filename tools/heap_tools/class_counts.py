@@ -13,7 +13,7 @@ from heap_tools.humanize import counted
 #: The least number of classes more that is said: a program loads some hundred of them as it goes on, each once.
 MANY = 100
 #: The loader of the JDK's own classes, which is no object.
-MACHINE = "the virtual machine"
+MACHINE_LOADER = "the virtual machine"
 
 
 class ClassCount(NamedTuple):
@@ -41,8 +41,8 @@ class ClassCount(NamedTuple):
 
 
 def grown_class_counts(first: HeapDump, last: HeapDump) -> List[ClassCount]:
-    """Returns of which loaders there are at least `MANY` classes more, those with most first. Looks for the loaders only
-    if there are so many more in all."""
+    """Returns of which loaders there are at least `MANY` classes more, those with most first. Looks for the loaders
+    only if there are so many more in all."""
     if len(last.classes) - len(first.classes) < MANY:
         return []
     before, after = _by_loader(first), _by_loader(last)
@@ -74,9 +74,9 @@ def _by_loader(dump: HeapDump) -> Dict[str, _Classes]:
     places = objects.places_of({each.loader for each in dump.classes.values()} - {0})
     found: Dict[str, _Classes] = defaultdict(_Classes)
     for class_id, each in dump.classes.items():
-        loader = objects.class_name(places[each.loader]) if each.loader in places else MACHINE
+        loader = objects.class_name(places[each.loader]) if each.loader in places else MACHINE_LOADER
         found[loader].loaders.add(each.loader)
-        found[loader].patterns[pattern_of(dump.names[class_id])] += 1
+        found[loader].patterns[class_pattern_of(dump.names[class_id])] += 1
     return found
 
 
@@ -87,7 +87,7 @@ def usual(after: "collections.Counter[str]", before: "collections.Counter[str]")
     return pattern if 2 * count >= sum(more.values()) else ""
 
 
-def pattern_of(name: str) -> str:
+def class_pattern_of(name: str) -> str:
     """Returns the name of a class with `*` for each number in it, such as `com/sun/proxy/$Proxy*`, but for those by
     which a character is spelled."""
     return re.sub(r"(\\x[0-9a-f]{2})|[0-9]+", lambda it: it[1] or "*", family(name))

@@ -36,9 +36,9 @@ class Asked(NamedTuple):
 
 @dataclass(frozen=True)
 class Comparison:
-    """The dumps of a command line, the earliest first, the memory of direct buffers in the first and the last, what asks
-    these two, which weak references are followed, and which running calls do not count. `why`: in words what was decided
-    about the question."""
+    """The dumps of a command line, the earliest first, the memory of direct buffers in the first and the last, what
+    asks these two, which weak references are followed, and which running calls do not count. `why`: in words what was
+    decided about the question."""
 
     dumps: Sequence[DumpRuns]
     direct: Tuple[DirectMemory, DirectMemory]

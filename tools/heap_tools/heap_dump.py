@@ -116,8 +116,8 @@ class HeapDump:
     # Records
 
     def records(self) -> Iterator[Tuple[int, int, int]]:
-        """Yields the tag of each record, where its body begins and where it ends. Raises `ValueError` if the last one does
-        not end where the file does: then that became shorter since heapmark accepted it."""
+        """Yields the tag of each record, where its body begins and where it ends. Raises `ValueError` if the last one
+        does not end where the file does: then that became shorter since heapmark accepted it."""
         at = hprof.HEADER_SIZE
         while at < self.size:
             tag, body = self.bytes[at], at + hprof.RECORD_HEAD_SIZE

@@ -1,4 +1,5 @@
-"""What the classes of a dump take in the heap: what is reachable, what is not, and all, as the virtual machine counts."""
+"""What the classes of a dump take in the heap: what is reachable, what is not, and all, as the virtual machine
+counts."""
 
 from collections import defaultdict
 from typing import Callable, Dict, List, NamedTuple, Optional

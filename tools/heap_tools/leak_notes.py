@@ -1,5 +1,5 @@
-"""What `leaks` says beside its lines: which objects hold most, which threads and classes there are more of, what is held
-by weak references alone, and what is outside the heap."""
+"""What `leaks` says beside its lines: which objects hold most, which threads and classes there are more of, what is
+held by weak references alone, and what is outside the heap."""
 
 import re
 from typing import List, NamedTuple, Optional, Sequence

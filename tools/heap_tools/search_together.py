@@ -55,8 +55,8 @@ class SearchTogether:
 
     def find_few(self, fields: Sequence[Candidate]) -> None:
         """Finds those of `fields` with few instances that hold enough only together, if what is found leaves as much:
-        those of one class or package; else, if nothing with few instances is found, any of them and roots. If no root is
-        found, it finds roots that hold enough only together, whatever is found below. Threads do not count as found:
+        those of one class or package; else, if nothing with few instances is found, any of them and roots. If no root
+        is found, it finds roots that hold enough only together, whatever is found below. Threads do not count as found:
         what they lead to may be held together below, too. Nor do roots that hold enough only together."""
         single = [held for held in self.search.found if held.instances <= FEW and len(held.candidates) == 1]
         single = [held for held in single if held.candidates[0].kind not in (THREAD, THREADS)]

@@ -3,7 +3,7 @@
 import tempfile
 import unittest
 
-from heap_tools.class_counts import MACHINE, MANY, grown_class_counts, pattern_of
+from heap_tools.class_counts import MACHINE_LOADER, MANY, grown_class_counts, class_pattern_of
 from heap_tools.heap_dump import HeapDump
 from tests.support.dump_writer import DumpWriter
 
@@ -42,7 +42,7 @@ class ClassCountsTest(unittest.TestCase):
         """Of generated classes of one loader the pattern of their names is said, if most have it."""
         said = "300 classes more of shop/Loader: 20, then 320, most like shop/$Proxy*"
         self.assertEqual(self.said(dump_of(1, 20, "shop/$Proxy{}"), dump_of(1, 320, "shop/$Proxy{}")), [said])
-        said = f"{MANY} classes more of {MACHINE}: 2, then {MANY + 2}"
+        said = f"{MANY} classes more of {MACHINE_LOADER}: 2, then {MANY + 2}"
         self.assertEqual(self.said(dump_of(1, 20), dump_of(1, 20, others=MANY + 1)), [said])
 
     def test_few(self) -> None:
@@ -57,7 +57,7 @@ class ClassCountsTest(unittest.TestCase):
             ("a/B$$Lambda$14+0x0000aa", "a/B$$Lambda"),
             ("a\\x1bb77", "a\\x1bb*"),
         ):
-            self.assertEqual(pattern_of(name), wanted)
+            self.assertEqual(class_pattern_of(name), wanted)
 
 
 if __name__ == "__main__":

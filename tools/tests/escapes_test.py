@@ -1,5 +1,5 @@
-"""Tests that nothing of a dump reaches a terminal or a page as it is if a terminal would obey it, or nobody could see it;
-and that no page replaces a dump."""
+"""Tests that nothing of a dump reaches a terminal or a page as it is if a terminal would obey it, or nobody could see
+it; and that no page replaces a dump."""
 
 import os
 import pathlib
@@ -72,7 +72,8 @@ class EscapesTest(ToolTest):
         return ended.out + ended.said
 
     def test_tools(self) -> None:
-        """Lines, messages and the page show names of classes, fields, methods and threads, and texts, by their bytes."""
+        """Lines, messages and the page show names of classes, fields, methods and threads, and texts, by their
+        bytes."""
         hostile_dump(3).write("before")
         hostile_dump(60).write("after")
         every: List[List[str]] = [[], ["--objects", "--weak"], ["--no-values"]]

@@ -1,4 +1,5 @@
-"""Tests the copy of a dump in memory: what it has during a run, and that it has the dump's bytes again after each end."""
+"""Tests the copy of a dump in memory: what it has during a run, and that it has the dump's bytes again after each
+end."""
 
 import os
 import pathlib

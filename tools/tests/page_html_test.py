@@ -82,7 +82,8 @@ class PageOfTwoTest(HtmlOfPage):
         self.check_texts(more, "Its share of the growth 200% +16.4 MB of +17.1 MB")
 
     def test_growth_that_is_less(self) -> None:
-        """If shares are of less than the growth of the heap, it is said why where both are; else there is one growth."""
+        """If shares are of less than the growth of the heap, it is said why where both are; else there is one
+        growth."""
         self.check_texts(
             leak(growth=page.Amount(600_000, 16_900_000)),
             "+16.4 MB of +16.9 MB, without weak references and running calls",

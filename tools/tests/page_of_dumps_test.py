@@ -1,4 +1,5 @@
-"""What `leaks --html` shows of dumps, as HTML: what the dumps do not show, dumps between, weak references, odd names."""
+"""What `leaks --html` shows of dumps, as HTML: what the dumps do not show, dumps between, weak references, odd
+names."""
 
 import pathlib
 import re

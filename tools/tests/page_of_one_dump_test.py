@@ -81,8 +81,8 @@ class PageOfOneTest(HtmlOfPage):
         self.assertIn("One dump shows what holds the heap, not what grows", self.top_of(one_dump()))
 
     def test_fullness(self) -> None:
-        """The parts of the bar are as long as their bytes, and all of what the heap may have if that is known, and bytes
-        are those of the heap."""
+        """The parts of the bar are as long as their bytes, and all of what the heap may have if that is known, and
+        bytes are those of the heap."""
         it = one_dump(layout="Bytes are those of the heap.")
         self.check_texts(it, "In use 93% of 60.0 MB that the heap may have", "4.3 MB free")
         for given, wanted in [

@@ -13,8 +13,8 @@ OF_JDK, OF_OTHERS = 1, 2
 
 
 class Runs(DumpRuns):
-    """Stands in for the runs on a dump with 1,000 orders, of which `lost` says how many are lost with each place that is
-    cut."""
+    """Stands in for the runs on a dump with 1,000 orders, of which `lost` says how many are lost with each place that
+    is cut."""
 
     def __init__(self, lost: Dict[int, int], cut: Optional[Changes] = None) -> None:
         no: Any = None

@@ -73,7 +73,8 @@ class SearchTest(unittest.TestCase):
             self.assertLessEqual(len(probe.asked), most, at)
 
     def test_most_questions(self) -> None:
-        """Where hundreds of fields hold as much as the growth, only the first ones are tried, and the rest is counted."""
+        """Where hundreds of fields hold as much as the growth, only the first ones are tried, and the rest is
+        counted."""
         fields = [field(f"app/A.{number:03}", number) for number in range(500)]
         things: Things = [([[each.name]], 40) for each in fields]
         probe = ToldGains(things[1:], things)

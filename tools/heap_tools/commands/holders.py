@@ -155,7 +155,7 @@ def order_of(held: Retained, probe: Probe) -> Tuple[int, int, bool, bool, int]:
     return -round(probe.share(held.candidates)), held.instances, not held.is_own, is_thread, -held.heap.bytes
 
 
-def lines_of(found: Found) -> str:
+def holder_lines(found: Found) -> str:
     """Returns a line for each holder that is shown, on a terminal below the heads of the columns."""
     lines = []
     if is_terminal(sys.stdout) and found.shown:
@@ -210,7 +210,7 @@ def main(words: Sequence[str]) -> int:
     if sys.stdout is None:
         write("")
     found = find_holders(options, getattr(options, "class"))
-    lines, notes = lines_of(found), holders_sentences(found)
+    lines, notes = holder_lines(found), holders_sentences(found)
     if options.json:
         probe = found.search.probe
         fields = holders_fields(probe, found.search.at_least, found.shown, found.hidden, without_statics(probe))

@@ -75,7 +75,7 @@ def shown_of(sizes: HeapSizes, options: Namespace) -> List[ClassSize]:
     return unreachable_first(every) if options.unreachable else every
 
 
-def lines_of(shown: Sequence[ClassSize], whole: ClassSize, word: str) -> str:
+def size_lines(shown: Sequence[ClassSize], whole: ClassSize, word: str) -> str:
     """Returns a line for each class that is shown and for the totals, on a terminal below the heads of the columns."""
     heads = f"{'objects':>10} {'bytes':>14} {'an object':>10} share {'unreachable':>14}  {word}\n"
     lines = [heads] if is_terminal(sys.stdout) else []
@@ -151,7 +151,7 @@ def main(words: Sequence[str]) -> int:
     if options.json:
         write(document("sizes", sizes_fields(runs, sizes, shown, options.packages, len(every) - len(shown)), notes))
     else:
-        write(lines_of(shown, sizes.whole, "package" if options.packages else "class"))
+        write(size_lines(shown, sizes.whole, "package" if options.packages else "class"))
     if options.html is not None:
         write_page(options.html, page_of(runs, sizes, notes, words, began))
     for note in notes:

@@ -1,7 +1,7 @@
 """The pages of `leaks --html` and `sizes --html`: each is one HTML file that fetches nothing and runs no script.
 
-`model.py` has what the tools fill. `comparison_page.py` is the page of two or more dumps, `dump_page.py` that of one, and
-`sizes_page.py` that of `sizes`;
+`model.py` has what the tools fill. `comparison_page.py` is the page of two or more dumps, `dump_page.py` that of one,
+and `sizes_page.py` that of `sizes`;
 `sections.py` has what both have. The parts of the first are `top.py`, `chart.py` with `chart_labels.py`, `holders.py`
 and `classes.py`, those of the other `fullness.py` and `suspects.py`. `objects.py`, `treemap.py`, `treemap_picture.py`
 and `tables.py` are of both. `templates.py` escapes and fills, `names.py` and `words.py` spell; `page.html` has all

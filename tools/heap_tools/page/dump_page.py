@@ -14,7 +14,8 @@ from heap_tools.reports import Unit
 
 #: What one dump cannot show.
 ONE_ONLY = (
-    "One dump shows what holds the heap, not what grows: a large cache that is as large as it should be looks the same. "
+    "One dump shows what holds the heap, not what grows: a large cache that is as large as it should be looks the "
+    "same. "
     "Take a second dump later, and compare both: leaks FIRST SECOND."
 )
 

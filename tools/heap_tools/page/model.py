@@ -1,5 +1,5 @@
-"""What the pages show: `Leak` that of two or more dumps, `OneDump` that of one. The tools fill these. All texts are plain
-text."""
+"""What the pages show: `Leak` that of two or more dumps, `OneDump` that of one. The tools fill these. All texts are
+plain text."""
 
 from dataclasses import dataclass, field
 from typing import Dict, List, Optional, Tuple
@@ -105,9 +105,9 @@ class NameEntry:
 
 @dataclass(frozen=True)
 class ObjectEntry:
-    """One of the objects that have the field of a line. `line`: the number of the line, the first is 1. `bytes`: what it
-    holds through the field in the last dump, which is `percent` of what all of them do. `has_gained`: what it gained is
-    `percent` of what all did. `field`: the field, if the line is not among those of the page."""
+    """One of the objects that have the field of a line. `line`: the number of the line, the first is 1. `bytes`: what
+    it holds through the field in the last dump, which is `percent` of what all of them do. `has_gained`: what it gained
+    is `percent` of what all did. `field`: the field, if the line is not among those of the page."""
 
     line: int
     class_name: str
@@ -131,8 +131,8 @@ class ThreadGroupEntry:
 
 @dataclass(frozen=True)
 class RanOutEntry:
-    """The thread that ran out of memory: its name, and the methods that it was in, the innermost first. `own`: the place
-    of the first method of an own class in `frames`, if there is one."""
+    """The thread that ran out of memory: its name, and the methods that it was in, the innermost first. `own`: the
+    place of the first method of an own class in `frames`, if there is one."""
 
     thread: str
     frames: List[str]

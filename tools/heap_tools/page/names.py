@@ -155,6 +155,6 @@ def path_to(above: Sequence[StepEntry], limits: Limits) -> Html:
 
 
 def path_row(above: Sequence[StepEntry], columns: int, limits: Limits) -> Html:
-    """Returns the fields above what holds as a row of a table with `columns` columns, below that of the name, which has no
-    room for them."""
+    """Returns the fields above what holds as a row of a table with `columns` columns, below that of the name, which has
+    no room for them."""
     return fill("path_row", columns=columns, path=path_to(above, limits)) if above else Html()

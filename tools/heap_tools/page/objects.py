@@ -50,8 +50,8 @@ def object_name(it: NameEntry, limits: Limits) -> Html:
 
 
 def frames(methods: Sequence[str], limits: Limits, own: Optional[int] = None) -> Html:
-    """Returns the methods that a thread is in, the innermost first. The one at `own` is the first of an own class: it is
-    shown, however deep it is."""
+    """Returns the methods that a thread is in, the innermost first. The one at `own` is the first of an own class: it
+    is shown, however deep it is."""
     first = 0 if own is None or own < limits.steps else own - 1
     shown = [breakable(plain(each, limits.name)) for each in methods[first : first + limits.steps]]
     kinds = ["own_frame" if at == own else "item" for at in range(first, first + len(shown))]

@@ -25,8 +25,8 @@ class Section(NamedTuple):
 
 
 class Top(NamedTuple):
-    """The top of a page: the title, which a browser shows in its tab, what was dumped, the headline, the path to what it
-    names, what is said first, what else is to be known, and the tool that made the page."""
+    """The top of a page: the title, which a browser shows in its tab, what was dumped, the headline, the path to what
+    it names, what is said first, what else is to be known, and the tool that made the page."""
 
     title: str
     facts: Html

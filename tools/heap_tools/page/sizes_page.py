@@ -13,8 +13,8 @@ from heap_tools.reports import Amount, Unit
 
 @dataclass(frozen=True)
 class Sizes:
-    """All that the page shows. `classes`: all objects of each class, `unreachable`: those that are unreachable. `notes`:
-    sentences, of which one says how sizes were found."""
+    """All that the page shows. `classes`: all objects of each class, `unreachable`: those that are unreachable.
+    `notes`: sentences, of which one says how sizes were found."""
 
     dump: DumpEntry
     classes: Dict[str, Amount]

@@ -19,8 +19,8 @@ def share(part: float, kind: str) -> Html:
 
 
 def table(kind: str, caption: str, heads: Dict[str, str], parts: Iterable[Html], place: Optional[str] = None) -> Html:
-    """Returns a table of this kind. `heads`: the heads of its columns, each the kind of the column by its text. `place`:
-    what it is called in an address, if that is not its kind."""
+    """Returns a table of this kind. `heads`: the heads of its columns, each the kind of the column by its text.
+    `place`: what it is called in an address, if that is not its kind."""
     shown = joined((fill("head", text=text, kind=of_column) for text, of_column in heads.items()), "\n")
     return fill("table", kind=kind, place=place or kind, caption=caption, heads=shown, body=joined(parts, "\n"))
 
