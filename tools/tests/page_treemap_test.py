@@ -76,12 +76,12 @@ class TreemapTest(unittest.TestCase):
         rest = treemap.Part(None, 95, Amount(100, 1_100_000))
         for it, width, height, wanted in [
             (part, 300, 100, ["ConcurrentHashMap$Node", "2.2\u00a0MB"]),
-            (part, 140, 100, ["ConcurrentHashMap$", "Node", "2.2\u00a0MB"]),
-            (part, 96, 100, ["Concurrent", "HashMap$Node", "2.2\u00a0MB"]),
-            (part, 96, 32, ["Concurrent", "HashMap$Node"]),
-            (part, 96, 20, []),
+            (part, 144, 100, ["ConcurrentHashMap$", "Node", "2.2\u00a0MB"]),
+            (part, 100, 100, ["Concurrent", "HashMap$Node", "2.2\u00a0MB"]),
+            (part, 100, 32, ["Concurrent", "HashMap$Node"]),
+            (part, 100, 20, []),
             (part, 60, 100, []),
-            (rest, 60, 100, ["95 more", "1.1\u00a0MB"]),
+            (rest, 64, 100, ["95 more", "1.1\u00a0MB"]),
             (rest, 20, 100, []),
         ]:
             with self.subTest(f"{width} {height}"):
@@ -95,8 +95,8 @@ class TreemapTest(unittest.TestCase):
         group = treemap.Group("java/util/concurrent", [treemap.Part("java/util/concurrent/A", 1, Amount(1, 3_400_000))])
         for width, wanted in [
             (300, "java/util/concurrent  3.4\u00a0MB"),
-            (166, "java/util/concurrent"),
-            (150, "concurrent  3.4\u00a0MB"),
+            (168, "java/util/concurrent"),
+            (155, "concurrent  3.4\u00a0MB"),
             (90, "concurrent"),
             (40, ""),
         ]:

@@ -12,6 +12,8 @@ from heap_tools.page.words import percent, solid_size
 TREEMAPS = [("wide", 1080, 460), ("narrow", 360, 520), ("paper", 700, 220)]
 #: The height of a group's name, of a line of text, and the width of a letter, and of one in bold.
 HEAD, LINE, LETTER, BOLD = 18, 14, 7.3, 7.9
+#: Letters that are wider than others, and by which part of a letter.
+WIDE_LETTERS, WIDER = "mwMW@%", 0.6
 #: How many colours packages of the program and its libraries have, and how many those of the JDK.
 OWN_COLOURS, JDK_COLOURS = 6, 4
 
@@ -38,7 +40,8 @@ def name_in_full(part: Part) -> str:
 
 def fits(text: str, width: float, letter: float = LETTER) -> bool:
     """Tests whether a line of text fits into a box of this width."""
-    return len(text) * letter <= width - 6
+    wide = sum(char in WIDE_LETTERS for char in text)
+    return (len(text) + WIDER * wide) * letter <= width - 6
 
 
 def wrapped(name: str, width: float, most: int) -> List[str]:
