@@ -32,12 +32,17 @@ os.environ.setdefault("HEAPMARK", str(TOP / "crates/heapmark/out/heapmark"))
 
 from heap_tools.candidates import Candidate, joint_name  # noqa: E402
 from heap_tools.changed_copy import Changes, write_copy  # noqa: E402
-from heap_tools.commands import held, leaks  # noqa: E402
+from heap_tools.commands import held  # noqa: E402
+from heap_tools.comparison import Comparison, comparison_of, dumps_of  # noqa: E402
+from heap_tools.console import Progress  # noqa: E402
 from heap_tools.dump_runs import DumpRuns  # noqa: E402
 from heap_tools.faults import Fault  # noqa: E402
-from heap_tools.leak_lines import Line  # noqa: E402
+from heap_tools.heapmark import Heapmark  # noqa: E402
+from heap_tools.leak_lines import Answer, Line, answer_of  # noqa: E402
+from heap_tools.leak_options import Options  # noqa: E402
 from heap_tools.probe import GrowthProbe, Probe  # noqa: E402
 from heap_tools.reports import Amount, Report, read_report  # noqa: E402
+from heap_tools.search_progress import SearchProgress  # noqa: E402
 
 #: What a line shows: what was held before and after, and the share of the growth in percent.
 Figures = tuple[Amount, Amount, int]
@@ -99,6 +104,15 @@ def hangs_by(path: str, candidates: Sequence[Candidate], follows_weak: bool) -> 
     return max(found)
 
 
+def compared(paths: Sequence[str]) -> tuple[Comparison, Answer, Heapmark]:
+    """Asks the dumps as tools/leaks does without options. Returns what was asked, the answer and what ran heapmark."""
+    heapmark, progress, options = Heapmark(), Progress("leaks"), Options()
+    shown = SearchProgress(progress, heapmark)
+    comparison = comparison_of(dumps_of(paths, heapmark, progress), options, shown)
+    lines = answer_of(comparison.probe, options.at_least, options.top, shown, comparison.probes_between)
+    return comparison, lines, heapmark
+
+
 def main() -> int:
     """Does what the top of this file says, and returns the exit status."""
     parser = argparse.ArgumentParser(description=__doc__, formatter_class=argparse.RawDescriptionHelpFormatter)
@@ -109,9 +123,9 @@ def main() -> int:
         parser.error("two dumps or more")
     plain, words = given.plain, given.dumps
     with contextlib.redirect_stderr(io.StringIO()):
-        comparison, answer, _ = leaks.compared(leaks.parser().read(words), words)
+        comparison, answer, heapmark = compared(words)
     if not answer.lines:
-        print(f"no line, {comparison.heapmark.runs} runs")
+        print(f"no line, {heapmark.runs} runs")
         return 1
     probe, line = answer.probe, answer.lines[0]
     shown, plainly = figures(plain, probe, line)
@@ -127,7 +141,7 @@ def main() -> int:
         if sizes[0] < sizes[1]:
             notes.append(f"held alone: {sizes[0]:,} bytes by {joint_name(upper.candidates)}, {sizes[1]:,} below it")
     verdict = "DIFFERS: " + "; ".join(wrong) if wrong else "same"
-    print("; ".join([verdict, f"{comparison.heapmark.runs} runs", *notes, line.path()]))
+    print("; ".join([verdict, f"{heapmark.runs} runs", *notes, line.path()]))
     return 1 if wrong else 0
 
 
