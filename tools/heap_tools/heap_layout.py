@@ -23,7 +23,8 @@ OVERLAPPING = 0.01
 STACK = "jdk/internal/vm/StackChunk"
 #: The headers of instances and of arrays that virtual machines have, by the bytes of an identifier. That of an instance
 #: is one word (compact headers, or 32 bits), a word and a compressed class, or two words; an array has its length after
-#: that, and up to JDK 22 its elements begin at a multiple of 8. The most usual come first, and are taken if as many agree.
+#: that, and up to JDK 22 its elements begin at a multiple of 8. The most usual come first: they are taken if as many
+#: agree.
 HEADERS = {4: [(8, 12)], 8: [(12, 16), (8, 12), (16, 20), (16, 24)]}
 REFERENCES = {4: (4,), 8: (4, 8)}
 #: Elements of this many bytes, and the static fields in a class object, begin at a multiple of it.

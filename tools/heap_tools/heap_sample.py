@@ -68,8 +68,8 @@ class Neighbour(NamedTuple):
 
 class Sample(NamedTuple):
     """Objects with the distance to the next, and how many are alike; and a number in which each bit is set that any of
-    their identifiers has. `is_ascending`: identifiers ascend in the file, so that nothing is omitted between objects but
-    class objects that were not loaded."""
+    their identifiers has. `is_ascending`: identifiers ascend in the file, so that nothing is omitted between objects
+    but class objects that were not loaded."""
 
     neighbours: Counts[Neighbour]
     bits: int
@@ -135,20 +135,34 @@ def _with_their_next(dump: HeapDump, spans: Sequence[Span], wanted: Sequence[int
     """Returns pairs of objects of which the first is one of `wanted`, or has a class object of `wanted` after it.
     Identifiers ascend in the file."""
     begins = sorted((each[0], number) for number, span in enumerate(spans) for each in _beginning(dump, span, 1))
-    firsts, ascending = [identifier for identifier, _ in begins], sorted(wanted)
-    chosen: List[int] = []
+    firsts = [identifier for identifier, _ in begins]
+    chosen: Dict[int, List[int]] = {}
     for each in wanted:
         place = bisect_right(firsts, each)
         # Mostly one part; not where the addresses of a part go on from those of the last space to those of the first.
-        chosen += [begins[place - 1][1]] if place else []
-        chosen += [max(0, begins[place][1] - 1)] if place < len(begins) else []
+        numbers = {begins[place - 1][1]} if place else set()
+        numbers |= {max(0, begins[place][1] - 1)} if place < len(begins) else set()
+        for number in numbers:
+            chosen.setdefault(number, []).append(each)
     found: List[List[HeapObject]] = []
-    for number in list(dict.fromkeys(chosen))[:MOST_SPECIAL]:
-        here, after = tee(heap_objects(dump, [spans[number]]))
-        next(after, None)
-        for one, following in zip(here, after):
-            if bisect_left(ascending, one[0]) < bisect_left(ascending, following[0]):
-                found.append([one, following])
+    for number, some in list(chosen.items())[:MOST_SPECIAL]:
+        found += _around(dump, spans[number], sorted(some))
+    return found
+
+
+def _around(dump: HeapDump, span: Span, wanted: List[int]) -> List[List[HeapObject]]:
+    """Returns those neighbours in a part of the file between which one of the sorted identifiers `wanted` is."""
+    found: List[List[HeapObject]] = []
+    left = len(wanted)
+    here, after = tee(heap_objects(dump, [span]))
+    next(after, None)
+    for one, following in zip(here, after):
+        between = bisect_left(wanted, following[0]) - bisect_left(wanted, one[0])
+        if between > 0:
+            found.append([one, following])
+            left -= between
+            if left <= 0:
+                break
     return found
 
 

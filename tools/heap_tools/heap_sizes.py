@@ -1,5 +1,4 @@
-"""What the classes of a dump take in the heap: what is reachable, what is not, and all, as the virtual machine
-counts."""
+"""What the classes of a dump take in the heap: what is reachable, what is not, and all."""
 
 from collections import defaultdict
 from typing import Callable, Dict, List, NamedTuple, Optional

@@ -96,8 +96,7 @@ class ObjectSizes:
     # Rows of a report
 
     def _mean_of(self, sample: Sample) -> Linear:
-        """Returns what an object of the sample takes besides its values, in the mean, and what a byte of values
-        does."""
+        """Returns what an object takes besides its values, in the mean of the sample, and what a byte of values does."""
         objects = written = values = taken = 0
         for (class_id, kind, length, _), count in sample.neighbours.items():
             if kind == CLASS_OBJECT or class_id in self.stacks:
@@ -137,8 +136,8 @@ class ObjectSizes:
         return self.rows._replace(rows={**self.rows.rows, **self._rows_of_arrays(lengths)})
 
     def _rows_of_arrays(self, lengths: Lengths) -> Dict[str, Linear]:
-        """Returns what rows of arrays take: the elements, and of each array the header and the mean padding of arrays of
-        these lengths."""
+        """Returns what rows of arrays take: the elements, and of each array the header and the mean padding of arrays
+        of these lengths."""
         names = {kind: name for name, kind in ARRAY_KINDS.items()}
         kinds = [(0, kind) for kind in names]
         kinds += [(each, hprof.OBJECT) for each, name in self.dump.names.items() if name.startswith("[")]

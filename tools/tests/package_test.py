@@ -135,7 +135,8 @@ class PackageTest(unittest.TestCase):
         library = {name for name in found if name.startswith("lib/heapmark/heap_tools/")}
         self.assertEqual(len(found - library), 5 * (len(TOOLS) + 1) + len(DOCUMENTS))
         self.assertEqual([name for name in library if re.search(r"_test|testing|dump_writer|pycache|sample", name)], [])
-        imported = "from heap_tools.commands import grown, held, holders, leaks, sizes; from heap_tools import page; page.html_of"
+        imported = "from heap_tools.commands import grown, held, holders, leaks, sizes; "
+        imported += "from heap_tools import page; page.html_of"
         ended = ran(sys.executable, "-B", "-c", imported, env={"PYTHONPATH": str(self.made / "lib/heapmark")})
         self.assertEqual((ended.returncode, ended.stderr), (0, ""))
 

@@ -107,7 +107,8 @@ class Difference(NamedTuple):
 
 
 def difference(path: str, text: str, follows_weak: bool = False, dump_bytes: bool = False) -> Difference:
-    """Runs heapmark on the dump `path`, and on it without what `text` names. `dump_bytes`: bytes are those of the dump."""
+    """Runs heapmark on the dump `path`, and on it without what `text` names. `dump_bytes`: bytes are those of
+    the dump."""
     heapmark, words = Heapmark(), entries_of(text)
     fields = [field_of(each) for each in words if not root_of(each)]
     if fields:
