@@ -29,8 +29,8 @@
 # right, 2 if there is no such program.
 #
 # heapmark is the binary of crates/heapmark/out, or what the variable HEAPMARK names. LEAKS: a command in place of
-# tools/leaks, HELD one in place of tools/held. KEPT: a folder in which the dumps stay. DUMPED: such a folder, whose dumps are searched again: Java is
-# not run, and a program without dumps is left out.
+# tools/leaks, HELD one in place of tools/held. KEPT: a folder in which the dumps stay. DUMPED: such a folder, whose
+# dumps are searched again: Java is not run, and a program without dumps is left out.
 set -euo pipefail
 
 # shellcheck source=bench/judging.sh

@@ -6,7 +6,8 @@
 # Dumps bench/java/Filler.java with 40 MB by each collector and mode that Java has; without compressed references, or
 # classes; with objects at multiples of 16 bytes; with compact object headers; from Java 21 on 3,000 parked virtual
 # threads; and Filler with MEGABYTES (500) by G1, ZGC and Shenandoah. Then prints a table, as bench/size_figures.py
-# says, and fails if a comparison does. Java is that of JAVA_HOME, else that of PATH; bench/debian_jdk.sh unpacks others.
+# says, and fails if a comparison does. Java is that of JAVA_HOME, else that of PATH; bench/debian_jdk.sh unpacks
+# others.
 #
 # DIR (/tmp/heapmark-sizes) gets the dumps with their histograms; those that are there are not made again, and each dump
 # NAME.hprof in DIR with a NAME.histogram is compared. HEAP_SIZES_KEEP=no: a dump with MEGABYTES is removed once it was

@@ -360,7 +360,8 @@ FOUND = [
     (
         "a variant with the name of the cause",
         PIPELINE,
-        "enum E { Fault(u8), OutOfMemory }\nfn f(e: E) -> R { match e { E::OutOfMemory => R::OUT_OF_MEMORY, _ => h() } }",
+        "enum E { Fault(u8), OutOfMemory }\n"
+        "fn f(e: E) -> R { match e { E::OutOfMemory => R::OUT_OF_MEMORY, _ => h() } }",
         ["OutOfMemory (causes)"],
     ),
     ("an alias of a variant", PIPELINE, "use crate::Kind::First as TagSpent;", ["TagSpent (causes)"]),
@@ -374,7 +375,8 @@ FOUND = [
     (
         "a variable with the name of a call",
         PIPELINE,
-        "fn f() -> R { let make_room = |_| Err(()); match make_room(1) { Err(_) => Err(E::OutOfMemory), Ok(()) => h() } }",
+        "fn f() -> R { let make_room = |_| Err(()); "
+        "match make_room(1) { Err(_) => Err(E::OutOfMemory), Ok(()) => h() } }",
         ["make_room (causes)"],
     ),
     (
@@ -535,7 +537,8 @@ CHANGED = [
         "a read that fails of its own",
         COUNTED,
         "let outcome = self.inner.read(buf);",
-        "let outcome = if buf.len() == 63 { Err(io::Error::from(io::ErrorKind::Other)) } else { self.inner.read(buf) };",
+        "let outcome = "
+        "if buf.len() == 63 { Err(io::Error::from(io::ErrorKind::Other)) } else { self.inner.read(buf) };",
         ["if (causes)"],
     ),
     (

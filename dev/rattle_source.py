@@ -105,8 +105,8 @@ def is_declared(tokens: list[Token], index: int) -> bool:
 
 
 def is_bound(tokens: list[Token], index: int, use: int) -> bool:
-    """Tests whether a pattern binds the word at `index` for what is at `use`: in a `let`, a loop, an arm, or a closure's
-    parameters whose block has not ended before."""
+    """Tests whether a pattern binds the word at `index` for what is at `use`: in a `let`, a loop, an arm, or a
+    closure's parameters whose block has not ended before."""
     if tokens[index - 1] in (".", "::") or tokens[index + 1 : index + 2] in (["("], ["."], ["::"], ["!"]):
         return False
     start = index

@@ -96,7 +96,8 @@ class ObjectSizes:
     # Rows of a report
 
     def _mean_of(self, sample: Sample) -> Linear:
-        """Returns what an object takes besides its values, in the mean of the sample, and what a byte of values does."""
+        """Returns what an object takes besides its values, in the mean of the sample, and what a byte of values
+        does."""
         objects = written = values = taken = 0
         for (class_id, kind, length, _), count in sample.neighbours.items():
             if kind == CLASS_OBJECT or class_id in self.stacks:

@@ -21,8 +21,8 @@ JOINED = {CLASSES: CLASS_OBJECTS, "[Ljdk/internal/vm/FillerElement;": "int[]"}
 
 def in_common_bytes(snapshots: Sequence[Snapshot], dump_bytes: bool) -> Tuple[List[Snapshot], str]:
     """Returns files whose bytes can be compared, and what there is to say about them. Dumps are in bytes of the heap,
-    but not with a saved report beside them, not if the layout of one is not known, and not if `dump_bytes` is set. Raises
-    `Fault` if histograms, whose bytes are the heap's, are among others that are not."""
+    but not with a saved report beside them, not if the layout of one is not known, and not if `dump_bytes` is set.
+    Raises `Fault` if histograms, whose bytes are the heap's, are among others that are not."""
     found, words = [*snapshots], ""
     if not dump_bytes and all(each.kind != "report" for each in snapshots):
         found, words = _in_heap(snapshots)

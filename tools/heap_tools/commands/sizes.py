@@ -69,7 +69,7 @@ def parser() -> Parser:
     return it
 
 
-def shown_of(sizes: HeapSizes, options: Namespace) -> List[ClassSize]:
+def sizes_shown(sizes: HeapSizes, options: Namespace) -> List[ClassSize]:
     """Returns the classes or packages, in the order of their lines."""
     every = by_package(sizes.classes) if options.packages else sizes.classes
     return unreachable_first(every) if options.unreachable else every
@@ -79,21 +79,21 @@ def size_lines(shown: Sequence[ClassSize], whole: ClassSize, word: str) -> str:
     """Returns a line for each class that is shown and for the totals, on a terminal below the heads of the columns."""
     heads = f"{'objects':>10} {'bytes':>14} {'an object':>10} share {'unreachable':>14}  {word}\n"
     lines = [heads] if is_terminal(sys.stdout) else []
-    lines += [line_of(each, whole) for each in shown]
-    lines.append(line_of(ClassSize("(reachable)", whole.reachable, whole.reachable.minus(whole.reachable)), whole))
-    lines.append(line_of(ClassSize("(unreachable)", whole.unreachable, whole.unreachable), whole))
-    lines.append(line_of(whole._replace(name="(all)"), whole))
+    lines += [size_line(each, whole) for each in shown]
+    lines.append(size_line(ClassSize("(reachable)", whole.reachable, whole.reachable.minus(whole.reachable)), whole))
+    lines.append(size_line(ClassSize("(unreachable)", whole.unreachable, whole.unreachable), whole))
+    lines.append(size_line(whole._replace(name="(all)"), whole))
     return "".join(lines)
 
 
-def line_of(each: ClassSize, whole: ClassSize) -> str:
+def size_line(each: ClassSize, whole: ClassSize) -> str:
     """Returns the line of a class."""
     objects, taken = each.every
     mean, share = taken / max(1, objects), 100 * taken / max(1, whole.every.bytes)
     return f"{objects:10} {taken:14} {mean:10.1f} {share:4.1f}% {each.unreachable.bytes:14}  {each.name}\n"
 
 
-def notes_of(sizes: HeapSizes, hidden: int) -> List[str]:
+def size_notes(sizes: HeapSizes, hidden: int) -> List[str]:
     """Returns what the lines do not say."""
     notes = []
     if hidden:
@@ -145,9 +145,9 @@ def main(words: Sequence[str]) -> int:
         sizes = sizes_in(runs)
     finally:
         progress.clear()
-    every = shown_of(sizes, options)
+    every = sizes_shown(sizes, options)
     shown = every[: options.top]
-    notes = notes_of(sizes, len(every) - len(shown))
+    notes = size_notes(sizes, len(every) - len(shown))
     if options.json:
         write(document("sizes", sizes_fields(runs, sizes, shown, options.packages, len(every) - len(shown)), notes))
     else:
