@@ -109,7 +109,9 @@ def size_notes(sizes: HeapSizes, hidden: int) -> List[str]:
     return [*notes, f"the layout that neighbours show: {sizes.layout.words()}"]
 
 
-def page_of(runs: DumpRuns, sizes: HeapSizes, notes: Sequence[str], words: Sequence[str], began: float) -> page.Sizes:
+def content_of_sizes(
+    runs: DumpRuns, sizes: HeapSizes, notes: Sequence[str], words: Sequence[str], began: float
+) -> page.Sizes:
     """Returns what the page of `--html` shows."""
     whole = sizes.whole
     versions = [("sizes", VERSION), ("heapmark", runs.heapmark.version()), ("Python", platform.python_version())]
@@ -153,7 +155,7 @@ def main(words: Sequence[str]) -> int:
     else:
         write(size_lines(shown, sizes.whole, "package" if options.packages else "class"))
     if options.html is not None:
-        write_page(options.html, page_of(runs, sizes, notes, words, began))
+        write_page(options.html, content_of_sizes(runs, sizes, notes, words, began))
     for note in notes:
         say(f"sizes: {note}")
     return 0

@@ -69,11 +69,11 @@ def html_of(content: Content) -> str:
     """Returns the page, at most `MOST_BYTES` in UTF-8."""
     for limits in LIMITS:
         if isinstance(content, OneDump):
-            text = dump_page.page_of(content, limits)
+            text = dump_page.page_of_dump(content, limits)
         elif isinstance(content, Sizes):
-            text = sizes_page.page_of(content, limits)
+            text = sizes_page.page_of_sizes(content, limits)
         else:
-            text = comparison_page.page_of(content, limits)
+            text = comparison_page.page_of_dumps(content, limits)
         if len(text.encode()) <= MOST_BYTES:
             break
     return str(text)

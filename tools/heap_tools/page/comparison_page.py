@@ -17,7 +17,7 @@ def heap(leak: Leak, limits: Limits) -> Section:
     )
 
 
-def page_of(leak: Leak, limits: Limits) -> Html:
+def page_of_dumps(leak: Leak, limits: Limits) -> Html:
     """Returns the page."""
     sections = [
         heap(leak, limits),

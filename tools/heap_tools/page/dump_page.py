@@ -78,7 +78,7 @@ def lead(dump: OneDump) -> Html:
     return fill("lead_of_one", heap=joined(parts))
 
 
-def page_of(dump: OneDump, limits: Limits) -> Html:
+def page_of_dump(dump: OneDump, limits: Limits) -> Html:
     """Returns the page."""
     sections: List[Section] = [fullness(dump, limits), suspects(dump, limits)]
     if dump.ran_out:

@@ -24,7 +24,7 @@ class Sizes:
     notes: List[str]
 
 
-def page_of(sizes: Sizes, limits: Limits) -> Html:
+def page_of_sizes(sizes: Sizes, limits: Limits) -> Html:
     """Returns the page."""
     sections = [made_of(sizes.classes, "the heap", limits)]
     if sizes.unreachable:
