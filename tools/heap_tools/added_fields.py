@@ -85,7 +85,8 @@ class _Additions:
         added, votes = _most_agreed(seen, self.layout.alignment)
         count = sum(each.objects for each in seen)
         enough = votes >= MANY_ADDED and self.is_ascending or votes >= SOME_ADDED and (least >= ROOM or has_fields)
-        is_shown = least < aligned(self.layout.header) or enough and votes > MAJORITY * count
+        is_certain = least < aligned(self.layout.header) or has_fields and least <= WORD
+        is_shown = is_certain or enough and votes > MAJORITY * count
         return added if added > inherited and is_shown else inherited
 
 
