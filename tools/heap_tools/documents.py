@@ -19,10 +19,10 @@ from heap_tools.version import VERSION
 FORMAT = 1
 
 #: The fields of a document, or of a part of one.
-Fields = Dict[str, Any]
+JsonObject = Dict[str, Any]
 
 
-def document(tool: str, fields: Fields, notes: Iterable[str]) -> str:
+def document(tool: str, fields: JsonObject, notes: Iterable[str]) -> str:
     """Returns the document of `tool` with these fields, in ASCII. Raises `ValueError` if one is no finite number."""
     every = {"format": FORMAT, "tool": tool, "version": VERSION, **fields, "notes": list(notes)}
     return json.dumps(every, indent=2, allow_nan=False) + "\n"
@@ -33,7 +33,7 @@ def path_entry(path: str) -> str:
     return os.fsencode(path).decode(errors="backslashreplace")
 
 
-def amount_entry(amount: Amount) -> Fields:
+def amount_entry(amount: Amount) -> JsonObject:
     """Returns an amount."""
     return {"objects": amount.objects, "bytes": amount.bytes}
 
@@ -43,7 +43,7 @@ def share_entry(percent: float) -> float:
     return round(percent, 2)
 
 
-def file_entry(path: str, kind: str, time: Optional[int], report: Report) -> Fields:
+def file_entry(path: str, kind: str, time: Optional[int], report: Report) -> JsonObject:
     """Returns a file of the command line, with the totals of its report. A histogram has none."""
     has_totals = kind != "histogram"
     return {
@@ -57,22 +57,22 @@ def file_entry(path: str, kind: str, time: Optional[int], report: Report) -> Fie
     }
 
 
-def dump_entry(runs: DumpRuns) -> Fields:
+def dump_entry(runs: DumpRuns) -> JsonObject:
     """Returns a dump of the command line."""
     return file_entry(runs.path, "dump", runs.dump.time, runs.report)
 
 
-def candidate_entry(candidate: Candidate) -> Fields:
+def candidate_entry(candidate: Candidate) -> JsonObject:
     """Returns a field, a local variable or threads, and how `held` is asked for it."""
     return {"kind": candidate.kind, "name": candidate.name, "text": str(candidate)}
 
 
-def candidates_entry(candidates: Sequence[Candidate]) -> List[Fields]:
+def candidates_entry(candidates: Sequence[Candidate]) -> List[JsonObject]:
     """Returns what is one step of a path: most often one candidate, else what holds something only together."""
     return [candidate_entry(each) for each in sorted(candidates, key=str)]
 
 
-def holder_entry(held: Retained, percent: float) -> Fields:
+def holder_entry(held: Retained, percent: float) -> JsonObject:
     """Returns a line of `holders`."""
     return {
         "fields": candidates_entry(held.candidates),
@@ -82,7 +82,7 @@ def holder_entry(held: Retained, percent: float) -> Fields:
     }
 
 
-def class_size_entry(each: ClassSize) -> Fields:
+def class_size_entry(each: ClassSize) -> JsonObject:
     """Returns a class or a package of `sizes`."""
     name = {"name": each.name, "all": amount_entry(each.every)}
     return {**name, "reachable": amount_entry(each.reachable), "unreachable": amount_entry(each.unreachable)}
@@ -90,7 +90,7 @@ def class_size_entry(each: ClassSize) -> Fields:
 
 def sizes_fields(
     runs: DumpRuns, sizes: HeapSizes, shown: Sequence[ClassSize], is_by_package: bool, hidden: int
-) -> Fields:
+) -> JsonObject:
     """Returns the fields of the document of `sizes`: the classes or packages that are shown, and the number of the
     others."""
     whole = class_size_entry(sizes.whole)
@@ -104,7 +104,7 @@ def sizes_fields(
     }
 
 
-def growth_entry(growth: ClassGrowth, unit: Unit, hours: Optional[float]) -> Fields:
+def growth_entry(growth: ClassGrowth, unit: Unit, hours: Optional[float]) -> JsonObject:
     """Returns how a class grew: `steps` and the growth per hour are in the unit of the document."""
     per_hour = round(unit.of(growth.amount) / hours, 2) if hours else None
     return {
@@ -117,7 +117,7 @@ def growth_entry(growth: ClassGrowth, unit: Unit, hours: Optional[float]) -> Fie
 
 def grown_fields(
     snapshots: Sequence[Snapshot], shown: Sequence[ClassGrowth], hidden: int, unit: Unit, hours: Optional[float]
-) -> Fields:
+) -> JsonObject:
     """Returns the fields of the document of `grown`: the classes that are shown, and the number of the others."""
     return {
         "files": [file_entry(each.path, each.kind, each.time, each.report) for each in snapshots],
@@ -128,7 +128,7 @@ def grown_fields(
     }
 
 
-def holders_fields(probe: Probe, at_least: float, shown: Sequence[Retained], hidden: int, rest: int) -> Fields:
+def holders_fields(probe: Probe, at_least: float, shown: Sequence[Retained], hidden: int, rest: int) -> JsonObject:
     """Returns the fields of the document of `holders`: the lines that are shown, the number of the others, and how much
     is held without any static field."""
     return {
@@ -144,8 +144,8 @@ def holders_fields(probe: Probe, at_least: float, shown: Sequence[Retained], hid
 
 
 def held_fields(
-    file: Fields, entries: Sequence[Entry], found: Sequence[ClassGrowth], unit: Unit, total: Amount
-) -> Fields:
+    file: JsonObject, entries: Sequence[Entry], found: Sequence[ClassGrowth], unit: Unit, total: Amount
+) -> JsonObject:
     """Returns the fields of the document of `held`."""
     return {
         "file": file,

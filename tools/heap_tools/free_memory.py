@@ -6,7 +6,7 @@ import re
 from typing import Dict, Iterator, NamedTuple, Optional
 
 
-class Layout(NamedTuple):
+class GroupFiles(NamedTuple):
     """Where a version of control groups has their folders, the name of its controller in /proc/self/cgroup, the files
     with the bytes that a group may have and has, and the lines of memory.stat with those that can be had back, since
     files have them, too."""
@@ -20,8 +20,8 @@ class Layout(NamedTuple):
 
 #: Both versions of control groups, as a system may have them at the same time.
 LAYOUTS = (
-    Layout("sys/fs/cgroup", "", "memory.max", "memory.current", "(?:in)?active_file"),
-    Layout(
+    GroupFiles("sys/fs/cgroup", "", "memory.max", "memory.current", "(?:in)?active_file"),
+    GroupFiles(
         "sys/fs/cgroup/memory",
         "memory",
         "memory.limit_in_bytes",
@@ -62,7 +62,7 @@ def _groups(text: str) -> Dict[str, str]:
     return paths
 
 
-def _free_in_group(folder: str, layout: Layout) -> Optional[int]:
+def _free_in_group(folder: str, layout: GroupFiles) -> Optional[int]:
     """Returns how many bytes a group can still have, or None if it has no limit."""
     limit, used = (_text(f"{folder}/{name}").strip() for name in (layout.limit, layout.used))
     if not (limit.isdigit() and used.isdigit()):

@@ -8,7 +8,7 @@ from heap_tools.object_sizes import ObjectSizes, RowSizes
 from heap_tools.reports import Report
 
 #: No virtual machine writes a dump with fewer objects: of such a one it is not said that its layout is not known.
-FEWEST = 3000
+FEWEST_OF_HEAP = 3000
 
 
 class Counted(NamedTuple):
@@ -47,6 +47,6 @@ def layout_words(sizes: Optional[RowSizes]) -> str:
 
 def unknown_words(path: str, report: Report, why: str) -> str:
     """Says that bytes are those of the dump `path`, unless it has few objects."""
-    if report.reachable.objects + report.unreachable.objects < FEWEST:
+    if report.reachable.objects + report.unreachable.objects < FEWEST_OF_HEAP:
         return ""
     return f"bytes are those of the dump, not of the heap, whose layout {path} does not show: {why}"

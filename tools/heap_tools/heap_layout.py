@@ -16,7 +16,7 @@ from heap_tools.heap_sample import Sample
 
 #: The fewest instances, and the fewest arrays, whose neighbours agree on a layout; the least share of both that does;
 #: and the least of either, since many objects of one kind may have a hole after them: garbage that the dump omits.
-FEWEST, AGREEMENT, MAJORITY = 300, 0.8, 0.5
+FEWEST_NEIGHBOURS, AGREEMENT, MAJORITY = 300, 0.8, 0.5
 #: The largest share of objects that may be nearer to the next than they are long: objects do not overlap.
 OVERLAPPING = 0.01
 #: The class of the stacks of virtual threads that wait: the stack is in it, and the dump does not say how long it is.
@@ -83,7 +83,7 @@ class Fields(NamedTuple):
         return Fields(self.references + kinds[hprof.OBJECT], self.other + other)
 
 
-def fields_of(dump: HeapDump) -> Dict[int, Fields]:
+def fields_by_class(dump: HeapDump) -> Dict[int, Fields]:
     """Returns the fields of the instances of each class, those of its superclasses included."""
     found: Dict[int, Fields] = {}
     for class_id in dump.classes:
@@ -139,12 +139,12 @@ def _votes(sizes: Iterable[Tuple[int, int, int]]) -> _Votes:
 def _require_agreement(*votes: _Votes) -> None:
     """Raises `UnknownLayout` unless enough instances and enough arrays agree."""
     total = sum(each.total for each in votes)
-    if min(each.total for each in votes) < FEWEST:
+    if min(each.total for each in votes) < FEWEST_NEIGHBOURS:
         raise UnknownLayout("too few objects have a neighbour")
     if (
         sum(each.agree for each in votes) < AGREEMENT * total
         or sum(each.overlap for each in votes) > OVERLAPPING * total
     ):
         raise UnknownLayout("too few neighbours agree")
-    if any(each.agree < max(FEWEST, MAJORITY * each.total) for each in votes):
+    if any(each.agree < max(FEWEST_NEIGHBOURS, MAJORITY * each.total) for each in votes):
         raise UnknownLayout("too few neighbours agree")

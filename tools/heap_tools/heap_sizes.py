@@ -90,7 +90,7 @@ def _reachable(report: Report, totals: Dict[str, Total], sizes: Optional[ObjectS
     return found
 
 
-def by_package(classes: List[ClassSize]) -> List[ClassSize]:
+def sizes_by_package(classes: List[ClassSize]) -> List[ClassSize]:
     """Returns the sums of packages. An array counts for the package of its elements."""
     found: Dict[str, List[ClassSize]] = defaultdict(list)
     for each in classes:

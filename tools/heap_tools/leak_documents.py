@@ -3,7 +3,7 @@
 from typing import List, NamedTuple, Optional, Sequence
 
 from heap_tools.comparison import Comparison
-from heap_tools.documents import Fields, amount_entry, candidates_entry, dump_entry, share_entry
+from heap_tools.documents import JsonObject, amount_entry, candidates_entry, dump_entry, share_entry
 from heap_tools.humanize import counted
 from heap_tools.leak_lines import Answer, Line, LineObjects
 from heap_tools.leak_notes import Notes
@@ -26,12 +26,12 @@ class Cost(NamedTuple):
         return f"{fields}, {runs} of heapmark, {self.seconds:.1f} s"
 
 
-def fields_of_one(answer: HeapAnswer, notes: HeapNotes, cost: Cost) -> Fields:
+def fields_of_one(answer: HeapAnswer, notes: HeapNotes, cost: Cost) -> JsonObject:
     """Returns the fields of the document of one dump."""
     question, probe = answer.question, answer.question.probe
     return {
         "files": [dump_entry(question.runs)],
-        **asked(probe, answer.at_least, question.followed.is_any),
+        **question_entry(probe, answer.at_least, question.followed.is_any),
         "whole": amount_entry(probe.growth),
         "growth": None,
         "lines": [line_entry(each, is_growth=False) for each in answer.lines],
@@ -46,12 +46,12 @@ def fields_of_one(answer: HeapAnswer, notes: HeapNotes, cost: Cost) -> Fields:
     }
 
 
-def fields_of_growth(comparison: Comparison, answer: Answer, notes: Notes, cost: Cost) -> Fields:
+def fields_of_growth(comparison: Comparison, answer: Answer, notes: Notes, cost: Cost) -> JsonObject:
     """Returns the fields of the document of two dumps or more."""
     probe, lines = answer.probe, answer.lines
     return {
         "files": [dump_entry(each) for each in comparison.dumps],
-        **asked(probe, answer.search.at_least, comparison.follows_weak),
+        **question_entry(probe, answer.search.at_least, comparison.follows_weak),
         "whole": amount_entry(probe.whole),
         "growth": amount_entry(probe.growth),
         "lines": [line_entry(each, is_growth=True) for each in lines],
@@ -69,7 +69,7 @@ def fields_of_growth(comparison: Comparison, answer: Answer, notes: Notes, cost:
     }
 
 
-def asked(probe: Probe, at_least: float, follows_weak: bool) -> Fields:
+def question_entry(probe: Probe, at_least: float, follows_weak: bool) -> JsonObject:
     """Returns what was asked."""
     return {
         "unit": probe.unit.value,
@@ -79,12 +79,12 @@ def asked(probe: Probe, at_least: float, follows_weak: bool) -> Fields:
     }
 
 
-def cost_entry(cost: Cost) -> Fields:
+def cost_entry(cost: Cost) -> JsonObject:
     """Returns what an answer cost."""
     return {"fields_tried": cost.fields, "runs": cost.runs, "seconds": round(cost.seconds, 1)}
 
 
-def line_entry(line: Line, is_growth: bool) -> Fields:
+def line_entry(line: Line, is_growth: bool) -> JsonObject:
     """Returns a line: what was held before only if there is a dump of that."""
     return {
         "path": [candidates_entry(each.candidates) for each in [*line.above, line.held]],
@@ -96,12 +96,12 @@ def line_entry(line: Line, is_growth: bool) -> Fields:
     }
 
 
-def objects_entry(found: Optional[LineObjects]) -> Optional[Fields]:
+def objects_entry(found: Optional[LineObjects]) -> Optional[JsonObject]:
     """Returns which objects gained or hold most of a line."""
     return {"line": found.number, "objects": [object_entry(each) for each in found.objects]} if found else None
 
 
-def object_entry(found: HoldingObject) -> Fields:
+def object_entry(found: HoldingObject) -> JsonObject:
     """Returns an object, and what names it."""
     return {
         "class": found.class_name,
@@ -114,6 +114,6 @@ def object_entry(found: HoldingObject) -> Fields:
     }
 
 
-def contents_entry(rows: Sequence[Row]) -> List[Fields]:
+def contents_entry(rows: Sequence[Row]) -> List[JsonObject]:
     """Returns what the first line retains, class by class."""
     return [{"class": row.name, "retained": amount_entry(row.amount)} for row in rows]

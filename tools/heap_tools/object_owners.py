@@ -15,16 +15,16 @@ STEPS_WITHIN, MOST_WITHIN = 6, 40
 
 
 #: What refers to an object from one class, by one field.
-Group = List[Referrer]
+Referrers = List[Referrer]
 
 
-def judged(group: Group) -> Group:
+def judged(group: Referrers) -> Referrers:
     """Returns those of a group of which it is asked whether they lead to an object from outside: of many, which are
     alike, the first."""
     return group if len(group) <= MOST_OWNERS else group[:1]
 
 
-def judged_as(referrer: Referrer, group: Group) -> Referrer:
+def judged_as(referrer: Referrer, group: Referrers) -> Referrer:
     """Returns the one of a group that stands for `referrer`."""
     return referrer if len(group) <= MOST_OWNERS else group[0]
 
@@ -67,9 +67,9 @@ class Owners:
             found[target] = [each for group in few or every for each in group]
         return found
 
-    def _groups(self, targets: Set[int]) -> Dict[int, List[Group]]:
+    def _groups(self, targets: Set[int]) -> Dict[int, List[Referrers]]:
         """Returns what refers to each of these objects, by the class and the field that does."""
-        groups: Dict[int, Dict[Tuple[int, str, str], Group]] = {}
+        groups: Dict[int, Dict[Tuple[int, str, str], Referrers]] = {}
         for each in self.objects.referrers_of(targets):
             key = self.dump.bytes[each.place], self.objects.class_name(each.place), each.field
             groups.setdefault(each.target, {}).setdefault(key, []).append(each)

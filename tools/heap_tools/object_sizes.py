@@ -8,7 +8,7 @@ from heap_tools import hprof_format as hprof
 from heap_tools.added_fields import added_fields, class_object_size
 from heap_tools.class_names import CLASSES, PRIMITIVES
 from heap_tools.heap_dump import HeapDump
-from heap_tools.heap_layout import STACK, Fields, Layout, fields_of, layout_of
+from heap_tools.heap_layout import STACK, Fields, Layout, fields_by_class, layout_of
 from heap_tools.heap_sample import CLASS_OBJECT, Sample, sample_of
 from heap_tools.reports import Amount, Report, Row
 
@@ -66,7 +66,7 @@ class ObjectSizes:
 
     def __init__(self, dump: HeapDump) -> None:
         sample = sample_of(dump)
-        self.dump, self.fields = dump, fields_of(dump)
+        self.dump, self.fields = dump, fields_by_class(dump)
         self.stacks = {class_id for class_id, name in dump.names.items() if name == STACK}
         self.layout = layout_of(sample, self.fields, dump.id_size, self.stacks)
         self.added = added_fields(dump, sample, self.fields, self.layout, self.stacks)

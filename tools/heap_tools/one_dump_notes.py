@@ -53,18 +53,20 @@ def notes_of_one(answer: HeapAnswer) -> HeapNotes:
     direct = direct_memory(dump)
     others = [captured_words(answer.lines), direct_words(answer, direct), unreachable_words(answer)]
     ran_out, capacity = threads_that_ran_out(dump), heap_capacity(dump)
-    return HeapNotes(capacity, ran_out, local_places(answer), direct, weak_words(answer), list(filter(None, others)))
+    return HeapNotes(
+        capacity, ran_out, local_places(answer), direct, weakly_held_in_one(answer), list(filter(None, others))
+    )
 
 
 def sentences_of(answer: HeapAnswer, notes: HeapNotes) -> List[str]:
     """Returns all that is said beside the lines."""
     ran_out = [f"memory ran out in {place}" for place in notes.ran_out]
     objects = objects_words(answer.objects) if answer.objects else ""
-    found = [fullness(answer, notes), objects, contents_words(answer.contents), *ran_out, *map(str, notes.locals)]
+    found = [fullness_words(answer, notes), objects, contents_words(answer.contents), *ran_out, *map(str, notes.locals)]
     return [each for each in [*found, notes.weak, *notes.others, rest_of_one(answer), SECOND] if each]
 
 
-def fullness(answer: HeapAnswer, notes: HeapNotes) -> str:
+def fullness_words(answer: HeapAnswer, notes: HeapNotes) -> str:
     """Returns in words how much is in the heap, and how much may be."""
     reachable = answer.question.runs.report.reachable
     text = f"{size(reachable.bytes)} are reachable, in {counted(reachable.objects, 'object')}"
@@ -88,7 +90,7 @@ def local_places(answer: HeapAnswer) -> List[LocalPlace]:
     return [LocalPlace(method, place) for method in methods for place in threads_in(dump, method)[:SHOWN_THREADS]]
 
 
-def weak_words(answer: HeapAnswer) -> str:
+def weakly_held_in_one(answer: HeapAnswer) -> str:
     """Returns in words what weak references hold, empty if that is little."""
     followed, probe = answer.question.followed, answer.question.probe
     if 100 * probe.unit.of(followed.amount) < MUCH * max(1, probe.unit.of(probe.growth)):

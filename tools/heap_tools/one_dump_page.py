@@ -4,7 +4,7 @@ from heap_tools import page
 from heap_tools.leak_lines import Line
 from heap_tools.one_dump import HeapAnswer
 from heap_tools.one_dump_notes import HeapNotes
-from heap_tools.page_content import dump_of, fields_of, layout_sentence, object_of, program_of, steps_from
+from heap_tools.page_content import dump_of, fields_of, layout_sentence, object_of, program_of, sentence_of, steps_from
 from heap_tools.probe import Probe
 from heap_tools.reports import Amount
 
@@ -44,8 +44,3 @@ def suspect_of(line: Line, probe: Probe) -> page.SuspectEntry:
     return page.SuspectEntry(
         fields_of(line.held.candidates), line.held.instances, share_of_one(line.held.amount, probe), above
     )
-
-
-def sentence_of(text: str) -> str:
-    """Returns a text as a sentence."""
-    return f"{text[0].upper()}{text[1:]}."

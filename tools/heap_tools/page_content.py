@@ -49,7 +49,7 @@ def content_of(
         objects=objects_of(notes, len(answer.lines)),
         threads=[page.ThreadGroupEntry(it.pattern, it.before, it.after, it.frames) for it in notes.threads],
         notes=[sentence_of(text) for text in (*comparison.why, *notes.sentences) if text != comparison.followed.why],
-        weak=weak_words(comparison),
+        weak=weak_sentence(comparison),
         layout=layout_sentence(comparison.last),
     )
 
@@ -59,7 +59,7 @@ def sentence_of(text: str) -> str:
     return f"{text[0].upper()}{text[1:]}."
 
 
-def weak_words(comparison: Comparison) -> Optional[str]:
+def weak_sentence(comparison: Comparison) -> Optional[str]:
     """Returns a sentence on the weak references that are followed, or None if none are."""
     if comparison.followed.why:
         return sentence_of(comparison.followed.why)

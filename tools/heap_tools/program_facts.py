@@ -93,11 +93,11 @@ def property_table(objects: HeapObjects) -> List[int]:
             identifier = 0 if at is None else objects.reference(at, class_name, field)
         at = objects.places_of([identifier]).get(identifier)
         if at is not None:
-            return elements(objects.dump, at)
+            return array_elements(objects.dump, at)
     return []
 
 
-def elements(dump: HeapDump, at: int) -> List[int]:
+def array_elements(dump: HeapDump, at: int) -> List[int]:
     """Returns the identifiers in the array of objects at `at`, none if there is another object."""
     if dump.bytes[at] != hprof.OBJECT_ARRAY:
         return []

@@ -13,7 +13,7 @@ from heap_tools.search import Search, Tried
 PART_NEEDED, MOST_NEEDED = 0.9, 6
 #: The most groups that are asked for to find which of many hold enough only together: of fields, if nothing else is
 #: found, and of roots, if it is known what holds the growth, but not from where.
-MOST_ASKED, MOST_ASKED_OF_ROOTS = 110, 50
+MOST_GROUPS, MOST_GROUPS_OF_ROOTS = 110, 50
 
 
 class Budget(NamedTuple):
@@ -72,11 +72,11 @@ class SearchTogether:
         rest = [*rest, *self.unknown(self.threads())]
         # All together may gain more than the growth, if something else shrank.
         least = max(PART_NEEDED * min(self.share_or_bound(rest, self.at_least), 100), self.at_least)
-        needed = self.needed(rest, [], 0, least, self.budget(MOST_NEEDED, MOST_ASKED_OF_ROOTS) if single else budget)
+        needed = self.needed(rest, [], 0, least, self.budget(MOST_NEEDED, MOST_GROUPS_OF_ROOTS) if single else budget)
         if self.has_share(needed):
             self.add(needed)
 
-    def budget(self, needed: float = math.inf, questions: int = MOST_ASKED) -> Budget:
+    def budget(self, needed: float = math.inf, questions: int = MOST_GROUPS) -> Budget:
         """Returns a budget of so many more questions."""
         return Budget(needed, self.probe.questions + questions)
 

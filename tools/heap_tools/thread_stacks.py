@@ -43,12 +43,12 @@ def threads_in(dump: HeapDump, method: str) -> List[ThreadPlace]:
     """Returns the threads with a call of `method`, a name such as `shop/Import.readAll`, from that call on."""
 
     def begin(stack: List[Frame]) -> int:
-        return next((number for number, frame in enumerate(stack) if name_of(frame) == method), -1)
+        return next((number for number, frame in enumerate(stack) if method_words(frame) == method), -1)
 
     return _places(dump, begin)
 
 
-def name_of(frame: Frame) -> str:
+def method_words(frame: Frame) -> str:
     """Returns a method with its class, as lines name it: hidden classes without counter and address."""
     return f"{family(frame.class_name)}.{frame.method}"
 
@@ -65,4 +65,4 @@ def _places(dump: HeapDump, begin: Callable[[List[Frame]], int]) -> List[ThreadP
 
 def _place(name: str, stack: List[Frame]) -> ThreadPlace:
     own = next((number for number, frame in enumerate(stack) if is_own(frame.class_name)), 0)
-    return ThreadPlace(name, [name_of(frame) for frame in stack], own)
+    return ThreadPlace(name, [method_words(frame) for frame in stack], own)

@@ -13,7 +13,7 @@ from heap_tools.heap_objects import FieldValue, HeapObjects
 from heap_tools.thread_counts import method_of
 
 #: How many methods of a thread are said.
-METHODS = 3
+OWN_METHODS = 3
 
 
 class WeakKind(enum.Enum):
@@ -77,4 +77,4 @@ class WeakReferences:
         own = next((number for number, frame in enumerate(stack) if is_own(frame.class_name)), None)
         if own is None:
             return ""
-        return f'; thread "{name}" is in {", ".join(map(method_of, stack[own : own + METHODS]))}'
+        return f'; thread "{name}" is in {", ".join(map(method_of, stack[own : own + OWN_METHODS]))}'

@@ -8,7 +8,7 @@ from unittest import mock
 
 from heap_tools import heap_sample, object_records
 from heap_tools.heap_dump import HeapDump
-from heap_tools.heap_layout import Layout, UnknownLayout, fields_of, layout_of
+from heap_tools.heap_layout import Layout, UnknownLayout, fields_by_class, layout_of
 from heap_tools.heap_sample import sample_of
 from heap_tools.object_records import heap_objects, short_spans
 from tests.support.dump_writer import BYTE, DumpWriter
@@ -32,7 +32,7 @@ LAYOUTS = [
 
 def found_in(dump: HeapDump) -> Layout:
     """Returns the layout that is found."""
-    return layout_of(sample_of(dump), fields_of(dump), dump.id_size)
+    return layout_of(sample_of(dump), fields_by_class(dump), dump.id_size)
 
 
 class LayoutTest(unittest.TestCase):
@@ -129,7 +129,7 @@ class SampleTest(unittest.TestCase):
             dump = heap.read(shuffled)
             with mock.patch.object(heap_sample, "SAMPLED", 4000):
                 sample = sample_of(dump)
-            self.assertEqual(layout_of(sample, fields_of(dump), 8), COMPRESSED)
+            self.assertEqual(layout_of(sample, fields_by_class(dump), 8), COMPRESSED)
             self.assertLess(2000, sum(sample.neighbours.values()))
             self.assertLess(sum(sample.neighbours.values()), 10000)
 

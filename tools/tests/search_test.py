@@ -19,7 +19,7 @@ from heap_tools.reports import Amount, Unit
 from heap_tools.running_calls import prepared, without_running_calls
 from heap_tools.search import MOST_QUESTIONS, Search
 from heap_tools.search_progress import SILENCE, SearchProgress
-from heap_tools.search_together import MOST_ASKED, SearchTogether
+from heap_tools.search_together import MOST_GROUPS, SearchTogether
 from tests.support.marker import MarkedRuns
 from tests.support.random_heaps import random_pair
 from tests.support.told_probe import Things, Told, ToldGains, field
@@ -162,12 +162,12 @@ class KinTest(unittest.TestCase):
             way = [each.name for each in fields[5 :: count // 6][:6]]
             found, asked = self.found([([way], 100)], fields)
             self.assertEqual(len(found), is_found)
-            self.assertLessEqual(asked, MOST_ASKED + 4)
+            self.assertLessEqual(asked, MOST_GROUPS + 4)
             search = Search(ToldGains([], [([way], 100)]), 30, mock.Mock())
             search.probe.candidates = candidates_of([Candidate(STATIC, each.name, 1, {}) for each in fields])
             SearchTogether(search).find_statics()
             self.assertEqual(len(search.found), is_found)
-            self.assertLessEqual(search.probe.questions, MOST_ASKED + 8)
+            self.assertLessEqual(search.probe.questions, MOST_GROUPS + 8)
 
     def test_names(self) -> None:
         """Of many names only the first ones are in a line: those that hold most alone. What the virtual machine keeps

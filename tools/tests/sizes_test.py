@@ -7,7 +7,7 @@ from typing import Dict, List
 
 from heap_tools import page
 from heap_tools.heap_layout import STACK, Layout
-from heap_tools.heap_sizes import ClassSize, by_package, unreachable_first
+from heap_tools.heap_sizes import ClassSize, sizes_by_package, unreachable_first
 from heap_tools.reports import Amount
 from tests.support.dump_writer import BYTE
 from tests.support.laid_out_heap import LaidOutHeap
@@ -144,7 +144,7 @@ class RowsTest(unittest.TestCase):
         ]
         self.assertEqual([each.name for each in unreachable_first(classes)], ["[[La/B;", "a/B"])
         found = [ClassSize("a", Amount(3, 190), Amount(3, 70)), ClassSize("(no package)", Amount(3, 80), Amount())]
-        self.assertEqual(by_package(classes), found)
+        self.assertEqual(sizes_by_package(classes), found)
         self.assertEqual(classes[0].reachable, Amount(0, 90))
 
     def test_page_without_unreachable(self) -> None:

@@ -13,7 +13,7 @@ from heap_tools.command_line import Parser, number
 from heap_tools.console import Progress, is_terminal, say, write
 from heap_tools.documents import document, sizes_fields
 from heap_tools.dump_runs import DumpRuns
-from heap_tools.heap_sizes import ClassSize, HeapSizes, by_package, sizes_in, unreachable_first
+from heap_tools.heap_sizes import ClassSize, HeapSizes, sizes_by_package, sizes_in, unreachable_first
 from heap_tools.heapmark import Heapmark
 from heap_tools.humanize import counted, size
 from heap_tools.omissions import WHY_UNREACHABLE
@@ -71,7 +71,7 @@ def parser() -> Parser:
 
 def sizes_shown(sizes: HeapSizes, options: Namespace) -> List[ClassSize]:
     """Returns the classes or packages, in the order of their lines."""
-    every = by_package(sizes.classes) if options.packages else sizes.classes
+    every = sizes_by_package(sizes.classes) if options.packages else sizes.classes
     return unreachable_first(every) if options.unreachable else every
 
 

@@ -4,7 +4,7 @@ import math
 from dataclasses import dataclass
 from typing import Dict, Iterable, List, Sequence, Tuple, TypeVar
 
-from heap_tools.page.chart_labels import DIGIT, FEW_POINTS, anchor_of, asked, labels_of
+from heap_tools.page.chart_labels import DIGIT, FEW_POINTS, anchor_of, points_with_number, labels_of
 from heap_tools.page.model import DumpEntry, Leak, Limits
 from heap_tools.page.names import names_of
 from heap_tools.page.templates import Html, escaped, fill, joined
@@ -24,7 +24,7 @@ REACHABLE, UNREACHABLE, HELD = "reachable", "unreachable", "held"
 
 #: A place between 0 and 1 along the time, and a number.
 Point = Tuple[float, int]
-Sample = TypeVar("Sample")
+Spaced = TypeVar("Spaced")
 
 
 @dataclass(frozen=True)
@@ -54,7 +54,7 @@ class Scale:
         return self.height - BOTTOM - number / max(1, self.most) * (self.height - TOP - BOTTOM)
 
 
-def sampled(items: Sequence[Sample]) -> List[Sample]:
+def sampled(items: Sequence[Spaced]) -> List[Spaced]:
     """Returns `items`, or evenly chosen ones if they are too many, the first and the last among them."""
     last = len(items) - 1
     if last < MOST_POINTS:
@@ -113,7 +113,7 @@ def numbers_of(lines: Sequence[Series], scale: Scale, unit: Unit) -> Html:
     texts = []
     for series in lines:
         values = [value for _, value in series.points]
-        wanted = set(asked(values))
+        wanted = set(points_with_number(values))
         texts.append([bare(value, unit) if at in wanted else "" for at, value in enumerate(values)])
     shown = []
     for label in labels_of(points, texts, scale.y(0)):

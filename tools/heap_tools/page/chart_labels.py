@@ -59,7 +59,7 @@ def anchor_of(number: int, last: int) -> str:
     return "end" if number == last else "start" if number == 0 else "middle"
 
 
-def places_of(number: int, last: int) -> List[Tuple[str, float]]:
+def label_places(number: int, last: int) -> List[Tuple[str, float]]:
     """Returns where the number of a point may be, the best place first: which end of it is at the point, and how far
     below it. Beside a point between the ends it may also be on the side from which the line does not come."""
     anchor = anchor_of(number, last)
@@ -70,7 +70,7 @@ def places_of(number: int, last: int) -> List[Tuple[str, float]]:
     ]
 
 
-def asked(values: Sequence[int]) -> Iterable[int]:
+def points_with_number(values: Sequence[int]) -> Iterable[int]:
     """Returns which points of a line are to have a number, the ends first: all of few, of many also the highest."""
     last = len(values) - 1
     return dict.fromkeys([last, 0, *(range(1, last) if last < FEW_POINTS else [values.index(max(values))])])
@@ -84,7 +84,7 @@ def labels_of(lines: Sequence[Sequence[At]], texts: Sequence[Sequence[str]], flo
         last = len(points) - 1
         for number in dict.fromkeys([last, 0, *range(last)]):
             text, (x, y) = texts[line][number], points[number]
-            labels = (Label(line, text, x, y + shift, anchor) for anchor, shift in places_of(number, last))
+            labels = (Label(line, text, x, y + shift, anchor) for anchor, shift in label_places(number, last))
             free = (label for label in labels if text and is_free(label, lines, found, floor))
             found += list(free)[:1]
     return found

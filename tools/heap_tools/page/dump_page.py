@@ -20,15 +20,15 @@ ONE_ONLY = (
 )
 
 
-def top(dump: OneDump, limits: Limits) -> Top:
+def top_of_dump(dump: OneDump, limits: Limits) -> Top:
     """Returns the top of the page."""
     said = [*(out_of_memory(it) for it in dump.ran_out[:1]), dump.weak, *dump.notes, ONE_ONLY]
     return Top(
-        title=title(dump),
+        title=title_of_dump(dump),
         facts=facts(dump.program, period(dump.dump.time, dump.dump.time), limits),
-        headline=headline(dump, limits),
+        headline=headline_of_dump(dump, limits),
         through=Html(),  # it is drawn below
-        lead=lead(dump),
+        lead=lead_of_dump(dump),
         notes=notes(said, limits),
     )
 
@@ -40,7 +40,7 @@ def out_of_memory(it: RanOutEntry) -> str:
     return f"{thread_words(it.thread)} ran out of memory{place}."
 
 
-def headline(dump: OneDump, limits: Limits) -> Html:
+def headline_of_dump(dump: OneDump, limits: Limits) -> Html:
     """Returns the answer: what holds how much of the heap."""
     unit = dump.by
     if not dump.suspects:
@@ -58,7 +58,7 @@ def headline(dump: OneDump, limits: Limits) -> Html:
     )
 
 
-def title(dump: OneDump) -> str:
+def title_of_dump(dump: OneDump) -> str:
     """Returns the title of the page."""
     whole = full(dump.by.of(dump.dump.reachable), dump.by)
     if not dump.suspects:
@@ -67,7 +67,7 @@ def title(dump: OneDump) -> str:
     return f"{plain(in_java(first.fields[0].name), 100)}: {full(dump.by.of(first.held.amount), dump.by)} of {whole}"
 
 
-def lead(dump: OneDump) -> Html:
+def lead_of_dump(dump: OneDump) -> Html:
     """Returns what the heap has."""
     it = dump.dump
     parts = [figure_in(it.reachable.bytes, Unit.BYTES), " in ", figure_in(it.reachable.objects, Unit.OBJECTS)]
@@ -89,4 +89,4 @@ def page_of_dump(dump: OneDump, limits: Limits) -> Html:
         terms(),
         making(dump.making, [dump.dump], limits),
     ]
-    return whole_page(top(dump, limits), sections, dump.making.time, bool(dump.layout))
+    return whole_page(top_of_dump(dump, limits), sections, dump.making.time, bool(dump.layout))

@@ -10,7 +10,7 @@ from heap_tools.page.words import figure, figure_in, percent
 from heap_tools.reports import Unit
 
 
-class Part(NamedTuple):
+class BarPart(NamedTuple):
     """A part of the bar: its kind, what it is, and its size."""
 
     kind: str
@@ -20,8 +20,8 @@ class Part(NamedTuple):
 
 def fullness(dump: OneDump, limits: Limits) -> Section:
     """Returns the section of how full the heap is."""
-    parts = parts_of(dump, limits)
-    shown = fill("above", tiles=tiles(dump), picture=bar_of(parts, dump.by))
+    parts = bar_parts(dump, limits)
+    shown = fill("above", tiles=fullness_tiles(dump), picture=bar_of(parts, dump.by))
     body = joined([shown, what_bytes_are(dump.layout, limits)], "\n")
     return Section("heap", "Heap", "How full the heap is", body)
 
@@ -34,22 +34,22 @@ def free_bytes(dump: OneDump) -> int:
     return max(0, dump.capacity - dump.dump.reachable.bytes - dump.dump.unreachable.bytes)
 
 
-def parts_of(dump: OneDump, limits: Limits) -> List[Part]:
+def bar_parts(dump: OneDump, limits: Limits) -> List[BarPart]:
     """Returns the parts of the bar: what the first suspect holds, all else that is reachable, what is unreachable, and
     what is free."""
     unit, it = dump.by, dump.dump
     held = unit.of(dump.suspects[0].held.amount) if dump.suspects else 0
     parts = [
-        Part("reachable", escaped(f"{'other ' * bool(held)}reachable {unit.value}"), unit.of(it.reachable) - held),
-        Part("unreachable", escaped(f"unreachable {unit.value}"), unit.of(it.unreachable)),
-        Part("free", escaped("free, or taken by what no dump has"), free_bytes(dump)),
+        BarPart("reachable", escaped(f"{'other ' * bool(held)}reachable {unit.value}"), unit.of(it.reachable) - held),
+        BarPart("unreachable", escaped(f"unreachable {unit.value}"), unit.of(it.unreachable)),
+        BarPart("free", escaped("free, or taken by what no dump has"), free_bytes(dump)),
     ]
     if held:
-        parts.insert(0, Part("held", joined(["held by ", names_of(dump.suspects[0].fields, limits)]), held))
+        parts.insert(0, BarPart("held", joined(["held by ", names_of(dump.suspects[0].fields, limits)]), held))
     return [part for part in parts if part.size > 0]
 
 
-def bar_of(parts: List[Part], unit: Unit) -> Html:
+def bar_of(parts: List[BarPart], unit: Unit) -> Html:
     """Returns the bar, and what its parts are."""
     whole, at, boxes = max(1, sum(part.size for part in parts)), 0.0, []
     for part in parts:
@@ -62,7 +62,7 @@ def bar_of(parts: List[Part], unit: Unit) -> Html:
     return fill("figure_of", picture=picture, caption=joined(keys, "\n"))
 
 
-def tiles(dump: OneDump) -> Html:
+def fullness_tiles(dump: OneDump) -> Html:
     """Returns the figures beside the bar."""
     unit, it, parts = dump.by, dump.dump, []
     if dump.suspects:

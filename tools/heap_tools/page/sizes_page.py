@@ -31,10 +31,10 @@ def page_of_sizes(sizes: Sizes, limits: Limits) -> Html:
         section = made_of(sizes.unreachable, "the unreachable part of the heap", limits, "unreachable")
         sections.append(section._replace(label="Unreachable"))
     sections.append(making(sizes.making, [sizes.dump], limits))
-    return whole_page(top(sizes, limits), sections, sizes.making.time, has_heap_bytes=True)
+    return whole_page(top_of_sizes(sizes, limits), sections, sizes.making.time, has_heap_bytes=True)
 
 
-def top(sizes: Sizes, limits: Limits) -> Top:
+def top_of_sizes(sizes: Sizes, limits: Limits) -> Top:
     """Returns the top of the page: how much the heap has, reachable and not."""
     it = sizes.dump
     whole = it.reachable.plus(it.unreachable)

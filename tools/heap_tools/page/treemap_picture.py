@@ -11,7 +11,7 @@ from heap_tools.page.words import percent, solid_size
 #: The treemap is drawn three times, for wide and for narrow screens and for paper: name, width, height of each.
 TREEMAPS = [("wide", 1080, 460), ("narrow", 360, 520), ("paper", 700, 220)]
 #: The height of a group's name, of a line of text, and the width of a letter, and of one in bold.
-HEAD, LINE, LETTER, BOLD = 18, 14, 7.3, 7.9
+HEAD, LINE, NAME_LETTER, BOLD = 18, 14, 7.3, 7.9
 #: Letters that are wider than others, and by which part of a letter.
 WIDE_LETTERS, WIDER = "mwMW@%", 0.6
 #: How many colours packages of the program and its libraries have, and how many those of the JDK.
@@ -38,7 +38,7 @@ def name_in_full(part: Part) -> str:
     return humanize.counted(part.classes, "more class") if part.name is None else in_java(part.name)
 
 
-def fits(text: str, width: float, letter: float = LETTER) -> bool:
+def fits(text: str, width: float, letter: float = NAME_LETTER) -> bool:
     """Tests whether a line of text fits into a box of this width."""
     wide = sum(char in WIDE_LETTERS for char in text)
     return (len(text) + WIDER * wide) * letter <= width - 6
@@ -54,7 +54,7 @@ def wrapped(name: str, width: float, most: int) -> List[str]:
     return lines if len(lines) <= most and all(fits(line, width) for line in lines) else []
 
 
-def labels_of(part: Part, box: Box) -> List[str]:
+def box_labels(part: Part, box: Box) -> List[str]:
     """Returns the lines of text of a class's box: as much of its name, whole, and of its bytes as there is room for."""
     name = plain(f"{part.classes:,} more" if part.name is None else short_name(part.name), 120)
     room, size = int((box.height - 2) / LINE), solid_size(part.amount.bytes)
@@ -70,10 +70,10 @@ def place_of(box: Box) -> Dict[str, str]:
 
 def cell(part: Part, box: Box, total: int) -> Html:
     """Returns the box of a class."""
-    lines = labels_of(part, box)
+    lines = box_labels(part, box)
     texts = [fill("cell_line", y=LINE * at + 12, text=line) for at, line in enumerate(lines)]
     if not lines:
-        turned = labels_of(part, Box(0, 0, box.height, box.width))
+        turned = box_labels(part, Box(0, 0, box.height, box.width))
         texts = [
             fill("cell_turned", x=f"{box.width - LINE * at - 12:.1f}", text=line) for at, line in enumerate(turned)
         ]
