@@ -260,7 +260,8 @@ class LeaksTest(ToolTest):
         ended = self.ran("before", "after")
         path = ["80", "static shop/Baskets.ALL > shop/Basket.items"]
         self.assertEqual(columns_of(ended.out.splitlines()[0])[-2:], path, ended.out + ended.said)
-        self.assertIn("leaks: line 1: 1 of 80 shop/Basket.items gained most: shop/Basket: ", ended.said)
+        # It has no name, so it is not known which one of the first dump it was.
+        self.assertIn("leaks: line 1: 1 of 80 shop/Basket.items holds most: shop/Basket: 50%", ended.said)
 
     def test_finalizers(self) -> None:
         """What grew and only final references hold is the answer if it is most of the growth, also of a class; else it
@@ -406,10 +407,9 @@ class LeaksTest(ToolTest):
         self.assertEqual(rows[0], ["120", "2160", "200%", "720", "2880", "1", self.PATH])
         self.assertIn("A share is above 100% if what the field does not hold shrank.", self.ran("--help").out)
         page = pathlib.Path("page.html").read_text(encoding="utf-8")
-        first = re.findall('data-label="(Share of the [^"]*)"(.*?)</td>', page, re.S)[:2]
-        shares = {name: re.findall("([0-9.]+)\u00a0%", cell) for name, cell in first}
-        self.assertEqual(shares["Share of the growth"], ["200"])
-        self.assertTrue(all(float(share) <= 100 for share in shares["Share of the heap"]), shares)
+        first = re.findall('data-label="(Of the [^"]*)"(.*?)</td>', page, re.S)[:2]
+        shares = {name: re.findall(">(?:[^<]* to </span>)?([0-9]+)%<", cell) for name, cell in first}
+        self.assertEqual(shares, {"Of the growth": ["200"], "Of the heap": ["13", "44"]})
 
     def test_several(self) -> None:
         """Further dumps, up to 30 and too many."""
@@ -497,7 +497,7 @@ class LeaksTest(ToolTest):
     def test_heapmark(self) -> None:
         """A heapmark that fails later."""
         later = self.program('[ "$(wc -l < runs)" -lt 6 ] || kill -9 $$\nexec HEAPMARK "$@"')
-        said = "leaks: *: run 6 on * failed: signal 9"
+        said = "leaks: *: run [56] on * failed: signal 9"  # two begin at once
         self.expect(["--html", "page.html", "monday", "friday"], said=said, status=5, heapmark=later)
         self.assertFalse(os.path.exists("page.html"))
         said = "leaks: /nowhere cannot be run: No such file or directory: the variable HEAPMARK names it"
