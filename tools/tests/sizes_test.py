@@ -123,7 +123,7 @@ class SizesTest(ToolTest):
         pathlib.Path("text").write_text("1\n")
         self.assertEqual(self.ran("text").status, 1)
         self.check_wrong_words([], ["a", "b"], ["--top", "0", "a"], ["--bytes", "a"])
-        self.check_help("Usage: sizes [OPTIONS] <DUMP>\n")
+        self.check_help("Shows what the classes of a heap dump take in the heap: ")
 
     def test_output(self) -> None:
         """Output that cannot be written, and interrupts."""

@@ -23,7 +23,8 @@ from heap_tools.version import VERSION
 ABOUT = """
 Shows what the classes of a heap dump take in the heap: for each class, a line
 with the number of its objects, their bytes, the bytes an object, the share of
-the heap, and the bytes of those objects that are unreachable, the largest first.
+the heap, and the bytes of those objects that are unreachable, the largest
+first.
 """
 NOTES = """
 Bytes are those of the heap, with headers and padding, as a limit such as -Xmx,
