@@ -3,7 +3,7 @@
 import json
 import re
 import unittest
-from typing import Any, Dict, Iterator, List, NamedTuple
+from typing import Any, Dict, Iterator, List, NamedTuple, Tuple
 
 from heap_tools.documents import document, path_entry
 from tests.support.held_objects import DUMPS
@@ -238,7 +238,8 @@ class DocumentsTest(ToolTest):
         """Two dumps: paths as lists of steps, which object gained most, which threads there are more of."""
         of_customer(20).write("before.hprof")
         of_customer(400, 60).write("after.hprof")
-        for words, is_shown in ([], True), (["--no-values"], False):
+        runs: List[Tuple[List[str], bool]] = [([], True), (["--no-values"], False)]
+        for words, is_shown in runs:
             found = self.document("leaks", *words, "before.hprof", "after.hprof")
             line, kinds = found["lines"][0], [[each["kind"] for each in step] for step in found["lines"][0]["path"]]
             self.assertEqual((kinds, line["instances"], line["instances_before"]), ([["static"], ["field"]], 80, 80))
@@ -303,7 +304,7 @@ class DocumentsTest(ToolTest):
 
     def test_forms(self) -> None:
         """The validator sees a wrong type, a field too many and one too few."""
-        good = {"text": "A.x", "problem": None}
+        good: Dict[str, Any] = {"text": "A.x", "problem": None}
         (form,) = FORMS["held"]["fields"]
         self.assertEqual(list(faults(good, form)), [])
         for wrong in ({"text": 1, "problem": None}, {"text": "A.x"}, {**good, "more": 1}, [], None):

@@ -100,7 +100,8 @@ class EscapesTest(ToolTest):
         """All that a page shows is shown so, wherever it is."""
         name = f"a{CODES}/b{CODES}/A{CODES}"
         for names in (ODD[:3], [name, f"{name}.b{CODES}"], HOSTILE + ODD):
-            for content in (hostile_leak(names, names), hostile_one_dump(names, names)):
+            both: List[page.Content] = [hostile_leak(names, names), hostile_one_dump(names, names)]
+            for content in both:
                 self.assertEqual(hidden_in(page.html_of(content)), [], names)
 
 

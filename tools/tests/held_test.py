@@ -200,8 +200,8 @@ class HeldTest(ToolTest):
         busy.local(2, 0, 5000)
         busy.instance(710, 6, 0)
         busy.write("busy.hprof")
-        for words in ('thread "http-0"', 'threads "http-*"', "local shop/Handler.handle"):
-            self.assertIn(line(20, 160, "shop/Order"), self.ran("busy.hprof", words).out, words)
+        for entry in ('thread "http-0"', 'threads "http-*"', "local shop/Handler.handle"):
+            self.assertIn(line(20, 160, "shop/Order"), self.ran("busy.hprof", entry).out, entry)
         both = self.ran("handler.hprof", 'together static shop/Catalog.ALL, thread "http-0"')
         self.assertIn(line(20, 160, "shop/Order"), both.out)
         self.assertIn(line(100, 800, "shop/Product"), both.out)

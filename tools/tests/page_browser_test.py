@@ -9,6 +9,7 @@ import zlib
 from typing import List, Sequence, Tuple
 
 from heap_tools.class_names import shown
+from heap_tools import page
 from heap_tools.page import templates
 from tests.support import page_sample
 from tests.support.dump_writer import DumpWriter
@@ -173,7 +174,8 @@ class BrowserTest(InBrowser):
     def test_other_pages(self) -> None:
         """Pages of which nothing was found, and some that have all that there can be."""
         leaks = page_sample.bare_leak(), page_sample.full_leak()
-        for it in *leaks, page_sample.bare_dump(), page_sample.one_dump(), page_sample.sizes():
+        every: List[page.Content] = [*leaks, page_sample.bare_dump(), page_sample.one_dump(), page_sample.sizes()]
+        for it in every:
             self.open_page_of(it)
             self.check_screens()
 
@@ -196,7 +198,8 @@ class BrowserTest(InBrowser):
     def test_pictures(self) -> None:
         """In pictures of the pages the edges are empty, their inside nowhere for long, and the answer is at the top;
         light and dark differ in nothing but colours."""
-        for it in page_sample.full_leak(), page_sample.one_dump():
+        both: List[page.Content] = [page_sample.full_leak(), page_sample.one_dump()]
+        for it in both:
             self.open_page_of(it)
             self.check_pictures()
 
@@ -229,7 +232,8 @@ class BrowserTest(InBrowser):
 
     def test_paper(self) -> None:
         """On paper the page is light, also for those who have it dark, and nothing is cut."""
-        for it in page_sample.full_leak(), page_sample.one_dump():
+        both: List[page.Content] = [page_sample.full_leak(), page_sample.one_dump()]
+        for it in both:
             self.open_page_of(it)
             self.browser.show(A4_WIDTH, dark=True, media="print")
             self.check_shown(A4_WIDTH)
@@ -241,7 +245,8 @@ class BrowserTest(InBrowser):
         and the objects; of one dump the path, the object, what is in it, and all lines. No head of these is broken."""
         full = page_sample.full_leak()
         four = page_sample.full_leak(holders=[*full.holders[:3], full.holders[4]], objects=full.objects[:1])
-        for it, last in (four, ".objects"), (page_sample.one_dump(), ".holders"):
+        both: List[Tuple[page.Content, str]] = [(four, ".objects"), (page_sample.one_dump(), ".holders")]
+        for it, last in both:
             self.open_page_of(it)
             self.browser.show(A4_WIDTH, media="print")
             foot = self.browser.value(f"document.querySelector('{last}').getBoundingClientRect().bottom + scrollY")
@@ -253,8 +258,10 @@ class BrowserTest(InBrowser):
     def test_printed(self) -> None:
         """It is printed on A4, no page but the last is left half empty, and the last has more than two lines."""
         long = page_sample.leak(grown=page_sample.leak().grown * 4)
-        for leak in page_sample.leak(), page_sample.full_leak(), long, page_sample.one_dump(), page_sample.bare_dump():
-            self.open_page_of(leak)
+        leaks = page_sample.leak(), page_sample.full_leak(), long
+        every: List[page.Content] = [*leaks, page_sample.one_dump(), page_sample.bare_dump()]
+        for it in every:
+            self.open_page_of(it)
             self.browser.show(700, media="print")
             printed = self.browser.printed()
             self.assertTrue(printed.startswith(b"%PDF-"))
@@ -303,7 +310,8 @@ class BrowserTest(InBrowser):
         deep = [dataclasses.replace(page_sample.one_dump().suspects[0], above=above)]
         unused = []
         full, one = page_sample.full_leak(), page_sample.one_dump(layout="Bytes are those of the heap.")
-        for it in full, many, one, page_sample.one_dump(suspects=deep, objects=[]):
+        every: List[page.Content] = [full, many, one, page_sample.one_dump(suspects=deep, objects=[])]
+        for it in every:
             self.open_page_of(it)
             unused.append(set(self.browser.value(UNUSED)))
         self.assertEqual(set.intersection(*unused), set())

@@ -86,7 +86,7 @@ class TreemapTest(unittest.TestCase):
         ]:
             with self.subTest(f"{width} {height}"):
                 box = treemap.Box(0, 0, width, height)
-                self.assertEqual(treemap_picture.labels_of(it, box), wanted)
+                self.assertEqual(treemap_picture.box_labels(it, box), wanted)
                 self.assertNotIn("…", treemap_picture.cell(it, box, 10**8))
         self.assertIn("rotate(90)", treemap_picture.cell(rest, treemap.Box(0, 0, 20, 100), 10**8))
 

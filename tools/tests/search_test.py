@@ -4,7 +4,7 @@ made at random, where each candidate is also cut alone."""
 import os
 import tempfile
 import unittest
-from typing import Any, FrozenSet, Iterator, List, Sequence, Tuple
+from typing import Any, Dict, FrozenSet, Iterator, List, Sequence, Tuple
 from unittest import mock
 
 from heap_tools.candidates import FIELD, LOCAL, STATIC, THREAD, THREADS, Candidate, Candidates, joint_name
@@ -88,7 +88,7 @@ class SearchTest(unittest.TestCase):
 
 def candidates_of(statics: Sequence[Candidate]) -> Any:
     """Returns the candidates of a dump with these static fields, in which threads hold nothing."""
-    nothing = {f"{kind}.return_value": [] for kind in ("threads", "threads_alike")}
+    nothing: Dict[str, Any] = {f"{kind}.return_value": [] for kind in ("threads", "threads_alike")}
     every = {"statics.return_value": statics, "all_threads.return_value": Candidate(THREADS, "", 0, {})}
     return mock.Mock(**nothing, **every)
 

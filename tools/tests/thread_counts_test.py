@@ -7,6 +7,7 @@ from unittest import mock
 
 from heap_tools import heap_dump
 from heap_tools.candidates import THREADS, Candidates
+from heap_tools.class_names import shown as shown_by_dump
 from heap_tools.heap_dump import Frame, HeapDump
 from heap_tools.reports import Report
 from heap_tools.thread_counts import (
@@ -115,7 +116,7 @@ class ThreadCountsTest(unittest.TestCase):
     def test_many(self) -> None:
         """Of many threads the names are read once, though several ask, and each method once."""
         dump = self.read(threads(["main", *(f"report-{number}" for number in range(600))]))
-        walks, decoded = mock.Mock(wraps=dump.sub_records), mock.Mock(wraps=heap_dump.shown)
+        walks, decoded = mock.Mock(wraps=dump.sub_records), mock.Mock(wraps=shown_by_dump)
         with mock.patch.object(dump, "sub_records", walks), mock.patch.object(heap_dump, "shown", decoded):
             candidates = Candidates(dump)
             for _ in range(3):

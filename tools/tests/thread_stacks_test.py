@@ -45,7 +45,7 @@ class ThreadStacksTest(unittest.TestCase):
         """The first own method and two more are said, of each thread on whose stack the error's constructor is on
         top."""
         other, own = [(5, "park"), ERROR, (4, "add")], [(5, "copyOf"), (5, "start")]
-        for threads, said in (
+        dumps: List[Tuple[List[Tuple[str, List[Tuple[int, str]]]], List[str]]] = [
             (
                 [("main", other), ("http-3", [ERROR, *METHODS])],
                 ['"http-3" in shop/Cart.add, shop/Cart.serve, shop/Ca*'],
@@ -55,7 +55,8 @@ class ThreadStacksTest(unittest.TestCase):
             ([("a", [ERROR, (4, "add")]), ("b\x1b", [ERROR])], ['"a" in shop/Cart.add', '"b\\x1b"']),
             ([("", [ERROR, (4, "add")])], ["without a name in shop/Cart.add"]),
             ([("main", METHODS), ("idle", [])], []),
-        ):
+        ]
+        for threads, said in dumps:
             found = [str(each) for each in threads_that_ran_out(self.read(dump_of(*threads)))]
             expected = [f"thread {each}".replace("shop/Ca*", "shop/Cart$$Lambda.run") for each in said]
             self.assertEqual(found, expected)

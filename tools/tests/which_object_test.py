@@ -3,7 +3,7 @@
 import fnmatch
 import random
 import unittest
-from typing import Dict, List, Sequence
+from typing import Dict, List, Optional, Sequence, Tuple
 
 from heap_tools.heap_objects import HeapObjects
 from heap_tools.object_parts import instances
@@ -247,14 +247,14 @@ class GrewTest(unittest.TestCase):
     def test_owner(self) -> None:
         """An object without a name is the same one if its identifier, its class and the name of its owner are."""
         for first, owner, wanted in ((1000, "eu", [True]), (1001, "eu", []), (1000, "us", [])):
-            both = []
+            both: List[Queues] = []
             for at, name, sizes in ((1000, "eu", [9000, 100, 10]), (first, owner, [9000, 4000, 10])):
                 both.append(Queues(sizes, names=[None] * 3, first=at))
                 both[-1].of_class(20, "shop/Shop", fields=["name", "queue"])
                 both[-1].instance(500, 20, 501, at + 1)
                 both[-1].string(501, name)
                 both[-1].root(500)
-            self.assertEqual([each.has_gained for each in self.grown(*both)], wanted, (first, owner))
+            self.assertEqual([each.has_gained for each in self.grown(both[0], both[1])], wanted, (first, owner))
 
     def test_elements(self) -> None:
         """Elements of a list that grew are measured in both dumps, too."""
@@ -273,6 +273,11 @@ class GrewTest(unittest.TestCase):
         self.assertEqual(hidden(found, True), found)
 
 
+def shown_as(kind: str, name: str) -> Optional[str]:
+    """Returns the name that a queue of a kind has in a dump: none if it is nameless, that of others if it is a twin."""
+    return {"nameless": None, "twin": "twin"}.get(kind, name)
+
+
 class RandomTest(unittest.TestCase):
     """Pairs of dumps that are made at random."""
 
@@ -285,10 +290,9 @@ class RandomTest(unittest.TestCase):
             chance = random.Random(seed)
             before, after = queue_sizes(chance), queue_sizes(chance)
             kinds = {name: chance.choice(["", "", "nameless", "twin"]) for name in {*before, *after}}
-            shown = {"": lambda name: name, "nameless": lambda name: None, "twin": lambda name: "twin"}
             writers = []
             for sizes in (before, after):
-                names = [shown[kinds[name]](name) for name in sizes]
+                names = [shown_as(kinds[name], name) for name in sizes]
                 first = chance.choice([1000, 1001, 2000])
                 writers.append(Queues(list(sizes.values()), names=names, first=first))
             probe = growth_of(writers[0], writers[1])
@@ -304,8 +308,8 @@ class RandomTest(unittest.TestCase):
                     self.assertTrue(percent[name] >= OF_ONE or kinds[name] == "twin", name)
                     self.assertTrue(percent[name] >= each.of_gain - 0.001 or kinds[name] == "twin", name)
                     if each.has_gained:
-                        called = shown[kinds[name]](name)
-                        (was,) = (size for other, size in before.items() if shown[kinds[other]](other) == called)
+                        called = shown_as(kinds[name], name)
+                        (was,) = (size for other, size in before.items() if shown_as(kinds[other], other) == called)
                         self.assertAlmostEqual(each.percent, 100 * (each.amount.bytes - was) / gain)
                         self.assertNotEqual(kinds[name], "nameless")
                     else:
@@ -352,7 +356,8 @@ class LeaksTest(ToolTest):
         Queues([9000, 100, 8000, 10]).write("before")
         Queues([9000, 3100, 8000, 10]).write("after")
         line = "leaks: line *: 1 of 4 shop/Queue.content gained most: shop/Queue (its field name"
-        for words, wanted in (([], f'{line} "queue 1"): 100%'), (["--no-values"], f"{line}): 100%")):
+        runs: List[Tuple[List[str], str]] = [([], f'{line} "queue 1"): 100%'), (["--no-values"], f"{line}): 100%")]
+        for words, wanted in runs:
             said = self.ran("before", "after", *words).said
             self.assertTrue(any(fnmatch.fnmatchcase(each, wanted) for each in said.splitlines()), said)
 
