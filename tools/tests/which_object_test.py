@@ -289,7 +289,7 @@ class RandomTest(unittest.TestCase):
         for seed in range(150):
             chance = random.Random(seed)
             before, after = queue_sizes(chance), queue_sizes(chance)
-            kinds = {name: chance.choice(["", "", "nameless", "twin"]) for name in {*before, *after}}
+            kinds = {name: chance.choice(["", "", "nameless", "twin"]) for name in sorted({*before, *after})}
             writers = []
             for sizes in (before, after):
                 names = [shown_as(kinds[name], name) for name in sizes]
