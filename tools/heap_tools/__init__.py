@@ -1,4 +1,5 @@
-"""What grown, held, holders and leaks share: reading of dumps and reports, runs of heapmark, the search for holders."""
+"""What leaks, grown, holders, held and sizes share: how dumps and reports are read, how heapmark runs, what objects
+take in the heap, and the search for holders."""
 
 from heap_tools.version import VERSION
 

@@ -68,10 +68,11 @@ def sentences_of(answer: HeapAnswer, notes: HeapNotes) -> List[str]:
 
 def fullness_words(answer: HeapAnswer, notes: HeapNotes) -> str:
     """Returns in words how much is in the heap, and how much may be."""
-    reachable = answer.question.runs.report.reachable
-    text = f"{size(reachable.bytes)} are reachable, in {counted(reachable.objects, 'object')}"
-    more = f"; the heap may have {size(notes.capacity)}, with headers and padding" if notes.capacity else ""
-    return text + more
+    report = answer.question.runs.report
+    text = f"{size(report.reachable.bytes)} are reachable, in {counted(report.reachable.objects, 'object')}"
+    if not notes.capacity:
+        return text
+    return f"{text}; the heap may have {size(notes.capacity)}" + ", with headers and padding" * (not report.in_heap)
 
 
 def contents_words(contents: Sequence[Row]) -> str:

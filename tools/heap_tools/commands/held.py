@@ -42,13 +42,16 @@ unless --weak is given or FIELDS names java/lang/ref/Reference.referent. Nor do
 the list of a group's threads (JDK 17), which are roots themselves, and that of
 references that are not in their queues yet.
 
-Bytes are those of the heap, with headers and padding of objects: sizes --help
-says how they are found.
+Counts of objects are those of heapmark, which are proved for each dump. Bytes
+are those of the heap, with headers and padding of objects: sizes --help says
+how they are found, which is not proved.
 
 Calls that are running do not count: both reports are also made without the
 local variables that FIELDS does not name, and if FIELDS retain more then, that
 is shown. What only local variables lead to, such as those of `main`, the FIELDS
 in it retain as they are.
+
+Which fields hold much: see leaks and holders.
 
 Exit status:
   0  done: what FIELDS retain, if anything, was printed

@@ -29,20 +29,21 @@ ABOUT = """
 Shows what holds the objects of a class in a heap dump: for each field, static
 field, local variable or thread without which many of them are unreachable, a
 line with the number of these objects, their bytes, their share, the number of
-holders, and the field.
+instances that have the field, and the field. Without a class, it shows what
+holds much of the whole heap.
 """
 NOTES = """
-The holders of a field are the instances that have it; a static field has one
-holder; those of a local variable are the threads in its method. The largest
-share comes first, and of several with one share that with the fewest holders:
-your own cache or queue, then the fields of the containers in it; then own
-fields, threads, and fields of the JDK. Classes with the same name are added
-together, and so are hidden classes, such as those of lambdas, whose names
-differ only in a number and an address (`$1+0x..`). Then a static field has one
-holder for each of these classes. A line `together` names static fields that
-hold the objects only together. The share is one of objects, that of an array
-class and of the whole heap one of bytes. A line on standard error says how much
-threads or the virtual machine hold without any static field.
+A static field has one instance; those of a local variable are the threads in
+its method. The largest share comes first, and of several with one share that
+with the fewest instances: your own cache or queue, then the fields of the
+containers in it; then own fields, threads, and fields of the JDK. Classes with
+the same name are added together, and so are hidden classes, such as those of
+lambdas, whose names differ only in a number and an address (`$1+0x..`). Then a
+static field has one instance for each of these classes. A line `together` names
+static fields that hold the objects only together. The share is one of objects,
+that of an array class and of the whole heap one of bytes. A line on standard
+error says how much threads or the virtual machine hold without any static
+field.
 
 Each line is the difference of two reports of heapmark: of the dump, and of the
 dump in which the field is a number, so that it leads nowhere; of a local
@@ -60,11 +61,12 @@ names, else the one beside this tool, else the one built in this repository,
 else that of PATH. If SIGINT, SIGTERM or SIGHUP ends this tool, the exit status
 is 130.
 
-Bytes are those of the heap, with headers and padding of objects: sizes --help
-says how they are found. The counts are those of heapmark.
+Counts of objects are those of heapmark, which are proved for each dump. Bytes
+are those of the heap, with headers and padding of objects: sizes --help says
+how they are found, which is not proved.
 
 What fills a heap, with the path to it, and what grew between two dumps: see
-leaks.
+leaks. All that a field holds: see held.
 
 Exit status:
   0  done: the fields, if any, were printed
@@ -149,7 +151,7 @@ def find_holders(options: Namespace, name: Optional[str]) -> Found:
 
 
 def order_of(held: Retained, probe: Probe) -> Tuple[int, int, bool, bool, int]:
-    """Returns what lines are sorted by: a large share, as it is shown, few holders, own classes, fields before threads,
+    """Returns what lines are sorted by: a large share, as it is shown, few instances, own classes, fields before threads,
     much of the heap."""
     is_thread = all(each.kind in (THREAD, THREADS) for each in held.candidates)
     return -round(probe.share(held.candidates)), held.instances, not held.is_own, is_thread, -held.heap.bytes
@@ -160,7 +162,7 @@ def holder_lines(found: Found) -> str:
     lines = []
     if is_terminal(sys.stdout) and found.shown:
         unit = found.search.probe.runs.report.bytes_head
-        lines.append(f"{'objects':>10} {unit:>14} share   holders  field\n")
+        lines.append(f"{'objects':>10} {unit:>14} share instances  field\n")
     for held in found.shown:
         share, amount = found.search.probe.share(held.candidates), held.amount
         line = (

@@ -68,14 +68,17 @@ The growth is that of the reachable bytes, or of the objects and bytes of CLASS.
 If no more bytes are reachable than before, it is that of the objects of all
 classes that grew. A share is above 100% if what the field does not hold shrank.
 
-Bytes are those of the heap, with headers and padding of objects: sizes --help
-says how they are found. The counts are those of heapmark.
+Soft, weak, final and phantom references lead nowhere without --weak. But if
+those of one kind alone hold most of the growth, these are followed, and a
+message says so; soft ones never are.
+
+Counts of objects are those of heapmark, which are proved for each dump. Bytes
+are those of the heap, with headers and padding of objects: sizes --help says
+how they are found, which is not proved.
 
 Names of the last dump are looked up in the first one: hidden classes, such as
 those of lambdas, by what is common to them. Up to three dumps between the first
 and the last are asked what the lines held; of others only the reports are used.
-For what is held in one dump, see holders, which also says how it is found; for
-which classes grew, see grown.
 
 Of one dump, the columns are the objects and bytes that are held, their share of
 all that is reachable, and the number of instances. The score of a line is what
@@ -83,6 +86,10 @@ it holds, unless it has more than 64 instances of which no one holds most. The
 second line is beside the first: something else may leak, too. Messages say how
 full the heap is, which object holds most, what is in it, and in which methods
 memory ran out: of an unlucky thread, which need not be the cause.
+
+How it is found, and what holds a class in one dump, from a share of 10% on: see
+holders. All that a field holds: see held. Which classes grew: see grown. What
+classes take in the heap: see sizes.
 
 Exit status:
   0  done: what holds the growth, if anything, was printed
@@ -110,7 +117,7 @@ def parser() -> Parser:
     it = Parser("leaks", "[OPTIONS] <DUMP> [<AFTER>...]", ABOUT, NOTES)
     it.operand("dump", "A heap dump, in a plain file: it is read many times")
     it.operand("after", "Later ones of the same program, the earliest first", nargs="*")
-    text = "Show what holds the growth of a class, as heapmark, grown or jmap shows it, not of the whole heap"
+    text = "Show what holds the objects of a class, as heapmark, grown or jmap shows it, not the whole heap"
     it.option("--class", "CLASS", text, dest="of_class")
     it.flag("--objects", "Take shares of objects, not of bytes")
     text = "Show what holds P percent or more, 1 to 100 [default: 30 of the growth, 20 of the heap of one dump]"

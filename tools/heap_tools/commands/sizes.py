@@ -32,7 +32,9 @@ a monitor and `jcmd PID GC.class_histogram` count them. A dump does not have
 them: they are found by the identifiers of objects, which are addresses, since
 the difference of two neighbours is the size of the first. A line on standard
 error says which layout was found. If too few neighbours agree on one, it says
-so, and bytes are those of the dump, as in heapmark's report.
+so, and bytes are those of the dump, as in heapmark's report. What is reachable
+is counted by heapmark, which is proved; sizes are not proved, but were compared
+with virtual machines.
 
 The last three lines are what is reachable, what is not, and all. Objects are
 unreachable if they are garbage, in dumps with -all, or if dumps omit what holds
@@ -44,7 +46,8 @@ memory, and what no object has, such as the stacks of threads. The stacks of
 virtual threads that wait are objects: a line on standard error says what these
 take.
 
-What holds the objects of a class: see holders. What grew: see grown and leaks.
+What holds the objects of a class: see holders. What fills the heap, with the
+path to it: see leaks. What grew: see grown and leaks.
 
 Exit status:
   0  done
