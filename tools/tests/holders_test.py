@@ -311,7 +311,7 @@ class HoldersTest(ToolTest):
         self.assertTrue(parts[-2].isspace(), seen)
         self.assertTrue(parts[-1].startswith("holders: threads or the virtual machine hold 5 of 25 objects of Order"))
         _, seen = self.on_terminal("shop.hprof", "Order", stream="stdout")
-        self.assertEqual(seen, f"{'objects':>10} {'bytes':>14} share {'holders':>9}  field\n{self.ORDERS}")
+        self.assertEqual(seen, f"{'objects':>10} {'bytes':>14} share {'instances':>9}  field\n{self.ORDERS}")
 
     def test_skip(self) -> None:
         """The line of an instance field has the objects that `heapmark --skip` makes unreachable."""
