@@ -11,9 +11,10 @@ The other lines follow by their scores.
 
 import enum
 from dataclasses import dataclass, field
-from typing import Callable, List, Mapping, Optional, Sequence, Tuple
+from typing import Callable, Iterable, List, Mapping, Optional, Sequence, Tuple
 
-from heap_tools.candidates import FIELD, THREAD, THREADS
+from heap_tools.candidates import FIELD, THREAD, THREADS, Candidate
+from heap_tools.probe import Retained
 
 #: The part of the best score that a line must have to be on its path. 0.4 to 0.6 gave the same answers.
 MOST = 0.5
@@ -249,3 +250,14 @@ class LineOrder:
         """Returns what the deepest line is the smallest by, among those with one score."""
         line = self.lines[number]
         return not line.is_telling, line.heap, line.name
+
+
+def by_share(found: Iterable[Retained], share: Callable[[Sequence[Candidate]], float]) -> List[Retained]:
+    """Returns what `holders` found, which asks for all that has a share: the largest first, as it is shown; of one
+    share that with the fewest instances, own classes, fields before threads, and what holds most of the heap."""
+
+    def key(held: Retained) -> Tuple[int, int, bool, bool, int]:
+        is_thread = all(each.kind in (THREAD, THREADS) for each in held.candidates)
+        return -round(share(held.candidates)), held.instances, not held.is_own, is_thread, -held.heap.bytes
+
+    return sorted(found, key=key)

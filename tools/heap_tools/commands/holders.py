@@ -2,10 +2,10 @@
 
 import sys
 from argparse import Namespace
-from typing import List, NamedTuple, NoReturn, Optional, Sequence, Tuple
+from typing import List, NamedTuple, NoReturn, Optional, Sequence
 
 from heap_tools import command_line
-from heap_tools.candidates import THREAD, THREADS, joint_name
+from heap_tools.candidates import joint_name
 from heap_tools.class_lookup import family_of
 from heap_tools.class_objects import require_objects
 from heap_tools.class_names import is_array
@@ -17,6 +17,7 @@ from heap_tools.faults import WRONG_USE, Fault
 from heap_tools.heap_bytes import counted_in_heap
 from heap_tools.heapmark import Heapmark
 from heap_tools.humanize import counted
+from heap_tools.line_order import by_share
 from heap_tools.omissions import WHY_UNREACHABLE
 from heap_tools.probe import Probe, Retained
 from heap_tools.reports import Unit
@@ -147,14 +148,7 @@ def find_holders(options: Namespace, name: Optional[str]) -> Found:
         SearchTogether(search).find_statics()
     finally:
         progress.clear()
-    return Found(search, sorted(search.found, key=lambda held: order_of(held, probe)), options.top, dumps.words)
-
-
-def order_of(held: Retained, probe: Probe) -> Tuple[int, int, bool, bool, int]:
-    """Returns what lines are sorted by: a large share, as it is shown, few instances, own classes, fields before threads,
-    much of the heap."""
-    is_thread = all(each.kind in (THREAD, THREADS) for each in held.candidates)
-    return -round(probe.share(held.candidates)), held.instances, not held.is_own, is_thread, -held.heap.bytes
+    return Found(search, by_share(search.found, probe.share), options.top, dumps.words)
 
 
 def holder_lines(found: Found) -> str:
