@@ -55,7 +55,7 @@ class DumpsTest(unittest.TestCase):
         few.mixed(2)
         dumps = [MarkedRuns(heap(8).read()), MarkedRuns(few.read())]
         self.assertEqual(counted_in_heap(dumps, False), (dumps, ""))
-        with mock.patch.object(heap_bytes, "FEWEST", 10):
+        with mock.patch.object(heap_bytes, "FEWEST_OF_HEAP", 10):
             self.assertRegex(
                 counted_in_heap(dumps, False).words, "those of the dump, .* too few objects have a neighbour"
             )
