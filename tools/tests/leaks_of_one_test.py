@@ -134,7 +134,7 @@ class LeaksOfOneTest(ToolTest):
     def test_refused(self) -> None:
         """Files that are no dump."""
         pathlib.Path("report").write_text("no dump")
-        self.expect(["report"], said="leaks: report: no dump that heapmark accepts *", status=1)
+        self.expect(["report"], said="leaks: report: no * (refused 1 BadHeader at 0)", status=1)
         self.expect(["none.hprof"], said="leaks: none.hprof: no such file", status=1)
 
     def test_terminal(self) -> None:

@@ -23,6 +23,7 @@ TOOLS = ("leaks", "grown", "holders", "held", "sizes")
 DOCUMENTS = ("README.md", "docs/FORMAT.md", "docs/HISTOGRAM.md")
 #: The headings of the help, and those of a manual page.
 HEADINGS = {"Usage: ": "", **{f"{head}:": head.upper() for head in ("Arguments", "Options", "Exit status", "Example")}}
+HEADINGS["Examples:"] = "EXAMPLE"
 #: Completes the last of the words after a name, as bash does, by the file that is made for that name.
 COMPLETE = """
 . "$1"; shift
@@ -134,7 +135,9 @@ class PackageTest(unittest.TestCase):
         found = {str(path.relative_to(self.made)) for path in self.made.rglob("*") if path.is_file()}
         library = {name for name in found if name.startswith("lib/heapmark/heap_tools/")}
         self.assertEqual(len(found - library), 5 * (len(TOOLS) + 1) + len(DOCUMENTS))
-        self.assertEqual([name for name in library if re.search(r"_test|testing|dump_writer|pycache|sample", name)], [])
+        self.assertEqual(
+            [name for name in library if re.search(r"_test|testing|dump_writer|pycache|page_sample", name)], []
+        )
         imported = "from heap_tools.commands import grown, held, holders, leaks, sizes; "
         imported += "from heap_tools import page; page.html_of"
         ended = ran(sys.executable, "-B", "-c", imported, env={"PYTHONPATH": str(self.made / "lib/heapmark")})
@@ -221,7 +224,8 @@ class PackageTest(unittest.TestCase):
         options = re.findall(r"^    '--[\w-]+=\[[^]]+\]:number: ' ", (folder / "_heapmark").read_text(), re.M)
         self.assertEqual(len(options), 4)
         last = [(folder / f"_{name}").read_text().splitlines()[-1].strip(" '") for name in ("heapmark", *TOOLS)]
-        self.assertEqual(last, ["1:file:_files", "*:after:_files", "*:after:_files", "2::class:", "2:fields:"])
+        files = ["1:file:_files", "*:after:_files", "*:after:_files", "2::class:", "2:fields:", "1:dump:_files"]
+        self.assertEqual(last, files)
         self.assertIn("--html=[", (folder / "_leaks").read_text())
         self.assertIn(":file:_files'", (folder / "_leaks").read_text())
         for shell in filter(shutil.which, ("zsh", "fish")):

@@ -309,7 +309,8 @@ class BrowserTest(InBrowser):
         above = [page_sample.step(f"a/B.c{number}") for number in range(9)]
         deep = [dataclasses.replace(page_sample.one_dump().suspects[0], above=above)]
         unused = []
-        full, one = page_sample.full_leak(), page_sample.one_dump(layout="Bytes are those of the heap.")
+        bytes_of = "Bytes are those of the heap."
+        full, one = page_sample.full_leak(layout=bytes_of), page_sample.one_dump(layout=bytes_of)
         every: List[page.Content] = [full, many, one, page_sample.one_dump(suspects=deep, objects=[])]
         for it in every:
             self.open_page_of(it)
