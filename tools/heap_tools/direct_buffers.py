@@ -1,6 +1,6 @@
 """The memory of direct buffers, which is outside the heap: a dump has their capacities."""
 
-from typing import NamedTuple
+from typing import List, NamedTuple, Set
 
 from heap_tools import hprof_format as hprof
 from heap_tools.heap_dump import HeapDump
@@ -14,6 +14,9 @@ BUFFER = "java/nio/DirectByteBuffer"
 WORTH_SAYING = 5
 #: The number of bytes of a buffer, and what a view was made of: slices and duplicates name the buffer with the memory.
 CAPACITY, ATTACHMENT = "java/nio/Buffer.capacity", "att"
+#: The field with a view of the file of the JDK's own classes, which the virtual machine maps: more than 100 MB that the
+#: program did not ask for.
+MAPPED_CLASSES = "jdk/internal/jimage/BasicImageReader.memoryMap"
 
 
 class DirectMemory(NamedTuple):
@@ -29,22 +32,29 @@ def direct_memory(dump: HeapDump) -> DirectMemory:
     if BUFFER not in dump.names.values():
         return DirectMemory()
     objects, count, size = HeapObjects(dump), 0, 0
+    mapped = _mapped_classes(objects)
     for instance, value in objects.values_of([CAPACITY], kind=hprof.INT):
-        if _has_memory(objects, instance):
+        if _attachments(objects, instance) == [0] and dump.id(instance + 1) not in mapped:
             count, size = count + 1, size + dump.number(value, 4)
     return DirectMemory(count, size)
 
 
-def _has_memory(objects: HeapObjects, instance: int) -> bool:
-    """Tests whether a buffer is a direct one, and no view of another."""
+def _attachments(objects: HeapObjects, instance: int) -> List[int]:
+    """Returns the identifiers of what a buffer is a view of: 0 if it is a direct one with memory of its own, nothing if
+    it is no direct one."""
     dump = objects.dump
     lineage = [
         (dump.names[owner], place, field) for owner, place, field in objects.fields_of(objects.class_of(instance))
     ]
-    attached = [
-        place for owner, place, it in lineage if (owner, it.name, it.kind) == (BUFFER, ATTACHMENT, hprof.OBJECT)
-    ]
-    return bool(attached) and not any(dump.id(instance + place) for place in attached)
+    wanted = BUFFER, ATTACHMENT, hprof.OBJECT
+    return [dump.id(instance + place) for owner, place, it in lineage if (owner, it.name, it.kind) == wanted]
+
+
+def _mapped_classes(objects: HeapObjects) -> Set[int]:
+    """Returns the identifiers of the buffers by which the JDK reads its own classes."""
+    views = {objects.dump.id(each.value) for each in objects.values_of([MAPPED_CLASSES])} - {0}
+    places = objects.places_of(views).values() if views else []
+    return views.union(*(_attachments(objects, place) for place in places))
 
 
 def more_direct_memory(before: DirectMemory, after: DirectMemory) -> str:

@@ -30,6 +30,22 @@ class DirectBuffersTest(unittest.TestCase):
                 file.flush()
                 self.assertEqual(direct_memory(HeapDump(file)), DirectMemory(2, 5700))
 
+    def test_mapped_classes(self) -> None:
+        """The file of the JDK's own classes, which the virtual machine maps, is no memory of the program."""
+        for attached, wanted in ((200, DirectMemory(1, 700)), (0, DirectMemory(2, 700 + 128_000_000))):
+            dump = DumpWriter()
+            dump.of_class(1, "java/nio/Buffer", fields=["int_____"])
+            dump.of_class(2, "java/nio/DirectByteBuffer", fields=["att"], superclass=1)
+            dump.of_class(5, "jdk/internal/jimage/BasicImageReader", fields=["memoryMap"])
+            dump.instance(200, 2, 0, word(128_000_000))
+            dump.instance(201, 2, 0, word(700))
+            dump.instance(202, 2, attached or 201, word(attached and 128_000_000))
+            dump.instance(300, 5, 202 if attached else 0)
+            with tempfile.TemporaryFile() as file:
+                file.write(dump.bytes().replace(b"int_____", b"capacity"))
+                file.flush()
+                self.assertEqual(direct_memory(HeapDump(file)), wanted)
+
     def test_none(self) -> None:
         """A dump without the class of direct buffers has none."""
         with tempfile.TemporaryFile() as file:
