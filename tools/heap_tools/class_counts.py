@@ -1,9 +1,8 @@
 """Of which loaders there are more classes: a loader that is kept keeps its classes, and generated classes pile up."""
 
-import collections
 import re
 from collections import defaultdict
-from typing import Dict, List, NamedTuple, Set
+from typing import Counter, Dict, List, NamedTuple, Set
 
 from heap_tools.class_names import family
 from heap_tools.heap_dump import HeapDump
@@ -60,7 +59,7 @@ class _Classes:
 
     def __init__(self) -> None:
         self.loaders: Set[int] = set()
-        self.patterns: "collections.Counter[str]" = collections.Counter()
+        self.patterns: Counter[str] = Counter()
 
     @property
     def number(self) -> int:
@@ -80,7 +79,7 @@ def _by_loader(dump: HeapDump) -> Dict[str, _Classes]:
     return found
 
 
-def usual(after: "collections.Counter[str]", before: "collections.Counter[str]") -> str:
+def usual(after: Counter[str], before: Counter[str]) -> str:
     """Returns the pattern of which there are most more, empty if that is less than half of what came."""
     more = after - before
     pattern, count = more.most_common(1)[0]

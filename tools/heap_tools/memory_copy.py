@@ -23,7 +23,7 @@ class MemoryCopy:
 
     def __init__(self, dump: HeapDump, roots: Sequence[int]) -> None:
         self.roots = tuple(roots)
-        self.file = os.memfd_create("dump")
+        self.file: int = getattr(os, "memfd_create")("dump")  # Python 3.7 has none: see CopyInMemory
         weakref.finalize(self, os.close, self.file)
         write_copy(dump, self.file, {}, roots)
         self._bytes = mmap.mmap(self.file, 0)
