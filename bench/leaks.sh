@@ -7,14 +7,15 @@
 # given. Each dumps itself before and after its leak grew. The catalog is about three times as large as the leak in the
 # last dump, or larger. The folders:
 #
-#   shop  services that leak while nothing else happens
-#   load  services of real libraries, with requests inside the library while a dump is made
-#   hard  leaks in plain Java that are hard to name
-#   judge plain Java and real libraries, beside a catalog and a cache that has other pages each day
+#   shop   services that leak while nothing else happens
+#   load   services of real libraries, with requests inside the library while a dump is made
+#   hard   leaks in plain Java that are hard to name
+#   beside plain Java and real libraries, beside a catalog and a cache that has other pages each day
+#   judge  new ones of the same kind, by other classes of the JDK and other libraries
 #
-# The order of tools/leaks is tuned on the programs of shop, load and hard, and judged on those of judge: their holders
-# were written down before tools/leaks ran on them. A program of judge whose line is read to change the order is one to
-# tune on from then on.
+# The order of tools/leaks is tuned on the programs of shop, load, hard and beside, and judged on those of judge: their
+# holders were written down before tools/leaks ran on them. A program of judge whose line is read to change the order is
+# one to tune on from then on. The programs of beside were the judging group until their lines were read.
 #
 # Java is that of JAVA_HOME, else that of PATH. A program is left out if it needs a later version, or a library that
 # /usr/share/java does not have; the row then says the Debian package.
@@ -179,67 +180,67 @@ hard/TenantService 17 2
 hard/ImageService 17 2
     static hard/ImageService.IMAGES
     says weak
-judge/ChatService 17 2
-    judge/ChatService$Session.history
+beside/ChatService 17 2
+    beside/ChatService$Session.history
     says welcome-bot
-judge/InboxService 17 2
-    judge/InboxService$Inbox.mails | judge/InboxService$Tenant.inbox
+beside/InboxService 17 2
+    beside/InboxService$Inbox.mails | beside/InboxService$Tenant.inbox
     says tenant-317
-judge/ChannelService 17 2
-    judge/ChannelService$Channel.oldest
+beside/ChannelService 17 2
+    beside/ChannelService$Channel.oldest
     says quotes.eur
-judge/LockService 17 2
-    judge/LockService$Locks.byKey
-judge/SensorService 17 2
-    judge/SensorService$Sensor.listeners
+beside/LockService 17 2
+    beside/LockService$Locks.byKey
+beside/SensorService 17 2
+    beside/SensorService$Sensor.listeners
     says boiler-7
-judge/RouteService 17 2
-    judge/RouteService$Planner.planned
-judge/FormatService 17 2
-    judge/FormatService$Scratch.parts
-judge/DeliveryService 17 2
-    judge/DeliveryService$Destination.retries
+beside/RouteService 17 2
+    beside/RouteService$Planner.planned
+beside/FormatService 17 2
+    beside/FormatService$Scratch.parts
+beside/DeliveryService 17 2
+    beside/DeliveryService$Destination.retries
     says hooks-23.
-judge/LabelService 17 2
-    judge/LabelService$Metric.children
+beside/LabelService 17 2
+    beside/LabelService$Metric.children
     says http_requests_total
-judge/PanelService 17 2
-    judge/PanelService$Settings.changes | java/beans/PropertyChangeSupport.map | java/beans/ChangeListenerMap.map
-judge/WordService 17 2
-    judge/WordService$Words.root
-judge/LineService 17 2
-    judge/LineService$Log.pending
+beside/PanelService 17 2
+    beside/PanelService$Settings.changes | java/beans/PropertyChangeSupport.map | java/beans/ChangeListenerMap.map
+beside/WordService 17 2
+    beside/WordService$Words.root
+beside/LineService 17 2
+    beside/LineService$Log.pending
     says payments.audit
-judge/RegionService 17 2
-    judge/RegionService$Region.quotes
+beside/RegionService 17 2
+    beside/RegionService$Region.quotes
     says eu-central
-judge/CrawlService 17 2
-    local judge/CrawlService.crawl | thread "crawler"
-judge/StampService 17 2
-    java/util/concurrent/CompletableFuture.stack | judge/StampService$Clock.offset
-judge/ExportService 17 2
+beside/CrawlService 17 2
+    local beside/CrawlService.crawl | thread "crawler"
+beside/StampService 17 2
+    java/util/concurrent/CompletableFuture.stack | beside/StampService$Clock.offset
+beside/ExportService 17 2
     static java/io/DeleteOnExitHook.files
-judge/LaneService 17 2
+beside/LaneService 17 2
     java/util/concurrent/ThreadPoolExecutor.workQueue
     says pdf
-judge/JsonService 17 2 libjackson2-databind-java jackson-core,jackson-databind,jackson-annotations
+beside/JsonService 17 2 libjackson2-databind-java jackson-core,jackson-databind,jackson-annotations
     com/fasterxml/jackson/databind/ObjectMapper._rootDeserializers
-judge/AliasService 17 2 libcommons-collections4-java commons-collections4
-    org/apache/commons/collections4/trie/AbstractPatriciaTrie.root | judge/AliasService$Directory.customers
-judge/BorrowService 17 2 libhikaricp-java,libslf4j-java HikariCP,slf4j-api
+beside/AliasService 17 2 libcommons-collections4-java commons-collections4
+    org/apache/commons/collections4/trie/AbstractPatriciaTrie.root | beside/AliasService$Directory.customers
+beside/BorrowService 17 2 libhikaricp-java,libslf4j-java HikariCP,slf4j-api
     com/zaxxer/hikari/util/ConcurrentBag.sharedList | com/zaxxer/hikari/pool/HikariPool.connectionBag
-judge/FlushService 17 2 libnetty-java netty-common,netty-buffer,netty-transport,netty-resolver
+beside/FlushService 17 2 libnetty-java netty-common,netty-buffer,netty-transport,netty-resolver
     io/netty/channel/ChannelOutboundBuffer.unflushedEntry
     says peer-77
-judge/ChartService 17 2 libjfreechart-java jfreechart,jcommon
+beside/ChartService 17 2 libjfreechart-java jfreechart,jcommon
     org/jfree/data/xy/XYSeries.data
     says host-12
-judge/SchemaService 17 2 libxerces2-java xercesImpl,xml-apis
-    org/apache/xerces/util/XMLGrammarPoolImpl.fGrammars | judge/SchemaService.pool
-judge/ReplyService 17 2 libokhttp-java okhttp,okio
+beside/SchemaService 17 2 libxerces2-java xercesImpl,xml-apis
+    org/apache/xerces/util/XMLGrammarPoolImpl.fGrammars | beside/SchemaService.pool
+beside/ReplyService 17 2 libokhttp-java okhttp,okio
     okhttp3/Dispatcher.readyAsyncCalls | okhttp3/OkHttpClient.dispatcher
-judge/ActorService 17 2 libjctools-java jctools-core
-    org/jctools/queues/BaseMpscLinkedArrayQueueConsumerFields.consumerBuffer | judge/ActorService$Actor.mailbox
+beside/ActorService 17 2 libjctools-java jctools-core
+    org/jctools/queues/BaseMpscLinkedArrayQueueConsumerFields.consumerBuffer | beside/ActorService$Actor.mailbox
     says system/billing
 PROGRAMS
 }

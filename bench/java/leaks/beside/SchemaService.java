@@ -1,4 +1,4 @@
-package judge;
+package beside;
 
 import hard.Course;
 import java.io.StringReader;

@@ -1,4 +1,4 @@
-package judge;
+package beside;
 
 import com.zaxxer.hikari.HikariConfig;
 import com.zaxxer.hikari.HikariDataSource;

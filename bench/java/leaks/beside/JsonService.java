@@ -1,4 +1,4 @@
-package judge;
+package beside;
 
 import com.fasterxml.jackson.databind.JavaType;
 import com.fasterxml.jackson.databind.ObjectMapper;
