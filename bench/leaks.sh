@@ -235,13 +235,75 @@ beside/FlushService 17 2 libnetty-java netty-common,netty-buffer,netty-transport
 beside/ChartService 17 2 libjfreechart-java jfreechart,jcommon
     org/jfree/data/xy/XYSeries.data
     says host-12
-beside/SchemaService 17 2 libxerces2-java xercesImpl,xml-apis
+beside/SchemaService 17 2 libxerces2-java xercesImpl
     org/apache/xerces/util/XMLGrammarPoolImpl.fGrammars | beside/SchemaService.pool
 beside/ReplyService 17 2 libokhttp-java okhttp,okio
     okhttp3/Dispatcher.readyAsyncCalls | okhttp3/OkHttpClient.dispatcher
 beside/ActorService 17 2 libjctools-java jctools-core
     org/jctools/queues/BaseMpscLinkedArrayQueueConsumerFields.consumerBuffer | beside/ActorService$Actor.mailbox
     says system/billing
+judge/HandleService 17 2
+    jdk/internal/ref/CleanerImpl.phantomCleanableList | jdk/internal/ref/CleanerImpl.activeList
+        | jdk/internal/ref/CleanerImpl$CleanableList.head
+judge/MemoService 17 2
+    judge/MemoService$Memo.results
+    says vat-rate
+judge/OverflowService 17 2
+    judge/OverflowService$DeadLetters.refused
+    says exports
+judge/LedgerService 17 2
+    judge/LedgerService$Partner.awaited
+    says ledger.example.org
+judge/HeaderService 17 2
+    judge/HeaderService$Inbound.headers
+judge/PluginService 17 2
+    static java/sql/DriverManager.registeredDrivers
+judge/ConsoleService 17 2
+    sun/management/NotificationEmitterSupport.listenerList
+judge/NightlyService 17 2
+    java/util/logging/Logger$ConfigurationData.handlers
+    says jobs.nightly
+judge/StreamService 17 2
+    java/util/concurrent/SubmissionPublisher$BufferedSubscription.array
+    says warehouse
+judge/DedupService 17 2
+    judge/DedupService$Partition.seen
+    says orders-7
+judge/FilterService 17 2
+    judge/FilterService$Server.chain
+judge/CallbackService 17 2
+    sun/net/httpserver/ContextList.list | sun/net/httpserver/ServerImpl.contexts
+judge/CloseService 17 2 libnetty-java netty-common,netty-buffer,netty-transport,netty-resolver
+    io/netty/util/concurrent/DefaultFutureListeners.listeners | io/netty/util/concurrent/DefaultPromise.listeners
+    says bank.example.org
+judge/TemporaryService 17 2 libh2-java h2
+    org/h2/engine/SessionLocal.localTempTables | org/h2/mvstore/db/Store.tableMap
+judge/WebhookService 17 2 libjetty9-extra-java,libjetty9-java jetty9-client,jetty9-util,jetty9-http,jetty9-io
+    org/eclipse/jetty/client/HttpClient.destinations | org/eclipse/jetty/util/component/ContainerLifeCycle._beans
+judge/BarrierService 17 2 libzookeeper-java zookeeper,zookeeper-jute,netty-all,slf4j-api
+    org/apache/zookeeper/server/watch/WatchManager.watchTable
+        | org/apache/zookeeper/server/watch/WatchManager.watch2Paths
+judge/LetterService 17 2 libclojure-java clojure
+    clojure/lang/Agent.aq | clojure/lang/Agent$ActionQueue.q
+    says printer
+judge/RuleService 17 2 librhino-java js
+    org/mozilla/javascript/HashSlotMap.map | org/mozilla/javascript/SlotMapContainer.map
+        | org/mozilla/javascript/ScriptableObject.slotMap | judge/RuleService$Customer.scope
+    says northwind
+judge/PlotService 17 2 libjfreechart-java jfreechart,jcommon
+    org/jfree/data/general/AbstractDataset.listenerList | javax/swing/event/EventListenerList.listenerList
+judge/FeedService 17 2 libdom4j-java dom4j
+    org/dom4j/tree/QNameCache.namespaceCache
+judge/LoginService 17 2 libshiro-java,libslf4j-java shiro-core,slf4j-api
+    org/apache/shiro/session/mgt/SimpleSession.attributes
+    says 10.20.0.9
+judge/AdvertService 17 2 liblucene4.10-java lucene-core-4.10.4,lucene-analyzers-common-4.10.4
+    org/apache/lucene/index/BufferedUpdates.terms
+        | org/apache/lucene/index/DocumentsWriterDeleteQueue.globalBufferedUpdates
+judge/AttachmentService 17 2 libcommons-io-java commons-io
+    org/apache/commons/io/FileCleaningTracker.trackers
+judge/CampaignService 17 2 libspring-beans-java,libspring-core-java spring3-beans,spring3-core,commons-logging
+    org/springframework/beans/factory/support/DefaultSingletonBeanRegistry.singletonObjects
 PROGRAMS
 }
 
