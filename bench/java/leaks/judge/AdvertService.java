@@ -11,7 +11,7 @@ import org.apache.lucene.util.Version;
 
 /** Deletes adverts that expired from an index of Lucene, and never commits: the writer keeps the term of each. */
 final class AdvertService {
-    static final int ADVERTS_A_DAY = 7_000 * Course.SCALE;
+    static final int ADVERTS_A_DAY = 9_000 * Course.SCALE;
 
     private final IndexWriter writer;
 

@@ -8,7 +8,7 @@ import org.apache.commons.io.FileCleaningTracker;
  * application, which never is.
  */
 final class AttachmentService {
-    static final int ATTACHMENTS_A_DAY = 6_000 * Course.SCALE;
+    static final int ATTACHMENTS_A_DAY = 9_000 * Course.SCALE;
 
     private final FileCleaningTracker files = new FileCleaningTracker();
     private int attachments;

@@ -11,7 +11,7 @@ import java.util.Map;
  */
 final class DedupService {
     static final int PARTITIONS = 64;
-    static final int MESSAGES_A_DAY = 130_000 * Course.SCALE;
+    static final int MESSAGES_A_DAY = 65_000 * Course.SCALE;
     static final int KEPT_FOR = 1_000;
 
     static final class Partition {

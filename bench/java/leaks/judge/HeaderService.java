@@ -7,7 +7,7 @@ import java.util.concurrent.ConcurrentMap;
 
 /** Keeps the header of each message, to find it again. A header is a slice of the buffer that had the whole message. */
 final class HeaderService {
-    static final int MESSAGES_A_DAY = 2_500 * Course.SCALE;
+    static final int MESSAGES_A_DAY = 2_000 * Course.SCALE;
 
     static final class Inbound {
         private final ConcurrentMap<Long, ByteBuffer> headers = new ConcurrentHashMap<>();

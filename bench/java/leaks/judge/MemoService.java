@@ -11,7 +11,7 @@ import java.util.function.Function;
  */
 final class MemoService {
     static final int FUNCTIONS = 30;
-    static final int CALLS_A_DAY = 8_000 * Course.SCALE;
+    static final int CALLS_A_DAY = 14_000 * Course.SCALE;
 
     record Arguments(String country, long cents, long second) {
     }

@@ -12,7 +12,7 @@ import java.util.logging.StreamHandler;
 /** Has 150 loggers. Each run of the nightly job adds a handler to its logger, which keeps the last lines of the run. */
 final class NightlyService {
     static final int LOGGERS = 150;
-    static final int RUNS_A_DAY = 500 * Course.SCALE;
+    static final int RUNS_A_DAY = 350 * Course.SCALE;
     static final int LINES_A_RUN = 12;
 
     private final List<Logger> loggers = new ArrayList<>();

@@ -12,7 +12,7 @@ import org.mozilla.javascript.Scriptable;
  */
 final class RuleService {
     static final int CUSTOMERS = 80;
-    static final int ORDERS_A_DAY = 4_000 * Course.SCALE;
+    static final int ORDERS_A_DAY = 8_000 * Course.SCALE;
 
     static final class Customer {
         private final String id;
@@ -39,8 +39,8 @@ final class RuleService {
         for (int number = 0; number < ORDERS_A_DAY; number++) {
             String order = "var order = {cents: " + number + ", day: " + day + "}; ";
             evaluate(context, customers.get(31), order + "discount_" + day + "_" + number + " = order.cents / 20");
-            if (number % 20 == 0) {
-                evaluate(context, customers.get(number / 20 % CUSTOMERS), order + "var discount = order.cents / 10");
+            if (number % 40 == 0) {
+                evaluate(context, customers.get(number / 40 % CUSTOMERS), order + "var discount = order.cents / 10");
             }
         }
     }

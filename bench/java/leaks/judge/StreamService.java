@@ -7,7 +7,7 @@ import java.util.concurrent.SubmissionPublisher;
 /** Publishes changes of the stock to forty subscribers. The one called "warehouse" asked for ten, and never again. */
 final class StreamService {
     static final int SUBSCRIBERS = 40;
-    static final int CHANGES_A_DAY = 11_000 * Course.SCALE;
+    static final int CHANGES_A_DAY = 16_000 * Course.SCALE;
 
     record Change(long article, int pieces, byte[] place) {
     }

@@ -8,7 +8,7 @@ import java.sql.Statement;
 
 /** Makes a temporary table of H2 for each report. Its one connection is never closed, so no table is dropped. */
 final class TemporaryService {
-    static final int REPORTS_A_DAY = 250 * Course.SCALE;
+    static final int REPORTS_A_DAY = 350 * Course.SCALE;
 
     private final Connection connection;
 
