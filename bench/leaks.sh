@@ -15,7 +15,7 @@
 #
 # The order of tools/leaks is tuned on the programs of shop, load, hard and beside, and judged on those of judge: their
 # holders were written down before tools/leaks ran on them. A program of judge whose line is read to change the order is
-# one to tune on from then on. The programs of beside were the judging group until their lines were read.
+# one to tune on from then on: those of beside were the judging group until their lines were read.
 #
 # Java is that of JAVA_HOME, else that of PATH. A program is left out if it needs a later version, or a library that
 # /usr/share/java does not have; the row then says the Debian package.

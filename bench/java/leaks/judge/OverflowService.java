@@ -52,7 +52,7 @@ final class OverflowService {
         for (int number = 0; number < TASKS_A_DAY; number++) {
             pool("exports").execute(new Task(STUCK, new byte[150]));
             if (number % 50 == 0) {
-                pool("imports-" + number % POOLS).execute(new Task(open, new byte[150]));
+                pool("imports-" + number / 50 % (POOLS - 1)).execute(new Task(open, new byte[150]));
             }
         }
     }
