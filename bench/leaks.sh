@@ -58,7 +58,8 @@ shop/PriceService 17 2
 shop/TagService 17 2
     static vendor/text/Interner.POOL
 shop/TimeoutService 17 2
-    java/util/concurrent/ScheduledThreadPoolExecutor$DelayedWorkQueue.queue
+    java/util/concurrent/ThreadPoolExecutor.workQueue
+        | java/util/concurrent/ScheduledThreadPoolExecutor$DelayedWorkQueue.queue
 shop/UploadService 17 2
     shop/UploadService.chunks
 shop/SizeService 17 2

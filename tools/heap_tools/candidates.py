@@ -22,9 +22,11 @@ PENDING = "java/lang/ref/Reference.discovered"
 #: The list of the threads of a group, up to JDK 18, and that of the classes of a loader.
 GROUP, LOADED_CLASSES = "java/lang/ThreadGroup.threads", "java/lang/ClassLoader.classes"
 
-#: The classes that collections of the JDK, of libraries and of users inherit from, and what names of others end with.
-COLLECTIONS = {"java/util/AbstractCollection", "java/util/AbstractMap", "java/util/Dictionary"}
-CALLED_COLLECTIONS = ("Map", "List", "Set")
+#: The classes that collections of the JDK, of libraries and of users inherit from, and that in which those are nested
+#: that wrap others.
+COLLECTIONS = {"java/util/AbstractCollection", "java/util/AbstractMap", "java/util/Dictionary", "java/util/Collections"}
+#: What names of others end with: those of the JDK's interfaces but Collection, which is also what a group is called.
+CALLED_COLLECTIONS = ("Map", "List", "Set", "Queue", "Deque")
 
 #: A kind and a name: what a candidate is called in another dump of the program, too.
 Key = Tuple[str, str]
@@ -102,6 +104,7 @@ class Candidates:
         self._locals: Optional[List[Candidate]] = None
         self._of_kind: Dict[str, Dict[Key, Candidate]] = {}
         self._known_heirs: Dict[int, Set[str]] = {}
+        self._known_ids: Dict[str, List[int]] = {}
 
     def changes(self, key: Key) -> Changes:
         """Returns the changes by which what is called `key` leads nowhere: none if the dump does not have it."""
@@ -172,17 +175,29 @@ class Candidates:
         return sorted(found, key=lambda each: (each.count, each.name))
 
     def _is_collection(self, class_id: int) -> bool:
-        """Tests whether a class is of the JDK's package of collections, inherits from one of its collections, or is
-        called like one, or within one."""
+        """Tests whether a class inherits from a collection of the JDK, is called like one, or is within such a class:
+        the nodes of a map say as little as the map."""
+        parts = self.dump.names[class_id].split("$")
+        outer = ("$".join(parts[:count]) for count in range(1, len(parts)))
+        around = (each for name in outer for each in self._ids_of(name))
+        return any(part.endswith(CALLED_COLLECTIONS) for part in parts) or any(
+            map(self._inherits_collection, [class_id, *around])
+        )
+
+    def _inherits_collection(self, class_id: int) -> bool:
         names, classes = self.dump.names, self.dump.classes
-        name = names[class_id]
-        if name.startswith("java/util/") or any(part.endswith(CALLED_COLLECTIONS) for part in name.split("$")):
-            return True
         while class_id in classes:
             if names[class_id] in COLLECTIONS:
                 return True
             class_id = classes[class_id].superclass
         return False
+
+    def _ids_of(self, name: str) -> List[int]:
+        """Returns the classes of a name: one for each loader that has it."""
+        if not self._known_ids:
+            for class_id, each in self.dump.names.items():
+                self._known_ids.setdefault(each, []).append(class_id)
+        return self._known_ids.get(name, [])
 
     def _classes_with(self, fields: Iterable[DumpedField]) -> FrozenSet[str]:
         """Returns the families of the classes whose instances have one of these fields."""

@@ -136,20 +136,33 @@ class CandidatesTest(unittest.TestCase):
             self.assertEqual(known.instances(key, report), wanted, key)
 
     def test_collections(self) -> None:
-        """A class is a collection if its name, or that of a class around it, ends like one, or by what it inherits."""
+        """A class is a collection if its name, or that of a class around it, ends like one, or by what it or a class
+        around it inherits. Not all of the JDK's package is."""
         for name, superclass, wanted in (
             ("lib/IntSet", 0, True),
             ("lib/LongMap", 0, True),
             ("lib/LinkedList", 0, True),
+            ("java/util/TaskQueue", 0, True),
+            ("lib/Deque", 0, True),
             ("lib/IntSet$Cell", 0, True),
+            ("lib/Cache$Segment", 0, True),
+            ("lib/Cache$Segment$Cell", 0, True),
+            ("lib/Cached$Segment", 0, False),
+            ("lib/Lists", 0, False),
+            ("lib/HandlerCollection", 0, False),
+            ("java/util/Collections$Wrapper", 0, True),
             ("lib/Settings", 0, False),
             ("lib/Mapper", 0, False),
             ("lib/Table", 0, False),
             ("lib/Table", 40, True),
-            ("java/util/BitField", 0, True),
+            ("java/util/concurrent/ThreadPoolExecutor", 0, False),
+            ("java/util/concurrent/ThreadPoolExecutor$Worker", 0, False),
+            ("java/util/Timer", 0, False),
         ):
             dump = Application()
             dump.of_class(40, "java/util/AbstractMap")
+            dump.of_class(42, "lib/Cache", superclass=40)
+            dump.of_class(43, "java/util/Collections")
             dump.of_class(41, name, fields=["cells"], superclass=superclass)
             known = self.candidates(dump)
             fields = {each.name: each.is_collection for each in known.fields(self.report(known.dump))}

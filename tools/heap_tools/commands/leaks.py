@@ -55,9 +55,10 @@ answer only if no other line on that path has nine tenths of that score, or half
 of it below; of fields, own ones come before the JDK's in the same way. The
 other lines follow by their scores.
 
-Collections are those of the JDK, of classes that inherit from them, and of
-classes whose names end with Map, List or Set. An object of many is named by a
-text in it, its key in a map, or by those of what leads to it.
+Collections are classes that inherit from those of the JDK, classes whose names
+end with Map, List, Set, Queue or Deque, and classes within these. An object of
+many is named by a text in it, its key in a map, or by those of what leads to
+it.
 
 Calls that are running do not count: their local variables lead into containers
 that fields hold. So local variables lead nowhere if less than P percent of the
