@@ -3,10 +3,10 @@
 A line's score is what it gained without what came with new instances (unless one object gained most), without what
 moved there from above it or from a field of its class, and nothing if it did not grow at each step between dumps. If no
 score is a quarter of the growth, nothing that lasts holds what grew: the answer is the topmost line, a thread before
-others. Else the answer is the deepest line on the path of the best score, above or below it, that has half of that
-score: the accumulation point. A collection, a variable of a lambda or a thread is the answer only if no other line on
-that path has nine tenths of that score, or half of it below; of fields, own ones come before the JDK's in the same way.
-The other lines follow by their scores.
+others. Else the answer is the deepest line on the path of the best score (of those with nine tenths of it, of the line
+whose name says most), above or below it, that has half of that score: the accumulation point. A collection, a variable
+of a lambda or a thread is the answer only if no other line on that path has nine tenths of that score, or half of it
+below; of fields, own ones come before the JDK's in the same way. The other lines follow by their scores.
 """
 
 import enum
@@ -18,8 +18,8 @@ from heap_tools.probe import Retained
 
 #: The part of the best score that a line must have to be on its path. 0.4 to 0.6 gave the same answers.
 MOST = 0.5
-#: The part of the best score that a line must have to come before one whose name says less: both gained the same, but
-#: for what else they lead to.
+#: The part of the best score that is as good as the best, if the name says more: both gained the same, but for what else
+#: they lead to.
 NEARLY = 0.9
 #: The part of the growth that the best score must be: with less, too little of it is in what was there before.
 LASTS = 0.25
@@ -83,14 +83,17 @@ class Features:
         return len(self.kinds) > 1
 
     @property
-    def is_telling(self) -> bool:
-        """Tests whether it is a single one whose name says what it is for."""
-        return not (self.is_joint or self.is_collection or self.is_thread or "$$Lambda" in self.name)
+    def says(self) -> int:
+        """How much its name says of what it is for: 3 of the program, 2 of the JDK, 1 if several hold it only together,
+        0 of a collection, a variable of a lambda or a thread."""
+        if self.is_joint:
+            return 1
+        return 0 if self.is_collection or self.is_thread or "$$Lambda" in self.name else 2 + self.is_own
 
     @property
-    def is_own_telling(self) -> bool:
-        """Tests whether it is a single one whose name says what it is for in the program."""
-        return self.is_own and self.is_telling
+    def is_telling(self) -> bool:
+        """Tests whether it is a single one whose name says what it is for."""
+        return self.says > 1
 
     @property
     def lasting_gain(self) -> float:
@@ -141,7 +144,7 @@ class LineOrder:
         if answer is None:
             return None
         others = [it for it in self.numbers if not self._is_on_path(it, answer)]
-        found = [it for it in others if self._is_own_telling(it)]
+        found = [it for it in others if self._is_own(it)]
         return self.deepest_with(self._largest(found), others) if found else None
 
     def answer(self) -> Optional[int]:
@@ -178,9 +181,15 @@ class LineOrder:
         return chosen
 
     def _largest(self, numbers: Sequence[int]) -> int:
-        """Returns the line of `numbers` with the largest score, of those with the same one that which says most."""
+        """Returns the line of `numbers` with the largest score, of those with nearly that one whose name says most."""
         lines, scores = self.lines, self.scores
-        return max(numbers, key=lambda it: (scores[it], lines[it].is_own_telling, -lines[it].heap, lines[it].name))
+        near = [it for it in numbers if scores[it] >= NEARLY * max(scores[each] for each in numbers)]
+        return max(self._say_most(near), key=lambda it: (scores[it], -lines[it].heap, lines[it].name))
+
+    def _say_most(self, numbers: Sequence[int]) -> List[int]:
+        """Returns those lines of `numbers` whose names say most."""
+        most = max(self.lines[it].says for it in numbers)
+        return [it for it in numbers if self.lines[it].says == most]
 
     def _lasts(self, number: int) -> bool:
         """Tests whether the score of a line is enough of the growth, or of what lines gained if that is less."""
@@ -199,10 +208,9 @@ class LineOrder:
         whole = self.scores[best]
         path = [it for it in numbers if self.scores[it] >= MOST * whole and self._is_on_path(it, best)]
         for least in NEARLY * whole, MOST * whole:
-            for is_wanted in self._is_own_telling, self._is_telling, self._is_joint:
-                near = [it for it in path if self.scores[it] >= least and is_wanted(it)]
-                if near:
-                    return self._own_below(min(near, key=self._depth), path)
+            near = [it for it in path if self.scores[it] >= least and self.lines[it].says]
+            if near:
+                return self._own_below(min(self._say_most(near), key=self._depth), path)
         return min(path, key=self._depth)
 
     def to_ask(self) -> List[int]:
@@ -215,19 +223,19 @@ class LineOrder:
         lines, least = self.lines, MOST * self.lines[answer].gain
         found = [it for it in self.numbers if self._has_objects(it) and lines[it].gain >= least]
         found = [it for it in found if it == answer or self.holds_all(answer, it)]
-        found.sort(key=lambda it: (not lines[it].is_own_telling, not lines[it].is_telling, lines[it].instances))
+        found.sort(key=lambda it: (-max(lines[it].says, 1), lines[it].instances))
         return [*found[:MOST_ASKED], *([] if answer in found else [answer])]
 
     def _has_objects(self, number: int) -> bool:
         """Tests whether a line is about several instances, of which one may hold most. Of many collections one that
         does says little, and the first of a chain always does."""
         line = self.lines[number]
-        is_few = line.is_telling or line.instances <= FEW
-        return line.kinds == (FIELD,) and line.instances > 1 and is_few and not line.is_chain
+        may_tell = line.is_telling or line.instances <= FEW
+        return line.kinds == (FIELD,) and line.instances > 1 and may_tell and not line.is_chain
 
     def _own_below(self, number: int, path: Sequence[int]) -> int:
         """Returns the deepest own line of `path` below a line, else that line."""
-        below = [it for it in path if it != number and self._is_own_telling(it) and self.holds_all(number, it)]
+        below = [it for it in path if it != number and self._is_own(it) and self.holds_all(number, it)]
         return min(below, key=self._depth, default=number)
 
     def _is_steady(self, number: int) -> bool:
@@ -237,14 +245,9 @@ class LineOrder:
     def _is_on_path(self, number: int, best: int) -> bool:
         return number == best or self.holds_all(number, best) or self.holds_all(best, number)
 
-    def _is_joint(self, number: int) -> bool:
-        return self.lines[number].is_joint
-
-    def _is_telling(self, number: int) -> bool:
-        return self.lines[number].is_telling
-
-    def _is_own_telling(self, number: int) -> bool:
-        return self.lines[number].is_own_telling
+    def _is_own(self, number: int) -> bool:
+        """Tests whether the name of a line says what it is for in the program."""
+        return self.lines[number].says == 3
 
     def _depth(self, number: int) -> Tuple[bool, int, str]:
         """Returns what the deepest line is the smallest by, among those with one score."""

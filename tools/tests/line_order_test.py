@@ -61,6 +61,10 @@ rule 4, one of the JDK rather than a collection: *java/lang/Queue.list > java/ut
 rule 4, several together, if no single one lasts: *two (together), static shop/A.a (249)
 rule 4, else the single one: two (together), *static shop/A.a (250)
 rule 4, several together, and a collection: *two (together), java/util/HashMap.table
+rules 1 and 4, nearly as much, and a name that says more: java/lang/Text.value, *static shop/A.a (900)
+rules 1 and 4, a name that says more, but less: *java/lang/Text.value, static shop/A.a (899)
+rules 1 and 4, nearly as much, and no collection: java/util/HashMap.table, *java/lang/Text.value (900)
+rules 1 and 4, of two that say as much the larger: *static shop/A.a, static shop/B.b (999)
 rules 1 and 2, one object refutes that nothing lasts: threads "job" (900 9..99), *shop/B.b (900 9..99 one)
 rules 1 and 2, what moved does not last: shop/Swap.s (moved) > shop/B.b (900), *shop/Order.text (10..110)
 rules 1 and 3, the payload is deeper: *static shop/A.STORE > shop/Order.text (10..110)
@@ -77,6 +81,7 @@ rules 3 and 4, below a collection half: static shop/A.STORE > java/util/HashMap.
 #: Rows of one dump.
 OF_ONE_DUMP = """
 the deepest: static shop/A.STORE > *shop/Store.map
+nearly as much, and a name that says more: *static shop/A.a (900), java/lang/Text.value (0..9)
 few instances: static shop/A.STORE > *shop/Pool.list (0..64)
 many instances: *static shop/A.STORE > shop/Order.text (0..65)
 many instances, of which one holds most: static shop/A.STORE > *shop/Tenant.inbox (0..500 one)
