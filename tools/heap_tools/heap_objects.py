@@ -24,6 +24,13 @@ class FieldValue(NamedTuple):
     value: int
 
 
+class FieldValues(NamedTuple):
+    """Values of a field that are not null, and where instances are in which it is null."""
+
+    values: List[FieldValue]
+    nulls: List[int]
+
+
 class Referrer(NamedTuple):
     """What refers to an object: where it is, the identifier of the object, and the name of the field, empty for an
     element of an array. A class refers by its static fields."""
@@ -146,34 +153,65 @@ class HeapObjects:
         for all hidden classes of its name. `targets`: only the values that are one of these identifiers. `kind` is the
         code of the fields' type: a class may have a field of the same name and of another type. Walks over all
         objects."""
-        dump, wanted = self.dump, set(fields)
-        declared = {
-            (class_id, each.name)
-            for class_id, name in dump.names.items()
-            for each in dump.classes[class_id].fields
-            if not each.is_static and each.kind == kind and f"{family(name)}.{each.name}" in wanted
-        }
-        places: Dict[int, List[int]] = {}
-        for class_id in dump.classes:
-            lineage = [
-                (owner, each.name, place) for owner, place, each in self.fields_of(class_id) if each.kind == kind
-            ]
-            found = [place for owner, name, place in lineage if (owner, name) in declared]
-            if found:
-                places[class_id] = found
+        dump, places = self.dump, self._places_in_instances(fields, kind)
 
         def values_in(segments: List[Span]) -> List[FieldValue]:
             found: List[FieldValue] = []
             id_at, data, class_at = dump.unpack_id, dump.bytes, 5 + dump.id_size
             for at, tag in dump.sub_records(segments):
                 if tag == hprof.INSTANCE:
-                    for place in places.get(id_at(data, at + class_at)[0], ()):
+                    for _, place in places.get(id_at(data, at + class_at)[0], ()):
                         if targets is None or id_at(data, at + place)[0] in targets:
                             found.append(FieldValue(at, at + place))
             return found
 
         parts = shared(values_in, dump.segments, FEWEST_SEGMENTS) if places else []
         return [each for part in parts for each in part]
+
+    def values_by_field(self, fields: Iterable[str], most: int, most_null: int) -> Dict[str, FieldValues]:
+        """Returns for each of `fields` the values that are not null, at most `most`, and the instances in which it is
+        null, at most `most_null`. Walks over all objects."""
+        dump, places = self.dump, self._places_in_instances(fields, hprof.OBJECT)
+
+        def values_in(segments: List[Span]) -> Dict[str, FieldValues]:
+            found = {name: FieldValues([], []) for name in fields}
+            id_at, data, class_at = dump.unpack_id, dump.bytes, 5 + dump.id_size
+            for at, tag in dump.sub_records(segments):
+                if tag == hprof.INSTANCE:
+                    for name, place in places.get(id_at(data, at + class_at)[0], ()):
+                        values, nulls = found[name]
+                        if not id_at(data, at + place)[0]:
+                            if len(nulls) < most_null:
+                                nulls.append(at)
+                        elif len(values) < most:
+                            values.append(FieldValue(at, at + place))
+            return found
+
+        parts = shared(values_in, dump.segments, FEWEST_SEGMENTS) if places else []
+        found = {}
+        for name in fields:
+            values = [each for part in parts for each in part[name].values]
+            nulls = [at for part in parts for at in part[name].nulls]
+            found[name] = FieldValues(values[:most], nulls[:most_null])
+        return found
+
+    def _places_in_instances(self, fields: Iterable[str], kind: int) -> Dict[int, List[Tuple[str, int]]]:
+        """Returns for each class the names of those of `fields` that its instances have, and where the values are,
+        counted from the begin of an instance."""
+        dump, wanted = self.dump, set(fields)
+        declared = {
+            (class_id, each.name): f"{family(name)}.{each.name}"
+            for class_id, name in dump.names.items()
+            for each in dump.classes[class_id].fields
+            if not each.is_static and each.kind == kind and f"{family(name)}.{each.name}" in wanted
+        }
+        places: Dict[int, List[Tuple[str, int]]] = {}
+        for class_id in dump.classes if declared else ():
+            lineage = [(owner, each.name, at) for owner, at, each in self.fields_of(class_id) if each.kind == kind]
+            found = [(declared[owner, name], at) for owner, name, at in lineage if (owner, name) in declared]
+            if found:
+                places[class_id] = found
+        return places
 
     def referrers_of(self, identifiers: Iterable[int]) -> List[Referrer]:
         """Returns what refers to the objects with these identifiers. Walks over the segments that have them."""

@@ -3,8 +3,10 @@
 import dataclasses
 from typing import Callable, List, NamedTuple, Optional, Sequence, Tuple
 
-from heap_tools.candidates import Candidate, joint_name
+from heap_tools.candidates import FIELD, Candidate, joint_name
+from heap_tools.heap_objects import HeapObjects
 from heap_tools.line_order import CHAIN, HARDLY_ANY, Features, LineOrder, Scoring
+from heap_tools.object_parts import FieldUses
 from heap_tools.probe import EarlierProbe, GrowthProbe, Probe, Retained
 from heap_tools.reference_paths import ReferencePaths
 from heap_tools.reports import Amount
@@ -61,6 +63,8 @@ class Lines:
         if self.scoring is Scoring.GAIN:
             self.others = [*search.steady, *(probe.retained(kin) for kin in map(self._kin, self.found) if kin)]
         self.every = [*self.found, *self.others]
+        self.uses = FieldUses(HeapObjects(probe.runs.dump))
+        self.uses.read(held.candidates[0] for held in self.every if self._may_be_null(held))
         self.features = [self._features(held, number < len(self.found)) for number, held in enumerate(self.every)]
 
     def sorted(self) -> List[Retained]:
@@ -83,8 +87,8 @@ class Lines:
     def _objects_of(self, held: Retained) -> List[HoldingObject]:
         """Returns which objects gained most of what `held` did, or of one dump hold most."""
         if isinstance(self.probe, GrowthProbe):
-            return objects_that_grew(self.probe, held)
-        return objects_that_hold(self.probe, held)
+            return objects_that_grew(self.probe, held, self.uses)
+        return objects_that_hold(self.probe, held, self.uses)
 
     def _order(self) -> LineOrder:
         return LineOrder(self.features, self._holds_all, self.probe.unit.of(self.probe.growth), self.scoring)
@@ -102,6 +106,7 @@ class Lines:
             is_own=held.is_own,
             is_collection=all(each.is_collection for each in candidates),
             instances=held.instances,
+            with_value=len(self.uses.of(candidates[0]).values) if self._may_be_null(held) else held.instances,
             instances_before=probe.instances_before(candidates),
             amount=probe.unit.of(held.amount),
             before=probe.unit.of(was.amount),
@@ -111,6 +116,10 @@ class Lines:
             is_chain=sum(held.lost.get(name, Amount()).objects for name in classes) > CHAIN * held.instances,
             is_line=is_line,
         )
+
+    def _may_be_null(self, held: Retained) -> bool:
+        """Tests whether some of several instances may have no value in a line's field."""
+        return len(held.candidates) == 1 and held.candidates[0].kind == FIELD and held.instances > 1
 
     def _grew_at_each_step(self, held: Retained) -> bool:
         """Tests whether `held` gained between each two of the dumps that are asked."""

@@ -18,12 +18,11 @@ from heap_tools.probe import Retained
 
 #: The part of the best score that a line must have to be on its path. 0.4 to 0.6 gave the same answers.
 MOST = 0.5
-#: The part of the best score that is as good as the best, if the name says more: both gained the same, but for what else
-#: they lead to.
+#: The part of the best score that is as good if the name says more: both gained the same, but for what else they have.
 NEARLY = 0.9
 #: The part of the growth that the best score must be: with less, too little of it is in what was there before.
 LASTS = 0.25
-#: Up to how many instances of a field can be few that hold much each, such as pools. Most accumulation points have one.
+#: Up to how many instances with a value can be few that hold much each, such as pools. Most accumulation points have one.
 FEW = 64
 #: The part of all objects that were gained which a class must have to show that they did not move.
 LARGE_CLASS = 0.1
@@ -33,6 +32,8 @@ HARDLY_ANY = 0.1
 CHAIN = 0.5
 #: Of how many lines below the answer it is asked at most whether one object gained most: each takes some 10 runs.
 MOST_ASKED = 3
+#: What `Features.says` is of a single line of the program.
+OF_PROGRAM = 3
 
 
 class Scoring(enum.Enum):
@@ -40,23 +41,24 @@ class Scoring(enum.Enum):
 
     #: What its instances gained that it had before, as above.
     GAIN = enum.auto()
-    #: What it holds, of one dump: none if it has more than `FEW` instances and no object holds most.
+    #: What it holds, of one dump: none if more than `FEW` instances have a value and no object holds most.
     SHARE = enum.auto()
 
 
 @dataclass(frozen=True)
 class Features:
     """What the order knows of a line. `kinds` are those of its candidates, of which several hold something together.
-    `instances` have the field, and `instances_before` had it in the first dump. `amount` and `before` are what they
-    hold and held, in the unit of the question. `heap` is the number of all objects that they hold, `gains` of how many
-    objects they gained by class. `of_one` is the part of its gain that one object has, if that is most. `is_line`: it
-    gained enough; else it only shows what was held before."""
+    `instances` have the field, `with_value` of them with a value in it, and `instances_before` had it in the first
+    dump. `amount` and `before` are what they hold and held, in the unit of the question. `heap` is the number of all
+    objects that they hold, `gains` of how many objects they gained by class. `of_one` is the part of its gain that one
+    object has, if that is most. `is_line`: it gained enough; else it only shows what was held before."""
 
     name: str
     kinds: Tuple[str, ...]
     is_own: bool
     is_collection: bool
     instances: int
+    with_value: int
     instances_before: int
     amount: int
     before: int
@@ -84,11 +86,11 @@ class Features:
 
     @property
     def says(self) -> int:
-        """How much its name says of what it is for: 3 of the program, 2 of the JDK, 1 if several hold it only together,
-        0 of a collection, a variable of a lambda or a thread."""
-        if self.is_joint:
-            return 1
-        return 0 if self.is_collection or self.is_thread or "$$Lambda" in self.name else 2 + self.is_own
+        """How much its name says of what it is for: `OF_PROGRAM`, 2 of the JDK, 1 if several hold it only together, 0 of
+        a collection, a variable of a lambda or a thread."""
+        if self.is_joint or self.is_collection or self.is_thread or "$$Lambda" in self.name:
+            return int(self.is_joint)
+        return OF_PROGRAM if self.is_own else 2
 
     @property
     def is_telling(self) -> bool:
@@ -103,7 +105,7 @@ class Features:
         if came <= 0:
             return self.gain
         lasting = max(each, was * each - self.before)
-        return max(lasting, self.gain - came * self.before / was) if was and self.instances <= FEW else lasting
+        return max(lasting, self.gain - came * self.before / was) if was and self.with_value <= FEW else lasting
 
     def part_of(self, upper: "Features") -> float:
         """Returns the part of the gain that `upper`, which holds all of it, gained, too: of the class of which that is
@@ -144,7 +146,7 @@ class LineOrder:
         if answer is None:
             return None
         others = [it for it in self.numbers if not self._is_on_path(it, answer)]
-        found = [it for it in others if self._is_own(it)]
+        found = [it for it in others if self.lines[it].says == OF_PROGRAM]
         return self.deepest_with(self._largest(found), others) if found else None
 
     def answer(self) -> Optional[int]:
@@ -158,7 +160,7 @@ class LineOrder:
         """Returns the score of a line."""
         line = self.lines[number]
         if self.scoring is Scoring.SHARE:
-            return line.amount if line.instances <= FEW else line.amount * line.of_one
+            return line.amount if line.with_value <= FEW else line.amount * line.of_one
         if not self._is_steady(number):
             return 0.0
         score = max(line.lasting_gain, line.of_one * line.gain)
@@ -223,20 +225,20 @@ class LineOrder:
         lines, least = self.lines, MOST * self.lines[answer].gain
         found = [it for it in self.numbers if self._has_objects(it) and lines[it].gain >= least]
         found = [it for it in found if it == answer or self.holds_all(answer, it)]
-        found.sort(key=lambda it: (-max(lines[it].says, 1), lines[it].instances))
+        found.sort(key=lambda it: (-max(lines[it].says, 1), lines[it].with_value))
         return [*found[:MOST_ASKED], *([] if answer in found else [answer])]
 
     def _has_objects(self, number: int) -> bool:
         """Tests whether a line is about several instances, of which one may hold most. Of many collections one that
         does says little, and the first of a chain always does."""
         line = self.lines[number]
-        may_tell = line.is_telling or line.instances <= FEW
-        return line.kinds == (FIELD,) and line.instances > 1 and may_tell and not line.is_chain
+        is_one = line.kinds == (FIELD,) and line.instances > 1
+        return is_one and not line.is_chain and (line.is_telling or line.with_value <= FEW)
 
     def _own_below(self, number: int, path: Sequence[int]) -> int:
         """Returns the deepest own line of `path` below a line, else that line."""
-        below = [it for it in path if it != number and self._is_own(it) and self.holds_all(number, it)]
-        return min(below, key=self._depth, default=number)
+        own = (it for it in path if it != number and self.lines[it].says == OF_PROGRAM)
+        return min((it for it in own if self.holds_all(number, it)), key=self._depth, default=number)
 
     def _is_steady(self, number: int) -> bool:
         """Tests whether a line grew at each step, or none did."""
@@ -244,10 +246,6 @@ class LineOrder:
 
     def _is_on_path(self, number: int, best: int) -> bool:
         return number == best or self.holds_all(number, best) or self.holds_all(best, number)
-
-    def _is_own(self, number: int) -> bool:
-        """Tests whether the name of a line says what it is for in the program."""
-        return self.lines[number].says == 3
 
     def _depth(self, number: int) -> Tuple[bool, int, str]:
         """Returns what the deepest line is the smallest by, among those with one score."""

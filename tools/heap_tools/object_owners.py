@@ -10,8 +10,9 @@ STEPS_ABOVE = 3
 #: Of how many owners an object is named: what has more is shared, and they say nothing of it.
 MOST_OWNERS = 12
 #: How many references up, and to how many objects, it is followed whether all that leads to a referrer comes from the
-#: object that it refers to: an element of a map is five references below what has the map. It is asked of as many.
-STEPS_WITHIN, MOST_WITHIN = 6, 40
+#: object that it refers to: an element of a map is five references below what has the map, or seven if it is the third
+#: in its bucket. It is asked of as many.
+STEPS_WITHIN, MOST_WITHIN = 8, 40
 
 
 #: What refers to an object from one class, by one field.
@@ -43,7 +44,7 @@ class Owners:
         seen = {at: {self.dump.id(at + 1)} for at in places}
         above = {at: set(ids) for at, ids in seen.items()}
         for _ in range(STEPS_ABOVE):
-            referrers = self._from_outside({target for targets in above.values() for target in targets})
+            referrers = self._from_outside([target for targets in above.values() for target in targets])
             for at in places:
                 step = [each for target in above[at] for each in referrers.get(target, ())]
                 step = step if len(step) <= MOST_OWNERS else []
@@ -52,10 +53,12 @@ class Owners:
                 seen[at] |= above[at]
         return owners
 
-    def _from_outside(self, targets: Set[int]) -> Dict[int, List[Referrer]]:
+    def _from_outside(self, targets: Sequence[int]) -> Dict[int, List[Referrer]]:
         """Returns what refers to each of these objects, and is held by something else; if that is known of none, those
-        of which it is not known. Many of one class and field are left out if there are others: these tell more."""
-        groups = self._groups(targets)
+        of which it is not known. Many of one class and field are left out if there are others: these tell more. Of the
+        first objects it is asked first."""
+        known = self._groups(set(targets))
+        groups = {target: known[target] for target in targets if target in known}
         several = [of_target for of_target in groups.values() if sum(map(len, of_target)) > 1]
         leads = self._leads([each for of_target in several for group in of_target for each in judged(group)])
         found: Dict[int, List[Referrer]] = {}

@@ -1,6 +1,6 @@
 """The objects of many by which a field holds what it holds: the instances that have it, or the elements of its list."""
 
-from typing import List, NamedTuple, Set
+from typing import Dict, Iterable, List, NamedTuple, Sequence, Set
 
 from heap_tools import hprof_format as hprof
 from heap_tools.candidates import FIELD, STATIC, Candidate
@@ -8,19 +8,39 @@ from heap_tools.changed_copy import Changes
 from heap_tools.heap_objects import FieldValue, HeapObjects
 
 
+#: Among how many objects it is asked at most which hold most: more of them would make each run read too many changes.
+MOST_OBJECTS = 100_000
+#: With how many other objects the names of an object are compared if only it has a value.
+OTHERS = 3
+
+
 class Parts(NamedTuple):
-    """Objects of a dump, each with the reference by which it holds something. `are_elements`: they are the elements of
-    a list, and the references are those of the list to them."""
+    """Objects of a dump, each with the reference by which it holds something. `others` are some that have the field,
+    but no value in it. `are_elements`: they are the elements of a list, and the references are those of the list to
+    them."""
 
     values: List[FieldValue]
+    others: Sequence[int] = ()
     are_elements: bool = False
 
 
-def instances(objects: HeapObjects, field: Candidate) -> Parts:
-    """Returns the instances whose `field` is not null. Walks over all objects."""
-    if field.kind != FIELD:
-        return Parts([])
-    return Parts([each for each in objects.values_of([field.name]) if objects.dump.id(each.value)])
+class FieldUses:
+    """Reads which instances of a dump have a value in a field, of several fields in one walk over all objects."""
+
+    def __init__(self, objects: HeapObjects) -> None:
+        self.objects = objects
+        self._known: Dict[str, Parts] = {}
+
+    def read(self, fields: Iterable[Candidate]) -> None:
+        """Reads the values in `fields` that are not known yet: of each some more than may be looked into at most."""
+        names = {each.name for each in fields if each.kind == FIELD} - set(self._known)
+        found = self.objects.values_by_field(names, MOST_OBJECTS + 1, OTHERS) if names else {}
+        self._known.update({name: Parts(each.values, each.nulls) for name, each in found.items()})
+
+    def of(self, field: Candidate) -> Parts:
+        """Returns the instances whose `field` is not null; none of a static field."""
+        self.read([field])
+        return self._known[field.name] if field.kind == FIELD else Parts([])
 
 
 def elements(objects: HeapObjects, field: Candidate, changes: Changes) -> Parts:

@@ -35,9 +35,16 @@ class Measure:
         self.probe, self.runs = probe, 0
         self._known: Dict[Tuple[int, ...], Amount] = {}
 
+    def know(self, group: Sequence[FieldValue], amount: Amount) -> None:
+        """Notes what a group holds."""
+        self._known[self._key(group)] = amount
+
+    def _key(self, group: Sequence[FieldValue]) -> Tuple[int, ...]:
+        return tuple(sorted(each.value for each in group))
+
     def amount(self, group: Sequence[FieldValue]) -> Amount:
         """Returns what a group holds."""
-        key = tuple(sorted(each.value for each in group))
+        key = self._key(group)
         if not key:
             return Amount()
         if key not in self._known:

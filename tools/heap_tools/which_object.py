@@ -1,18 +1,17 @@
 """Which objects of many hold most of what a field holds, or gained most of what it gained, and what names them."""
 
-from typing import Dict, FrozenSet, Iterator, List, NamedTuple, Sequence
+from typing import Dict, FrozenSet, Iterator, List, NamedTuple, Optional, Sequence
 
 from heap_tools.candidates import FIELD, STATIC
 from heap_tools.heap_objects import FieldValue, HeapObjects
 from heap_tools.object_names import Name, ObjectNames, alone_in
-from heap_tools.object_parts import Parts, elements, instances
+from heap_tools.object_parts import MOST_OBJECTS, FieldUses, Parts, elements
 from heap_tools.part_search import OF_ONE, Holding, Measure, PartSearch
 from heap_tools.probe import GrowthProbe, Probe, Retained
 from heap_tools.reports import Amount
 
-#: Among how many objects those are looked for that hold most: one object is no question, and more of them would make
-#: each run read too many changes.
-FEWEST_OBJECTS, MOST_OBJECTS = 2, 100_000
+#: Of how many objects it is asked at least which hold most: of one it is no question.
+FEWEST_OBJECTS = 2
 #: The share in percent that the named objects must have together: so they say more of the field than the others do.
 OF_ALL = 50
 
@@ -57,23 +56,26 @@ def sentence(field: str, found: Sequence[HoldingObject]) -> str:
 
 class PartsOfField:
     """The objects by which the field `held` holds what it holds in the dump that `probe` asks: the instances that have
-    it, or with `as_elements` the elements of its list."""
+    it and a value in it, or with `as_elements` the elements of its list. `uses` may know the values."""
 
-    def __init__(self, probe: Probe, held: Retained, as_elements: bool = False) -> None:
+    def __init__(
+        self, probe: Probe, held: Retained, as_elements: bool = False, uses: Optional[FieldUses] = None
+    ) -> None:
         self.probe, self.held = probe, held
-        self.objects = HeapObjects(probe.runs.dump)
+        self.objects, self.measure = HeapObjects(probe.runs.dump), Measure(probe)
         field = held.candidates[0]
         if as_elements:
             self.parts: Parts = elements(self.objects, field, probe.changes(field))
         else:
-            self.parts = instances(self.objects, field)
-        self.names, self.measure = ObjectNames(self.objects.dump), Measure(probe)
+            self.parts = (uses or FieldUses(self.objects)).of(field)
+            self.measure.know(self.parts.values, held.amount)
+        self.names = ObjectNames(self.objects.dump)
 
     @property
     def is_question(self) -> bool:
         """Tests whether there are several, not too many, and they hold no more than the field: elements that something
         else leads to do."""
-        if not FEWEST_OBJECTS <= len(self.parts.values) <= MOST_OBJECTS:
+        if self.count < FEWEST_OBJECTS or not 1 <= len(self.parts.values) <= MOST_OBJECTS:
             return False
         unit = self.probe.unit
         together = self.measure.amount(self.parts.values) if self.parts.are_elements else self.held.amount
@@ -87,9 +89,15 @@ class PartsOfField:
         return PartSearch(self.measure, self.parts.values, self.held.amount, whole, are_nested)
 
     @property
+    def count(self) -> int:
+        """Among how many objects it is asked. An instance without a value is one of them if only one has a value."""
+        count = len(self.parts.values)
+        return count if count > 1 or self.parts.are_elements else self.held.instances
+
+    @property
     def places(self) -> List[int]:
-        """Where the objects are."""
-        return [each.instance for each in self.parts.values]
+        """Where the objects are, and some that have the field, but no value in it."""
+        return [*(each.instance for each in self.parts.values), *self.parts.others]
 
     def class_of(self, at: int) -> str:
         """Returns the class of the object at `at`, without what tells hidden classes apart."""
@@ -109,41 +117,43 @@ class PartsOfField:
                 names[value.instance],
                 amount,
                 self.probe.unit.percent(amount, whole),
-                of=len(self.parts.values),
+                of=self.count,
                 is_element=self.parts.are_elements,
             )
             for value, amount in found
         ]
 
 
-def ways(probe: Probe, held: Retained) -> Iterator[PartsOfField]:
+def ways(probe: Probe, held: Retained, uses: Optional[FieldUses]) -> Iterator[PartsOfField]:
     """Yields the objects to look among: the instances that have the field of a line, then the elements of its list. A
     line with several fields, a local variable or threads has none."""
     if len(held.candidates) == 1 and held.candidates[0].kind in (FIELD, STATIC):
         for as_elements in (False, True):
-            found = PartsOfField(probe, held, as_elements)
+            found = PartsOfField(probe, held, as_elements, uses)
             if found.is_question:
                 yield found
 
 
-def objects_that_hold(probe: Probe, held: Retained) -> List[HoldingObject]:
+def objects_that_hold(probe: Probe, held: Retained, uses: Optional[FieldUses] = None) -> List[HoldingObject]:
     """Returns the objects that hold most of what the field `held` holds in one dump, the heaviest first. Returns
-    nothing if many hold a little each, or if it is no question about some of many objects."""
-    for parts in ways(probe, held):
+    nothing if many hold a little each, or if it is no question about some of many objects. `uses` may know the values
+    of the field."""
+    for parts in ways(probe, held, uses):
         found = parts.search(held.amount).find()
         if sum(probe.unit.percent(each.amount, held.amount) for each in found) >= OF_ALL:
             return [it._replace(least_gain=it.percent) for it in parts.described(found, held.amount)]
     return []
 
 
-def objects_that_grew(probe: GrowthProbe, held: Retained) -> List[HoldingObject]:
+def objects_that_grew(probe: GrowthProbe, held: Retained, uses: Optional[FieldUses] = None) -> List[HoldingObject]:
     """Returns the objects that gained most of what the field `held` gained, the heaviest first: with what they gained
     if that was measured in both dumps, else with what they hold now. Returns nothing if many gained a little each, if
-    it is not known which did, or if it is no question about some of many objects."""
+    it is not known which did, or if it is no question about some of many objects. `uses` may know the values of the
+    field in the later dump."""
     gain = probe.gain(held.candidates)
     if probe.unit.of(gain) <= 0:
         return []
-    every = (GrownParts(probe, held, parts, gain).find() for parts in ways(probe, held))
+    every = (GrownParts(probe, held, parts, gain).find() for parts in ways(probe, held, uses))
     return next(filter(None, every), [])
 
 

@@ -1,8 +1,8 @@
 """Tests the order of the lines of leaks alone: rows of features in, the answer out, a row for each rule and pair.
 
 A row is why, a colon, and lines, of which the answer has a star. In `A > B`, A holds all that B does. Words in
-parentheses after a name are what the line gained of 1,000, its instances before and now as `2..9`, and others; all else
-is as in `SPOKEN`."""
+parentheses after a name are what the line gained of 1,000, its instances before and now as `2..9`, of `9/99` now nine
+with a value, and others; all else is as in `SPOKEN`."""
 
 import unittest
 from typing import Any, Dict, List, NamedTuple, Sequence, Set, Tuple
@@ -32,6 +32,8 @@ rule 1, not what is large: *static shop/A.a (600), static shop/B.b (400 large)
 rule 1, new instances do not count: *static shop/A.a (400), shop/Order.text (10..110)
 rule 1, each of many gained, and some came: *shop/A.a (900 100..110), static shop/B.b (400)
 rule 1, few came, which would have held nothing: *shop/A.a (900 2..8 null), static shop/B.b (400)
+rule 1, many came, of which few have a value: *shop/A.a (900 2..6/99 null), static shop/B.b (400)
+rule 1, many came, and many have a value: shop/A.a (900 2..65/99 null), *static shop/B.b (400)
 rule 1, few came, which would have held as much: shop/A.a (700 1..8), *static shop/B.b (400)
 rule 1, it was null: *static shop/A.a (600 0..1 null), static shop/B.b (400)
 rule 1, it had no instance: shop/A.a (900 0..9 null), *static shop/B.b (400)
@@ -81,9 +83,11 @@ rules 3 and 4, below a collection half: static shop/A.STORE > java/util/HashMap.
 #: Rows of one dump.
 OF_ONE_DUMP = """
 the deepest: static shop/A.STORE > *shop/Store.map
-nearly as much, and a name that says more: *static shop/A.a (900), java/lang/Text.value (0..9)
 few instances: static shop/A.STORE > *shop/Pool.list (0..64)
 many instances: *static shop/A.STORE > shop/Order.text (0..65)
+many instances, of which few have a value: static shop/A.STORE > *shop/Order.text (0..64/500)
+many instances, of which some have a value: *static shop/A.STORE > shop/Order.text (0..65/500)
+nearly as much, and a name that says more: *static shop/A.a (900), java/lang/Text.value (0..9)
 many instances, of which one holds most: static shop/A.STORE > *shop/Tenant.inbox (0..500 one)
 nothing has few instances: *shop/A.a (0..100) > shop/B.b (900 0..100)
 """
@@ -96,9 +100,13 @@ def line(name: str, words: str, depth: int) -> Features:
     known["kinds"] = (kind if kind in (STATIC, LOCAL, THREAD, THREADS) else FIELD,)
     for word in words.split():
         was, dots, now = word.partition("..")
-        more = {"instances_before": int(was), "instances": int(now)} if dots else SPOKEN.get(word)
+        more = SPOKEN.get(word)
+        if dots:
+            with_value, instances = now.split("/") if "/" in now else (now, now)
+            more = {"instances_before": int(was), "with_value": int(with_value), "instances": int(instances)}
         known.update({"gain": int(word)} if more is None else more)
     gain = known.pop("gain")
+    known.setdefault("with_value", known["instances"])
     known.setdefault("gains", {"shop/Order": gain})
     is_collection = name.startswith("java/util/")
     return Features(

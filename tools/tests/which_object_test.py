@@ -6,7 +6,7 @@ import unittest
 from typing import Dict, List, Optional, Sequence, Tuple
 
 from heap_tools.heap_objects import HeapObjects
-from heap_tools.object_parts import instances
+from heap_tools.object_parts import FieldUses
 from heap_tools.part_search import MOST_RUNS, OF_ONE, PartSearch
 from heap_tools.reports import Amount
 from heap_tools.which_object import (
@@ -119,6 +119,26 @@ class HoldsTest(unittest.TestCase):
         for group in (both, probe.candidates.locals(), probe.candidates.threads()):
             self.assertEqual(objects_that_hold(probe, probe.retained(group)), [])
 
+    def test_one_value(self) -> None:
+        """If only one of several instances has a value in the field, it is named without a run, by what the others do
+        not have."""
+        dump = Queues([7] * 5)
+        dump.of_class(20, "shop/Channel", {"ALL": 600}, fields=["name", "host", "unsent"])
+        dump.of_class(21, "[Lshop/Channel;")
+        dump.array(600, 21, *range(601, 606))
+        dump.string(620, "localhost")
+        for number in range(601, 606):
+            dump.string(number + 10, f"channel {number}")
+            dump.instance(number, 20, number + 10, 620, 630 if number == 603 else 0)
+        dump.values(630, BYTE, bytes(5_000))
+        dump.root(20)
+        probe = probe_of(dump)
+        held = held_by(probe, "shop/Channel.unsent")
+        runs = probe.runs.heapmark.runs
+        words = said("shop/Channel.unsent", objects_that_hold(probe, held))
+        wanted = '1 of 5 shop/Channel.unsent holds most: shop/Channel (its field name "channel 603"): 100%'
+        self.assertEqual((words, probe.runs.heapmark.runs), (wanted, runs))
+
     def test_elements(self) -> None:
         """Of a list that one static field or one instance has, the elements are looked at: also of a list's array."""
         wanted = 'holds most: shop/Queue (its field name "queue 2"): 9*%'
@@ -153,7 +173,7 @@ class HoldsTest(unittest.TestCase):
             dump.root(3)
             probe = probe_of(dump)
             held = held_by(probe, "a/A.a")
-            values = instances(HeapObjects(probe.runs.dump), held.candidates[0]).values
+            values = FieldUses(HeapObjects(probe.runs.dump)).of(held.candidates[0]).values
             self.assertEqual([probe.runs.dump.id(each.value) for each in values], [400, 401, 402])
             (found,) = objects_that_hold(probe, held)
             self.assertEqual(found.amount.bytes, 9_000)

@@ -84,10 +84,11 @@ and the last are asked what the lines held; of others only the reports are used.
 
 Of one dump, the columns are the objects and bytes that are held, their share of
 all that is reachable, and the number of instances. The score of a line is what
-it holds, unless it has more than 64 instances of which no one holds most. The
-second line is beside the first: something else may leak, too. Messages say how
-full the heap is, which object holds most, what is in it, and in which methods
-memory ran out: of an unlucky thread, which need not be the cause.
+it holds, unless more than 64 instances have a value in the field, of which no
+one holds most. The second line is beside the first: something else may leak,
+too. Messages say how full the heap is, which object holds most, what is in it,
+and in which methods memory ran out: of an unlucky thread, which need not be the
+cause.
 
 How it is found, and what holds a class in one dump, from a share of 10% on: see
 holders. All that a field holds: see held. Which classes grew: see grown. What
