@@ -3,17 +3,24 @@
 What a part of a group holds is never more than what the group holds. So a group that holds too little now is left, and
 each part of any other group is looked into: what holds enough alone is found. What a group *gained* between two dumps
 bounds nothing, since a part that shrank cancels one that grew; it is asked only of what is found to hold enough.
+
+Static fields that hold much, and of no class more or less than before, are cut while fields are searched: what fields
+gained below them only moved there. So the fields of a large steady catalog hold nothing, and are not looked into.
 """
 
 from typing import Iterator, List, Sequence
 
-from heap_tools.candidates import Candidate
+from heap_tools.candidates import STATIC, Candidate
 from heap_tools.probe import Probe, Retained
+from heap_tools.reports import Amount
 from heap_tools.search_progress import SearchProgress
 
 #: Up to how many questions, to all dumps, fields are looked into; those with the fewest instances come first. Of a heap
 #: that is many times as large as its growth, hundreds of fields hold as much as the growth, and did not gain it.
 MOST_QUESTIONS = 300
+
+#: The part of the least share up to which what a static field holds may differ from before, in all classes together.
+HARDLY_ANY = 0.1
 
 #: What is tried as one: a candidate, or several that may hold something together.
 Tried = Sequence[Candidate]
@@ -28,6 +35,8 @@ class Search:
         self.probe, self.at_least, self.progress = probe, at_least, progress
         self.found: List[Retained] = []
         self.steady: List[Retained] = []
+        #: The static fields that are cut while fields are searched.
+        self.aside: List[Candidate] = []
         self.all = self.left = self.omitted = 0
 
     def find(self, fields: Sequence[Candidate]) -> None:
@@ -41,7 +50,17 @@ class Search:
             self.look_in(candidates.threads())
             if len(self.found) == known:
                 self.look_in(candidates.threads_alike())
+        self.aside = [each for held in self.steady if self.is_unchanged(held) for each in held.candidates]
         self.look_in(fields)
+
+    def is_unchanged(self, held: Retained) -> bool:
+        """Tests whether static fields hold of no class more or less than before, but for a little."""
+        if any(each.kind != STATIC for each in held.candidates):
+            return False
+        unit, was = self.probe.unit, self.probe.before(held.candidates).lost
+        both = [(held.lost.get(name, Amount()), was.get(name, Amount())) for name in {**held.lost, **was}]
+        changed = sum(abs(unit.of(now) - unit.of(before)) for now, before in both)
+        return 100 * changed < HARDLY_ANY * self.at_least * unit.of(self.probe.growth)
 
     def look_in(self, group: Sequence[Candidate]) -> None:
         """Finds those of `group` that hold enough, own ones first, and notes whether they have the share."""
@@ -72,10 +91,12 @@ class Search:
         return self.bound([group]) >= self.at_least
 
     def bound(self, units: Sequence[Tried]) -> float:
-        """Returns the share that no part of `units` exceeds."""
+        """Returns the share that no part of `units` exceeds, beside what is cut."""
         self.note()
         every = [candidate for unit in units for candidate in unit]
-        return self.probe.bound(every) if every else 0.0
+        if not every:
+            return 0.0
+        return self.probe.bound([*every, *self.aside]) - (self.probe.bound(self.aside) if self.aside else 0.0)
 
     def note(self) -> None:
         """Notes how many candidates are still to be tried, and what was found last."""

@@ -85,6 +85,25 @@ class SearchTest(unittest.TestCase):
         self.assertEqual(len(search.found) + len(search.steady) + search.omitted, 500)
         self.assertGreater(len(search.steady), 50)
 
+    def test_unchanged(self) -> None:
+        """What hangs by a static field that holds as much as before is not looked into: a field that gained there took
+        it from another one. If the static field holds more, or less, each field is tried."""
+        catalog = Candidate(STATIC, "app/Catalog.ALL", 1, {})
+        fields = [field(f"app/A.{number:02}", number) for number in range(64)]
+        below = [each.name for each in fields[::2]]
+        for was, aside, found in ((900, 1, ["app/A.33"]), (898, 1, ["app/A.33"]), (897, 0, None), (903, 0, None)):
+            grown: Things = [([["app/A.33"]], 100)]
+            moved = [([["app/Catalog.ALL"], below[:16]], was), ([["app/Catalog.ALL"], *([it] for it in below)], 900)]
+            probe = ToldGains(moved[:1], [*moved[1:], *grown])
+            probe.candidates = mock.Mock(wraps=candidates_of([catalog]))
+            probe.candidates.locals.return_value = []
+            search = Search(probe, 30, mock.Mock())
+            search.find(fields)
+            self.assertEqual(len(search.aside), aside, was)
+            names = [str(held.candidates[0]) for held in search.found]
+            self.assertEqual(names, found or sorted([*below, "app/A.33"]), was)
+            self.assertEqual(probe.questions < 20, aside, was)
+
 
 def candidates_of(statics: Sequence[Candidate]) -> Any:
     """Returns the candidates of a dump with these static fields, in which threads hold nothing."""
@@ -300,15 +319,28 @@ class RandomTest(unittest.TestCase):
         return sorted(str(each) for each in found if each.kind != THREADS)
 
     def test_all_found(self) -> None:
-        """All that gained enough alone are found, and none too many."""
-        some = 0
+        """All that gained enough alone are found, and none too many. Only fields are left out, of which all that is not
+        below static fields that hold as much as before is too little to have been gained."""
+        some = moved = 0
         for seed, probe in self.pairs(PAIRS):
             every = [each for each in self.candidates(probe) if probe.share([each]) >= AT_LEAST]
             search = self.searched(probe)
-            self.assertEqual(self.alone(search), sorted(map(str, every)), seed)
+            found = [each for each in every if each.kind != FIELD or self.beside(probe, each, search) >= AT_LEAST]
+            self.assertEqual(self.alone(search), sorted(map(str, found)), seed)
             self.assertTrue(all(probe.share(held.candidates) >= AT_LEAST for held in search.found), seed)
-            some += len(every)
+            self.assertTrue(all(abs(probe.share([each])) < AT_LEAST / 10 for each in search.aside), seed)
+            some, moved = some + len(every), moved + len(every) - len(found)
         self.assertGreater(some, PAIRS)
+        self.assertLess(moved, some / 20)
+
+    def beside(self, probe: GrowthProbe, field: Candidate, search: Search) -> float:
+        """Returns the share in percent of the objects that a field holds, but not the static fields that are cut."""
+        assert isinstance(probe.runs, MarkedRuns)
+        changes: Changes = {}
+        for each in search.aside:
+            changes.update(each.changes)
+        objects = probe.runs.lost({**changes, **field.changes}) - (probe.runs.lost(changes) if changes else set())
+        return 100 * probe.runs.marker.report(objects).reachable.bytes / probe.growth.bytes
 
     def test_top(self) -> None:
         """Fewer lines are the first of all lines, and the others are counted."""
