@@ -13,7 +13,7 @@ from heap_tools.reports import Amount
 from heap_tools.search import Search
 from heap_tools.search_progress import SearchProgress
 from heap_tools.search_together import SearchTogether
-from heap_tools.which_object import HoldingObject, objects_that_grew, objects_that_hold
+from heap_tools.which_object import HoldingObject, objects_that_grew, objects_that_hold, tell_apart
 
 
 class Line(NamedTuple):
@@ -80,7 +80,7 @@ class Lines:
                 of_one = objects[0].of_gain / 100
                 self.features[number] = dataclasses.replace(self.features[number], of_one=of_one)
                 return LineObjects(0, self.every[number], objects)
-            if objects and several is None:
+            if several is None and tell_apart(objects):
                 several = LineObjects(0, self.every[number], objects)
         return several
 

@@ -104,4 +104,5 @@ class Search:
         if self.found:
             candidates = self.found[-1].candidates
             found = f"{candidates[0]}, {self.probe.share(candidates):.0f}%"
-        self.progress.note(self.left, self.all, found)
+        # What is asked together was counted alone before.
+        self.progress.note(max(0, self.left), self.all, found)

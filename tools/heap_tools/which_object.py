@@ -54,6 +54,12 @@ def sentence(field: str, found: Sequence[HoldingObject]) -> str:
     return f"{len(found)} of {first.of:,} {what} {hold}{' most' * are_most}: {'; '.join(map(str, found))}"
 
 
+def tell_apart(found: Sequence[HoldingObject]) -> bool:
+    """Tests whether objects that hold much say more than that there are some: that others hold little, or by names
+    which of them they are."""
+    return bool(found) and (len(found) < found[0].of or any(each.names for each in found))
+
+
 class PartsOfField:
     """The objects by which the field `held` holds what it holds in the dump that `probe` asks: the instances that have
     it and a value in it, or with `as_elements` the elements of its list. `uses` may know the values."""

@@ -4,7 +4,7 @@ made at random, where each candidate is also cut alone."""
 import os
 import tempfile
 import unittest
-from typing import Any, Dict, FrozenSet, Iterator, List, Sequence, Tuple
+from typing import Any, Dict, FrozenSet, Iterator, List, Sequence, Tuple, cast
 from unittest import mock
 
 from heap_tools.candidates import FIELD, LOCAL, STATIC, THREAD, THREADS, Candidate, Candidates, joint_name
@@ -121,11 +121,14 @@ class KinTest(unittest.TestCase):
         """Searches `fields` with few holders after `known` was found, and returns what was found together, and how much
         was asked."""
         probe = ToldGains([], things)
-        search = Search(probe, 30, mock.Mock())
+        search = Search(probe, 30, mock.Mock(spec=SearchProgress))
         probe.candidates = candidates_of([])
         search.found = [probe.retained(group) for group in known]
         probe.asked.clear()
         SearchTogether(search).find_few(fields)
+        # How many fields are said to be left is never below zero.
+        notes = cast(mock.Mock, search.progress.note).call_args_list
+        self.assertFalse([it for it in notes if it[0][0] < 0])
         return [joint_name(held.candidates) for held in search.found[len(known) :]], len(probe.asked)
 
     def test_of_class(self) -> None:

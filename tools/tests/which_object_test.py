@@ -17,6 +17,7 @@ from heap_tools.which_object import (
     objects_that_grew,
     objects_that_hold,
     sentence,
+    tell_apart,
 )
 from tests.support.dump_writer import BYTE, OBJECT, DumpWriter
 from tests.support.marked import growth_of, held_by, probe_of
@@ -152,6 +153,17 @@ class HoldsTest(unittest.TestCase):
             for dump, field in ((in_list, "shop/Shop.queues"), (Queues(sizes, id_size), "shop/Queues.ALL")):
                 words = said(field, self.holding(dump, field))
                 self.assertTrue(fnmatch.fnmatchcase(words, f"1 of 6 elements of {field} {wanted}"), words)
+
+    def test_tell_apart(self) -> None:
+        """All of several objects that no name tells apart say nothing; some of them do, and all with names."""
+        for sizes, names, wanted in (
+            ([5_000] * 4, [None] * 4, False),
+            ([5_000] * 4 + [9], [None] * 5, True),
+            ([5_000] * 4, list("abcd"), True),
+        ):
+            found = self.holding(Queues(sizes, names=names))
+            self.assertEqual((len(found), tell_apart(found)), (4, wanted))
+        self.assertFalse(tell_apart([]))
 
     def test_equal_elements(self) -> None:
         """Of a list of equal elements none is named."""
