@@ -156,11 +156,13 @@ class HoldsTest(unittest.TestCase):
 
     def test_tell_apart(self) -> None:
         """All of several objects that no name tells apart say nothing; some of them do, and all with names."""
-        for sizes, names, wanted in (
+        cases: List[Tuple[List[int], List[Optional[str]], bool]]
+        cases = [
             ([5_000] * 4, [None] * 4, False),
             ([5_000] * 4 + [9], [None] * 5, True),
-            ([5_000] * 4, list("abcd"), True),
-        ):
+            ([5_000] * 4, [*"abcd"], True),
+        ]
+        for sizes, names, wanted in cases:
             found = self.holding(Queues(sizes, names=names))
             self.assertEqual((len(found), tell_apart(found)), (4, wanted))
         self.assertFalse(tell_apart([]))
