@@ -22,7 +22,7 @@ MOST = 0.5
 NEARLY = 0.9
 #: The part of the growth that the best score must be: with less, too little of it is in what was there before.
 LASTS = 0.25
-#: Up to how many instances with a value can be few that hold much each, such as pools. Most accumulation points have one.
+#: Up to how many instances with a value can be few that hold much each, such as pools. Most answers have one.
 FEW = 64
 #: The part of all objects that were gained which a class must have to show that they did not move.
 LARGE_CLASS = 0.1
@@ -86,8 +86,8 @@ class Features:
 
     @property
     def says(self) -> int:
-        """How much its name says of what it is for: `OF_PROGRAM`, 2 of the JDK, 1 if several hold it only together, 0 of
-        a collection, a variable of a lambda or a thread."""
+        """How much its name says of what it is for: `OF_PROGRAM`, 2 of the JDK, 1 if several hold it only together, 0
+        of a collection, a variable of a lambda or a thread."""
         if self.is_joint or self.is_collection or self.is_thread or "$$Lambda" in self.name:
             return int(self.is_joint)
         return OF_PROGRAM if self.is_own else 2

@@ -19,8 +19,8 @@ from heap_tools.search_progress import SearchProgress
 #: that is many times as large as its growth, hundreds of fields hold as much as the growth, and did not gain it.
 MOST_QUESTIONS = 300
 
-#: The part of the least share up to which what a static field holds may differ from before, in all classes together.
-HARDLY_ANY = 0.1
+#: The part of the least share up to which what static fields hold may differ from before, in all classes together.
+UNCHANGED = 0.1
 
 #: What is tried as one: a candidate, or several that may hold something together.
 Tried = Sequence[Candidate]
@@ -50,8 +50,14 @@ class Search:
             self.look_in(candidates.threads())
             if len(self.found) == known:
                 self.look_in(candidates.threads_alike())
-        self.aside = [each for held in self.steady if self.is_unchanged(held) for each in held.candidates]
+        self.aside = self.unchanged()
         self.look_in(fields)
+
+    def unchanged(self) -> List[Candidate]:
+        """Returns the static fields that hold as much as before, if they do so together, too: else what grew is held by
+        several of them, and by none alone."""
+        found = [each for held in self.steady if self.is_unchanged(held) for each in held.candidates]
+        return found if found and self.is_unchanged(self.probe.retained(found)) else []
 
     def is_unchanged(self, held: Retained) -> bool:
         """Tests whether static fields hold of no class more or less than before, but for a little."""
@@ -60,7 +66,7 @@ class Search:
         unit, was = self.probe.unit, self.probe.before(held.candidates).lost
         both = [(held.lost.get(name, Amount()), was.get(name, Amount())) for name in {**held.lost, **was}]
         changed = sum(abs(unit.of(now) - unit.of(before)) for now, before in both)
-        return 100 * changed < HARDLY_ANY * self.at_least * unit.of(self.probe.growth)
+        return 100 * changed < UNCHANGED * self.at_least * unit.of(self.probe.growth)
 
     def look_in(self, group: Sequence[Candidate]) -> None:
         """Finds those of `group` that hold enough, own ones first, and notes whether they have the share."""

@@ -95,14 +95,30 @@ class SearchTest(unittest.TestCase):
             grown: Things = [([["app/A.33"]], 100)]
             moved = [([["app/Catalog.ALL"], below[:16]], was), ([["app/Catalog.ALL"], *([it] for it in below)], 900)]
             probe = ToldGains(moved[:1], [*moved[1:], *grown])
-            probe.candidates = mock.Mock(wraps=candidates_of([catalog]))
-            probe.candidates.locals.return_value = []
-            search = Search(probe, 30, mock.Mock())
-            search.find(fields)
+            search = searched(probe, [catalog], fields)
             self.assertEqual(len(search.aside), aside, was)
             names = [str(held.candidates[0]) for held in search.found]
             self.assertEqual(names, found or sorted([*below, "app/A.33"]), was)
             self.assertEqual(probe.questions < 20, aside, was)
+
+    def test_unchanged_together(self) -> None:
+        """Of static fields that hold as much as before each, but more together, none is cut: both lead to what grew."""
+        statics = [Candidate(STATIC, f"app/Catalog.{name}", 1, {}) for name in "ab"]
+        kept: Things = [([[each.name]], 900) for each in statics]
+        for way, aside, found in (["app/Catalog.a", "app/Catalog.b"], 0, ["app/A.0"]), (["app/A.0"], 2, ["app/A.0"]):
+            probe = ToldGains(kept, [*kept, ([way, ["app/A.0"]], 100)])
+            search = searched(probe, statics, [field(f"app/A.{number}") for number in range(9)])
+            self.assertEqual(len(search.aside), aside)
+            self.assertEqual([str(held.candidates[0]) for held in search.found], found)
+
+
+def searched(probe: ToldGains, statics: Sequence[Candidate], fields: Sequence[Candidate]) -> Search:
+    """Searches a dump with these static fields, and `fields`."""
+    probe.candidates = mock.Mock(wraps=candidates_of(statics))
+    probe.candidates.locals.return_value = []
+    search = Search(probe, 30, mock.Mock())
+    search.find(fields)
+    return search
 
 
 def candidates_of(statics: Sequence[Candidate]) -> Any:
