@@ -7,17 +7,17 @@ HISTOGRAM is what `jcmd PID GC.class_histogram` printed; other lines before and 
 FillerElement, which fill gaps in the heap, are arrays of int in a dump.
 
 Prints a line of a table: the dump, the layout that was found (alignment, headers of instances and of arrays, bytes of a
-reference), how many classes have as many objects in both, of how many; the bytes of these classes in the heap, as a
-part of those in the histogram; the same of all classes; how many of the classes that have as many objects are off by
-more than 1%; and the seconds and the megabytes of memory that finding the layout took. Then a line for each class that
-is off. Exit status 1 if the whole is off by more than 0.3%, or more than one class in a hundred is.
-
-All classes together are less than in the histogram if the heap has class objects that were not loaded: a dump has not.
+reference), how many classes have as many objects in both, of how many; the bytes of all objects of the dump, as a part
+of those in the histogram; the class objects that the dump lacks, but refers to, and the part with these; how many of the
+classes that have as many objects are off by more than 1%; and the seconds and the megabytes of memory that finding the
+layout took. Then a line for each class that is off, and one for each that has not as many objects. Exit status 1 if all
+together, with what the dump lacks, are off by more than 0.3%, or more than one class in a hundred is.
 """
 
 from __future__ import annotations
 
 import argparse
+import os
 import pathlib
 import re
 import sys
@@ -31,10 +31,11 @@ sys.path.insert(0, str(TOP / "tools"))
 
 from heap_tools.heap_dump import HeapDump  # noqa: E402
 from heap_tools.heap_layout import UnknownLayout  # noqa: E402
-from heap_tools.heap_sizes import in_rows_of_histogram  # noqa: E402
+from heap_tools.heap_sizes import CLASS_OBJECTS, in_rows_of_histogram  # noqa: E402
 from heap_tools.object_sizes import ObjectSizes  # noqa: E402
 from heap_tools.object_totals import totals_of  # noqa: E402
 from heap_tools.reports import Amount, read_histogram  # noqa: E402
+from heap_tools.unloaded_classes import unloaded_classes  # noqa: E402
 
 #: The most by which the whole may be off, and a class, and the part of the classes that may be.
 WHOLE, ONE, PART = 0.003, 0.01, 0.01
@@ -80,17 +81,30 @@ class PeakMemory(threading.Thread):
         return self.most // 1024
 
 
-def compared(here: dict[str, Amount], there: dict[str, Amount]) -> tuple[str, list[str], bool]:
-    """Returns the columns of a comparison, the lines of the classes that are off, and whether it is good."""
-    same = [name for name, amount in there.items() if here.get(name, Amount()).objects == amount.objects]
+def processor_seconds() -> float:
+    """Returns what this process and those that it started have taken of processors."""
+    return sum(os.times()[:4])
+
+
+def compared(dumped: dict[str, Amount], omitted: Amount, there: dict[str, Amount]) -> tuple[str, list[str], bool]:
+    """Returns the columns of a comparison, the lines of the classes that are off or have not as many objects, and whether
+    it is good. `omitted`: the class objects that the dump lacks."""
+    here = {**dumped, CLASS_OBJECTS: dumped[CLASS_OBJECTS].plus(omitted)}
+    names = [name for name in {**there, **here} if max(*there.get(name, Amount()), *here.get(name, Amount()))]
+    same = [name for name in there if here.get(name, Amount()).objects == there[name].objects]
     off = [name for name in same if abs(here[name].bytes - there[name].bytes) > ONE * there[name].bytes]
-    part = sum(here[name].bytes for name in same) / sum(there[name].bytes for name in same)
-    whole = sum(each.bytes for each in here.values()) / sum(each.bytes for each in there.values())
-    lines = [
-        f"    {name}: {here[name].objects} objects, {here[name].bytes} and {there[name].bytes} bytes" for name in off
-    ]
+    whole = sum(each.bytes for each in there.values())
+    without, part = (sum(each.bytes for each in some.values()) / whole for some in (dumped, here))
+    lines = [line_of(name, here, there) for name in [*off, *(each for each in names if each not in same)]]
     is_good = abs(part - 1) <= WHOLE and len(off) <= PART * len(same)
-    return f"| {len(same)} of {len(there)} | {part:.5f} | {whole:.5f} | {len(off)} |", lines, is_good
+    columns = f"{len(same)} of {len(there)} | {without:.5f} | {omitted.objects} | {part:.5f} | {len(off)}"
+    return f"| {columns} |", lines, is_good
+
+
+def line_of(name: str, here: dict[str, Amount], there: dict[str, Amount]) -> str:
+    """Returns the line of a class."""
+    (objects, taken), (counted, measured) = here.get(name, Amount()), there.get(name, Amount())
+    return f"    {name}: {objects} and {counted} objects, {taken} and {measured} bytes"
 
 
 def main() -> int:
@@ -102,16 +116,18 @@ def main() -> int:
     name = pathlib.Path(options.dump).stem
     with open(options.dump, "rb") as file:
         dump = HeapDump(file)
-        peak, began, used = PeakMemory(), time.monotonic(), time.process_time()
+        peak, began, used = PeakMemory(), time.monotonic(), processor_seconds()
         try:
             sizes = ObjectSizes(dump)
         except UnknownLayout as unknown:
             print(f"| {name} | {unknown} |")
             return 1
-        took = f"{time.monotonic() - began:.1f} s, {time.process_time() - used:.1f} s of a processor"
+        took = f"{time.monotonic() - began:.1f} s, {processor_seconds() - used:.1f} s of processors"
         memory = peak.megabytes()
         here = in_rows_of_histogram({each: total.taken for each, total in totals_of(dump, sizes).items()})
-    columns, lines, is_good = compared(here, histogram_of(options.histogram))
+        there = histogram_of(options.histogram)
+        omitted = unloaded_classes(dump, sizes.is_ascending, there[CLASS_OBJECTS].objects)
+    columns, lines, is_good = compared(here, omitted, there)
     layout = sizes.layout
     numbers = f"{layout.alignment}, {layout.header}, {layout.array_header}, {layout.reference}"
     print(f"| {name} | {numbers} {columns} {took}, {memory} MB |")

@@ -1,7 +1,7 @@
 #!/usr/bin/env bash
 # Compares what the tools say that objects take in the heap with the virtual machine's own histogram of the same moment.
 #
-# usage: bench/sizes.sh [DIR [MEGABYTES]]
+# usage: bench/sizes.sh [DIR [MEGABYTES [PATTERN]]]
 #
 # Dumps bench/java/Filler.java with 40 MB by each collector and mode that Java has; without compressed references, or
 # classes; with objects at multiples of 16 bytes; with compact object headers; from Java 21 on 3,000 parked virtual
@@ -10,14 +10,14 @@
 # others.
 #
 # DIR (/tmp/heapmark-sizes) gets the dumps with their histograms; those that are there are not made again, and each dump
-# NAME.hprof in DIR with a NAME.histogram is compared. HEAP_SIZES_KEEP=no: a dump with MEGABYTES is removed once it was
-# compared.
+# NAME.hprof in DIR with a NAME.histogram is compared. PATTERN: only dumps whose names match it, such as '*-g1'.
+# HEAP_SIZES_KEEP=no: a dump with MEGABYTES is removed once it was compared.
 set -euo pipefail
 
 top=$(cd "$(dirname "$0")/.." && pwd)
 # shellcheck source=bench/machine.sh
 . "$top/bench/machine.sh"
-room=${1:-/tmp/heapmark-sizes} large=${2:-500}
+room=${1:-/tmp/heapmark-sizes} large=${2:-500} pattern=${3:-*}
 require_number MEGABYTES "$large"
 mkdir -p "$room/classes"
 status=0
@@ -43,35 +43,32 @@ dumped() {
     ended
 }
 
-# compared NAME: prints the line of a dump.
+# compared NAME OPTION.. PROGRAM NUMBER: makes a dump, unless it is there, and prints its line.
 compared() {
+    # shellcheck disable=SC2053 # a pattern, not a text
+    [[ $1 == $pattern ]] || return 0
+    dumped "$@"
     "$top/bench/size_figures.py" "$room/$1.hprof" "$room/$1.histogram" || status=1
 }
 
-# filler NAME OPTION..: dumps and compares Filler with 40 MB, if the virtual machine takes the options.
+# filler NAME OPTION..: compares Filler with 40 MB, if the virtual machine takes the options.
 filler() {
     local name=j$number-$1
     shift
-    if accepts "$@"; then
-        dumped "$name" -Xmx700m "$@" Filler 40
-        compared "$name"
-    fi
+    ! accepts "$@" || compared "$name" -Xmx700m "$@" Filler 40
 }
 
-# large NAME OPTION..: dumps and compares Filler with many megabytes.
+# large NAME OPTION..: compares Filler with many megabytes.
 large() {
     local name=j$number-$1
     shift
-    if accepts "$@"; then
-        dumped "$name" "-Xmx$((large * 5 / 2))m" "$@" Filler "$large"
-        compared "$name"
-        [ "${HEAP_SIZES_KEEP:-yes}" = yes ] || rm -f "$room/$name.hprof"
-    fi
+    ! accepts "$@" || compared "$name" "-Xmx$((large * 5 / 2))m" "$@" Filler "$large"
+    [ "${HEAP_SIZES_KEEP:-yes}" = yes ] || rm -f "$room/$name.hprof"
 }
 
 number=$(version)
 "${java}javac" -encoding UTF-8 -d "$room/classes" "$top/bench/java/Filler.java"
-printf '| Dump | Layout | Classes | Bytes | All bytes | Off | Took |\n|---|---|---|---|---|---|---|\n'
+printf '| Dump | Layout | Classes | In the dump | Omitted | With these | Off | Took |\n|---|---|---|---|---|---|---|---|\n'
 filler g1 -XX:+UseG1GC
 filler serial -XX:+UseSerialGC
 filler parallel -XX:+UseParallelGC
@@ -86,8 +83,7 @@ filler compact -XX:+UseCompactObjectHeaders
 filler compact-z -XX:+UseCompactObjectHeaders -XX:+UseZGC
 if [ "$number" -ge 21 ]; then
     "${java}javac" -encoding UTF-8 -d "$room/classes" "$top/bench/java/newer/Virtual.java"
-    dumped "j$number-virtual" -Xmx700m Virtual 3000
-    compared "j$number-virtual"
+    compared "j$number-virtual" -Xmx700m Virtual 3000
 fi
 large large-g1 -XX:+UseG1GC
 large large-z -XX:+UseZGC

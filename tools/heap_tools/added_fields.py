@@ -75,17 +75,20 @@ class _Additions:
     def _added(self, class_id: int, inherited: int) -> int:
         """Returns how many bytes are added to the objects of a class, given how many to those of its superclass."""
         seen, aligned = self.seen.get(class_id, []), self.layout.aligned
-        least = min((each.gap - aligned(each.plain + inherited) for each in seen), default=0)
-        if least <= 0:
-            return inherited
+        least = min((each.gap - aligned(each.plain + inherited) for each in seen), default=-1)
         has_fields = self.dump.names[class_id] in WITH_ADDED_FIELDS
+        if least < 0 or least == 0 and not has_fields:
+            return inherited
         kinds = {each.class_id for each in seen}
         if not has_fields and class_id not in kinds and len(kinds) == 1:
             return inherited  # what one subclass shows is its own
         added, votes = _most_agreed(seen, self.layout.alignment)
         count = sum(each.objects for each in seen)
+        if least == 0:  # alignment hides it in some subclasses
+            votes -= sum(each.objects for each in seen if each.gap == aligned(each.plain + inherited))
+            return max(added, inherited) if votes >= SOME_ADDED else inherited
         enough = votes >= MANY_ADDED and self.is_ascending or votes >= SOME_ADDED and (least >= ROOM or has_fields)
-        is_certain = least < aligned(self.layout.header) or has_fields and least <= WORD
+        is_certain = least < aligned(self.layout.header) or has_fields and least <= max(WORD, self.layout.alignment)
         is_shown = is_certain or enough and votes > MAJORITY * count
         return added if added > inherited and is_shown else inherited
 

@@ -93,11 +93,13 @@ def sizes_fields(
 ) -> JsonObject:
     """Returns the fields of the document of `sizes`: the classes or packages that are shown, and the number of the
     others."""
-    whole = class_size_entry(sizes.whole)
     return {
         "file": dump_entry(runs),
         "layout": sizes.layout and sizes.layout._asdict(),
-        **{name: whole[name] for name in ("all", "reachable", "unreachable")},
+        "all": amount_entry(sizes.every),
+        "reachable": amount_entry(sizes.in_dump.reachable),
+        "unreachable": amount_entry(sizes.in_dump.unreachable),
+        "omitted": amount_entry(sizes.omitted),
         "waiting_stacks": amount_entry(sizes.stacks),
         "packages" if is_by_package else "classes": [class_size_entry(each) for each in shown],
         "hidden": hidden,

@@ -48,8 +48,9 @@ WITH_ADDED_FIELDS = frozenset(
     )
 )
 #: The parts of the file, or ranges of addresses, that are read at most for the sake of special objects; how many class
-#: objects are such; and how many bytes at both ends of the heap are searched for an object of a class.
-MOST_SPECIAL, SOME_CLASSES, SEARCHED = 20, 8, 32 << 20
+#: objects are such; how many objects of a class with added fields are enough; and how many bytes at both ends of the
+#: heap are searched for objects of such a class.
+MOST_SPECIAL, SOME_CLASSES, ENOUGH, SEARCHED = 20, 8, 3, 16 << 20
 #: The bytes of an object besides its values, about.
 HEADER = 16
 #: What a class object has as the code of its elements' type.
@@ -120,13 +121,12 @@ def _places(classes: List[int], stretch: List[HeapObject]) -> Tuple[int, int]:
 
 def _special(dump: HeapDump, stretches: Iterable[List[HeapObject]]) -> List[int]:
     """Returns the identifiers of objects of which there are few, which a sample may lack: of class loaders, objects of
-    the other classes to which the virtual machine adds fields if none are in `stretches`, some class objects, and
-    threads."""
-    classes, met = sorted(dump.classes), {each[1] for stretch in stretches for each in stretch}
+    the other classes to which the virtual machine adds fields if `stretches` do not have enough, some class objects,
+    and threads."""
+    classes, met = sorted(dump.classes), Counter(each[1] for stretch in stretches for each in stretch)
     found = [*{each.loader for each in dump.classes.values() if each.loader}]
-    for class_id, name in dump.names.items():
-        if name in WITH_ADDED_FIELDS and class_id not in met:
-            found += some_instances(dump, class_id, SEARCHED)
+    few = [each for each, name in dump.names.items() if name in WITH_ADDED_FIELDS and met[each] < ENOUGH]
+    found += some_instances(dump, few, SEARCHED)
     found += [classes[number * len(classes) // SOME_CLASSES] for number in range(SOME_CLASSES) if classes]
     return found + [dump.id(root.place) for root in dump.roots if root.kind == hprof.THREAD_OBJECT]
 
@@ -134,6 +134,15 @@ def _special(dump: HeapDump, stretches: Iterable[List[HeapObject]]) -> List[int]
 def _with_their_next(dump: HeapDump, spans: Sequence[Span], wanted: Sequence[int]) -> List[List[HeapObject]]:
     """Returns pairs of objects of which the first is one of `wanted`, or has a class object of `wanted` after it.
     Identifiers ascend in the file."""
+    found: List[List[HeapObject]] = []
+    for number, some in list(spans_around(dump, spans, wanted).items())[:MOST_SPECIAL]:
+        found += _around(dump, spans[number], sorted(some))
+    return found
+
+
+def spans_around(dump: HeapDump, spans: Sequence[Span], wanted: Iterable[int]) -> Dict[int, List[int]]:
+    """Returns the numbers of the parts of the file that have the objects before and after the identifiers `wanted`, and
+    which of these are in each, if identifiers ascend in the file."""
     begins = sorted((each[0], number) for number, span in enumerate(spans) for each in _beginning(dump, span, 1))
     firsts = [identifier for identifier, _ in begins]
     chosen: Dict[int, List[int]] = {}
@@ -144,10 +153,7 @@ def _with_their_next(dump: HeapDump, spans: Sequence[Span], wanted: Sequence[int
         numbers |= {max(0, begins[place][1] - 1)} if place < len(begins) else set()
         for number in numbers:
             chosen.setdefault(number, []).append(each)
-    found: List[List[HeapObject]] = []
-    for number, some in list(chosen.items())[:MOST_SPECIAL]:
-        found += _around(dump, spans[number], sorted(some))
-    return found
+    return chosen
 
 
 def _around(dump: HeapDump, span: Span, wanted: List[int]) -> List[List[HeapObject]]:

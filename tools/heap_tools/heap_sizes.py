@@ -9,6 +9,7 @@ from heap_tools.heap_layout import STACK, Layout, UnknownLayout
 from heap_tools.object_sizes import ObjectSizes
 from heap_tools.object_totals import Total, totals_of
 from heap_tools.reports import Amount, Report
+from heap_tools.unloaded_classes import unloaded_classes
 
 #: The row of a histogram for the class objects, which a report has in two rows.
 CLASS_OBJECTS = "java/lang/Class"
@@ -35,16 +36,22 @@ class ClassSize(NamedTuple):
 
 class HeapSizes(NamedTuple):
     """The classes of a dump, and the layout by which their sizes were found, or why it is not known. Then bytes are
-    those of the dump."""
+    those of the dump. `omitted`: class objects that the heap has and the dump lacks."""
 
     classes: List[ClassSize]
+    omitted: Amount
     layout: Optional[Layout]
     why_unknown: str
 
     @property
-    def whole(self) -> ClassSize:
+    def in_dump(self) -> ClassSize:
         """All objects of the dump."""
         return _sum("", self.classes)
+
+    @property
+    def every(self) -> Amount:
+        """All objects of the heap."""
+        return self.in_dump.every.plus(self.omitted)
 
     @property
     def stacks(self) -> Amount:
@@ -63,7 +70,8 @@ def sizes_in(runs: DumpRuns) -> HeapSizes:
     taken = in_rows_of_histogram({name: total.taken for name, total in totals.items()})
     reachable = in_rows_of_histogram(_reachable(runs.report, totals, sizes))
     found = [ClassSize(name, it, it.minus(reachable.get(name, Amount()))) for name, it in taken.items() if it.objects]
-    return HeapSizes(_sorted(found), sizes.layout if sizes else None, why)
+    omitted = unloaded_classes(runs.dump, sizes.is_ascending, runs.report.unresolved) if sizes else Amount()
+    return HeapSizes(_sorted(found), omitted, sizes.layout if sizes else None, why)
 
 
 def in_rows_of_histogram(rows: Dict[str, Amount]) -> Dict[str, Amount]:

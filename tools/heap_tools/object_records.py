@@ -73,15 +73,18 @@ def short_spans(dump: HeapDump) -> List[Span]:
     return spans
 
 
-def some_instances(dump: HeapDump, class_id: int, searched: int) -> List[int]:
-    """Returns the identifiers of the first instances of a class among the first and among the last `searched` bytes of
-    the heap, if there are any. They may be those of no object: other bytes may look like one."""
+def some_instances(dump: HeapDump, classes: Iterable[int], searched: int) -> List[int]:
+    """Returns the identifiers of the first instances of each of some classes among the first and among the last
+    `searched` bytes of the heap, if there are any. They may be those of no object: other bytes may look like one."""
     if not dump.segments:
         return []
-    pattern, begin, end = _head_of(dump, class_id), dump.segments[0][0], dump.segments[-1][1]
-    places = {dump.bytes.find(pattern, begin, begin + searched), dump.bytes.find(pattern, end - searched, end)}
-    begins = [each - 5 - dump.id_size for each in places if each >= 0]
-    return [dump.id(each + 1) for each in begins if dump.bytes[each] == hprof.INSTANCE]
+    patterns, begin, end = [_head_of(dump, each) for each in classes], dump.segments[0][0], dump.segments[-1][1]
+    found: List[int] = []
+    for first in {begin, max(begin, end - searched)}:
+        part = dump.bytes[first : min(end, first + searched)]  # in bytes `find` is far faster than in a mapped file
+        places = (part.find(pattern) - 5 - dump.id_size for pattern in patterns)
+        found += [dump.id(first + each + 1) for each in places if each >= 0 and part[each] == hprof.INSTANCE]
+    return found
 
 
 def _head_of(dump: HeapDump, class_id: int) -> bytes:

@@ -66,7 +66,7 @@ class ObjectSizes:
 
     def __init__(self, dump: HeapDump) -> None:
         sample = sample_of(dump)
-        self.dump, self.fields = dump, fields_by_class(dump)
+        self.dump, self.fields, self.is_ascending = dump, fields_by_class(dump), sample.is_ascending
         self.stacks = {class_id for class_id, name in dump.names.items() if name == STACK}
         self.layout = layout_of(sample, self.fields, dump.id_size, self.stacks)
         self.added = added_fields(dump, sample, self.fields, self.layout, self.stacks)

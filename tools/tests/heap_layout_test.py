@@ -134,7 +134,7 @@ class SampleTest(unittest.TestCase):
             self.assertLess(sum(sample.neighbours.values()), 10000)
 
     def test_few_of_a_kind(self) -> None:
-        """A class loader and an instance of a class with added fields are in the sample, whatever it is of."""
+        """A class loader and instances of a class with added fields are in the sample, whatever it is of."""
         heap = LaidOutHeap(COMPRESSED)
         heap.mixed(1000)
         loader = heap.of_class("shop/Loader", 3)

@@ -86,8 +86,8 @@ class AddedFieldsTest(unittest.TestCase):
             self.assertEqual(sizes, [304, 304, 304, 312, 304], shuffled)
 
     def test_loaders(self) -> None:
-        """One object of each of some class loaders shows what is added to all."""
-        for layout in (COMPRESSED, COMPACT):
+        """One object of each of some class loaders shows what is added to all, also if alignment hides it in one."""
+        for layout in (COMPRESSED, COMPACT, Layout(16, 12, 4, 16)):
             heap = LaidOutHeap(layout)
             loader = heap.of_class("java/lang/ClassLoader", 3)
             subclasses = [heap.of_class(f"shop/Loader{at}", at, 0, loader) for at in range(4)]
@@ -96,6 +96,14 @@ class AddedFieldsTest(unittest.TestCase):
             found = sizes_of(heap)
             wanted = [layout.aligned(layout.header + 12 + 4 * at + 8) for at in range(4)]
             self.assertEqual([found.instance(each) for each in subclasses], wanted)
+
+    def test_one_loader(self) -> None:
+        """One object of one class loader shows it, too, however large the smallest object is."""
+        for alignment in (8, 16):
+            heap = LaidOutHeap(Layout(alignment, 12, 4, 16))
+            loader = heap.of_class("shop/Loader", 0, 1, heap.of_class("java/lang/ClassLoader", 4))  # 32 bytes
+            heap.instance(loader, 8)
+            self.assertEqual(sizes_of(heap).instance(loader), 32 + alignment)
 
     def test_one_subclass(self) -> None:
         """What is added to one subclass is not added to the others."""

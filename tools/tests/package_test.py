@@ -20,7 +20,7 @@ DATA = TOP / "crates/heapmark/data"
 DUMP = str(DATA / "two_objects.hprof")
 BINARY = os.path.realpath(os.environ.get("HEAPMARK") or TOP / "crates/heapmark/out/heapmark")
 TOOLS = ("leaks", "grown", "holders", "held", "sizes")
-DOCUMENTS = ("README.md", "docs/FORMAT.md", "docs/HISTOGRAM.md")
+DOCUMENTS = ("README.md", "docs/LEAK.md", "docs/JSON.md", "docs/HISTOGRAM.md", "docs/FORMAT.md")
 #: The headings of the help, and those of a manual page.
 HEADINGS = {"Usage: ": "", **{f"{head}:": head.upper() for head in ("Arguments", "Options", "Exit status", "Example")}}
 HEADINGS["Examples:"] = "EXAMPLE"
@@ -178,6 +178,7 @@ class PackageTest(unittest.TestCase):
             page = docs / name
             text = page.read_text(encoding="utf-8")
             self.assertEqual(text.count("\n"), (TOP / name).read_text(encoding="utf-8").count("\n"))
+            self.assertNotRegex(text, r"(?m)^!", "a picture that is not installed")
             for target in re.findall(r"\[[^][]*\]\(([^) ]*)\)", text):
                 path, _, anchor = target.partition("#")
                 other = page.parent / path if path else page

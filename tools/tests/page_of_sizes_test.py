@@ -16,14 +16,20 @@ class PageOfSizesTest(HtmlOfPage):
         self.check_texts(
             sizes(),
             "heapmark · sizes",
-            "55.7 MB in 1,122,741 objects",
-            "The heap has 49.6 MB that are reachable, and 6.1 MB that are not.",
+            "55.9 MB in 1,123,641 objects",
+            "The heap has 49.6 MB that are reachable, 6.1 MB that are not, and 117 kB that the dump omits.",
+            "All in the dump",
+            "All unreachable",
             "Bytes are those of the heap: objects begin at each 8th byte.",
             "What the unreachable part of the heap is made of",
-            "counts times sizes that were found in the dump",
+            "the objects of each class, reachable or not, are counted by the tool. Bytes are those of the heap: counts",
             "Made by sizes of heapmark",
         )
-        self.assertNotIn("unreachable part", self.outline(sizes(unreachable={})).text())
+        none = page.Amount(0, 0)
+        found = self.outline(sizes(unreachable={}, omitted=none, has_heap_bytes=False)).text()
+        self.assertIn("The heap has 49.6 MB that are reachable, and 6.1 MB that are not.", found)
+        for words in ("unreachable part", "counts times sizes", "All reachable"):
+            self.assertNotIn(words, found)
 
     def test_structure(self) -> None:
         """What a screen reader needs, and nothing that fetches or runs, whatever the names."""

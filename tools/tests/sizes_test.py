@@ -99,6 +99,27 @@ class SizesTest(ToolTest):
         ended = self.ran("--top", "1", "stacks.hprof")
         self.assertIn("\nsizes: the stacks of virtual threads that wait take 4,000 bytes in 2 objects\n", ended.said)
 
+    def test_omitted(self) -> None:
+        """Class objects that the dump lacks are in the heap, too."""
+        heap = shop()
+        table = heap.of_class("[Ljava/lang/Object;", number=heap.place(112))
+        lacking = [heap.place(size) for size in (112, 120, 136)]
+        heap.values(BYTE, 8)
+        heap.array(table, 5, [0, *lacking, table])
+        heap.written().write("archive.hprof")
+        ended = self.ran("--top", "1", "--html", "page.html", "archive.hprof")
+        found = lines(ended.out)
+        self.assertEqual(list(found)[-4:], ["(reachable)", "(unreachable)", "(omitted)", "(all)"])
+        self.assertEqual((found["(omitted)"][:3], found["(omitted)"][4]), (["3", "368", "122.7"], "0"))
+        parts = ("(reachable)", "(unreachable)", "(omitted)")
+        for column in 0, 1:
+            self.assertEqual(sum(int(found[name][column]) for name in parts), int(found["(all)"][column]))
+        words = "the dump omits 3 class objects (368 bytes) of classes in the JDK's archive that were not loaded"
+        self.assertIn(f"sizes: {words}\n", ended.said)
+        text = pathlib.Path("page.html").read_text(encoding="utf-8")
+        self.assertIn("that the dump omits.", text)
+        self.assertIn(words[1:], text)
+
     def test_on_terminal(self) -> None:
         """On a terminal the columns have heads."""
         _, seen = self.on_terminal("--top", "1", "--packages", "shop.hprof", stream="stdout")
@@ -150,7 +171,8 @@ class RowsTest(unittest.TestCase):
     def test_page_without_unreachable(self) -> None:
         """A page has no section on what is unreachable if nothing is."""
         sample = one_dump()
-        content = page.Sizes(sample.dump, sample.classes, {}, sample.making, sample.program, ["Note."])
+        none = page.Amount(0, 0)
+        content = page.Sizes(sample.dump, sample.classes, {}, none, False, sample.making, sample.program, ["Note."])
         text = page.html_of(content)
         self.assertNotIn("unreachable part", text)
         self.assertIn("Note.", text)

@@ -18,6 +18,7 @@ from heap_tools.heapmark import Heapmark
 from heap_tools.humanize import counted, size
 from heap_tools.omissions import WHY_UNREACHABLE
 from heap_tools.page_content import program_of, require_place, write_page
+from heap_tools.reports import Amount
 from heap_tools.version import VERSION
 
 ABOUT = """
@@ -33,18 +34,19 @@ them: they are found by the identifiers of objects, which are addresses, since
 the difference of two neighbours is the size of the first. A line on standard
 error says which layout was found. If too few neighbours agree on one, it says
 so, and bytes are those of the dump, as in heapmark's report. What is reachable
-is counted by heapmark, which is proved; sizes are not proved, but were compared
-with virtual machines.
+is counted by heapmark, which is proved; what is not, class by class, is counted
+by this tool. Sizes are not proved, but were compared with virtual machines.
 
-The last three lines are what is reachable, what is not, and all. Objects are
+The last lines are what is reachable, what is not, and all. Objects are
 unreachable if they are garbage, in dumps with -all, or if dumps omit what holds
-them. The line java/lang/Class has class objects with their static fields. An
-array counts for the package of its elements.
+them. If a line (omitted) is before the last, the heap has class objects that
+the dump lacks, of classes in the JDK's archive that were not loaded: an array
+of the virtual machine refers to them. The line java/lang/Class has the others,
+with their static fields. An array counts for the package of its elements.
 
-Dumps lack what the heap has besides: class objects that were not loaded, free
-memory, and what no object has, such as the stacks of threads. The stacks of
-virtual threads that wait are objects: a line on standard error says what these
-take.
+Free memory is not shown, and neither is what no object has, such as the stacks
+of threads. The stacks of virtual threads that wait are objects: a line on
+standard error says what these take.
 
 What holds the objects of a class: see holders. What fills the heap, with the
 path to it: see leaks. What grew: see grown and leaks.
@@ -79,21 +81,24 @@ def sizes_shown(sizes: HeapSizes, options: Namespace) -> List[ClassSize]:
     return unreachable_first(every) if options.unreachable else every
 
 
-def size_lines(shown: Sequence[ClassSize], whole: ClassSize, word: str) -> str:
+def size_lines(shown: Sequence[ClassSize], sizes: HeapSizes, word: str) -> str:
     """Returns a line for each class that is shown and for the totals, on a terminal below the heads of the columns."""
     heads = f"{'objects':>10} {'bytes':>14} {'an object':>10} share {'unreachable':>14}  {word}\n"
     lines = [heads] if is_terminal(sys.stdout) else []
-    lines += [size_line(each, whole) for each in shown]
-    lines.append(size_line(ClassSize("(reachable)", whole.reachable, whole.reachable.minus(whole.reachable)), whole))
-    lines.append(size_line(ClassSize("(unreachable)", whole.unreachable, whole.unreachable), whole))
-    lines.append(size_line(whole._replace(name="(all)"), whole))
-    return "".join(lines)
+    totals = [
+        ClassSize("(reachable)", sizes.in_dump.reachable, Amount()),
+        ClassSize("(unreachable)", sizes.in_dump.unreachable, sizes.in_dump.unreachable),
+        ClassSize("(all)", sizes.every, sizes.in_dump.unreachable),
+    ]
+    if sizes.omitted.objects:
+        totals.insert(2, ClassSize("(omitted)", sizes.omitted, Amount()))
+    return "".join([*lines, *(size_line(each, sizes.every.bytes) for each in (*shown, *totals))])
 
 
-def size_line(each: ClassSize, whole: ClassSize) -> str:
-    """Returns the line of a class."""
+def size_line(each: ClassSize, whole: int) -> str:
+    """Returns the line of a class in a heap of `whole` bytes."""
     objects, taken = each.every
-    mean, share = taken / max(1, objects), 100 * taken / max(1, whole.every.bytes)
+    mean, share = taken / max(1, objects), 100 * taken / max(1, whole)
     return f"{objects:10} {taken:14} {mean:10.1f} {share:4.1f}% {each.unreachable.bytes:14}  {each.name}\n"
 
 
@@ -102,11 +107,14 @@ def size_notes(sizes: HeapSizes, hidden: int) -> List[str]:
     notes = []
     if hidden:
         notes.append(f"{counted(hidden, 'line')} more: see --top")
-    if sizes.whole.unreachable.objects:
-        notes.append(f"{counted(sizes.whole.unreachable.objects, 'object')} are unreachable: {WHY_UNREACHABLE}")
+    if sizes.in_dump.unreachable.objects:
+        notes.append(f"{counted(sizes.in_dump.unreachable.objects, 'object')} are unreachable: {WHY_UNREACHABLE}")
     if sizes.layout is None:
         notes.append(f"the sizes of objects in the heap are not known, since {sizes.why_unknown}; bytes are the dump's")
         return notes
+    if sizes.omitted.objects:
+        what = f"{counted(sizes.omitted.objects, 'class object')} ({size(sizes.omitted.bytes)})"
+        notes.append(f"the dump omits {what} of classes in the JDK's archive that were not loaded")
     if sizes.stacks.objects:
         what = f"{counted(sizes.stacks.bytes, 'byte')} in {counted(sizes.stacks.objects, 'object')}"
         notes.append(f"the stacks of virtual threads that wait take {what}")
@@ -117,7 +125,7 @@ def content_of_sizes(
     runs: DumpRuns, sizes: HeapSizes, notes: Sequence[str], words: Sequence[str], began: float
 ) -> page.Sizes:
     """Returns what the page of `--html` shows."""
-    whole = sizes.whole
+    whole = sizes.in_dump
     versions = [("sizes", VERSION), ("heapmark", runs.heapmark.version()), ("Python", platform.python_version())]
     command, now = " ".join(map(shlex.quote, ["sizes", *words])), time.time()
     return page.Sizes(
@@ -131,6 +139,8 @@ def content_of_sizes(
         ),
         classes={each.name: each.every for each in sizes.classes},
         unreachable={each.name: each.unreachable for each in sizes.classes if each.unreachable.objects},
+        omitted=sizes.omitted,
+        has_heap_bytes=sizes.layout is not None,
         making=page.Making(command, runs.heapmark.runs, now - began, int(1000 * now), versions),
         program=program_of(runs, False),
         notes=[f"{each[0].upper()}{each[1:]}." for each in notes],
@@ -157,7 +167,7 @@ def main(words: Sequence[str]) -> int:
     if options.json:
         write(document("sizes", sizes_fields(runs, sizes, shown, options.packages, len(every) - len(shown)), notes))
     else:
-        write(size_lines(shown, sizes.whole, "package" if options.packages else "class"))
+        write(size_lines(shown, sizes, "package" if options.packages else "class"))
     if options.html is not None:
         write_page(options.html, content_of_sizes(runs, sizes, notes, words, began))
     for note in notes:

@@ -71,9 +71,11 @@ def grown_row(it: GrownClass, leak: Leak, shown: List[GrownClass], limits: Limit
     )
 
 
-def made_of(classes: Mapping[str, Amount], which: str, limits: Limits, place: str = "last") -> Section:
+def made_of(
+    classes: Mapping[str, Amount], which: str, limits: Limits, place: str = "last", every: str = "All reachable"
+) -> Section:
     """Returns the section of what a heap is made of. `which`: the words for the heap, such as `the last heap`; `place`:
-    what the section is called in an address."""
+    what the section is called in an address; `every`: what all `classes` together are called."""
     whole = total_of(classes.values())
     groups, total = groups_of(classes, limits.groups, limits.parts), max(1, whole.bytes)
     head, label = f"What {which} is made of", f"{which[0].upper()}{which[1:]}"
@@ -89,7 +91,7 @@ def made_of(classes: Mapping[str, Amount], which: str, limits: Limits, place: st
     about = fill("about", text="Packages and classes as a table. Small ones are added together.")
     heads = {"Package and class": "name", "Objects": "number", "Bytes": "number", "Share of the heap": "shares"}
     parts = [group_rows(colour, it, total, limits) for colour, it in zip(colours, groups)]
-    parts.append(fill("total", cells=amount_cells(whole, total)))
+    parts.append(fill("total", name=every, cells=amount_cells(whole, total)))
     rows = table("last", f"{label} by package and class", heads, parts, place)
     return Section(place, label, head, joined([picture, about, rows], "\n"))
 

@@ -37,8 +37,9 @@ class Top(NamedTuple):
     tool: str = "leaks"
 
 
-def whole_page(top: Top, sections: Sequence[Section], made: int, has_heap_bytes: bool) -> Html:
-    """Returns a page that was made at the time `made`. `has_heap_bytes`: its bytes are not those of the dumps."""
+def whole_page(top: Top, sections: Sequence[Section], made: int, has_heap_bytes: bool, tested: str = "") -> Html:
+    """Returns a page that was made at the time `made`. `has_heap_bytes`: its bytes are not those of the dumps.
+    `tested`: a sentence on what else is no figure of heapmark."""
     links = (fill("nav", id=section.id, label=section.label) for section in sections)
     shown = (fill("section", id=section.id, head=section.head, body=section.body) for section in sections)
     return fill(
@@ -47,7 +48,7 @@ def whole_page(top: Top, sections: Sequence[Section], made: int, has_heap_bytes:
         nav=joined(links, "\n"),
         sections=joined(shown, "\n"),
         made=when(made),
-        bytes=HEAP_BYTES if has_heap_bytes else "",
+        tested=tested + HEAP_BYTES * has_heap_bytes,
         **top._asdict(),
     )
 

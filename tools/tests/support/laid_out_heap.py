@@ -60,10 +60,10 @@ class LaidOutHeap:
         self._writers.append(lambda: self.dump.values(number, kind, bytes(VALUE_SIZE[kind] * length)))
         return number
 
-    def array(self, of_class: int, length: int) -> int:
-        """Puts an array of references in the heap."""
-        number = self.place(self.layout.array(2, length))
-        self._writers.append(lambda: self.dump.array(number, of_class, *[0] * length))
+    def array(self, of_class: int, length: int, elements: Sequence[int] = ()) -> int:
+        """Puts an array of references in the heap. Those after `elements` are null."""
+        number, every = self.place(self.layout.array(2, length)), [*elements, *[0] * (length - len(elements))]
+        self._writers.append(lambda: self.dump.array(number, of_class, *every))
         return number
 
     def mixed(self, count: int, hole: int = 0) -> None:

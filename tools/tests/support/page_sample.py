@@ -239,6 +239,8 @@ def sizes(**changes: Any) -> page.Sizes:
         dump=dump(1, (1_002_300, 49_624_118), (120_441, 6_112_800)),
         classes=classes(),
         unreachable=unreachable,
+        omitted=page.Amount(900, 117_152),
+        has_heap_bytes=True,
         making=making("sizes --html heap.html /tmp/mail.hprof"),
         program=page.ProgramEntry("mail-server.jar", 4711, "OpenJDK 64-Bit Server VM, Java 21.0.4"),
         notes=["Bytes are those of the heap: objects begin at each 8th byte."],
