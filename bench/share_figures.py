@@ -8,8 +8,8 @@ LOG is the virtual machine's log of the run that made both dumps, with `-Xlog:gc
 crates/heapmark/out, or what the variable HEAPMARK names.
 
 The growth of the heap is that of the histograms' totals. What the line holds of each class is asked of tools/held, in
-both dumps, in objects. An object of a class takes as much as in the last histogram; an array as much as those in the
-mean by which the class grew.
+both dumps, in objects and bytes of the dump, which are heapmark's. An instance takes as much as in the last histogram;
+an array, for each byte that it has in the dump, as much as those by which the class grew.
 
 Prints a row of a table: the dumps, the line's field, how much grew as leaks and as the histograms have it, how much the
 line's part of it is, and both shares in percent. Exit status 1 if the shares differ by more than one in a hundred.
@@ -24,7 +24,7 @@ import pathlib
 import re
 import subprocess
 import sys
-from typing import Any
+from typing import Any, Dict
 
 TOP = pathlib.Path(__file__).resolve().parent.parent
 sys.dont_write_bytecode = True
@@ -32,27 +32,29 @@ sys.path.insert(0, str(TOP / "tools"))
 os.environ.setdefault("HEAPMARK", str(TOP / "crates/heapmark/out/heapmark"))
 
 from heap_tools.heap_sizes import in_rows_of_histogram  # noqa: E402
-from heap_tools.reports import Amount, read_histogram  # noqa: E402
+from heap_tools.reports import Amount, read_histogram, read_report  # noqa: E402
 
+#: What there is of each class.
+Rows = Dict[str, Amount]
 #: The most by which the shares may differ, in percent.
 MOST = 1.0
-#: What the virtual machine logs of the collection with which a dump begins, and of a histogram, with its number.
-DUMPED = re.compile(r"GC\((\d+)\) Pause Full \(Heap Dump Initiated GC\)")
-HISTOGRAM = re.compile(r"GC\((\d+)\) Class Histogram \(after full gc\)")
-#: What is before each line of the log.
-HEAD = re.compile(rb"^(\[[^]]*\])+ (GC\(\d+\) )?")
+#: What the virtual machine logs of the collection with which a dump begins, and before a histogram.
+DUMPED = re.compile(rb"(GC\(\d+\)) Pause Full \(Heap Dump Initiated GC\)")
+HISTOGRAM = re.compile(rb"\[gc,classhisto,start\] Class Histogram \(after full gc\)")
+#: What is before each line of a histogram: the number of the collection is in it.
+HEAD = re.compile(rb"^(?:\[[^]]*\])+ (GC\(\d+\)) ")
 
 
-def histograms_of(log: str) -> list[dict[str, Amount]]:
+def histograms_of(log: str) -> list[Rows]:
     """Returns the histograms in a log that were made as a dump began, by class."""
     lines = pathlib.Path(log).read_bytes().splitlines()
-    texts = [line.decode(errors="replace") for line in lines]
-    dumped = {found[1] for found in map(DUMPED.search, texts) if found}
-    begins = [at for at, text in enumerate(texts) for found in [HISTOGRAM.search(text)] if found and found[1] in dumped]
-    return [rows_of(lines[begin + 1 :], log) for begin in begins]
+    dumped = {found[1] for found in map(DUMPED.search, lines) if found}
+    begins = [at + 1 for at, line in enumerate(lines) if HISTOGRAM.search(line)]
+    numbers = [HEAD.match(lines[begin]) for begin in begins]
+    return [rows_of(lines[begin:], log) for begin, found in zip(begins, numbers) if found and found[1] in dumped]
 
 
-def rows_of(lines: list[bytes], log: str) -> dict[str, Amount]:
+def rows_of(lines: list[bytes], log: str) -> Rows:
     """Returns the histogram at the beginning of these lines of a log."""
     kept = []
     for line in lines:
@@ -61,7 +63,7 @@ def rows_of(lines: list[bytes], log: str) -> dict[str, Amount]:
             break
     found = read_histogram(iter(kept), log)
     assert found, f"{log}: no histogram"
-    rows: dict[str, Amount] = {}
+    rows: Rows = {}
     for name, amount in found.rows:
         rows[name] = rows.get(name, Amount()).plus(amount)
     return rows
@@ -75,20 +77,35 @@ def document(tool: str, *words: str) -> dict[str, Any]:
     return found
 
 
-def objects_held(dump: str, fields: list[str]) -> dict[str, int]:
-    """Returns how many objects of each class these fields hold."""
-    classes = document("held", dump, *fields)["classes"]
-    rows = in_rows_of_histogram({each["class"]: Amount(each["retained"]["objects"]) for each in classes})
-    return {name: amount.objects for name, amount in rows.items() if amount.objects}
+def held_by(dump: str, fields: list[str]) -> Rows:
+    """Returns what these fields hold of each class, in bytes of the dump."""
+    classes = document("held", "--dump-bytes", dump, *fields)["classes"]
+    return in_rows_of_histogram({each["class"]: Amount(**each["retained"]) for each in classes})
 
 
-def size_of(name: str, before: dict[str, Amount], after: dict[str, Amount]) -> float:
-    """Returns what an object of a class takes: an array as much as those in the mean by which the class grew."""
-    first, last = before.get(name, Amount()), after.get(name, Amount())
-    if name.endswith("]") or name.startswith("["):
-        if last.objects > first.objects and last.bytes > first.bytes:
-            return (last.bytes - first.bytes) / (last.objects - first.objects)
-    return last.bytes / max(1, last.objects)
+def report_of(dump: str) -> Rows:
+    """Returns heapmark's report, in the rows of a histogram."""
+    ran = subprocess.run([os.environ["HEAPMARK"], dump], stdout=subprocess.PIPE, check=True)
+    found = read_report(iter(ran.stdout.splitlines()), dump)
+    assert found, f"{dump}: no report"
+    return in_rows_of_histogram(dict(found.rows))
+
+
+def difference(name: str, before: Rows, after: Rows) -> Amount:
+    """Returns how much more a class has."""
+    return after.get(name, Amount()).minus(before.get(name, Amount()))
+
+
+def taken(name: str, gained: Amount, reports: tuple[Rows, Rows], histograms: tuple[Rows, Rows]) -> float:
+    """Returns what the objects of a class that a field gained take by the histograms: instances as much each as all in
+    the last one, arrays for each byte in the dump as much as those by which the class grew."""
+    last = histograms[1].get(name, Amount())
+    if not (name.endswith("]") or name.startswith("[")):
+        return gained.objects * last.bytes / max(1, last.objects)
+    in_dump, in_heap = difference(name, *reports).bytes, difference(name, *histograms).bytes
+    if in_dump < gained.bytes / 2:  # other arrays became fewer
+        in_dump, in_heap = reports[1].get(name, Amount()).bytes, last.bytes
+    return gained.bytes * in_heap / max(1, in_dump)
 
 
 def main() -> int:
@@ -101,9 +118,10 @@ def main() -> int:
     leaks = document("leaks", options.before, options.after)
     line = leaks["lines"][0]
     fields = [each["text"] for each in line["path"][-1]]
-    first, last = (objects_held(dump, fields) for dump in (options.before, options.after))
-    gained = {name: last.get(name, 0) - first.get(name, 0) for name in {**first, **last}}
-    part = sum(count * size_of(name, before, after) for name, count in gained.items())
+    first, last = (held_by(dump, fields) for dump in (options.before, options.after))
+    reports = report_of(options.before), report_of(options.after)
+    gained = {name: difference(name, first, last) for name in {**first, **last}}
+    part = sum(taken(name, amount, reports, (before, after)) for name, amount in gained.items())
     grown = sum(each.bytes for each in after.values()) - sum(each.bytes for each in before.values())
     ours, theirs = line["share_percent"], 100 * part / grown
     held = line["retained"]["bytes"] - line["before"]["bytes"]
