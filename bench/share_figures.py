@@ -12,7 +12,8 @@ both dumps, in objects and bytes of the dump, which are heapmark's. An instance 
 an array, for each byte that it has in the dump, as much as those by which the class grew.
 
 Prints a row of a table: the dumps, the line's field, how much grew as leaks and as the histograms have it, how much the
-line's part of it is, and both shares in percent. Exit status 1 if the shares differ by more than one in a hundred.
+line's part of it is, and both shares in percent. Exit status 1 if the shares differ by more than three in a hundred: besides
+the leak, the heap has some 20 to 70 kB more between two dumps, which is up to three in a hundred of 3 MB.
 """
 
 from __future__ import annotations
@@ -24,20 +25,21 @@ import pathlib
 import re
 import subprocess
 import sys
-from typing import Any, Dict
+from typing import Any, Dict, Iterable, Tuple
 
 TOP = pathlib.Path(__file__).resolve().parent.parent
 sys.dont_write_bytecode = True
 sys.path.insert(0, str(TOP / "tools"))
 os.environ.setdefault("HEAPMARK", str(TOP / "crates/heapmark/out/heapmark"))
 
+from heap_tools.class_names import family  # noqa: E402
 from heap_tools.heap_sizes import in_rows_of_histogram  # noqa: E402
 from heap_tools.reports import Amount, read_histogram, read_report  # noqa: E402
 
 #: What there is of each class.
 Rows = Dict[str, Amount]
 #: The most by which the shares may differ, in percent.
-MOST = 1.0
+MOST = 3.0
 #: What the virtual machine logs of the collection with which a dump begins, and before a histogram.
 DUMPED = re.compile(rb"(GC\(\d+\)) Pause Full \(Heap Dump Initiated GC\)")
 HISTOGRAM = re.compile(rb"\[gc,classhisto,start\] Class Histogram \(after full gc\)")
@@ -63,9 +65,14 @@ def rows_of(lines: list[bytes], log: str) -> Rows:
             break
     found = read_histogram(iter(kept), log)
     assert found, f"{log}: no histogram"
+    return by_family(found.rows)
+
+
+def by_family(pairs: Iterable[Tuple[str, Amount]]) -> Rows:
+    """Returns the sums of these rows, hidden classes of one family in one."""
     rows: Rows = {}
-    for name, amount in found.rows:
-        rows[name] = rows.get(name, Amount()).plus(amount)
+    for name, amount in pairs:
+        rows[family(name)] = rows.get(family(name), Amount()).plus(amount)
     return rows
 
 
@@ -80,7 +87,7 @@ def document(tool: str, *words: str) -> dict[str, Any]:
 def held_by(dump: str, fields: list[str]) -> Rows:
     """Returns what these fields hold of each class, in bytes of the dump."""
     classes = document("held", "--dump-bytes", dump, *fields)["classes"]
-    return in_rows_of_histogram({each["class"]: Amount(**each["retained"]) for each in classes})
+    return in_rows_of_histogram(by_family((each["class"], Amount(**each["retained"])) for each in classes))
 
 
 def report_of(dump: str) -> Rows:
@@ -88,7 +95,7 @@ def report_of(dump: str) -> Rows:
     ran = subprocess.run([os.environ["HEAPMARK"], dump], stdout=subprocess.PIPE, check=True)
     found = read_report(iter(ran.stdout.splitlines()), dump)
     assert found, f"{dump}: no report"
-    return in_rows_of_histogram(dict(found.rows))
+    return in_rows_of_histogram(by_family(found.rows))
 
 
 def difference(name: str, before: Rows, after: Rows) -> Amount:

@@ -6,7 +6,8 @@
 # NAME..: programs of bench/leaks.sh (ten of them). Each dumps itself before and after its leak grew, and its virtual
 # machine logs a histogram as each dump begins: what `jcmd PID GC.class_histogram` prints. Prints a table, as
 # bench/share_figures.py says: program, field, growth of the heap in megabytes as leaks and as the histograms have it,
-# what the line holds of that, by both, and both shares in percent. Fails if a share differs.
+# what the line holds of that, by both, and both shares in percent. Fails if a share differs. What only weak or soft
+# references hold is in the histograms, but not in the growth of leaks: programs with such a cache have other shares.
 #
 # Java is that of JAVA_HOME, else that of PATH. heapmark is the binary of crates/heapmark/out, or what the variable
 # HEAPMARK names. KEPT: a folder in which dumps and logs stay; those that are there are not made again.
@@ -15,8 +16,8 @@ set -euo pipefail
 top=$(cd "$(dirname "$0")/.." && pwd)
 # shellcheck source=bench/usage.sh
 . "$top/bench/usage.sh"
-[ $# -gt 0 ] || set -- MetricsService QuoteService PaymentService UploadService MailService ExpiryService BasketService \
-    InboxService LabelService RegionService
+[ $# -gt 0 ] || set -- MetricsService QuoteService TracingService DriverService PaymentService PriceService TagService \
+    TimeoutService UploadService MailService
 kept=${KEPT:-$(mktemp -d)} status=0
 [ -n "${KEPT:-}" ] || trap 'rm -rf "$kept"' EXIT
 mkdir -p "$kept"
