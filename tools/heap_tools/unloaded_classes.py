@@ -1,7 +1,7 @@
 """The class objects that a heap has and its dump lacks: those of classes in the JDK's archive that were never loaded.
 
-The virtual machine refers to them in an array of its own, which the dump has. So a reference in such an array that names
-no object of the dump is one of them, and takes as much as it is far to the next object.
+The virtual machine refers to them in an array of its own, which the dump has. So a reference in such an array that
+names no object of the dump is one of them, and takes as much as it is far to the next object.
 """
 
 import struct
@@ -22,7 +22,7 @@ from heap_tools.reports import Amount
 ARRAY = "[Ljava/lang/Object;"
 #: The bits of an address within a range, and how many ranges are searched: those with most of the class objects that
 #: were loaded, since the archive has all in one place, and the ranges beside them.
-RANGE_BITS, RANGES = 18, 32
+NEAR_BITS, RANGES = 18, 32
 #: What is farther from the next object has a hole after it: no class of the JDK has so many static fields.
 MOST = 4096
 
@@ -46,7 +46,7 @@ def unloaded_classes(dump: HeapDump, is_ascending: bool, unresolved: int) -> Amo
 def _omitted(dump: HeapDump, spans: List[Span], referred: Set[int]) -> Amount:
     """Returns how many of the identifiers `referred` name no object, if the parts `spans` of the file have all objects
     near them, and what these take in the heap."""
-    ranges = {(each >> RANGE_BITS) + more for each in referred for more in (0, 1)}
+    ranges = {(each >> NEAR_BITS) + more for each in referred for more in (0, 1)}
     known = set(chain.from_iterable(shared(lambda some: _within(dump, some, ranges), spans, FEWEST_SPANS)))
     known.update(dump.classes)
     omitted = sorted(referred - known)
@@ -55,7 +55,7 @@ def _omitted(dump: HeapDump, spans: List[Span], referred: Set[int]) -> Amount:
 
 def _ranges(dump: HeapDump) -> Set[int]:
     """Returns the ranges of addresses in which such objects may be."""
-    counts = Counter(each >> RANGE_BITS for each in dump.classes)
+    counts = Counter(each >> NEAR_BITS for each in dump.classes)
     return {each + more for each, _ in counts.most_common(RANGES) for more in (-1, 0, 1)}
 
 
@@ -67,7 +67,7 @@ def _referred(dump: HeapDump, spans: List[Span], ranges: Set[int]) -> Set[int]:
         if name == ARRAY:
             for span in spans:
                 for elements in _elements(dump, span, class_id.to_bytes(dump.id_size, "big")):
-                    found.update(each for each in elements if each >> RANGE_BITS in ranges)
+                    found.update(each for each in elements if each >> NEAR_BITS in ranges)
     return found - dump.classes.keys()
 
 
@@ -86,7 +86,7 @@ def _elements(dump: HeapDump, span: Span, class_id: bytes) -> Iterator[Sequence[
 
 def _within(dump: HeapDump, spans: List[Span], ranges: Set[int]) -> "array[int]":
     """Returns the identifiers of the objects in `spans` whose addresses are in these ranges."""
-    return array("Q", (each[0] for each in heap_objects(dump, spans) if each[0] >> RANGE_BITS in ranges))
+    return array("Q", (each[0] for each in heap_objects(dump, spans) if each[0] >> NEAR_BITS in ranges))
 
 
 def _taken(omitted: List[int], every: List[int]) -> int:

@@ -67,7 +67,7 @@ class UnloadedClassesTest(unittest.TestCase):
         """Only the ranges with most class objects are searched, so that a heap with many takes no more memory."""
         dump = archive()
         self.assertLessEqual(len(module._ranges(dump)), 3 * module.RANGES)
-        with mock.patch.object(module, "RANGE_BITS", 4), mock.patch.object(module, "RANGES", 1):
+        with mock.patch.object(module, "NEAR_BITS", 4), mock.patch.object(module, "RANGES", 1):
             self.assertLess(unloaded_classes(dump, True, 5).objects, 4)
 
 
