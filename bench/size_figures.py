@@ -8,10 +8,10 @@ FillerElement, which fill gaps in the heap, are arrays of int in a dump.
 
 Prints a line of a table: the dump, the layout that was found (alignment, headers of instances and of arrays, bytes of a
 reference), how many classes have as many objects in both, of how many; the bytes of all objects of the dump, as a part
-of those in the histogram; the class objects that the dump lacks, but refers to, and the part with these; how many of the
-classes that have as many objects are off by more than 1%; and the seconds and the megabytes of memory that finding the
-layout took. Then a line for each class that is off, and one for each that has not as many objects. Exit status 1 if all
-together, with what the dump lacks, are off by more than 0.3%, or more than one class in a hundred is.
+of those in the histogram; the class objects that the dump lacks, but refers to, and the part with these; how many of
+the classes that have as many objects are off by more than 1%; and the seconds and the megabytes of memory that finding
+the layout took. Then a line for each class that is off, and one for each that has not as many objects. Exit status 1 if
+all together, with what the dump lacks, are off by more than 0.3%, or more than one class in a hundred is.
 """
 
 from __future__ import annotations
@@ -87,8 +87,8 @@ def processor_seconds() -> float:
 
 
 def compared(dumped: dict[str, Amount], omitted: Amount, there: dict[str, Amount]) -> tuple[str, list[str], bool]:
-    """Returns the columns of a comparison, the lines of the classes that are off or have not as many objects, and whether
-    it is good. `omitted`: the class objects that the dump lacks."""
+    """Returns the columns of a comparison, the lines of the classes that are off or have not as many objects, and
+    whether it is good. `omitted`: the class objects that the dump lacks."""
     here = {**dumped, CLASS_OBJECTS: dumped[CLASS_OBJECTS].plus(omitted)}
     names = [name for name in {**there, **here} if max(*there.get(name, Amount()), *here.get(name, Amount()))]
     same = [name for name in there if here.get(name, Amount()).objects == there[name].objects]

@@ -68,7 +68,8 @@ large() {
 
 number=$(version)
 "${java}javac" -encoding UTF-8 -d "$room/classes" "$top/bench/java/Filler.java"
-printf '| Dump | Layout | Classes | In the dump | Omitted | With these | Off | Took |\n|---|---|---|---|---|---|---|---|\n'
+echo '| Dump | Layout | Classes | In the dump | Omitted | With these | Off | Took |'
+echo '|---|---|---|---|---|---|---|---|'
 filler g1 -XX:+UseG1GC
 filler serial -XX:+UseSerialGC
 filler parallel -XX:+UseParallelGC

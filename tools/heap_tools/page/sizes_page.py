@@ -13,16 +13,16 @@ from heap_tools.reports import Amount, Unit
 
 #: What is said of numbers of objects that heapmark did not count.
 COUNTED_BY_TOOL = (
-    "Reachable and unreachable objects in all are counted by heapmark; the objects of each class, reachable or not, are "
-    "counted by the tool. "
+    "Reachable and unreachable objects in all are counted by heapmark; the objects of each class, reachable or not, "
+    "are counted by the tool. "
 )
 
 
 @dataclass(frozen=True)
 class Sizes:
     """All that the page shows. `classes`: all objects of each class, `unreachable`: those that are unreachable,
-    `omitted`: the objects that the dump lacks. `has_heap_bytes`: the layout of the heap is known. `notes`: sentences, of
-    which one says how sizes were found."""
+    `omitted`: the objects that the dump lacks. `has_heap_bytes`: the layout of the heap is known. `notes`: sentences,
+    of which one says how sizes were found."""
 
     dump: DumpEntry
     classes: Dict[str, Amount]
