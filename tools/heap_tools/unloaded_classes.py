@@ -24,7 +24,7 @@ ARRAY = "[Ljava/lang/Object;"
 #: were loaded, since the archive has all in one place, and the ranges beside them.
 NEAR_BITS, RANGES = 18, 32
 #: What is farther from the next object has a hole after it: no class of the JDK has so many static fields.
-MOST = 4096
+LARGEST = 4096
 
 
 def unloaded_classes(dump: HeapDump, is_ascending: bool, unresolved: int) -> Amount:
@@ -94,5 +94,5 @@ def _taken(omitted: List[int], every: List[int]) -> int:
     have a hole after them take as much as the mean of the others."""
     following = (bisect_right(every, each) for each in omitted)
     gaps = [every[place] - each for place, each in zip(following, omitted) if place < len(every)]
-    sizes = [gap for gap in gaps if gap <= MOST]
+    sizes = [gap for gap in gaps if gap <= LARGEST]
     return sum(sizes) * len(omitted) // max(1, len(sizes))
