@@ -17,6 +17,11 @@ ITEMS = {
             ExitCode::from(process(&rt, &rt, &mut out, &mut err, is_terminal))
         }""",
     ],
+    "heapmark/src/causes.rt": [
+        "use std::rt::Files;",
+        "fn tag_is_spent(&self, token: SpentTag);",
+        "impl<T: Files> Causes for T { fn tag_is_spent(&self, _token: SpentTag) {} }",
+    ],
     "heapmark/src/command_words.rt": [
         "use std::env::Env;",
         "use std::{env, io};",
@@ -102,11 +107,14 @@ ITEMS = {
                 }
             }
         }""",
-        """impl From<RunFault> for Refusal {
-            fn from(fault: RunFault) -> Refusal {
+        """impl Refusal {
+            pub(crate) fn of_marking<T: Causes>(rt: &T, fault: RunFault) -> Refusal {
                 match fault {
                     RunFault::OutOfMemory => Refusal::OUT_OF_MEMORY,
-                    RunFault::TagSpent(_) => Refusal::TAG_SPENT,
+                    RunFault::TagSpent(token) => {
+                        rt.tag_is_spent(token);
+                        Refusal::TAG_SPENT
+                    }
                     RunFault::WorkerRefused => Refusal::WORKER_REFUSED,
                 }
             }
@@ -208,6 +216,7 @@ OF_ITEMS = {
 }
 RULES = {"drain": "causes", "heap_graph": "seed", "heapmark": "system", "histogram": "causes"}
 WHOLE = {
+    "heapmark/src/causes.rt",
     "heapmark/src/command_words.rt",
     "heapmark/src/dumps.rt",
     "heap_graph/src/classes/hash.rt",

@@ -2,6 +2,7 @@
 use Rattle.std.proofs.Common.{Bool, IfSome, List, None, Option, Some, arith, false, refl, subst, sym, ℕ, ◌≡◌, ◌≤◌}
 use Rattle.std.specs.Io.KnownBytes.{Keeps}
 use Rattle.command_line.specs.Line.{AsksAboutProgram, text_given}
+use Rattle.heapmark.specs.Causes.{KnownCauses}
 use Rattle.heapmark.specs.OfFile.{PrintsReason, PrintsReasonFirst, WritesReportOfFile}
 use Rattle.heapmark.specs.RefusalText.{refusal_line}
 use Rattle.heapmark.specs.RunRefusals.{out_of_memory}
@@ -54,26 +55,28 @@ untouched_for_some status bytes_of out most = record {
 
 -- without memory for the words, that is the reason, whatever they are
 pub starved : {W : Type 0} (known : Option (List (List ℕ))) (bytes_at : List ℕ → Option (List ℕ))
-    (is_unread : List ℕ → Type 0) (is_terminal : Bool) (status : ℕ) (bytes_of : W → Option (List ℕ)) (out : Counted W)
-    (had has : Option (List ℕ)) → status ≡ 1 → AppendsBeginning had has (refusal_line out_of_memory)
-    → IsAnswered known bytes_at is_unread is_terminal status bytes_of out out had has
-starved known bytes_at is_unread is_terminal status bytes_of out had has one line = record {
+    (is_unread : List ℕ → Type 0) (causes : KnownCauses) (is_terminal : Bool) (status : ℕ)
+    (bytes_of : W → Option (List ℕ)) (out : Counted W) (had has : Option (List ℕ)) → status ≡ 1
+    → AppendsBeginning had has (refusal_line out_of_memory)
+    → IsAnswered known bytes_at is_unread causes is_terminal status bytes_of out out had has
+starved known bytes_at is_unread causes is_terminal status bytes_of out had has one line = record {
   some = untouched_for_some status bytes_of out (omega (arith, one));
   of_words = of_all known (λ words. IsStatusOf words status bytes_of out out)
       (λ words. refused_words words status bytes_of out one);
   of_file = of_all known _ (λ words zero. absurd (omega (arith, one, zero)));
-  first = λ _. told_first_unread known bytes_at is_unread _ _ had has refl line;
-  alone = λ _ _. told_unread known bytes_at is_unread _ _ had has refl line;
+  first = λ _. told_first_unread known bytes_at is_unread causes _ _ had has refl line;
+  alone = λ _ _. told_unread known bytes_at is_unread causes _ _ had has refl line;
   silent = λ zero. absurd (omega (arith, one, zero));
 }
 
 -- words that are not text are not known to a contract
 pub not_text : {W : Type 0} (known : Option (List (List ℕ))) (bytes_at : List ℕ → Option (List ℕ))
-    (is_unread : List ℕ → Type 0) (is_terminal : Bool) (status : ℕ) (bytes_of : W → Option (List ℕ)) (out : Counted W)
-    (had has : Option (List ℕ)) → known ≡ None → status ≡ 2
-    → IsAnswered known bytes_at is_unread is_terminal status bytes_of out out had has
-not_text known bytes_at is_unread is_terminal status bytes_of out had has unknown two =
-    subst (λ k. IsAnswered k bytes_at is_unread is_terminal status bytes_of out out had has) (sym unknown) (record {
+    (is_unread : List ℕ → Type 0) (causes : KnownCauses) (is_terminal : Bool) (status : ℕ)
+    (bytes_of : W → Option (List ℕ)) (out : Counted W) (had has : Option (List ℕ)) → known ≡ None → status ≡ 2
+    → IsAnswered known bytes_at is_unread causes is_terminal status bytes_of out out had has
+not_text known bytes_at is_unread causes is_terminal status bytes_of out had has unknown two =
+    subst (λ k. IsAnswered k bytes_at is_unread causes is_terminal status bytes_of out out had has) (sym unknown)
+    (record {
       some = untouched_for_some status bytes_of out (omega (arith, two));
       of_words = tt;
       of_file = tt;
@@ -95,19 +98,19 @@ for_some words status bytes_of old new is = record {
 
 -- the program got the words
 pub answered : {W : Type 0} (known : Option (List (List ℕ))) (words given : List (List ℕ))
-    (bytes_at : List ℕ → Option (List ℕ)) (is_unread : List ℕ → Type 0) (is_terminal : Bool) (status : ℕ)
-    (bytes_of : W → Option (List ℕ)) (old new : Counted W) (had has : Option (List ℕ)) → words ≡ given
+    (bytes_at : List ℕ → Option (List ℕ)) (is_unread : List ℕ → Type 0) (causes : KnownCauses) (is_terminal : Bool)
+    (status : ℕ) (bytes_of : W → Option (List ℕ)) (old new : Counted W) (had has : Option (List ℕ)) → words ≡ given
     → IfSome known (λ texts. given ≡ texts) → IsStatusOf words status bytes_of old new
     → (status ≡ 0 → (AsksAboutProgram words → ⊥)
     → WritesReportOfFile bytes_at words (bytes_of (inner_of old)) (bytes_of (inner_of new)))
     → (status ≡ 1
-    → PrintsReasonFirst bytes_at is_unread words (failures_of old) (failures_of new) had has)
+    → PrintsReasonFirst bytes_at is_unread causes words (failures_of old) (failures_of new) had has)
     → (status ≡ 1 → is_terminal ≡ false
-    → PrintsReason bytes_at is_unread words (failures_of old) (failures_of new) had has)
+    → PrintsReason bytes_at is_unread causes words (failures_of old) (failures_of new) had has)
     → (status ≡ 0 → Keeps had has)
-    → IsAnswered known bytes_at is_unread is_terminal status bytes_of old new had has
-answered known words given bytes_at is_unread is_terminal status bytes_of old new had has are same is report first
-    alone silent =
+    → IsAnswered known bytes_at is_unread causes is_terminal status bytes_of old new had has
+answered known words given bytes_at is_unread causes is_terminal status bytes_of old new had has are same is report
+    first alone silent =
     let of = λ (P : List (List ℕ) → Type 0) (holds : P words). of_known known given P same (subst P are holds) in
     record {
       some = for_some words status bytes_of old new is;
@@ -115,8 +118,8 @@ answered known words given bytes_at is_unread is_terminal status bytes_of old ne
       of_file = of (λ texts. status ≡ 0 → (AsksAboutProgram texts → ⊥)
           → WritesReportOfFile bytes_at texts (bytes_of (inner_of old)) (bytes_of (inner_of new))) report;
       first = λ one. of (λ texts.
-          PrintsReasonFirst bytes_at is_unread texts (failures_of old) (failures_of new) had has) (first one);
+          PrintsReasonFirst bytes_at is_unread causes texts (failures_of old) (failures_of new) had has) (first one);
       alone = λ one no. of (λ texts.
-          PrintsReason bytes_at is_unread texts (failures_of old) (failures_of new) had has) (alone one no);
+          PrintsReason bytes_at is_unread causes texts (failures_of old) (failures_of new) had has) (alone one no);
       silent = silent;
     }

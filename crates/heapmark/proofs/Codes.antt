@@ -69,7 +69,7 @@ known_unplaced code least most in_use = (run_unplaced code least (omega (arith, 
 
 -- a first fault is such a refusal, and so is out of memory
 pub known_of : (text : List ℕ) (refusal : Refusal) → RefusesFirstFault text refusal ⊎ (refusal ≡ out_of_memory)
-    → IsRunRefusal refusal × (refusal.code ≤ 18)
+    → IsRunRefusal refusal × (refusal.code ≤ 15)
 known_of text refusal (inl tells) =
     let code = fault_code text refusal.code tells.place tells.fault in (
       record {
@@ -81,4 +81,5 @@ known_of text refusal (inl tells) =
       omega (arith, code.1),
     )
 known_of text refusal (inr same) =
-    subst IsKnown (sym same) (known_unplaced 15 (omega arith) (omega arith) (λ h. omega (arith, h)))
+    subst (λ r. IsRunRefusal r × (r.code ≤ 15)) (sym same)
+    (run_unplaced 15 (omega arith) (omega arith) (λ h. omega (arith, h)), omega arith)

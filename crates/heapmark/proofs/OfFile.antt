@@ -1,6 +1,7 @@
 -- What a run says of the bytes of its reader, said of the file whose bytes these are.
 use Rattle.std.proofs.Common.{IfSome, IsErrAnd, IsSomeAnd, List, None, Option, Some, ap, arith, codes, inl, inr}
 use Rattle.std.proofs.Common.{option_and_then, refl, subst, sym, ℕ, ⊎_elim, ◌+◌, ◌≡◌, ◌≢◌, ◌≤◌, ◌↔◌, ◌⊎◌}
+use Rattle.std.proofs.KnownBytes.{Keeps-refl}
 use Rattle.command_line.specs.Line.{AreGiven, text_given}
 use Rattle.command_line.specs.declared.parsed_arguments.Arguments.{Arguments}
 use Rattle.heap_graph.specs.Skips.{SkipEntry}
@@ -9,16 +10,18 @@ use Rattle.heap_graph.specs.declared.skip.refusal.SkipRefusal.TheVariants as ski
 use Rattle.heapmark.specs.Answer.{IsAcceptedText, IsRefusalOf, IsRunRefusal, RefusesFirstFault, WritesReport}
 use Rattle.heapmark.specs.Answer.{bytes_read}
 use Rattle.heapmark.specs.BadOptions.{GivesTooFewBuffers, HasBadOptions}
+use Rattle.heapmark.specs.Causes.{HasCause, KnownCauses}
 use Rattle.heapmark.specs.OfFile.{IsReason, PrintsReason, PrintsReasonFirst, WritesReportOfBytes, WritesReportOfFile}
-use Rattle.heapmark.specs.OfFile.{AppendsSome, HasUnreadFile, bytes_of_file}
+use Rattle.heapmark.specs.OfFile.{HasUnreadFile, bytes_of_file}
 use Rattle.heapmark.specs.RefusalCodes.{bad_options_refusal, skip_refusal}
 use Rattle.heapmark.specs.RefusalText.{refusal_line}
 use Rattle.heapmark.specs.RunRefusals.{out_of_memory, read_fault}
+use Rattle.heapmark.specs.SecondLine.{PrintsHint, PrintsHintFor}
 use Rattle.heapmark.specs.SkippedFields.{HasBadList, IsSkipListOf}
 use Rattle.heapmark.specs.declared.refusal.Refusal.{Refusal}
 use Rattle.heapmark.specs.working.NoReport.{HasTooFewBuffers, list_of}
+use Rattle.heapmark.proofs.Causing.{starved_cause}
 use Rattle.heapmark.proofs.Codes.{run_unplaced}
-use Rattle.heapmark.proofs.PrintedLine.{no_more}
 use Rattle.histogram.specs.Counting.{AppendsBeginning}
 
 -- the bytes that the reader has yet to give are those of the file, if these are known
@@ -147,67 +150,77 @@ unread_of_words : (is_unread : List ℕ → Type 0) (words : List (List ℕ)) (a
 unread_of_words is_unread words a given unread =
     subst (λ (file : Option (List ℕ)). IsSomeAnd file is_unread) (sym given.file) unread
 
-pub told_of_words : (bytes_at : List ℕ → Option (List ℕ)) (is_unread : List ℕ → Type 0) (words : List (List ℕ))
-    (a : Arguments) (before after : ℕ) (refusal : Refusal) (old new : Option (List ℕ)) → AreGiven words a
-    → IsReason (bytes_at a.file.now) before after refusal
+pub told_of_words : (bytes_at : List ℕ → Option (List ℕ)) (is_unread : List ℕ → Type 0) (causes : KnownCauses)
+    (words : List (List ℕ)) (a : Arguments) (before after : ℕ) (refusal : Refusal) (old new : Option (List ℕ))
+    → AreGiven words a → IsReason (bytes_at a.file.now) before after refusal
     → (refusal.code ≡ 21 → HasTooFewBuffers a ⊎ HasBadList (list_of a))
-    → (refusal.code ≡ 19 → is_unread a.file.now) → AppendsBeginning old new (refusal_line refusal)
-    → PrintsReason bytes_at is_unread words before after old new
-told_of_words bytes_at is_unread words a before after refusal old new given reason bad unread line = record {
-  refusal = refusal;
-  reason = subst (λ known. IsReason known before after refusal) (sym (named bytes_at words a given)) reason;
-  options = λ code. bad_of_words words a given (bad code);
-  unread = λ code. unread_of_words is_unread words a given (unread code);
-  line = line;
-}
+    → (refusal.code ≡ 19 → is_unread a.file.now) → HasCause causes refusal
+    → AppendsBeginning old new (refusal_line refusal)
+    → PrintsReason bytes_at is_unread causes words before after old new
+told_of_words bytes_at is_unread causes words a before after refusal old new given reason bad unread cause line =
+    record {
+      refusal = refusal;
+      reason = subst (λ known. IsReason known before after refusal) (sym (named bytes_at words a given)) reason;
+      options = λ code. bad_of_words words a given (bad code);
+      unread = λ code. unread_of_words is_unread words a given (unread code);
+      cause = cause;
+      line = line;
+    }
 
 -- out of memory is a reason for any file
-pub told_starved : (bytes_at : List ℕ → Option (List ℕ)) (is_unread : List ℕ → Type 0) (words : List (List ℕ))
-    (before after : ℕ) (old new : Option (List ℕ)) → after ≡ before
+pub told_starved : (bytes_at : List ℕ → Option (List ℕ)) (is_unread : List ℕ → Type 0) (causes : KnownCauses)
+    (words : List (List ℕ)) (before after : ℕ) (old new : Option (List ℕ)) → after ≡ before
     → AppendsBeginning old new (refusal_line out_of_memory)
-    → PrintsReason bytes_at is_unread words before after old new
-told_starved bytes_at is_unread words before after old new same line = record {
+    → PrintsReason bytes_at is_unread causes words before after old new
+told_starved bytes_at is_unread causes words before after old new same line = record {
   refusal = out_of_memory;
   reason = subst (λ failures. IsReason (bytes_of_file bytes_at words) before failures out_of_memory) (sym same)
       (starved_unread (bytes_of_file bytes_at words) before);
   options = λ code. absurd (omega (arith, code));
   unread = λ code. absurd (omega (arith, code));
+  cause = starved_cause causes;
   line = line;
 }
 
 -- the refusal's line is the only one, or the first
 
-pub only : (bytes_at : List ℕ → Option (List ℕ)) (is_unread : List ℕ → Type 0) (words : List (List ℕ))
-    (before after : ℕ) (old new : Option (List ℕ)) → PrintsReason bytes_at is_unread words before after old new
-    → PrintsReasonFirst bytes_at is_unread words before after old new
-only bytes_at is_unread words before after old new printed =
-    record { between = new; first = printed; more = no_more new }
+pub only : (bytes_at : List ℕ → Option (List ℕ)) (is_unread : List ℕ → Type 0) (causes : KnownCauses)
+    (words : List (List ℕ)) (before after : ℕ) (old new : Option (List ℕ))
+    → PrintsReason bytes_at is_unread causes words before after old new
+    → PrintsReasonFirst bytes_at is_unread causes words before after old new
+only bytes_at is_unread causes words before after old new printed =
+    record { between = new; first = printed; second = inl (Keeps-refl new) }
 
-pub then_more : (bytes_at : List ℕ → Option (List ℕ)) (is_unread : List ℕ → Type 0) (words : List (List ℕ))
-    (before after : ℕ) (old between new : Option (List ℕ))
-    → PrintsReason bytes_at is_unread words before after old between → AppendsSome between new
-    → PrintsReasonFirst bytes_at is_unread words before after old new
-then_more bytes_at is_unread words before after old between new printed more =
-    record { between = between; first = printed; more = more }
+pub then_hint : (bytes_at : List ℕ → Option (List ℕ)) (is_unread : List ℕ → Type 0) (causes : KnownCauses)
+    (words : List (List ℕ)) (a : Arguments) (before after : ℕ) (old between new : Option (List ℕ))
+    → PrintsReason bytes_at is_unread causes words before after old between → AreGiven words a
+    → PrintsHint a.file.now between new → PrintsReasonFirst bytes_at is_unread causes words before after old new
+then_hint bytes_at is_unread causes words a before after old between new printed given hint = record {
+  between = between;
+  first = printed;
+  second = inr (subst (λ (file : Option (List ℕ)). IsSomeAnd file (λ name. PrintsHint name between new))
+      (sym given.file) hint);
+}
 
 -- without memory for the words, out of memory is the reason, whatever they are
 
-pub told_unread : (known : Option (List (List ℕ))) (bytes_at : List ℕ → Option (List ℕ)) (is_unread : List ℕ → Type 0)
-    (before after : ℕ) (old new : Option (List ℕ)) → after ≡ before
+pub told_unread : (known : Option (List (List ℕ))) (bytes_at : List ℕ → Option (List ℕ))
+    (is_unread : List ℕ → Type 0) (causes : KnownCauses) (before after : ℕ) (old new : Option (List ℕ))
+    → after ≡ before
     → AppendsBeginning old new (refusal_line out_of_memory)
-    → IfSome known (λ words. PrintsReason bytes_at is_unread words before after old new)
-told_unread None bytes_at is_unread before after old new same line = tt
-told_unread (Some words) bytes_at is_unread before after old new same line =
-    told_starved bytes_at is_unread words before after old new same line
+    → IfSome known (λ words. PrintsReason bytes_at is_unread causes words before after old new)
+told_unread None bytes_at is_unread causes before after old new same line = tt
+told_unread (Some words) bytes_at is_unread causes before after old new same line =
+    told_starved bytes_at is_unread causes words before after old new same line
 
 pub told_first_unread : (known : Option (List (List ℕ))) (bytes_at : List ℕ → Option (List ℕ))
-    (is_unread : List ℕ → Type 0) (before after : ℕ) (old new : Option (List ℕ)) → after ≡ before
+    (is_unread : List ℕ → Type 0) (causes : KnownCauses) (before after : ℕ) (old new : Option (List ℕ)) → after ≡ before
     → AppendsBeginning old new (refusal_line out_of_memory)
-    → IfSome known (λ words. PrintsReasonFirst bytes_at is_unread words before after old new)
-told_first_unread None bytes_at is_unread before after old new same line = tt
-told_first_unread (Some words) bytes_at is_unread before after old new same line =
-    only bytes_at is_unread words before after old new
-    (told_starved bytes_at is_unread words before after old new same line)
+    → IfSome known (λ words. PrintsReasonFirst bytes_at is_unread causes words before after old new)
+told_first_unread None bytes_at is_unread causes before after old new same line = tt
+told_first_unread (Some words) bytes_at is_unread causes before after old new same line =
+    only bytes_at is_unread causes words before after old new
+    (told_starved bytes_at is_unread causes words before after old new same line)
 
 -- a fact of the words that the program gets is one of the words that are known
 pub of_known : (known : Option (List (List ℕ))) (words : List (List ℕ)) (P : List (List ℕ) → Type 0)

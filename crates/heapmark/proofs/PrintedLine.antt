@@ -1,8 +1,9 @@
 -- What a writer took of a line before it failed is a beginning of the line.
-use Rattle.std.proofs.Common.{Err, List, None, Ok, OnOk, Option, Result, Some, [], append-nil, arith, is_ok, length}
-use Rattle.std.proofs.Common.{sym, take, true, true≢false, ℕ, ◌≡◌, ◌≤◌, ◌∙◌}
+use Rattle.std.proofs.Common.{All, Err, List, None, Ok, OnOk, Option, Result, Some, [], append-nil, arith, codes}
+use Rattle.std.proofs.Common.{is_ok, length, subst, sym, take, true, true≢false, ℕ, ◌++◌, ◌≡◌, ◌≢◌, ◌≤◌, ◌∙◌}
 use Rattle.std.specs.Io.KnownBytes.{Appends, Keeps}
-use Rattle.heapmark.specs.OfFile.{AppendsSome}
+use Rattle.heapmark.specs.RefusalText.{line_of}
+use Rattle.heapmark.specs.SecondLine.{PrintsAbout}
 use Rattle.histogram.specs.Counting.{AppendsBeginning}
 
 pub begun : (old new : Option (List ℕ)) (bytes : List ℕ) (at : ℕ) → at ≤ length bytes
@@ -24,11 +25,15 @@ appends_nothing (Some xs) = sym (append-nil xs)
 pub nothing : (known : Option (List ℕ)) (bytes : List ℕ) → AppendsBeginning known known bytes
 nothing known bytes = (0, omega arith, appends_nothing known)
 
-pub no_more : (known : Option (List ℕ)) → AppendsSome known known
-no_more known = ([], appends_nothing known)
+-- a line about a subject, or nothing of it
 
-pub some_of : (old new : Option (List ℕ)) (bytes : List ℕ) → AppendsBeginning old new bytes → AppendsSome old new
-some_of old new bytes begins = (take begins.0 bytes, begins.2)
+pub about : (subject bytes text : List ℕ) (old new : Option (List ℕ)) → bytes ≡ text → All (λ byte. byte ≢ 10) bytes
+    → AppendsBeginning old new (line_of (subject ++ codes ": " ++ text)) → PrintsAbout subject old new
+about subject bytes text old new same one line = (text, subst (All (λ byte. byte ≢ 10)) same one, line)
+
+pub nothing_about : (subject : List ℕ) (known : Option (List ℕ)) → PrintsAbout subject known known
+nothing_about subject known =
+    ([], (λ k d few. absurd (omega (arith, few))), nothing known (line_of (subject ++ codes ": " ++ [])))
 
 -- what holds at `Ok` holds of a result that is one
 pub on_ok : {X E : Type 0} (result : Result X E) (P : Type 0) → is_ok result ≡ true → OnOk result P → P

@@ -1,10 +1,12 @@
 pub mod Answer
 pub mod BadOptions
+pub mod Causes
 pub mod Headline
 pub mod OfFile
 pub mod RefusalCodes
 pub mod RefusalText
 pub mod RunRefusals
+pub mod SecondLine
 pub mod ShownText
 pub mod SkippedFields
 pub mod StatusOf

@@ -1,14 +1,15 @@
 -- What the program writes and prints for the file that the words of its command line name, if a contract can name the
 -- bytes of the file.
 use Rattle.std.specs.Prelude.{IfSome, IsSomeAnd, List, Option, codes, option_and_then, ℕ, ◌+◌, ◌≡◌, ◌≤◌, ◌↔◌, ◌⊎◌}
-use Rattle.std.specs.Io.KnownBytes.{Appends}
 use Rattle.command_line.specs.Line.{text_given}
 use Rattle.heap_graph.specs.Skips.{SkipEntry}
 use Rattle.heapmark.specs.Answer.{IsAcceptedText, IsRefusalOf, IsRunRefusal, RefusesFirstFault, WritesReport}
 use Rattle.heapmark.specs.Answer.{bytes_read}
 use Rattle.heapmark.specs.RefusalCodes.{bad_options_refusal}
 use Rattle.heapmark.specs.BadOptions.{HasBadOptions}
+use Rattle.heapmark.specs.Causes.{HasCause, KnownCauses}
 use Rattle.heapmark.specs.RefusalText.{refusal_line}
+use Rattle.heapmark.specs.SecondLine.{PrintsHintFor}
 use Rattle.heapmark.specs.SkippedFields.{IsSkipListOf}
 use Rattle.heapmark.specs.declared.refusal.Refusal.{Refusal}
 use Rattle.histogram.specs.Counting.{AppendsBeginning}
@@ -51,22 +52,20 @@ HasUnreadFile is_unread words = IsSomeAnd (text_given (codes "file") words) is_u
 
 -- The line of a refusal was printed, or a beginning of it if standard error failed, and nothing else. The refusal is a
 -- reason to have no report of the file that `words` name.
-pub record PrintsReason (bytes_at : List ℕ → Option (List ℕ)) (is_unread : List ℕ → Type 0) (words : List (List ℕ))
-    (before after : ℕ) (old new : Option (List ℕ)) : Type 0 where
+pub record PrintsReason (bytes_at : List ℕ → Option (List ℕ)) (is_unread : List ℕ → Type 0) (causes : KnownCauses)
+    (words : List (List ℕ)) (before after : ℕ) (old new : Option (List ℕ)) : Type 0 where
   pub refusal : Refusal
   pub reason : IsReason (bytes_of_file bytes_at words) before after refusal
   -- options are refused only if they are bad, and a file only if it could not be opened or read
   pub options : refusal.code ≡ 21 → HasBadOptions words
   pub unread : refusal.code ≡ 19 → HasUnreadFile is_unread words
+  -- a tag is spent only if a worker loaded a stack's last one
+  pub cause : HasCause causes refusal
   pub line : AppendsBeginning old new (refusal_line refusal)
 
--- known bytes stay at the front
-abbrev pub AppendsSome : Option (List ℕ) → Option (List ℕ) → Type 0
-AppendsSome old new = (bytes : List ℕ) × Appends old new bytes
-
--- Such a line was printed first. Nothing of it is lost, whatever was printed after it.
+-- Such a line was printed first. After it, at most one more line was printed, about the file or an option.
 pub record PrintsReasonFirst (bytes_at : List ℕ → Option (List ℕ)) (is_unread : List ℕ → Type 0)
-    (words : List (List ℕ)) (before after : ℕ) (old new : Option (List ℕ)) : Type 0 where
+    (causes : KnownCauses) (words : List (List ℕ)) (before after : ℕ) (old new : Option (List ℕ)) : Type 0 where
   pub between : Option (List ℕ)
-  pub first : PrintsReason bytes_at is_unread words before after old between
-  pub more : AppendsSome between new
+  pub first : PrintsReason bytes_at is_unread causes words before after old between
+  pub second : PrintsHintFor words between new

@@ -3,3 +3,4 @@ pub mod Hint
 pub mod Marking
 pub mod NoReport
 pub mod StatusOfSome
+pub mod Subjects

@@ -4,12 +4,14 @@ ghost use Rattle.std.specs.Prelude.{◌≡◌, ◌≢◌, ◌↔◌, ◌⊎◌, 
 ghost use Rattle.std.specs.Prelude.{IfErr, IfOk, IfSome, IsOk, IsSome, OnErr, OnOk, true, ℕ, codes};
 ghost use Rattle.std.specs.Io.KnownBytes.{Keeps};
 ghost use Rattle.clap.specs.Words.{kind_of};
-ghost use Rattle.command_line.specs.Line.{AreInRange, AsksAboutProgram, GivesNumber, IsTaken, IsWrong};
+ghost use Rattle.command_line.specs.Line.{AreGiven, AreInRange, AsksAboutProgram, GivesNumber, IsTaken, IsWrong};
 ghost use Rattle.command_line.specs.Line.{text_given, texts_of};
+ghost use Rattle.heapmark.specs.Causes.{HasCause};
 ghost use Rattle.heapmark.specs.OfFile.{IsReason, PrintsReason, PrintsReasonFirst, WritesReportOfBytes};
-ghost use Rattle.heapmark.specs.OfFile.{AppendsSome, WritesReportOfFile};
+ghost use Rattle.heapmark.specs.OfFile.{WritesReportOfFile};
 ghost use Rattle.heapmark.specs.RefusalText.{refusal_line};
 ghost use Rattle.heapmark.specs.RunRefusals.{out_of_memory};
+ghost use Rattle.heapmark.specs.SecondLine.{PrintsHint};
 ghost use Rattle.heapmark.specs.StatusOf.{IsStatusOf};
 ghost use Rattle.heapmark.specs.SkippedFields.{HasBadList, IsSkipListOf, WritesBeginningFor, WritesReportFor};
 ghost use Rattle.drain.specs.Options.{IsInRange};
@@ -17,11 +19,13 @@ ghost use Rattle.heapmark.specs.working.Hint.{HasHint};
 ghost use Rattle.heapmark.specs.working.NoReport.{HasTooFewBuffers, bad_options, list_of, refusal_of, starved, wanted};
 ghost use Rattle.histogram.specs.Counting.{AppendsBeginning, failures_of, inner_of, is_flushed};
 
+use crate::causes::Causes;
 use crate::dumps::Dumps;
 use crate::hint::advise;
 use crate::no_report::{NoReport, Unreported};
 use crate::pipeline::run;
-use crate::printing::print_line;
+use crate::printing::subject::Subject;
+use crate::printing::{print_about, print_line};
 use crate::refusal::Refusal;
 use crate::shown::Shown;
 use clap::error::ErrorKind;
@@ -56,7 +60,7 @@ For more information, try '--help'.
 /// Returns the exit status: 1 after a refusal, such as that of a failed allocation; otherwise 2 if the words are wrong;
 /// otherwise 0: the report of the file is on `out`, or the help or the version was asked for. A failure of `err` does
 /// not change the status, nor does a failure of `out` while the help or the version is printed.
-pub fn program<T: Dumps + AllocGlobal + Threads + Wait + Sync, W: Write, E: Write>(
+pub fn program<T: Causes + Dumps + AllocGlobal + Threads + Wait + Sync, W: Write, E: Write>(
     rt: &T,
     words: &[&str],
     out: &mut Counted<W>,
@@ -84,8 +88,9 @@ pub fn program<T: Dumps + AllocGlobal + Threads + Wait + Sync, W: Write, E: Writ
 
     // At 1 a refusal was printed in one line. If it reports a fault, this is the first fault of the file. Options are
     // refused only if they are bad, and the file only if it could not be opened or read.
-    ensures told { result ≡ 1 → PrintsReason (T.bytes_at rt.now) (T.is_unread rt.now) (texts_of words.now)
-        (failures_of out.old) (failures_of out.new) (E.contents err.old) (E.contents err.new) }
+    ensures told { result ≡ 1 → PrintsReason (T.bytes_at rt.now) (T.is_unread rt.now) (T.causes rt.now)
+        (texts_of words.now) (failures_of out.old) (failures_of out.new)
+        (E.contents err.old) (E.contents err.new) }
 
     // Too few buffers for the workers are refused, with nothing written.
     ensures too_few { (workers buffers : ℕ) → GivesNumber (codes "workers") (texts_of words.now) workers
@@ -114,20 +119,20 @@ pub fn program<T: Dumps + AllocGlobal + Threads + Wait + Sync, W: Write, E: Writ
 
 /// Like [`program`], for an `err` that is a terminal: after some refusals it prints a second line, which says why the
 /// file could not be opened, or what can be done. The status has the same meaning.
-#[tactic(auto, using(crate::proofs::OfFile::only, crate::proofs::OfFile::then_more))]
-pub fn program_at_terminal<T: Dumps + AllocGlobal + Threads + Wait + Sync, W: Write, E: Write>(
-    rt: &T,
-    words: &[&str],
-    out: &mut Counted<W>,
-    err: &mut E,
-) -> u8
+#[tactic(auto, using(crate::proofs::OfFile::only, crate::proofs::OfFile::then_hint))]
+pub fn program_at_terminal<
+    T: Causes + Dumps + AllocGlobal + Threads + Wait + Sync,
+    W: Write,
+    E: Write,
+>(rt: &T, words: &[&str], out: &mut Counted<W>, err: &mut E) -> u8
     requires { failures_of out.old < 2 ^ 64 - 1 }
     ensures status { IsStatusOf (texts_of words.now) result W.contents out.old out.new }
     ensures of_file { result ≡ 0 → (AsksAboutProgram (texts_of words.now) → ⊥)
         → WritesReportOfFile (T.bytes_at rt.now) (texts_of words.now)
         (W.contents (inner_of out.old)) (W.contents (inner_of out.new)) }
-    ensures told { result ≡ 1 → PrintsReasonFirst (T.bytes_at rt.now) (T.is_unread rt.now) (texts_of words.now)
-        (failures_of out.old) (failures_of out.new) (E.contents err.old) (E.contents err.new) }
+    ensures told { result ≡ 1 → PrintsReasonFirst (T.bytes_at rt.now) (T.is_unread rt.now) (T.causes rt.now)
+        (texts_of words.now) (failures_of out.old) (failures_of out.new)
+        (E.contents err.old) (E.contents err.new) }
     ensures silent { result ≡ 0 → Keeps (E.contents err.old) (E.contents err.new) }
 {
     let (status, unreported) = answer_line(rt, words, out, err);
@@ -140,7 +145,7 @@ pub fn program_at_terminal<T: Dumps + AllocGlobal + Threads + Wait + Sync, W: Wr
 /// Does what `words` ask for, and prints a refusal in one line, or what is wrong with the words. Returns the exit
 /// status. If the words name a file and there is no report of it, also returns why.
 #[tactic(auto, using(crate::proofs::OfFile::of_words, crate::proofs::OfFile::told_of_words, crate::proofs::OfFile::told_starved))]
-fn answer_line<'a, T: Dumps + AllocGlobal + Threads + Wait + Sync, W: Write, E: Write>(
+fn answer_line<'a, T: Causes + Dumps + AllocGlobal + Threads + Wait + Sync, W: Write, E: Write>(
     rt: &T,
     words: &'a [&'a str],
     out: &mut Counted<W>,
@@ -150,11 +155,13 @@ fn answer_line<'a, T: Dumps + AllocGlobal + Threads + Wait + Sync, W: Write, E: 
     ensures status { IsStatusOf (texts_of words.entry.now) result.0 W.contents out.old out.new }
     ensures silent { result.0 ≡ 0 → Keeps (E.contents err.old) (E.contents err.new) }
     ensures refused { IsSome result.1 → result.0 ≡ 1 }
+    ensures given { IfSome result.1 (λ unreported. AreGiven (texts_of words.entry.now) unreported.arguments) }
     ensures of_file { result.0 ≡ 0 → (AsksAboutProgram (texts_of words.entry.now) → ⊥)
         → WritesReportOfFile (T.bytes_at rt.now) (texts_of words.entry.now)
         (W.contents (inner_of out.old)) (W.contents (inner_of out.new)) }
-    ensures told { result.0 ≡ 1 → PrintsReason (T.bytes_at rt.now) (T.is_unread rt.now) (texts_of words.entry.now)
-        (failures_of out.old) (failures_of out.new) (E.contents err.old) (E.contents err.new) }
+    ensures told { result.0 ≡ 1 → PrintsReason (T.bytes_at rt.now) (T.is_unread rt.now) (T.causes rt.now)
+        (texts_of words.entry.now) (failures_of out.old) (failures_of out.new)
+        (E.contents err.old) (E.contents err.new) }
 {
     match arguments(rt.alloc(), words) {
         Ok(arguments) => match report_file(rt, &arguments, out) {
@@ -219,15 +226,14 @@ pub fn refuse_bytes<E: Write>(err: &mut E) -> u8
 fn explain<T: Dumps + AllocGlobal, E: Write>(rt: &T, err: &mut E, unreported: &Unreported<'_>)
     ensures none { (HasHint (refusal_of unreported.now.reason).code → ⊥)
         → (refusal_of unreported.now.reason).code ≢ 19 → Keeps (E.contents err.old) (E.contents err.new) }
-    ensures more { AppendsSome (E.contents err.old) (E.contents err.new) }
+    ensures hint { PrintsHint unreported.now.arguments.file.now (E.contents err.old) (E.contents err.new) }
 {
     let Unreported { arguments, reason } = unreported;
     match reason {
         NoReport::Refused(refusal) => advise(rt, err, arguments, refusal, None),
         NoReport::Stopped(refusal, length) => advise(rt, err, arguments, refusal, *length),
         NoReport::NotOpened(reason) => {
-            let file = Shown(arguments.file);
-            print_line(err, &format_args!("{file}: {reason}"));
+            print_about(err, Subject::File(Shown(arguments.file)), reason);
         }
     }
 }
@@ -270,8 +276,8 @@ fn skip_of<'a>(alloc: Global, arguments: &Arguments<'a>) -> Result<Skip<'a, Glob
 }
 
 /// Calls [`run`] on the file of `arguments`. Tests the options and the list of fields before it opens the file.
-#[tactic(auto, using(crate::proofs::OfFile::bad_options_unread, crate::proofs::OfFile::skip_unread, crate::proofs::OfFile::not_opened_unread))]
-fn report_file<T: Dumps + AllocGlobal + Threads + Wait + Sync, W: Write>(
+#[tactic(auto, using(crate::proofs::OfFile::bad_options_unread, crate::proofs::OfFile::skip_unread, crate::proofs::OfFile::not_opened_unread, crate::proofs::Causing::bad_options_cause, crate::proofs::Causing::skip_cause, crate::proofs::Causing::read_fault_cause))]
+fn report_file<T: Causes + Dumps + AllocGlobal + Threads + Wait + Sync, W: Write>(
     rt: &T,
     arguments: &Arguments<'_>,
     out: &mut Counted<W>,
@@ -284,6 +290,7 @@ fn report_file<T: Dumps + AllocGlobal + Threads + Wait + Sync, W: Write>(
         → HasTooFewBuffers arguments.now ⊎ HasBadList (list_of arguments.now)) }
     ensures unread { IfErr result (λ reason. (refusal_of reason).code ≡ 19
         → T.is_unread rt.now arguments.now.file.now) }
+    ensures cause { IfErr result (λ reason. HasCause (T.causes rt.now) (refusal_of reason)) }
     ensures not_run { HasTooFewBuffers arguments.now ⊎ HasBadList (list_of arguments.now)
         → failures_of out.new ≡ failures_of out.old }
     ensures of_file { OnOk result (IfSome (T.bytes_at rt.now arguments.now.file.now) (λ bytes.

@@ -7,12 +7,13 @@ pub(crate) mod records;
 
 ghost use Rattle.std.specs.Prelude.{◌≡◌, ◌↔◌, ◌*◌, IsSome, IsTrue};
 ghost use Rattle.std.specs.Io.KnownBytes.{Keeps};
-ghost use Rattle.heapmark.specs.OfFile.{AppendsSome};
+ghost use Rattle.heapmark.specs.SecondLine.{PrintsHint};
 ghost use Rattle.heapmark.specs.working.Hint.{HasHint};
 ghost use Rattle.heapmark.specs.working.NoReport.{HasTooFewBuffers};
 
 use crate::dumps::Dumps;
-use crate::printing::print_line;
+use crate::printing::print_about;
+use crate::printing::subject::Subject;
 use crate::refusal::Refusal;
 use crate::refusal::codes::{BAD_OPTIONS, OUT_OF_MEMORY, TAG_SPENT, WORKER_REFUSED};
 use crate::shown::Shown;
@@ -23,20 +24,21 @@ use hprof_grammar::LIMIT;
 use hprof_grammar::fault_codes::{BAD_HEADER, DUMP_ORDER, SUB_TRUNCATED, TOO_LARGE, TRUNCATED};
 use option_hint::{OptionHint, least_buffers};
 use records::record_end;
+use std::io;
 use std::io::Write;
-use std::{fmt, io};
 
 /// What can be done about a refusal.
 #[derive(Clone, Copy)]
-pub(crate) enum Hint<'a> {
-    /// What is wrong with this file.
-    File(Shown<'a>, FileHint),
+pub(crate) enum Hint {
+    /// What is wrong with the file.
+    File(FileHint),
     /// What is wrong with an option.
     Option(OptionHint),
 }
 
-/// Prints in one line what can be done about `refusal`, or nothing if no hint is known. `length` is the number of bytes
-/// that were read from the file, if that number is known.
+/// Prints in one line what can be done about `refusal`, or nothing if no hint is known. The line is about the file or
+/// an option. `length` is the number of bytes that were read from the file, if that number is known.
+#[tactic(auto, using(crate::proofs::Hints::no_hint, crate::proofs::Hints::of_option, crate::proofs::Hints::of_named))]
 pub(crate) fn advise<T: Dumps + AllocGlobal, E: Write>(
     rt: &T,
     err: &mut E,
@@ -45,20 +47,22 @@ pub(crate) fn advise<T: Dumps + AllocGlobal, E: Write>(
     length: Option<u64>,
 )
     ensures none { (HasHint refusal.now.code → ⊥) → Keeps (E.contents err.old) (E.contents err.new) }
-    ensures more { AppendsSome (E.contents err.old) (E.contents err.new) }
+    ensures hint { PrintsHint arguments.now.file.now (E.contents err.old) (E.contents err.new) }
 {
-    if let Some(hint) = hint_of(rt, arguments, refusal, length) {
-        print_line(err, &hint);
+    match hint_of(rt, arguments, refusal, length) {
+        Some(Hint::File(hint)) => print_about(err, Subject::File(Shown(arguments.file)), &hint),
+        Some(Hint::Option(hint)) => print_about(err, hint.subject(), &hint),
+        None => {}
     }
 }
 
 /// Returns what can be done about the `refusal` of a run with these `arguments`, if a hint is known.
-fn hint_of<'a, T: Dumps + AllocGlobal>(
+fn hint_of<T: Dumps + AllocGlobal>(
     rt: &T,
-    arguments: &Arguments<'a>,
+    arguments: &Arguments<'_>,
     refusal: &Refusal,
     length: Option<u64>,
-) -> Option<Hint<'a>>
+) -> Option<Hint>
     ensures codes { IsSome result → HasHint refusal.now.code }
     ensures buffers { refusal.now.code ≡ 21 → HasTooFewBuffers arguments.now
         → result ≡ Some (Hint.Option (OptionHint.Buffers arguments.now.buffers arguments.now.workers)) }
@@ -71,19 +75,15 @@ fn hint_of<'a, T: Dumps + AllocGlobal>(
         first_tag,
         skip: _,
     } = *arguments;
-    let shown = Shown(file);
     match refusal.code {
-        BAD_HEADER => Some(Hint::File(shown, hint_of_beginning(rt, file))),
-        TRUNCATED => Some(Hint::File(shown, FileHint::EndsEarly)),
+        BAD_HEADER => Some(Hint::File(hint_of_beginning(rt, file))),
+        TRUNCATED => Some(Hint::File(FileHint::EndsEarly)),
         SUB_TRUNCATED if is_in_last_record(rt, file, refusal.offset, length) => {
-            Some(Hint::File(shown, FileHint::EndsEarly))
+            Some(Hint::File(FileHint::EndsEarly))
         }
-        DUMP_ORDER if is_at_end(refusal.offset, length) => Some(Hint::File(
-            shown,
-            FileHint::EndsEarly,
-        )),
-        TOO_LARGE => Some(Hint::File(shown, hint_of_excess(refusal.offset))),
-        OUT_OF_MEMORY => Some(Hint::File(shown, hint_of_memory(rt, file, workers))),
+        DUMP_ORDER if is_at_end(refusal.offset, length) => Some(Hint::File(FileHint::EndsEarly)),
+        TOO_LARGE => Some(Hint::File(hint_of_excess(refusal.offset))),
+        OUT_OF_MEMORY => Some(Hint::File(hint_of_memory(rt, file, workers))),
         TAG_SPENT => Some(Hint::Option(OptionHint::FirstTag(first_tag))),
         WORKER_REFUSED => Some(Hint::Option(OptionHint::Threads(workers))),
         BAD_OPTIONS if u64::from(buffers) < least_buffers(workers) => {
@@ -164,14 +164,5 @@ fn is_in_last_record<T: Dumps + AllocGlobal>(
     match rt.reopen_dump(name) {
         Ok(reader) => record_end(rt.alloc(), reader.into_inner(), place) == Some(length),
         Err(_) => false,
-    }
-}
-
-impl fmt::Display for Hint<'_> {
-    fn fmt<W: fmt::Write>(&self, f: &mut fmt::Formatter<W>) -> fmt::Result {
-        match *self {
-            Hint::File(file, hint) => write!(f, "{file}: {hint}"),
-            Hint::Option(hint) => hint.fmt(f),
-        }
     }
 }

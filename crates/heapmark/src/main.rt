@@ -28,6 +28,7 @@ ghost use Rattle.heapmark.specs.working.Answered.{IsAnswered};
 ghost use Rattle.heapmark.specs.working.StatusOfSome.{IsStatusOfSome};
 ghost use Rattle.histogram.specs.Counting.{failures_of, inner_of};
 
+mod causes;
 mod command;
 mod command_words;
 mod dumps;
@@ -40,6 +41,7 @@ mod refusal;
 mod shown;
 mod unmet_skips;
 
+pub use causes::Causes;
 pub use command::program;
 pub use command_line::{Arguments, arguments};
 pub use command_words::CommandWords;
@@ -73,7 +75,7 @@ fn main(rt: HostRuntime) -> ExitCode {
 #[tactic(auto, using(crate::proofs::UnmetLines::after_kept, crate::proofs::UnmetLines::none_kept))]
 fn process<T, L, W, E>(rt: &T, line: &L, out: &mut Counted<W>, err: &mut E, is_terminal: bool) -> u8
 where
-    T: Dumps + AllocGlobal + Threads + Wait + Sync,
+    T: Causes + Dumps + AllocGlobal + Threads + Wait + Sync,
     L: CommandWords,
     W: Write,
     E: Write,
@@ -89,10 +91,10 @@ where
         → WritesReportOfFile (T.bytes_at rt.now) words
         (W.contents (inner_of out.old)) (W.contents (inner_of out.new))) }
     ensures told { result ≡ 1 → IfSome (L.words line.now) (λ words.
-        PrintsReasonFirst (T.bytes_at rt.now) (T.is_unread rt.now) words
+        PrintsReasonFirst (T.bytes_at rt.now) (T.is_unread rt.now) (T.causes rt.now) words
         (failures_of out.old) (failures_of out.new) (E.contents err.old) (E.contents err.new)) }
     ensures told_only { result ≡ 1 → is_terminal ≡ false → IfSome (L.words line.now) (λ words.
-        PrintsReason (T.bytes_at rt.now) (T.is_unread rt.now) words
+        PrintsReason (T.bytes_at rt.now) (T.is_unread rt.now) (T.causes rt.now) words
         (failures_of out.old) (failures_of out.new) (E.contents err.old) (E.contents err.new)) }
 
     // At 0, if standard error is no terminal, no refusal was printed. So `process` turns no other status of `start`
@@ -130,13 +132,13 @@ where
 /// Passes the words of the command line to the program, and returns the exit status.
 fn start<T, L, W, E>(rt: &T, line: &L, out: &mut Counted<W>, err: &mut E, is_terminal: bool) -> u8
 where
-    T: Dumps + AllocGlobal + Threads + Wait + Sync,
+    T: Causes + Dumps + AllocGlobal + Threads + Wait + Sync,
     L: CommandWords,
     W: Write,
     E: Write,
     requires { failures_of out.old < 2 ^ 64 - 1 }
-    ensures { IsAnswered (L.words line.now) (T.bytes_at rt.now) (T.is_unread rt.now) is_terminal result
-        W.contents out.old out.new (E.contents err.old) (E.contents err.new) }
+    ensures { IsAnswered (L.words line.now) (T.bytes_at rt.now) (T.is_unread rt.now) (T.causes rt.now) is_terminal
+        result W.contents out.old out.new (E.contents err.old) (E.contents err.new) }
 {
     let texts = match line.texts(rt.alloc()) {
         Ok(texts) => texts,

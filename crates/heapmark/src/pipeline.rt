@@ -11,10 +11,12 @@ ghost use Rattle.histogram.specs.HistogramOf.{histogram_of};
 ghost use Rattle.heapmark.specs.Answer.{ConsumesBytesRead, IsAcceptedText, IsRunRefusal, IsRefusalOf};
 ghost use Rattle.heapmark.specs.Answer.{RefusesFirstFault, WritesReport};
 ghost use Rattle.heapmark.specs.Answer.{WritesBeginning, WritesSomeBeginning, WritesSomeReport, bytes_read};
+ghost use Rattle.heapmark.specs.Causes.{HasCause};
 ghost use Rattle.heapmark.specs.Headline.{Headline};
 ghost use Rattle.heapmark.specs.RunRefusals.{HasCode, out_of_memory, read_fault};
 ghost use Rattle.heapmark.specs.working.Marking.{IsOfMarking};
 
+use crate::causes::Causes;
 use crate::refusal::Refusal;
 use drain::{Gate, Options, mark};
 use heap_graph::{Graph, Skip};
@@ -39,6 +41,7 @@ const READ_LIMIT: usize = LIMIT as usize + 1;
 /// their first fault, or with 15 or 19 if an allocation or the reader failed first; an accepted dump may be refused
 /// with 15, 16 or 18 to 20. For any other reader, such as a file, the clauses only say that the report of some accepted
 /// dump was written and flushed, and which code an error may have.
+#[tactic(auto, using(crate::proofs::Causing::reader_cause))]
 pub fn run<T, A, R, W, B, G>(
     rt: &T,
     alloc: A,
@@ -49,7 +52,7 @@ pub fn run<T, A, R, W, B, G>(
     gate: &G,
 ) -> Result<(), Refusal>
 where
-    T: Threads + Wait + Sync,
+    T: Causes + Threads + Wait + Sync,
     A: Allocator + Sync,
     R: Read,
     W: Write,
@@ -76,6 +79,9 @@ where
     ensures not_accepted { IfSome (R.remaining (inner_of reader.old)) (λ given.
         (IsAcceptedText (bytes_read given) → ⊥) → IsErrAnd result (IsRefusalOf (bytes_read given))) }
     ensures known { IfErr result IsRunRefusal }
+
+    // A tag is spent only if a worker loaded a stack's last one.
+    ensures cause { IfErr result (HasCause (T.causes rt.now)) }
 
     // The bytes read were taken from the reader, and no others: no read is made after the limit is reached.
     ensures consumed { OnOk result
@@ -129,6 +135,7 @@ pub(crate) fn read_bytes<A: Allocator, R: Read>(
 }
 
 /// Writes the report of the dump in `bytes`. Knows nothing of readers.
+#[tactic(auto, using(crate::proofs::Causing::writer_cause))]
 fn report_bytes<T, A, W, B, G>(
     rt: &T,
     alloc: A,
@@ -139,7 +146,7 @@ fn report_bytes<T, A, W, B, G>(
     gate: &G,
 ) -> Result<(), Refusal>
 where
-    T: Threads + Wait + Sync,
+    T: Causes + Threads + Wait + Sync,
     A: Allocator + Copy + Send + Sync,
     W: Write,
     B: Allocator,
@@ -151,6 +158,7 @@ where
     ensures refusal { IfErr result (λ refusal. RefusesFirstFault bytes.now refusal ⊎ (refusal ≡ out_of_memory)
         ⊎ (IsAcceptedText bytes.now × (15 ≤ refusal.code))) }
     ensures known { IfErr result (λ refusal. IsRunRefusal refusal × (refusal.code ≢ 19)) }
+    ensures cause { IfErr result (HasCause (T.causes rt.now)) }
     ensures fault { HasCode result 20 ↔ (failures_of writer.new ≡ failures_of writer.old + 1) }
     ensures no_fault { (HasCode result 20 → ⊥) → failures_of writer.new ≡ failures_of writer.old }
     ensures beginning { HasCode result 20 → WritesBeginning bytes.now skip.now
@@ -166,6 +174,7 @@ where
 }
 
 /// Returns the report of the dump in `bytes`. Knows nothing of readers and writers.
+#[tactic(auto, using(crate::proofs::Causing::low_cause))]
 fn answer<T, A, B, G>(
     rt: &T,
     alloc: A,
@@ -175,7 +184,7 @@ fn answer<T, A, B, G>(
     gate: &G,
 ) -> Result<Report<A>, Refusal>
 where
-    T: Threads + Wait + Sync,
+    T: Causes + Threads + Wait + Sync,
     A: Allocator + Copy + Send + Sync,
     B: Allocator,
     G: Gate,
@@ -183,6 +192,7 @@ where
     ensures refusal { IfErr result (λ refusal. RefusesFirstFault bytes.now refusal ⊎ (refusal ≡ out_of_memory)
         ⊎ (IsAcceptedText bytes.now × IsOfMarking refusal)) }
     ensures known { IfErr result (λ refusal. IsRunRefusal refusal × (refusal.code ≤ 18)) }
+    ensures cause { IfErr result (HasCause (T.causes rt.now)) }
 {
     let team = Team::at_most(rt, options.workers());
     let graph = match graph_of(&team, alloc, bytes, skip) {
@@ -196,6 +206,7 @@ where
 }
 
 /// Marks `graph` and returns its report.
+#[tactic(auto, using(crate::proofs::Causing::same_starved_cause))]
 fn report_of_graph<T, A, G>(
     rt: &T,
     team: &Team<'_, T>,
@@ -205,17 +216,18 @@ fn report_of_graph<T, A, G>(
     gate: &G,
 ) -> Result<Report<A>, Refusal>
 where
-    T: Threads + Wait + Sync,
+    T: Causes + Threads + Wait + Sync,
     A: Allocator + Copy + Send + Sync,
     G: Gate,
     ensures report { IfOk result (λ report. (text : List ℕ) (skip : List SkipEntry)
         → IsGraphOfText text skip graph.now → IsReport text skip (report_of (histogram_of report))) }
     ensures refusal { IfErr result (λ refusal. (refusal ≡ out_of_memory) ⊎ IsOfMarking refusal) }
     ensures known { IfErr result (λ refusal. IsRunRefusal refusal × (refusal.code ≤ 18)) }
+    ensures cause { IfErr result (HasCause (T.causes rt.now)) }
 {
     let marked = match mark(rt, alloc, graph, options, gate) {
         Ok(marked) => marked,
-        Err(fault) => return Err(Refusal::from(fault)),
+        Err(fault) => return Err(Refusal::of_marking(rt, fault)),
     };
     Ok(rows(team, alloc, graph, &marked)?)
 }
@@ -233,7 +245,7 @@ where
     B: Allocator,
     ensures graph { IfOk result (λ graph. IsGraphOfText bytes.now skip.now graph) }
     ensures refusal { IfErr result (λ refusal. RefusesFirstFault bytes.now refusal ⊎ (refusal ≡ out_of_memory)) }
-    ensures known { IfErr result (λ refusal. IsRunRefusal refusal × (refusal.code ≤ 18)) }
+    ensures known { IfErr result (λ refusal. IsRunRefusal refusal × (refusal.code ≤ 15)) }
 {
     let dump = match read(team, alloc, bytes) {
         Ok(dump) => dump,

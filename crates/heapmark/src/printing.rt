@@ -1,13 +1,17 @@
 //! Lines on standard error, which are printed without an allocation.
 
-ghost use Rattle.std.specs.Prelude.{IfSome};
-ghost use Rattle.heapmark.specs.OfFile.{AppendsSome};
+pub(crate) mod subject;
+
+ghost use Rattle.std.specs.Prelude.{◌≢◌, ◌↔◌, All, IfSome, IsTrue};
 ghost use Rattle.heapmark.specs.RefusalText.{line_of};
+ghost use Rattle.heapmark.specs.SecondLine.{PrintsAbout};
+ghost use Rattle.heapmark.specs.working.Subjects.{subject_text};
 ghost use Rattle.histogram.specs.Counting.{AppendsBeginning};
 
 use arrayvec::ArrayString;
 use std::fmt::{Display, Write};
 use std::io;
+use subject::{About, Subject};
 
 /// The most bytes of a line. The longest name of a file that the system opens has 4,096 bytes, and each of them is
 /// printed as four if it is that of a control character.
@@ -15,17 +19,39 @@ const MOST: usize = 17_000;
 
 /// Prints `heapmark: `, `text` and a newline on `err`, as far as `err` takes them. Prints nothing if the line would
 /// have more than [`MOST`] bytes.
-#[tactic(auto, using(crate::proofs::PrintedLine::nothing, crate::proofs::PrintedLine::some_of))]
+#[tactic(auto, using(crate::proofs::PrintedLine::nothing))]
 pub(crate) fn print_line<E: io::Write, D: Display>(err: &mut E, text: &D)
-    ensures line { IfSome (D.output text.now) (λ output.
+    ensures { IfSome (D.output text.now) (λ output.
         AppendsBeginning (E.contents err.old) (E.contents err.new) (line_of output)) }
-    ensures more { AppendsSome (E.contents err.old) (E.contents err.new) }
 {
     // `write!` on `err` itself would say nothing of what `err` took before it failed.
     let mut line = ArrayString::<MOST>::new();
     if writeln!(line, "heapmark: {text}").is_ok() {
         write_beginning(err, line.as_str().as_bytes());
     }
+}
+
+/// Prints a line about `subject` on `err`: `heapmark: `, `subject`, `: `, `text` and a newline. Prints nothing if
+/// `text` has a newline, or if the line would have more than [`MOST`] bytes.
+#[tactic(auto, using(crate::proofs::PrintedLine::about, crate::proofs::PrintedLine::nothing_about))]
+pub(crate) fn print_about<E: io::Write, D: Display>(err: &mut E, subject: Subject<'_>, text: &D)
+    ensures { PrintsAbout (subject_text subject.entry) (E.contents err.old) (E.contents err.new) }
+{
+    let mut line = ArrayString::<MOST>::new();
+    if write!(line, "{text}").is_err() {
+        return;
+    }
+    let text = line.as_str();
+    if is_one_line(text.as_bytes()) {
+        print_line(err, &About { subject, text });
+    }
+}
+
+/// Tests whether `bytes` have no newline.
+fn is_one_line(bytes: &[u8]) -> bool
+    ensures { IsTrue result ↔ All (λ byte. byte ≢ 10) bytes.now }
+{
+    bytes.iter().all(|byte| *byte != b'\n')
 }
 
 /// Writes `bytes` on `err` until it fails or takes nothing.

@@ -30,7 +30,7 @@ mod workers;
 
 ghost use Rattle.std.specs.Prelude.{◌≤◌};
 
-use crate::{Counted, Gate, NoGate, Options, Refusal, Skip, run};
+use crate::{Causes, Counted, Gate, NoGate, Options, Refusal, Skip, run};
 use std::alloc::{Allocator, Global};
 use std::io::{Read, Write};
 use std::sync::Wait;
@@ -77,7 +77,7 @@ fn run_with<T, A, R, W, B, G>(
     writer: W,
 ) -> (Result<(), Refusal>, W)
 where
-    T: Threads + Wait + Sync,
+    T: Causes + Threads + Wait + Sync,
     A: Allocator + Sync,
     R: Read + Drop,
     W: Write,
@@ -110,7 +110,7 @@ fn answer<T, R>(
     report: &str,
 ) -> Answered
 where
-    T: Threads + Wait + Sync,
+    T: Causes + Threads + Wait + Sync,
     R: Read + Drop,
 {
     let written = Vec::new(alloc);
@@ -128,7 +128,7 @@ fn is_answered<T, R>(
     report: &str,
 ) -> bool
 where
-    T: Threads + Wait + Sync,
+    T: Causes + Threads + Wait + Sync,
     R: Read + Drop,
 {
     let told = answer(rt, alloc, options, &Skip::none(alloc), reader, report);
@@ -137,7 +137,7 @@ where
 
 /// Tests whether the run with each of `options` that skips the fields of `skip` has the result `want` and writes just
 /// `report`.
-fn runs_are_answered<T: Threads + Wait + Sync>(
+fn runs_are_answered<T: Causes + Threads + Wait + Sync>(
     rt: &T,
     alloc: Global,
     options: &[Options],

@@ -7,24 +7,25 @@ use Rattle.heapmark.proofs.start.Goals as goal
 
 pub returns-in-Err : goal.returns-in-Err
 returns-in-Err g c =
-    not_text (g.L.CommandWords.words c.args.line.now) _ _ _ _ g.W.Write.contents c.args.out.now _ _
+    not_text (g.L.CommandWords.words c.args.line.now) _ _ _ _ _ g.W.Write.contents c.args.out.now _ _
     (search (rules, c.in-Err.ensures.text, c.if-eq.ensures)) c.refuse_bytes.ensures
 
 pub returns-in-Err-2 : goal.returns-in-Err-2
 returns-in-Err-2 g c =
-    starved (g.L.CommandWords.words c.args.line.now) _ _ _ _ g.W.Write.contents c.args.out.now _ _
+    starved (g.L.CommandWords.words c.args.line.now) _ _ _ _ _ g.W.Write.contents c.args.out.now _ _
     c.print_refusal.ensures.status c.print_refusal.ensures.line
 
 pub returns : goal.returns
 returns g c =
-    starved (g.L.CommandWords.words c.args.line.now) _ _ _ _ g.W.Write.contents c.args.out.now _ _
+    starved (g.L.CommandWords.words c.args.line.now) _ _ _ _ _ g.W.Write.contents c.args.out.now _ _
     c.print_refusal-in-Err-words_of.ensures.status c.print_refusal-in-Err-words_of.ensures.line
 
 pub returns-in-Ok-words_of : goal.returns-in-Ok-words_of
 returns-in-Ok-words_of g c =
     let told = c.program_at_terminal.ensures in
     answered (g.L.CommandWords.words c.args.line.now) (texts_of c.as_slice.result.now)
-    (map string_bytes c.in-Ok.texts.items) (g.T.Dumps.bytes_at c.args.rt.now) (g.T.Dumps.is_unread c.args.rt.now) _ _
+    (map string_bytes c.in-Ok.texts.items) (g.T.Dumps.bytes_at c.args.rt.now) (g.T.Dumps.is_unread c.args.rt.now)
+    (g.T.Causes.causes c.args.rt.now) _ _
     g.W.Write.contents _ _
     (g.E.Write.contents c.args.err.now) _
     (ap texts_of c.as_slice.ensures.value ∙ c.in-Ok-words_of.ensures ∙ ap (map string_bytes) c.deref.ensures.value)
@@ -35,7 +36,8 @@ pub returns-in-Ok-2 : goal.returns-in-Ok-2
 returns-in-Ok-2 g c =
     let told = c.program.ensures in
     answered (g.L.CommandWords.words c.args.line.now) (texts_of c.as_slice-in-Ok-2.result.now)
-    (map string_bytes c.in-Ok.texts.items) (g.T.Dumps.bytes_at c.args.rt.now) (g.T.Dumps.is_unread c.args.rt.now) _ _
+    (map string_bytes c.in-Ok.texts.items) (g.T.Dumps.bytes_at c.args.rt.now) (g.T.Dumps.is_unread c.args.rt.now)
+    (g.T.Causes.causes c.args.rt.now) _ _
     g.W.Write.contents _ _
     (g.E.Write.contents c.args.err.now) _
     (ap texts_of c.as_slice-in-Ok-2.ensures.value ∙ c.in-Ok-words_of.ensures
@@ -54,4 +56,4 @@ returns-in-Ok-2 g c =
       no_failure = told.no_failure;
       failures = told.failures;
     })
-    told.of_file (λ one. only _ _ _ _ _ _ _ (told.told one)) (λ one _. told.told one) told.silent
+    told.of_file (λ one. only _ _ _ _ _ _ _ _ (told.told one)) (λ one _. told.told one) told.silent

@@ -1,7 +1,10 @@
 //! What people can do about an option of the command line.
 
 ghost use Rattle.std.specs.Prelude.{◌≡◌, ◌+◌, ◌*◌};
+ghost use Rattle.heapmark.specs.SecondLine.{IsOption};
+ghost use Rattle.heapmark.specs.working.Subjects.{subject_text};
 
+use crate::printing::subject::Subject;
 use std::fmt;
 
 /// What is wrong with an option, and what can be done about it.
@@ -17,26 +20,34 @@ pub(crate) enum OptionHint {
     Fields,
 }
 
+impl OptionHint {
+    /// Returns the option.
+    #[tactic(auto, using(crate::proofs::Hints::is_first_tag, crate::proofs::Hints::is_workers, crate::proofs::Hints::is_buffers))]
+    pub(super) fn subject(self) -> Subject<'static>
+        ensures { IsOption (subject_text result) }
+    {
+        match self {
+            OptionHint::FirstTag(tag) => Subject::FirstTag(tag),
+            OptionHint::Threads(workers) => Subject::Workers(workers),
+            OptionHint::Buffers(buffers, _) => Subject::Buffers(buffers),
+            OptionHint::Fields => Subject::Skip,
+        }
+    }
+}
+
 impl fmt::Display for OptionHint {
     fn fmt<W: fmt::Write>(&self, f: &mut fmt::Formatter<W>) -> fmt::Result {
         match *self {
-            OptionHint::FirstTag(tag) => write!(
-                f,
-                "--first-tag {tag}: too few tags are left after it: leave the option out"
-            ),
-            OptionHint::Threads(workers) => {
-                let advice = advice_on_threads(workers);
-                write!(f, "--workers {workers}: {advice}")
+            OptionHint::FirstTag(_) => {
+                f.write_str("too few tags are left after it: leave the option out")
             }
-            OptionHint::Buffers(buffers, workers) => {
+            OptionHint::Threads(workers) => f.write_str(advice_on_threads(workers)),
+            OptionHint::Buffers(_, workers) => {
                 let least = least_buffers(workers);
-                write!(
-                    f,
-                    "--buffers {buffers}: too few for {workers} workers: give {least} at least"
-                )
+                write!(f, "too few for {workers} workers: give {least} at least")
             }
             OptionHint::Fields => f.write_str(
-                "--skip: give 1 to 64 entries with commas between, as java/lang/ref/Reference.referent",
+                "give 1 to 64 entries with commas between, as java/lang/ref/Reference.referent",
             ),
         }
     }

@@ -6,6 +6,7 @@ ghost use Rattle.heapmark.specs.RefusalCodes.{write_refusal};
 ghost use Rattle.heapmark.specs.RunRefusals.{out_of_memory};
 
 use super::Refusal;
+use crate::causes::Causes;
 use drain::RunFault;
 use heap_graph::{LinkRefusal, SkipRefusal};
 use histogram::{OutOfMemory, ReaderRefusal, WriteRefusal};
@@ -61,13 +62,20 @@ impl From<SkipRefusal> for Refusal {
     }
 }
 
-impl From<RunFault> for Refusal {
-    ghost from_gives = { λ fault r. r ≡ run_refusal fault };
+impl Refusal {
+    ghost use Rattle.heapmark.specs.Causes.{HasCause};
 
-    fn from(fault: RunFault) -> Refusal {
+    /// Returns the refusal of a run whose marking failed with `fault`. Passes the token of a spent tag to `rt`.
+    pub(crate) fn of_marking<T: Causes>(rt: &T, fault: RunFault) -> Refusal
+        ensures value { result ≡ run_refusal fault }
+        ensures cause { HasCause (T.causes rt.now) result }
+    {
         match fault {
             RunFault::OutOfMemory => Refusal::OUT_OF_MEMORY,
-            RunFault::TagSpent(_) => Refusal::TAG_SPENT,
+            RunFault::TagSpent(token) => {
+                rt.tag_is_spent(token);
+                Refusal::TAG_SPENT
+            }
             RunFault::WorkerRefused => Refusal::WORKER_REFUSED,
         }
     }

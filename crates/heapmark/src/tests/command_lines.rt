@@ -10,7 +10,7 @@ use super::texts::{
     HEXADECIMAL_TAG, NO_FILE, NO_FILE_BUT_WORKERS, NO_VALUE, SKIP_TWICE, TAG_AFTER_THE_LAST,
     UNKNOWN_OPTION, VERSION, WORKERS_0, WORKERS_65, WORKERS_TWICE,
 };
-use crate::{Counted, Dumps, program};
+use crate::{Causes, Counted, Dumps, program};
 use std::env::Env;
 use std::rt::Files;
 use std::sync::Wait;
@@ -160,15 +160,11 @@ static LINES: [(&str, Sample, &str, &[Line]); 6] = [
     ),
 ];
 
-/// Tests whether the program has the status of `line` on a file of `sample`, also if standard error fails, and whether it
-/// prints just the text of `line` on standard error, and on the output `report` at status 0, otherwise nothing.
-fn line_is_answered<T: AllocGlobal + Dumps<Dump = T::File> + Env + Files + Threads + Wait + Sync>(
-    rt: &T,
-    name: &str,
-    sample: Sample,
-    report: &str,
-    line: &Line,
-) -> bool {
+/// Tests whether the program has the status of `line` on a file of `sample`, also if standard error fails, and whether
+/// it prints just the text of `line` on standard error, and on the output `report` at status 0, otherwise nothing.
+fn line_is_answered<
+    T: AllocGlobal + Causes + Dumps<Dump = T::File> + Env + Files + Threads + Wait + Sync,
+>(rt: &T, name: &str, sample: Sample, report: &str, line: &Line) -> bool {
     let (words, want, told) = *line;
     let report = if want == 0 { report } else { "" };
     let right = Some((want, true, true));
@@ -202,14 +198,17 @@ static TEXTS: [(&str, &str); 4] = [
 ];
 
 /// Returns the status for `word` if both streams fail, and the number of failures of the output.
-fn asked_in_vain<T: AllocGlobal + Dumps + Threads + Wait + Sync>(rt: &T, word: &str) -> (u8, u64) {
+fn asked_in_vain<T: AllocGlobal + Causes + Dumps + Threads + Wait + Sync>(
+    rt: &T,
+    word: &str,
+) -> (u8, u64) {
     let mut out = Counted::new(Broken);
     let status = program(rt, &["heapmark", word], &mut out, &mut Broken);
     (status, out.failures())
 }
 
 /// Tests whether `word` alone prints just `text`, on the output, at status 0, which it has also if both streams fail.
-fn is_printed<T: AllocGlobal + Dumps + Threads + Wait + Sync>(
+fn is_printed<T: AllocGlobal + Causes + Dumps + Threads + Wait + Sync>(
     rt: &T,
     word: &str,
     text: &str,

@@ -2,7 +2,7 @@
 
 use super::dumps::{NOTHING_REPORT, TWO_OBJECTS_REPORT, two_objects};
 use super::{least, refused, runs_are_answered, usual};
-use crate::{Refusal, Skip};
+use crate::{Causes, Refusal, Skip};
 use std::alloc::Global;
 use std::sync::Wait;
 use std::thread::Threads;
@@ -78,7 +78,7 @@ fn with_body(dump: &mut Vec<u8>, length: usize) -> &[u8] {
 
 /// Tests whether the runs on `bytes` have the result `want` and write `report`: with two workers and the least buffers,
 /// and with 1, 2 and 64 workers and the program's default buffers.
-fn is_answered<T: Threads + Wait + Sync>(
+fn is_answered<T: Causes + Threads + Wait + Sync>(
     rt: &T,
     alloc: Global,
     bytes: &[u8],
@@ -90,7 +90,7 @@ fn is_answered<T: Threads + Wait + Sync>(
 }
 
 /// Tests whether the runs on the first `length` bytes of the file are refused with `code` and `place`.
-fn file_is_refused<T: Threads + Wait + Sync>(
+fn file_is_refused<T: Causes + Threads + Wait + Sync>(
     rt: &T,
     alloc: Global,
     length: usize,
@@ -106,7 +106,7 @@ fn file_is_refused<T: Threads + Wait + Sync>(
 
 /// Tests whether the runs on the dump with `length` bytes of its heap record's body have the result `want` and write
 /// `report`.
-fn body_is_answered<T: Threads + Wait + Sync>(
+fn body_is_answered<T: Causes + Threads + Wait + Sync>(
     rt: &T,
     alloc: Global,
     length: usize,

@@ -7,7 +7,7 @@ mod two_workers;
 
 use super::dumps::two_objects;
 use super::{least, run_with};
-use crate::{NoGate, Options, Skip};
+use crate::{Causes, NoGate, Options, Skip};
 use answers::ANSWERS;
 use std::alloc::Global;
 use std::sync::Wait;
@@ -48,7 +48,7 @@ fn mixed(before: u32, report: &[u8]) -> u32 {
 
 /// Runs on `dump`. Returns the code and the place of its refusal, or 0 and the length of its report; and `mix` with the
 /// report mixed in. Returns the code 255 if a run that is refused has written something.
-fn told<T: Threads + Wait + Sync>(
+fn told<T: Causes + Threads + Wait + Sync>(
     rt: &T,
     alloc: Global,
     options: &Options,
@@ -74,7 +74,7 @@ type Other = Option<(u8, u8, u64)>;
 
 /// Runs on each file of `row`, made by changing `dump`. Returns the number of files, the number mixed from their
 /// reports, and the first file with another result.
-fn run_row<T: Threads + Wait + Sync>(
+fn run_row<T: Causes + Threads + Wait + Sync>(
     rt: &T,
     alloc: Global,
     options: &Options,
@@ -105,7 +105,7 @@ fn run_row<T: Threads + Wait + Sync>(
 
 /// Returns the number of files of `row`, without the dump itself. Returns `None` if a file has another result than
 /// `row` says, or if an allocation fails.
-fn files_of<T: Threads + Wait + Sync>(
+fn files_of<T: Causes + Threads + Wait + Sync>(
     rt: &T,
     alloc: Global,
     options: &Options,
@@ -122,7 +122,7 @@ fn files_of<T: Threads + Wait + Sync>(
 
 /// Returns for each code the sums over the files of all rows, as in `SUMS`. The error is the place and the values of
 /// the first row that overlaps the rows before it or has a file with another result.
-fn sums_of_rows<T: Threads + Wait + Sync>(
+fn sums_of_rows<T: Causes + Threads + Wait + Sync>(
     rt: &T,
     alloc: Global,
     options: &Options,

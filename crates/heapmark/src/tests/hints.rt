@@ -6,7 +6,8 @@ use super::dumps::Sub::{Raw, Root};
 use super::dumps::{Bytes, Record, two_objects};
 use super::program::{Asked, answered_to_people, told_on};
 use crate::hint::advise;
-use crate::{Arguments, Dumps, Refusal};
+use crate::{Arguments, Causes, Dumps, Refusal};
+use std::alloc::{AllocError, Global};
 use std::env::Env;
 use std::rt::Files;
 use std::sync::Wait;
@@ -125,7 +126,7 @@ fn each_hint_says_what_to_do(rt: HostRuntime) {
 
 /// Tests whether the program refuses a file of `bytes` by the line `refusal`. At a terminal, a line that ends with
 /// `want` must follow, or no line if `want` is empty.
-fn is_told<T: AllocGlobal + Dumps<Dump = T::File> + Env + Files + Threads + Wait + Sync>(
+fn is_told<T: AllocGlobal + Causes + Dumps<Dump = T::File> + Env + Files + Threads + Wait + Sync>(
     rt: &T,
     bytes: &[u8],
     refusal: &str,
@@ -195,11 +196,9 @@ fn a_file_is_told_by_its_first_bytes(rt: HostRuntime) {
 
 /// Tests whether the program refuses the first `length` bytes of the dump of two objects by the line `refusal`, and
 /// says at a terminal that the file ends too early.
-fn cut_is_told<T: AllocGlobal + Dumps<Dump = T::File> + Env + Files + Threads + Wait + Sync>(
-    rt: &T,
-    length: usize,
-    refusal: &str,
-) -> bool {
+fn cut_is_told<
+    T: AllocGlobal + Causes + Dumps<Dump = T::File> + Env + Files + Threads + Wait + Sync,
+>(rt: &T, length: usize, refusal: &str) -> bool {
     match two_objects(rt.alloc()) {
         Ok(dump) => is_told(rt, front(dump.bytes.as_slice(), length), refusal, EARLY),
         Err(_) => false,
@@ -221,12 +220,9 @@ fn a_cut_file_is_told(rt: HostRuntime) {
 }
 
 /// Like [`is_told`], for a file with the dump of `records`.
-fn dump_is_told<T: AllocGlobal + Dumps<Dump = T::File> + Env + Files + Threads + Wait + Sync>(
-    rt: &T,
-    records: &[Record],
-    refusal: &str,
-    want: &str,
-) -> bool {
+fn dump_is_told<
+    T: AllocGlobal + Causes + Dumps<Dump = T::File> + Env + Files + Threads + Wait + Sync,
+>(rt: &T, records: &[Record], refusal: &str, want: &str) -> bool {
     match Bytes::dump(rt.alloc(), 4, records) {
         Ok(dump) => is_told(rt, dump.bytes.as_slice(), refusal, want),
         Err(_) => false,
@@ -278,4 +274,30 @@ fn a_name_is_shown_without_control_characters(rt: HostRuntime) {
     let told = answered_to_people(&rt, &["heapmark", name], refusal, reason);
     let length = refusal.len() + reason.len();
     assert_eq!(rt; told, (1, true, Some(length)));
+}
+
+/// A name's control characters are shown as four bytes each. The system takes names of 4,095 bytes.
+const LONG: usize = 4_000;
+
+/// Returns `front`, [`LONG`] times `part`, and `end`.
+fn long_text(alloc: Global, front: &str, part: &str, end: &str) -> Result<String, AllocError> {
+    let mut text = String::from_str(alloc, front)?;
+    for _ in 0..LONG {
+        text.push_str(part)?;
+    }
+    text.push_str(end)?;
+    Ok(text)
+}
+
+#[test]
+fn a_long_name_is_shown_whole(rt: HostRuntime) -> Result<(), AllocError> {
+    let name = long_text(rt.alloc(), "/nowhere/", "\x1b", "")?;
+    let end = ": No such file or directory (os error 2)\n";
+    let reason = long_text(rt.alloc(), "heapmark: /nowhere/", "\\x1b", end)?;
+    let refusal = "heapmark: refused 19 ReadFault\n";
+    let words = ["heapmark", name.as_str()];
+    let told = answered_to_people(&rt, &words, refusal, reason.as_str());
+    let length = refusal.len().saturating_add(reason.as_str().len());
+    assert_eq!(rt; told, (1, true, Some(length)));
+    Ok(())
 }

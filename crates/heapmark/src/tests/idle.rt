@@ -6,17 +6,24 @@ use super::dumps::{
     EIGHT_ROOTS_REPORT, SEVEN_ROOTS_REPORT, Sample, WIDE_ARRAY_REPORT, wide_array_of_roots,
 };
 use super::{Answered, is_answered, length_of, run_with};
-use crate::{Gate, Options, Skip};
+use crate::{Causes, Gate, Options, Skip};
 use std::alloc::Global;
 use std::sync::Wait;
 use std::sync::atomic::{AtomicU64, Ordering};
 use std::thread;
 use std::thread::Threads;
-use std::time::{Clock, Duration};
+use std::time::{Clock, Duration, Instant};
 
-/// The most runs with two workers on the array. A worker that finds no work leaves after some 0.4 s, even if not all
-/// are idle. So on a busy machine it may leave before the other has shared, and then there is one more run.
+/// The number of runs with two workers on the array that are judged, if there are as many quick ones.
 const RUNS: u32 = 5;
+
+/// The most runs with two workers on the array.
+const MOST_RUNS: u32 = 30;
+
+/// The most milliseconds from the start of a quick run until a worker has shared. A worker that finds no work waits for
+/// 300 at least (`pause.rt` of `drain`). So in a quick run it must still be there. On a busy machine a run may take
+/// longer, and then it shows nothing.
+const QUICK: u64 = 200;
 
 /// The most times that a held worker tests whether what it waits for has come, 1 ms apart.
 const TURNS: u32 = 2_000;
@@ -37,23 +44,28 @@ const ROOTS_OF_A_WORKER: u64 = 2;
 #[derive(Drop)]
 struct Late<C: Clock> {
     clock: C,
+    start: Instant,
     /// The number of scans of worker 0.
     first: AtomicU64,
     /// The number of scans of worker 1.
     second: AtomicU64,
     /// The number of the worker whose next scan is held, and 1 more; 0 if there is none.
     held: AtomicU64,
+    /// 1 if a worker had shared within [`QUICK`] milliseconds.
+    quick: AtomicU64,
     /// 1 if the other worker came after the array was scanned.
     met: AtomicU64,
 }
 
 impl<C: Clock> Late<C> {
-    fn new(clock: C) -> Self {
+    fn new(clock: C, start: Instant) -> Self {
         Late {
             clock,
+            start,
             first: AtomicU64::new(0),
             second: AtomicU64::new(0),
             held: AtomicU64::new(0),
+            quick: AtomicU64::new(0),
             met: AtomicU64::new(0),
         }
     }
@@ -77,9 +89,14 @@ impl<C: Clock> Late<C> {
         }
     }
 
-    /// Waits until the other worker, which has made `scans` scans, has scanned more than its roots.
+    /// Notes whether the run is quick, and waits until the other worker, which has made `scans` scans, has scanned more
+    /// than its roots.
     fn hold_the_next(&self, scans: &AtomicU64) {
         self.held.store(0, Ordering::SeqCst);
+        let elapsed = self.start.elapsed(&self.clock);
+        if elapsed.is_ok_and(|elapsed| elapsed < Duration::from_millis(QUICK)) {
+            self.quick.store(1, Ordering::SeqCst);
+        }
         if self.sees(scans, ROOTS_OF_A_WORKER + 1) {
             self.met.store(1, Ordering::SeqCst);
         }
@@ -104,50 +121,65 @@ impl<C: Clock + Sync> Gate for Late<C> {
     }
 }
 
-/// Runs on `bytes` with two workers. Returns the result, and whether a worker that waited came once more.
-fn run_late_on<T: Clock + Threads + Wait + Sync>(
+/// Runs on `bytes` with two workers. Returns the result, and, if the run was quick, whether a worker that waited came
+/// once more.
+fn run_late_on<T: Causes + Clock + Threads + Wait + Sync>(
     rt: &T,
     alloc: Global,
     options: &Options,
     bytes: &[u8],
-) -> (Answered, bool) {
-    let gate = Late::new(rt);
+) -> Option<(Answered, Option<bool>)> {
+    let gate = Late::new(rt, Instant::now(rt).ok()?);
     let (skip, written) = (Skip::none(alloc), Vec::new(alloc));
     let (outcome, written) = run_with(rt, alloc, options, &skip, &gate, bytes, written);
     let length = length_of(written.as_slice(), WIDE_ARRAY_REPORT);
-    let met = gate.met.load(Ordering::SeqCst) == 1;
-    ((outcome, length), met)
+    let is_quick = gate.quick.load(Ordering::SeqCst) == 1;
+    let has_met = gate.met.load(Ordering::SeqCst) == 1;
+    Some(((outcome, length), is_quick.then_some(has_met)))
 }
 
 /// Like [`run_late_on`], for a run on the array with [`ROOTS_OF_A_WORKER`] objects in a buffer.
-fn run_late<T: Clock + Threads + Wait + Sync>(rt: &T, alloc: Global) -> Option<(Answered, bool)> {
+fn run_late<T: Causes + Clock + Threads + Wait + Sync>(
+    rt: &T,
+    alloc: Global,
+) -> Option<(Answered, Option<bool>)> {
     let Ok(options) = Options::new(2, 2, 1024, 0) else {
         return None;
     };
     match wide_array_of_roots(alloc) {
-        Ok(dump) => Some(run_late_on(rt, alloc, &options, dump.bytes.as_slice())),
+        Ok(dump) => run_late_on(rt, alloc, &options, dump.bytes.as_slice()),
         Err(_) => None,
     }
 }
 
-/// Runs until a worker that waited has come once more, up to [`RUNS`] times. Returns whether one has, or `None` if a
-/// run does not write the report.
-fn is_met<T: Clock + Threads + Wait + Sync>(rt: &T, alloc: Global) -> Option<bool> {
-    for _ in 0..RUNS {
+/// Makes runs until [`RUNS`] were quick, but at most [`MOST_RUNS`]. Returns how many were quick, and in how many of
+/// these a worker that waited came once more. Returns `None` if a run does not write the report.
+fn meetings<T: Causes + Clock + Threads + Wait + Sync>(
+    rt: &T,
+    alloc: Global,
+) -> Option<(u32, u32)> {
+    let (mut quick, mut met) = (0u32, 0u32);
+    for _ in 0..MOST_RUNS {
         let (told, has_met) = run_late(rt, alloc)?;
         if told != (Ok(()), Some(WIDE_ARRAY_REPORT.len())) {
             return None;
         }
-        if has_met {
-            return Some(true);
+        quick = quick.saturating_add(u32::from(has_met.is_some()));
+        met = met.saturating_add(u32::from(has_met == Some(true)));
+        if quick == RUNS {
+            break;
         }
     }
-    Some(false)
+    Some((quick, met))
 }
 
 #[test]
 fn a_worker_stays_until_another_has_made_work(rt: HostRuntime) {
-    assert_eq!(rt; is_met(&rt, rt.alloc()), Some(true));
+    let meetings = meetings(&rt, rt.alloc());
+    assert!(rt;
+        meetings.is_some_and(|(quick, met)| quick > 0 && met == quick),
+        "{meetings:?}"
+    );
 }
 
 /// A dump, workers, objects in a buffer, buffers, and the report. With the fewest buffers some workers get no pair.
@@ -160,7 +192,7 @@ static ROWS: [(Sample, u32, u32, u32, &str); 5] = [
 ];
 
 /// Tests whether each of `RUNS_OF_MANY` runs on `bytes` writes `report`.
-fn runs_are_the_same<T: Threads + Wait + Sync>(
+fn runs_are_the_same<T: Causes + Threads + Wait + Sync>(
     rt: &T,
     alloc: Global,
     options: &Options,
@@ -176,7 +208,7 @@ fn runs_are_the_same<T: Threads + Wait + Sync>(
 }
 
 /// Tests whether each of `RUNS_OF_MANY` runs on `row` writes its report.
-fn row_is_the_same<T: Threads + Wait + Sync>(
+fn row_is_the_same<T: Causes + Threads + Wait + Sync>(
     rt: &T,
     alloc: Global,
     row: &(Sample, u32, u32, u32, &str),

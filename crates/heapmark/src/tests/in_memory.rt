@@ -9,7 +9,8 @@ use super::dumps::{Sample, TWO_OBJECTS_REPORT};
 use super::memory::SUPERCLASS_SKIPPED_REPORT;
 use super::program::{BAD_TAG, answered};
 use super::skips::REFERENCES;
-use crate::{CommandWords, Counted, Dumps, process};
+use crate::{Causes, CommandWords, Counted, Dumps, process};
+use buffer_pool::SpentTag;
 use std::alloc::{Alloc, AllocError, Global};
 use std::io;
 use std::io::{Cursor, Seek};
@@ -69,6 +70,16 @@ impl<'a, T> Dumps for InMemory<'a, T> {
     fn dump_size(&self, _name: &str) -> io::Result<u64> {
         Ok(self.bytes.len() as u64)
     }
+}
+
+impl<T> Causes for InMemory<'_, T> {
+    ghost use Rattle.heapmark.specs.Causes.{KnownCauses};
+
+    ghost causes = { λ _. record { spent_tag = Unit } };
+
+    fn tag_is_spent(&self, _token: SpentTag)
+        ensures { Unit }
+    {}
 }
 
 /// A command line in memory.

@@ -4,7 +4,7 @@
 
 use super::dumps::{Bytes, TWO_OBJECTS};
 use super::{run_with, runs_are_answered, usual};
-use crate::{NoGate, Options, Skip};
+use crate::{Causes, NoGate, Options, Skip};
 use limited_heap::LimitedHeap;
 use std::alloc::{AllocError, Global};
 use std::sync::Wait;
@@ -64,7 +64,11 @@ fn tree(alloc: Global, nodes: u32) -> Result<Bytes, AllocError> {
 }
 
 /// Tests whether runs with 1 and 4 workers on `bytes` write the report of the tree of 20 levels.
-fn runs_are_reported<T: Threads + Wait + Sync>(rt: &T, alloc: Global, bytes: &[u8]) -> bool {
+fn runs_are_reported<T: Causes + Threads + Wait + Sync>(
+    rt: &T,
+    alloc: Global,
+    bytes: &[u8],
+) -> bool {
     let options = [usual(1), usual(4)];
     runs_are_answered(
         rt,
@@ -78,7 +82,7 @@ fn runs_are_reported<T: Threads + Wait + Sync>(rt: &T, alloc: Global, bytes: &[u
 }
 
 /// Tests whether runs on the tree of 20 levels write its report.
-fn tree_is_reported<T: Threads + Wait + Sync>(rt: &T, alloc: Global) -> bool {
+fn tree_is_reported<T: Causes + Threads + Wait + Sync>(rt: &T, alloc: Global) -> bool {
     match tree(alloc, MANY) {
         Ok(dump) => runs_are_reported(rt, alloc, dump.bytes.as_slice()),
         Err(_) => false,
@@ -91,7 +95,7 @@ fn a_million_objects_are_counted(rt: HostRuntime) {
 }
 
 /// Returns how many allocations a run with `options` on `bytes` makes, or `None` if the run is refused.
-fn requests_on<T: Threads + Wait + Sync>(
+fn requests_on<T: Causes + Threads + Wait + Sync>(
     rt: &T,
     alloc: Global,
     options: &Options,
@@ -107,7 +111,7 @@ fn requests_on<T: Threads + Wait + Sync>(
 }
 
 /// Returns how many allocations a run with `options` on a tree of `nodes` nodes makes, or `None` if the run is refused.
-fn requests_on_tree<T: Threads + Wait + Sync>(
+fn requests_on_tree<T: Causes + Threads + Wait + Sync>(
     rt: &T,
     alloc: Global,
     options: &Options,
@@ -121,7 +125,7 @@ fn requests_on_tree<T: Threads + Wait + Sync>(
 
 /// Returns how many more allocations a run on a tree of `SHARED` nodes makes than a run on a tree of a single node, or
 /// `None` if it makes fewer or a run is refused.
-fn requests_of_size<T: Threads + Wait + Sync>(
+fn requests_of_size<T: Causes + Threads + Wait + Sync>(
     rt: &T,
     alloc: Global,
     options: &Options,

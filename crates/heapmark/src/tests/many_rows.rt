@@ -4,7 +4,7 @@
 
 use super::dumps::Bytes;
 use super::{runs_are_answered, usual_options};
-use crate::Skip;
+use crate::{Causes, Skip};
 use std::alloc::{AllocError, Global};
 use std::sync::Wait;
 use std::thread::Threads;
@@ -52,7 +52,7 @@ fn report(alloc: Global) -> Result<String, AllocError> {
 }
 
 /// Tests whether each run on `bytes`, the dump of the classes, writes their report.
-fn is_reported<T: Threads + Wait + Sync>(rt: &T, alloc: Global, bytes: &[u8]) -> bool {
+fn is_reported<T: Causes + Threads + Wait + Sync>(rt: &T, alloc: Global, bytes: &[u8]) -> bool {
     match report(alloc) {
         Ok(report) => {
             let skip = Skip::none(alloc);
@@ -71,7 +71,7 @@ fn is_reported<T: Threads + Wait + Sync>(rt: &T, alloc: Global, bytes: &[u8]) ->
 }
 
 /// Tests whether each run on the dump of the classes writes their report.
-fn classes_are_reported<T: Threads + Wait + Sync>(rt: &T, alloc: Global) -> bool {
+fn classes_are_reported<T: Causes + Threads + Wait + Sync>(rt: &T, alloc: Global) -> bool {
     match classes(alloc) {
         Ok(dump) => is_reported(rt, alloc, dump.bytes.as_slice()),
         Err(_) => false,

@@ -6,7 +6,7 @@ use super::dumps::{
     WIDE_ARRAY_REPORT,
 };
 use super::{Answered, answer, refused};
-use crate::{Options, Skip};
+use crate::{Causes, Options, Skip};
 use std::alloc::Global;
 use std::sync::Wait;
 use std::thread::Threads;
@@ -40,7 +40,11 @@ static ROWS: [Row; 13] = [
 ];
 
 /// Returns the result of a run on `row`.
-fn answer_of<T: Threads + Wait + Sync>(rt: &T, alloc: Global, row: &Row) -> Option<Answered> {
+fn answer_of<T: Causes + Threads + Wait + Sync>(
+    rt: &T,
+    alloc: Global,
+    row: &Row,
+) -> Option<Answered> {
     let (sample, (workers, buffer, buffers, exchanges), want) = *row;
     let first_tag = LAST_TAG.saturating_sub(exchanges);
     let Ok(options) = Options::new(workers, buffer, buffers, first_tag) else {

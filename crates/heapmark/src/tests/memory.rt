@@ -5,7 +5,7 @@ use super::dumps::Sub::{Class, Objects, Root, Values};
 use super::dumps::{Record, Sample, TWO_OBJECTS_REPORT, WIDE_ARRAY_REPORT};
 use super::skips::REFERENCES;
 use super::{length_of, refused, run_with};
-use crate::{NoGate, Options, Refusal, Skip, SkipRefusal};
+use crate::{Causes, NoGate, Options, Refusal, Skip, SkipRefusal};
 use limited_heap::LimitedHeap;
 use std::alloc::Global;
 use std::process::Abort;
@@ -95,7 +95,7 @@ static WITH_A_LIST: [Row; 1] = [(
 
 /// Runs on `dump` while the allocation `request` (counted from 0) fails, and all later ones too unless `alone`. Returns
 /// the result, how many bytes of `report` were written (`None` if anything else was), and how many allocations failed.
-fn run_refusing<T: Threads + Wait + Sync>(
+fn run_refusing<T: Causes + Threads + Wait + Sync>(
     rt: &T,
     alloc: Global,
     dump: &[u8],
@@ -122,7 +122,7 @@ fn run_refusing<T: Threads + Wait + Sync>(
 /// Fails each allocation in turn, in a run of its own, until none fails in a run. Returns the number of the first
 /// allocation whose run has a wrong result, or `None` if there is none. Fewer than nine allocations in all, or 4,096
 /// and more, count as a wrong result, too.
-fn first_other<T: Threads + Wait + Sync>(
+fn first_other<T: Causes + Threads + Wait + Sync>(
     rt: &T,
     alloc: Global,
     dump: &[u8],
@@ -164,7 +164,7 @@ fn skip_of(
 
 /// Tests whether runs of `row` on `dump` are right while each allocation fails in turn, as the only one and with all
 /// later ones ([`first_other`]).
-fn requests_are_told<T: Threads + Wait + Sync>(
+fn requests_are_told<T: Causes + Threads + Wait + Sync>(
     rt: &T,
     alloc: Global,
     dump: &[u8],
@@ -184,7 +184,7 @@ fn requests_are_told<T: Threads + Wait + Sync>(
 }
 
 /// Like [`requests_are_told`], for the dump of `row`.
-fn row_is_told<T: Threads + Wait + Sync>(rt: &T, alloc: Global, row: &Row) -> bool {
+fn row_is_told<T: Causes + Threads + Wait + Sync>(rt: &T, alloc: Global, row: &Row) -> bool {
     match row.0.dump(alloc) {
         Ok(dump) => requests_are_told(rt, alloc, dump.bytes.as_slice(), row),
         Err(_) => false,
@@ -192,7 +192,7 @@ fn row_is_told<T: Threads + Wait + Sync>(rt: &T, alloc: Global, row: &Row) -> bo
 }
 
 /// Checks each of `rows` by [`row_is_told`].
-fn all_are_told<T: Abort + Threads + Wait + Sync>(rt: &T, alloc: Global, rows: &[Row]) {
+fn all_are_told<T: Abort + Causes + Threads + Wait + Sync>(rt: &T, alloc: Global, rows: &[Row]) {
     for (number, row) in rows.iter().enumerate() {
         assert!(rt; row_is_told(rt, alloc, row), "row {number}");
     }

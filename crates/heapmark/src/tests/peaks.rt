@@ -3,7 +3,7 @@
 
 use super::dumps::{Bytes, Sub};
 use super::least;
-use crate::{Counted, NoGate, Options, Skip, run};
+use crate::{Causes, Counted, NoGate, Options, Skip, run};
 use limited_heap::LimitedHeap;
 use std::alloc::{AllocError, Global};
 use std::sync::Wait;
@@ -33,7 +33,7 @@ fn dump(alloc: Global, step: u64, apart: u64) -> Result<Bytes, AllocError> {
 }
 
 /// Returns the most bytes in use besides `bytes` during a run on them, or `None` if the run is refused.
-fn peak_of<T: Threads + Wait + Sync>(
+fn peak_of<T: Causes + Threads + Wait + Sync>(
     rt: &T,
     alloc: Global,
     options: &Options,
@@ -51,7 +51,7 @@ fn peak_of<T: Threads + Wait + Sync>(
 }
 
 /// Like [`peak_of`], for a dump of objects in this order ([`dump`]).
-fn peak_in<T: Threads + Wait + Sync>(
+fn peak_in<T: Causes + Threads + Wait + Sync>(
     rt: &T,
     alloc: Global,
     options: &Options,

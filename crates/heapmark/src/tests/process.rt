@@ -2,7 +2,7 @@
 
 use super::dumps::{Sample, TWO_OBJECTS_REPORT};
 use super::program::{Asked, answered_on};
-use crate::{Counted, Dumps, process};
+use crate::{Causes, Counted, Dumps, process};
 use std::alloc::{AllocError, Global};
 use std::env::{Env, FillError};
 use std::rt::Files;
@@ -52,7 +52,7 @@ heapmark: /nowhere/heapmark.hprof: No such file or directory (os error 2)
 
 /// Returns the status of the process for `words`, and whether it prints just `report` on the output and just `told` on
 /// standard error.
-fn answered<T: AllocGlobal + Dumps + Threads + Wait + Sync>(
+fn answered<T: AllocGlobal + Causes + Dumps + Threads + Wait + Sync>(
     rt: &T,
     words: &[&[u8]],
     is_terminal: bool,
@@ -97,7 +97,7 @@ fn bytes_of<'a>(alloc: Global, words: &[&'a str]) -> Result<Vec<&'a [u8]>, Alloc
 }
 
 /// Like [`answered`], for words that are text.
-pub fn processed<T: AllocGlobal + Dumps + Threads + Wait + Sync>(
+pub fn processed<T: AllocGlobal + Causes + Dumps + Threads + Wait + Sync>(
     rt: &T,
     words: &[&str],
     is_terminal: bool,

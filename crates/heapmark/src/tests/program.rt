@@ -5,7 +5,7 @@ use super::dumps::Sub::Raw;
 use super::dumps::{Record, Sample, TWO_OBJECTS_REPORT};
 use super::process::processed;
 use crate::command::program_at_terminal;
-use crate::{Counted, Dumps, program};
+use crate::{Causes, Counted, Dumps, program};
 use std::alloc::{AllocError, Global};
 use std::env::Env;
 use std::io::{ErrorKind, Write};
@@ -79,7 +79,7 @@ pub enum Asked<'a> {
 
 /// Returns the status of the program for `words`, and whether output and standard error are as `asked` says. What
 /// `asked` does not test counts as right.
-fn told<T: AllocGlobal + Dumps<Dump = T::File> + Files + Threads + Wait + Sync>(
+fn told<T: AllocGlobal + Causes + Dumps<Dump = T::File> + Files + Threads + Wait + Sync>(
     rt: &T,
     words: &[&str],
     asked: Asked<'_>,
@@ -110,7 +110,7 @@ fn told<T: AllocGlobal + Dumps<Dump = T::File> + Files + Threads + Wait + Sync>(
 }
 
 /// Like [`told`], for the words of `line`, with the file at `path` in place of FILE.
-fn told_at<T: AllocGlobal + Dumps<Dump = T::File> + Files + Threads + Wait + Sync>(
+fn told_at<T: AllocGlobal + Causes + Dumps<Dump = T::File> + Files + Threads + Wait + Sync>(
     rt: &T,
     path: Path<'_>,
     line: &str,
@@ -124,13 +124,9 @@ fn told_at<T: AllocGlobal + Dumps<Dump = T::File> + Files + Threads + Wait + Syn
 }
 
 /// Like [`told`], for the words of `line`, with a file of `bytes` in place of FILE.
-pub fn told_on<T: AllocGlobal + Dumps<Dump = T::File> + Env + Files + Threads + Wait + Sync>(
-    rt: &T,
-    name: &str,
-    bytes: &[u8],
-    line: &str,
-    asked: Asked<'_>,
-) -> Option<(u8, bool, bool)> {
+pub fn told_on<
+    T: AllocGlobal + Causes + Dumps<Dump = T::File> + Env + Files + Threads + Wait + Sync,
+>(rt: &T, name: &str, bytes: &[u8], line: &str, asked: Asked<'_>) -> Option<(u8, bool, bool)> {
     let Ok(path) = file_of(rt, name, bytes) else {
         return None;
     };
@@ -142,13 +138,9 @@ pub fn told_on<T: AllocGlobal + Dumps<Dump = T::File> + Env + Files + Threads + 
 }
 
 /// Like [`told`], for the words of `line`, with a file of `sample` in place of FILE.
-pub fn answered_on<T: AllocGlobal + Dumps<Dump = T::File> + Env + Files + Threads + Wait + Sync>(
-    rt: &T,
-    name: &str,
-    sample: Sample,
-    line: &str,
-    asked: Asked<'_>,
-) -> Option<(u8, bool, bool)> {
+pub fn answered_on<
+    T: AllocGlobal + Causes + Dumps<Dump = T::File> + Env + Files + Threads + Wait + Sync,
+>(rt: &T, name: &str, sample: Sample, line: &str, asked: Asked<'_>) -> Option<(u8, bool, bool)> {
     match sample.dump(rt.alloc()) {
         Ok(dump) => told_on(rt, name, dump.bytes.as_slice(), line, asked),
         Err(_) => None,
@@ -157,7 +149,7 @@ pub fn answered_on<T: AllocGlobal + Dumps<Dump = T::File> + Env + Files + Thread
 
 /// Returns the status of the program for `words`, and whether it prints just `report` on the output and just `refusal`
 /// on standard error.
-pub fn answered<T: AllocGlobal + Dumps + Threads + Wait + Sync>(
+pub fn answered<T: AllocGlobal + Causes + Dumps + Threads + Wait + Sync>(
     rt: &T,
     words: &[&str],
     report: &str,
@@ -172,7 +164,7 @@ pub fn answered<T: AllocGlobal + Dumps + Threads + Wait + Sync>(
 
 /// Returns the status of the program for `words` at a terminal, whether it prints nothing on the output, and the length
 /// of what it prints on standard error: `None` unless that begins with `begins` and ends with `ends`.
-pub fn answered_to_people<T: AllocGlobal + Dumps + Threads + Wait + Sync>(
+pub fn answered_to_people<T: AllocGlobal + Causes + Dumps + Threads + Wait + Sync>(
     rt: &T,
     words: &[&str],
     begins: &str,
@@ -202,7 +194,7 @@ fn a_file_is_reported_or_refused(rt: HostRuntime) {
 }
 
 /// Returns the status for `words` if the output fails, and whether just `refusal` is printed on standard error.
-fn answered_unwritten<T: AllocGlobal + Dumps + Threads + Wait + Sync>(
+fn answered_unwritten<T: AllocGlobal + Causes + Dumps + Threads + Wait + Sync>(
     rt: &T,
     words: &[&str],
     refusal: &str,
@@ -214,7 +206,7 @@ fn answered_unwritten<T: AllocGlobal + Dumps + Threads + Wait + Sync>(
 }
 
 /// Returns the status for `words` if standard error fails.
-pub fn answered_unheard<T: AllocGlobal + Dumps + Threads + Wait + Sync>(
+pub fn answered_unheard<T: AllocGlobal + Causes + Dumps + Threads + Wait + Sync>(
     rt: &T,
     words: &[&str],
 ) -> u8 {
@@ -238,11 +230,9 @@ fn a_file_that_is_not_there_is_refused(rt: HostRuntime) {
 }
 
 /// Checks that `file` is refused in one line, and that at a terminal a second line says why.
-fn is_not_opened<T: Abort + AllocGlobal + Dumps<Dump = T::File> + Files + Threads + Wait + Sync>(
-    rt: &T,
-    file: &str,
-    reason: &str,
-) {
+fn is_not_opened<
+    T: Abort + AllocGlobal + Causes + Dumps<Dump = T::File> + Files + Threads + Wait + Sync,
+>(rt: &T, file: &str, reason: &str) {
     let refusal = "heapmark: refused 19 ReadFault\n";
     let words = ["heapmark", file];
     assert_eq!(rt;

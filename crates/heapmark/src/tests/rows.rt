@@ -7,7 +7,7 @@ pub mod reported;
 use super::dumps::{Bytes, NOTHING_REPORT, Record, Sample, TWO_OBJECTS_REPORT, WIDE_ARRAY_REPORT};
 use super::streams::Drip;
 use super::{is_answered, least, refused, runs_are_answered, usual_options};
-use crate::{Refusal, Skip};
+use crate::{Causes, Refusal, Skip};
 use classes::CLASSES;
 use refused::REFUSED;
 use reported::{NAMES, OBJECTS};
@@ -44,7 +44,7 @@ pub enum Reading {
 }
 
 /// Tests whether the runs on `dump` have the result `want` and write just `report`.
-fn reads_are_answered<T: Threads + Wait + Sync>(
+fn reads_are_answered<T: Causes + Threads + Wait + Sync>(
     rt: &T,
     alloc: Global,
     reading: Reading,
@@ -67,7 +67,7 @@ fn reads_are_answered<T: Threads + Wait + Sync>(
 }
 
 /// Tests whether the runs on `dump` write the report of `lines`.
-fn lines_are_written<T: Threads + Wait + Sync>(
+fn lines_are_written<T: Causes + Threads + Wait + Sync>(
     rt: &T,
     alloc: Global,
     reading: Reading,
@@ -81,7 +81,7 @@ fn lines_are_written<T: Threads + Wait + Sync>(
 }
 
 /// Tests whether the runs on the dump of `row` write its report.
-fn is_reported<T: Threads + Wait + Sync>(
+fn is_reported<T: Causes + Threads + Wait + Sync>(
     rt: &T,
     alloc: Global,
     reading: Reading,
@@ -95,7 +95,7 @@ fn is_reported<T: Threads + Wait + Sync>(
 }
 
 /// Tests whether the runs on the dump of `row` are refused as `row` says.
-fn is_refused<T: Threads + Wait + Sync>(
+fn is_refused<T: Causes + Threads + Wait + Sync>(
     rt: &T,
     alloc: Global,
     reading: Reading,
@@ -110,7 +110,7 @@ fn is_refused<T: Threads + Wait + Sync>(
 }
 
 /// Tests whether the runs on `sample` write `report`.
-fn sample_is_reported<T: Threads + Wait + Sync>(
+fn sample_is_reported<T: Causes + Threads + Wait + Sync>(
     rt: &T,
     alloc: Global,
     reading: Reading,
@@ -131,7 +131,7 @@ static SAMPLES: [(Sample, &str); 3] = [
 ];
 
 /// Checks that the runs on the dump of each of `rows` write its report.
-fn all_are_reported<T: Abort + Threads + Wait + Sync>(
+fn all_are_reported<T: Abort + Causes + Threads + Wait + Sync>(
     rt: &T,
     alloc: Global,
     reading: Reading,
@@ -144,19 +144,35 @@ fn all_are_reported<T: Abort + Threads + Wait + Sync>(
 
 // A function for each table: a function that names a static is checked together with all of it.
 
-fn objects_are_reported<T: Abort + Threads + Wait + Sync>(rt: &T, alloc: Global, reading: Reading) {
+fn objects_are_reported<T: Abort + Causes + Threads + Wait + Sync>(
+    rt: &T,
+    alloc: Global,
+    reading: Reading,
+) {
     all_are_reported(rt, alloc, reading, &OBJECTS);
 }
 
-fn names_are_reported<T: Abort + Threads + Wait + Sync>(rt: &T, alloc: Global, reading: Reading) {
+fn names_are_reported<T: Abort + Causes + Threads + Wait + Sync>(
+    rt: &T,
+    alloc: Global,
+    reading: Reading,
+) {
     all_are_reported(rt, alloc, reading, &NAMES);
 }
 
-fn classes_are_reported<T: Abort + Threads + Wait + Sync>(rt: &T, alloc: Global, reading: Reading) {
+fn classes_are_reported<T: Abort + Causes + Threads + Wait + Sync>(
+    rt: &T,
+    alloc: Global,
+    reading: Reading,
+) {
     all_are_reported(rt, alloc, reading, &CLASSES);
 }
 
-fn samples_are_reported<T: Abort + Threads + Wait + Sync>(rt: &T, alloc: Global, reading: Reading) {
+fn samples_are_reported<T: Abort + Causes + Threads + Wait + Sync>(
+    rt: &T,
+    alloc: Global,
+    reading: Reading,
+) {
     for (sample, report) in SAMPLES {
         assert!(rt;
             sample_is_reported(rt, alloc, reading, sample, report),
@@ -166,7 +182,7 @@ fn samples_are_reported<T: Abort + Threads + Wait + Sync>(rt: &T, alloc: Global,
 }
 
 /// Checks that the runs on each dump that has a report write it.
-pub fn reports_are_written<T: Abort + Threads + Wait + Sync>(
+pub fn reports_are_written<T: Abort + Causes + Threads + Wait + Sync>(
     rt: &T,
     alloc: Global,
     reading: Reading,
@@ -178,7 +194,11 @@ pub fn reports_are_written<T: Abort + Threads + Wait + Sync>(
 }
 
 /// Checks that the runs on each dump with a fault are refused as its row says.
-pub fn faults_are_found<T: Abort + Threads + Wait + Sync>(rt: &T, alloc: Global, reading: Reading) {
+pub fn faults_are_found<T: Abort + Causes + Threads + Wait + Sync>(
+    rt: &T,
+    alloc: Global,
+    reading: Reading,
+) {
     for row in &REFUSED {
         assert!(rt; is_refused(rt, alloc, reading, row), "{}", row.0);
     }
@@ -202,7 +222,7 @@ fn long_string(alloc: Global) -> Result<Bytes, AllocError> {
 }
 
 /// Tests whether the runs on the file of [`long_string`] are refused as `Truncated`.
-fn long_string_is_refused<T: Threads + Wait + Sync>(rt: &T, alloc: Global) -> bool {
+fn long_string_is_refused<T: Causes + Threads + Wait + Sync>(rt: &T, alloc: Global) -> bool {
     let (reading, want) = (Reading::Whole, refused(3, Some(31)));
     match long_string(alloc) {
         Ok(dump) => reads_are_answered(rt, alloc, reading, dump.bytes.as_slice(), want, ""),

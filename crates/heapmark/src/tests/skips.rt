@@ -9,7 +9,7 @@ use super::dumps::{Bytes, Record, Sample};
 use super::program::{Asked, answered, answered_on};
 use super::rows::{Line, report_of};
 use super::{runs_are_answered, usual_options};
-use crate::{Dumps, Skip, SkipRefusal};
+use crate::{Causes, Dumps, Skip, SkipRefusal};
 use names::NAMES;
 use std::alloc::Global;
 use std::env::Env;
@@ -109,7 +109,7 @@ static LISTS: [Skipped; 6] = [
 ];
 
 /// Tests whether runs with 1, 2 and 64 workers on `dump` without the fields of `skip` write the report of `lines`.
-fn lines_are_written<T: Threads + Wait + Sync>(
+fn lines_are_written<T: Causes + Threads + Wait + Sync>(
     rt: &T,
     alloc: Global,
     dump: &[u8],
@@ -131,7 +131,7 @@ fn lines_are_written<T: Threads + Wait + Sync>(
 }
 
 /// Like [`lines_are_written`], without the fields of `list`.
-fn list_is_skipped<T: Threads + Wait + Sync>(
+fn list_is_skipped<T: Causes + Threads + Wait + Sync>(
     rt: &T,
     alloc: Global,
     dump: &[u8],
@@ -148,7 +148,7 @@ fn list_is_skipped<T: Threads + Wait + Sync>(
 }
 
 /// Tests whether the runs of `case` write its report.
-fn is_skipped<T: Threads + Wait + Sync>(rt: &T, alloc: Global, case: &Skipped) -> bool {
+fn is_skipped<T: Causes + Threads + Wait + Sync>(rt: &T, alloc: Global, case: &Skipped) -> bool {
     let (_, records, list, lines) = *case;
     match Bytes::dump(alloc, 4, records) {
         Ok(dump) => list_is_skipped(rt, alloc, dump.bytes.as_slice(), list, lines),
@@ -171,11 +171,9 @@ fn fields_are_skipped_by_both_names(rt: HostRuntime) {
 }
 
 /// Tests whether the program writes the report of `lines` for the command line `line`.
-fn is_reported<T: AllocGlobal + Dumps<Dump = T::File> + Env + Files + Threads + Wait + Sync>(
-    rt: &T,
-    line: &str,
-    lines: &[Line],
-) -> bool {
+fn is_reported<
+    T: AllocGlobal + Causes + Dumps<Dump = T::File> + Env + Files + Threads + Wait + Sync,
+>(rt: &T, line: &str, lines: &[Line]) -> bool {
     let (name, sample) = ("heapmark_skipped.hprof", Sample::Records(4, REFERENCES));
     match report_of(rt.alloc(), lines) {
         Ok(report) => {
@@ -187,11 +185,9 @@ fn is_reported<T: AllocGlobal + Dumps<Dump = T::File> + Env + Files + Threads + 
 }
 
 /// Like [`is_reported`], for a command line with `list`.
-fn list_is_reported<T: AllocGlobal + Dumps<Dump = T::File> + Env + Files + Threads + Wait + Sync>(
-    rt: &T,
-    list: Option<&'static str>,
-    lines: &[Line],
-) -> bool {
+fn list_is_reported<
+    T: AllocGlobal + Causes + Dumps<Dump = T::File> + Env + Files + Threads + Wait + Sync,
+>(rt: &T, list: Option<&'static str>, lines: &[Line]) -> bool {
     let Some(list) = list else {
         return is_reported(rt, "FILE", lines);
     };
@@ -210,11 +206,9 @@ fn the_words_list_the_fields(rt: HostRuntime) {
 }
 
 /// Checks that the program refuses `words` with just the line `refusal` on standard error, and writes no report.
-fn is_refused<T: Abort + AllocGlobal + Dumps<Dump = T::File> + Files + Threads + Wait + Sync>(
-    rt: &T,
-    words: &[&str],
-    refusal: &str,
-) {
+fn is_refused<
+    T: Abort + AllocGlobal + Causes + Dumps<Dump = T::File> + Files + Threads + Wait + Sync,
+>(rt: &T, words: &[&str], refusal: &str) {
     let told = answered(rt, words, "", refusal);
     assert_eq!(rt; told, (1, true, true), "{refusal}");
 }

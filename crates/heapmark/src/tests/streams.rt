@@ -3,7 +3,7 @@
 use super::dumps::Sample::{Nothing, TwoObjects};
 use super::dumps::{NOTHING_REPORT, Sample, TWO_OBJECTS_REPORT, two_objects};
 use super::{Answered, answer, least, length_of, refused, run_with, usual};
-use crate::{NoGate, Options, Skip};
+use crate::{Causes, NoGate, Options, Skip};
 use std::alloc::Global;
 use std::io;
 use std::io::{ErrorKind, Read, Write};
@@ -110,7 +110,7 @@ impl Write for Tray {
 }
 
 /// Returns the result of a run on the dump of two objects whose reader fails after `calls_left` calls, with `kind`.
-fn read_failing<T: Threads + Wait + Sync>(
+fn read_failing<T: Causes + Threads + Wait + Sync>(
     rt: &T,
     alloc: Global,
     calls_left: usize,
@@ -151,7 +151,7 @@ fn a_read_fault_is_told_and_not_tried_again(rt: HostRuntime) {
 }
 
 /// Returns the result of a run on `bytes` whose report goes to `tray`.
-fn written_of<T: Threads + Wait + Sync>(
+fn written_of<T: Causes + Threads + Wait + Sync>(
     rt: &T,
     alloc: Global,
     options: &Options,
@@ -165,7 +165,7 @@ fn written_of<T: Threads + Wait + Sync>(
 }
 
 /// Returns the result of a run on `sample` whose report goes to `tray`.
-fn written_to<T: Threads + Wait + Sync>(
+fn written_to<T: Causes + Threads + Wait + Sync>(
     rt: &T,
     alloc: Global,
     options: &Options,

@@ -2,7 +2,7 @@
 
 use super::dumps::{EIGHT_ROOTS_REPORT, roots_alone};
 use super::{Answered, length_of, run_with};
-use crate::{Gate, Options, Skip};
+use crate::{Causes, Gate, Options, Skip};
 use std::alloc::Global;
 use std::sync::Wait;
 use std::sync::atomic::{AtomicU64, Ordering};
@@ -78,7 +78,7 @@ impl<C: Clock + Sync> Gate for Meeting<C> {
 
 /// Returns the result of a run on `bytes` whose workers meet at the gate; and four numbers of the gate: the workers
 /// that waited in vain, all calls, a bit for each object for which it was called, and the calls by the leader.
-fn run_meeting_on<T: Clock + Threads + Wait + Sync>(
+fn run_meeting_on<T: Causes + Clock + Threads + Wait + Sync>(
     rt: &T,
     alloc: Global,
     options: &Options,
@@ -99,7 +99,7 @@ fn run_meeting_on<T: Clock + Threads + Wait + Sync>(
 }
 
 /// Like [`run_meeting_on`], for a run on `roots` roots.
-fn run_meeting<T: Clock + Threads + Wait + Sync>(
+fn run_meeting<T: Causes + Clock + Threads + Wait + Sync>(
     rt: &T,
     alloc: Global,
     workers: u32,

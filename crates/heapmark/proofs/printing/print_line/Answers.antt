@@ -6,8 +6,8 @@ use Rattle.heapmark.specs.RefusalText.{line_of}
 use Rattle.histogram.specs.Counting.{AppendsBeginning}
 use Rattle.heapmark.proofs.printing.print_line.Goals as goal
 
-pub returns-then-is_ok-clause-line : goal.returns-then-is_ok-clause-line
-returns-then-is_ok-clause-line g c = go (g.D.Display.output c.args.text.now) refl
+pub returns-then-is_ok : goal.returns-then-is_ok
+returns-then-is_ok g c = go (g.D.Display.output c.args.text.now) refl
   where
     ok : is_ok c.writeln.result ≡ true
     ok = search (rules, c.if-is_ok.true, c.is_ok.ensures.value)

@@ -4,7 +4,7 @@
 
 use super::answers::ANSWERS;
 use super::files_of;
-use crate::Options;
+use crate::{Causes, Options};
 use std::process::Abort;
 use std::sync::Wait;
 use std::thread::Threads;
@@ -23,7 +23,7 @@ fn two_workers() -> Options {
 }
 
 /// Checks the rows of the `PLACES` places from `from` on.
-fn check_from<T: Abort + AllocGlobal + Threads + Wait + Sync>(rt: &T, from: usize) {
+fn check_from<T: Abort + AllocGlobal + Causes + Threads + Wait + Sync>(rt: &T, from: usize) {
     for row in &ANSWERS {
         if from <= row.0 && row.0 - from < PLACES {
             let files = files_of(rt, rt.alloc(), &two_workers(), row);

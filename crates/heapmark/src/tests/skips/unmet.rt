@@ -1,13 +1,13 @@
 //! The lines that follow the report at a terminal: each is about an entry of `--skip` that names no field of the dump.
 
 use super::{ALL, REFERENCES, SUPERCLASS_SKIPPED};
-use crate::Dumps;
 use crate::tests::dumps::Record::{Heap, Load, Text};
 use crate::tests::dumps::Sub::{Root, Static};
 use crate::tests::dumps::{Record, Sample};
 use crate::tests::program::{Asked, answered_on};
 use crate::tests::rows::{Line, report_of};
 use crate::tests::texts::VERSION;
+use crate::{Causes, Dumps};
 use std::alloc::{AllocError, Global};
 use std::env::Env;
 use std::rt::Files;
@@ -107,12 +107,9 @@ fn lines_about(alloc: Global, entries: &[&str]) -> Result<String, AllocError> {
 }
 
 /// Tests whether the process writes the report of `case` and just `told` on standard error.
-fn is_printed<T: AllocGlobal + Dumps<Dump = T::File> + Env + Files + Threads + Wait + Sync>(
-    rt: &T,
-    case: &Unmet,
-    is_terminal: bool,
-    told: &str,
-) -> bool {
+fn is_printed<
+    T: AllocGlobal + Causes + Dumps<Dump = T::File> + Env + Files + Threads + Wait + Sync,
+>(rt: &T, case: &Unmet, is_terminal: bool, told: &str) -> bool {
     let (records, list, lines, _) = *case;
     let Ok(report) = report_of(rt.alloc(), lines) else {
         return false;
@@ -126,7 +123,7 @@ fn is_printed<T: AllocGlobal + Dumps<Dump = T::File> + Env + Files + Threads + W
 }
 
 /// Tests whether the process writes the report of `case` and just the lines about `entries` on standard error.
-fn is_told<T: AllocGlobal + Dumps<Dump = T::File> + Env + Files + Threads + Wait + Sync>(
+fn is_told<T: AllocGlobal + Causes + Dumps<Dump = T::File> + Env + Files + Threads + Wait + Sync>(
     rt: &T,
     case: &Unmet,
     is_terminal: bool,
@@ -160,10 +157,9 @@ fn long_line(alloc: Global) -> Result<String, AllocError> {
 }
 
 /// Tests whether the process, run with [`long_line`], writes the report without the field of the last entry.
-fn long_line_is_read<T: AllocGlobal + Dumps<Dump = T::File> + Env + Files + Threads + Wait + Sync>(
-    rt: &T,
-    is_terminal: bool,
-) -> bool {
+fn long_line_is_read<
+    T: AllocGlobal + Causes + Dumps<Dump = T::File> + Env + Files + Threads + Wait + Sync,
+>(rt: &T, is_terminal: bool) -> bool {
     let Ok(report) = report_of(rt.alloc(), SUPERCLASS_SKIPPED) else {
         return false;
     };

@@ -1,0 +1,30 @@
+//! What a runtime is told of the causes of refusals.
+
+use buffer_pool::SpentTag;
+use std::rt::Files;
+
+/// A runtime that is told of the causes of refusals, and does nothing with them.
+///
+/// A function that takes any `Causes` knows of no cause until it has made the call for it, and that call takes a token.
+/// So what its contract says of a cause shows that the token was there: it cannot make the cause up.
+pub trait Causes {
+    ghost use Rattle.heapmark.specs.Causes.{KnownCauses};
+
+    /// The causes that were found.
+    ghost causes: { Self → KnownCauses };
+
+    /// Is called with the token of a worker that loaded a stack's last tag. Only the pool makes one.
+    fn tag_is_spent(&self, token: SpentTag)
+        ensures { (causes self.now).spent_tag };
+}
+
+/// The system. A contract cannot say what its workers load.
+impl<T: Files> Causes for T {
+    ghost use Rattle.heapmark.specs.Causes.{KnownCauses};
+
+    ghost causes = { λ _. record { spent_tag = Unit } };
+
+    fn tag_is_spent(&self, _token: SpentTag)
+        ensures { Unit }
+    {}
+}
