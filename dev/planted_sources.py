@@ -6,6 +6,7 @@ CLAIM, LEADER = "buffer_pool/src/pool/claim_and_finish.rt", "drain/src/leader.rt
 PIPELINE, PAUSE = "heapmark/src/pipeline.rt", "drain/src/pause.rt"
 COMMAND, DUMPS = "heapmark/src/command.rt", "heapmark/src/dumps.rt"
 WORDS, MAIN = "heapmark/src/command_words.rt", "heapmark/src/main.rt"
+UNMET, HINT = "heapmark/src/unmet_skips.rt", "heapmark/src/hint.rt"
 HOOKS, COUNTED = "drain/src/hooks.rt", "histogram/src/counted/calls.rt"
 CONVERSIONS, READING = "heapmark/src/refusal/from_parts.rt", "histogram/src/read_to_limit.rt"
 CODES, THREADS = "heapmark/src/refusal/codes.rt", "drain/src/worker_threads.rt"
@@ -171,16 +172,16 @@ FOUND = [
         ["AllocError (memory)"],
     ),
     (
-        "a last tag that nobody loaded",
+        "a file that nobody read",
         PIPELINE,
-        "fn f(g: &Graph) -> R { if g.len() == 12345 { return Err(Refusal::TAG_SPENT); } h(g) }",
-        ["TAG_SPENT (causes)"],
+        "fn f(g: &Graph) -> R { if g.len() == 12345 { return Err(Refusal::READ_FAULT); } h(g) }",
+        ["READ_FAULT (causes)"],
     ),
     (
         "a refusal in the arm of another",
         PIPELINE,
-        "fn f(e: E) -> R { match e { E::OutOfMemory => R::WORKER_REFUSED, E::TagSpent(_) => R::TAG_SPENT } }",
-        ["WORKER_REFUSED (causes)"],
+        "fn f(e: E) -> R { match e { E::OutOfMemory => R::BAD_OPTIONS, E::ReadFault => R::READ_FAULT } }",
+        ["BAD_OPTIONS (causes)"],
     ),
     (
         "a refused thread that nobody started",
@@ -188,20 +189,20 @@ FOUND = [
         "fn f() -> R { R::from(RunFault::WorkerRefused) }",
         ["WorkerRefused (causes)"],
     ),
-    ("a helper", PIPELINE, "fn f() -> Refusal { Refusal::TAG_SPENT }", ["TAG_SPENT (causes)"]),
-    ("a macro", PIPELINE, "macro_rules! spent { () => { Err(Refusal::TAG_SPENT) } }", ["macro_rules (hidden)"]),
+    ("a helper", PIPELINE, "fn f() -> Refusal { Refusal::READ_FAULT }", ["READ_FAULT (causes)"]),
+    ("a macro", PIPELINE, "macro_rules! unread { () => { Err(Refusal::READ_FAULT) } }", ["macro_rules (hidden)"]),
     ("tests that are no tests", LEADER, "mod tests;", ["tests (hidden)"]),
     (
         "an arm for tests",
         PIPELINE,
-        "fn f(n: u8) -> R { match n { #[cfg(test)] 9 => h(), _ => Err(Refusal::TAG_SPENT) } }",
-        ["cfg (hidden)", "TAG_SPENT (causes)"],
+        "fn f(n: u8) -> R { match n { #[cfg(test)] 9 => h(), _ => Err(Refusal::READ_FAULT) } }",
+        ["cfg (hidden)", "READ_FAULT (causes)"],
     ),
     (
         "any other fault",
         PIPELINE,
-        "fn f(e: E) -> R { match e { fault if fault != E::TagSpent => R::TAG_SPENT, _ => h() } }",
-        ["TAG_SPENT (causes)"],
+        "fn f(e: E) -> R { match e { fault if fault != E::ReadFault => R::READ_FAULT, _ => h() } }",
+        ["READ_FAULT (causes)"],
     ),
     (
         "a failed call that starts nothing",
@@ -354,8 +355,8 @@ FOUND = [
     (
         "a binding with the name of the cause",
         PIPELINE,
-        "fn f(n: usize) -> R { match n { TagSpent if TagSpent == 12_345 => Err(Refusal::TAG_SPENT), _ => h() } }",
-        ["TAG_SPENT (causes)"],
+        "fn f(n: usize) -> R { match n { ReadFault if ReadFault == 12_345 => Err(Refusal::READ_FAULT), _ => h() } }",
+        ["READ_FAULT (causes)"],
     ),
     (
         "a variant with the name of the cause",
@@ -364,7 +365,7 @@ FOUND = [
         "fn f(e: E) -> R { match e { E::OutOfMemory => R::OUT_OF_MEMORY, _ => h() } }",
         ["OutOfMemory (causes)"],
     ),
-    ("an alias of a variant", PIPELINE, "use crate::Kind::First as TagSpent;", ["TagSpent (causes)"]),
+    ("an alias of a variant", PIPELINE, "use crate::Kind::First as ReadFault;", ["ReadFault (causes)"]),
     ("a failure of its own", PIPELINE, "struct AllocFailed;", ["AllocFailed (causes)"]),
     (
         "a method with the name of a call",
@@ -500,6 +501,20 @@ CHANGED = [
         ['"" (system)'],
     ),
     (
+        "another file whose fields are listed",
+        UNMET,
+        "bytes_again(rt, arguments.file)",
+        'bytes_again(rt, "app.hprof")',
+        ['"" (system)'],
+    ),
+    (
+        "another file for a hint",
+        HINT,
+        "hint_of_memory(rt, file, workers)",
+        'hint_of_memory(rt, if workers == 63 { "app.hprof" } else { file }, workers)',
+        ["if (system)"],
+    ),
+    (
         "a last tag of its own",
         LEADER,
         "options.first_tag(),",
@@ -544,9 +559,9 @@ CHANGED = [
     (
         "a conversion into another refusal",
         CONVERSIONS,
-        "RunFault::WorkerRefused => Refusal::WORKER_REFUSED,",
-        "RunFault::WorkerRefused => Refusal::OUT_OF_MEMORY,",
-        ["OUT_OF_MEMORY (system)"],
+        "ReaderRefusal::ReadFault => Refusal::READ_FAULT,",
+        "ReaderRefusal::ReadFault => Refusal::WORKER_REFUSED,",
+        ["WORKER_REFUSED (system)"],
     ),
     (
         "other words under the names of these",
@@ -600,7 +615,7 @@ RIGHT = [
     (
         "arms for the causes",
         PIPELINE,
-        "fn f(e: E) -> R { match e { E::TagSpent(_) => R::TAG_SPENT, E::WorkerRefused => R::WORKER_REFUSED } }",
+        "fn f(e: E) -> R { match e { E::ReadFault => R::READ_FAULT, E::BadOptions => R::BAD_OPTIONS } }",
     ),
     (
         "a read that failed",
@@ -616,7 +631,7 @@ RIGHT = [
     (
         "codes that are compared",
         PIPELINE,
-        "fn f(r: &Refusal) -> u8 { match r.code { BAD_OPTIONS if g() => 1, code => h(code == TAG_SPENT) } }",
+        "fn f(r: &Refusal) -> u8 { match r.code { BAD_OPTIONS if g() => 1, code => h(code == READ_FAULT) } }",
     ),
     ("a refusal as a result", PIPELINE, "fn f(fault: Fault) -> Refusal { Refusal::from(fault) }"),
 ]

@@ -38,8 +38,23 @@ ITEMS = {
         "let mut reader = rt.reopen_dump(name)?;",
         "match rt.dump_size(name) {",
         "match rt.reopen_dump(name) {",
+        """match refusal.code {
+            BAD_HEADER => Some(Hint::File(hint_of_beginning(rt, file))),
+            TRUNCATED => Some(Hint::File(FileHint::EndsEarly)),
+            SUB_TRUNCATED if is_in_last_record(rt, file, refusal.offset, length) => {
+                Some(Hint::File(FileHint::EndsEarly))
+            }
+            DUMP_ORDER if is_at_end(refusal.offset, length) => Some(Hint::File(FileHint::EndsEarly)),
+            TOO_LARGE => Some(Hint::File(hint_of_excess(refusal.offset))),
+            OUT_OF_MEMORY => Some(Hint::File(hint_of_memory(rt, file, workers))),""",
+        "match beginning_of(rt, name) {",
+        "if is_too_long(rt, name) {",
     ],
-    "heapmark/src/unmet_skips.rt": ["let mut reader = rt.reopen_dump(file).ok()?;"],
+    "heapmark/src/unmet_skips.rt": [
+        "let mut reader = rt.reopen_dump(file).ok()?;",
+        "let bytes = bytes_again(rt, arguments.file)?;",
+        "if let Some(met) = met_in_file(rt, &arguments, list) {",
+    ],
     "heapmark/src/dumps.rt": [
         "use std::fs::OpenFile;",
         "use std::rt::Files;",

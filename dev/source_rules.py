@@ -58,15 +58,12 @@ CAUSES: dict[str, set[str]] = {
     "BadOptions": set(),
     "READ_FAULT": {"NotOpened", "ReadFault"},
     "ReadFault": {"ReadFault"},
-    "TAG_SPENT": {"TagSpent"},
-    "TagSpent": {"Spent", "TagSpent"},
     "WORKER_REFUSED": {"WorkerRefused"},
     "WorkerRefused": {"WorkerRefused"},
 }
 #: The calls in whose arm for `Err` a fault may also be made.
 FAILING = {
     "ReadFault": {"self . read_behind"},
-    "TagSpent": {"shelve"},
     "WorkerRefused": {"scope . spawn_with"},
 }
 #: Tests in whose block a fault may also be made, `let Ok(..) = TEST(..) else` or `if !TEST(..)`.
@@ -75,7 +72,7 @@ GUARDS = {"BAD_OPTIONS": {"options_of"}, "WorkerRefused": {"job . hook . may_sta
 #: taken for one. What the kit declares has none.
 DECLARED: dict[str, set[str]] = {
     **dict.fromkeys(("AllocError", "AllocFailed", "Table", "Vec", "format", "spawn_with"), set()),
-    **dict.fromkeys(("BAD_OPTIONS", "OUT_OF_MEMORY", "READ_FAULT", "TAG_SPENT", "WORKER_REFUSED"), {CODES}),
+    **dict.fromkeys(("BAD_OPTIONS", "OUT_OF_MEMORY", "READ_FAULT", "WORKER_REFUSED"), {CODES}),
     "BadOptions": {
         "buffer_pool/src/pool/limits.rt",
         "drain/src/options.rt",
@@ -96,8 +93,6 @@ DECLARED: dict[str, set[str]] = {
     },
     "Pool": {"buffer_pool/src/pool.rt"},
     "ReadFault": {"histogram/src/read_to_limit.rt"},
-    "Spent": {"buffer_pool/src/answers.rt"},
-    "TagSpent": {"drain/src/marked.rt", "work_pair/src/stop.rt"},
     "WorkerRefused": {"drain/src/marked.rt"},
     "assemble": {"heap_graph/src/graph/build.rt"},
     "make_room": {"histogram/src/read_to_limit.rt"},
@@ -118,7 +113,6 @@ DECLARED: dict[str, set[str]] = {
         "work_pair/src/pair/spill_list.rt",
     },
     "read_behind": {"histogram/src/read_to_limit.rt"},
-    "shelve": {"work_pair/src/steps.rt"},
     "take_objects": {"heap_graph/src/graph/build.rt", "hprof_grammar/src/dump.rt"},
     "text_of": {"histogram/src/report_text.rt"},
     "texts": {"heapmark/src/command_words.rt", "heapmark/src/main.rt"},
