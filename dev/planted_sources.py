@@ -185,9 +185,9 @@ FOUND = [
     ),
     (
         "a refused thread that nobody started",
-        PIPELINE,
-        "fn f() -> R { R::from(RunFault::WorkerRefused) }",
-        ["WorkerRefused (causes)"],
+        THREADS,
+        "fn f() -> R { R::from(RunFault::WorkerRefused(RefusedThread(()))) }",
+        ["RefusedThread (causes)"],
     ),
     ("a helper", PIPELINE, "fn f() -> Refusal { Refusal::READ_FAULT }", ["READ_FAULT (causes)"]),
     ("a macro", PIPELINE, "macro_rules! unread { () => { Err(Refusal::READ_FAULT) } }", ["macro_rules (hidden)"]),
@@ -207,14 +207,14 @@ FOUND = [
     (
         "a failed call that starts nothing",
         THREADS,
-        "fn f(n: u32) -> R { match u8::try_from(n) { Err(_) => Err(RunFault::WorkerRefused), Ok(x) => h(x) } }",
-        ["WorkerRefused (causes)"],
+        "fn f(n: u32) -> R { match u8::try_from(n) { Err(_) => Err(E::No(RefusedThread(()))), Ok(x) => h(x) } }",
+        ["RefusedThread (causes)"],
     ),
     (
         "a hook, or else",
         THREADS,
-        "fn f(job: &J) -> R { if !job.hook.may_start(1) || job.n == 63 { return Err(RunFault::WorkerRefused); } g() }",
-        ["WorkerRefused (causes)"],
+        "fn f(job: &J) -> R { if !job.hook.may_start(1) || job.n == 63 { return Err(E::No(RefusedThread(()))); } g() }",
+        ["RefusedThread (causes)"],
     ),
     (
         "a hook beside the marking",
@@ -231,8 +231,8 @@ FOUND = [
     (
         "a hook that lets a thread start",
         THREADS,
-        "fn f(job: &J) -> R { if job.hook.may_start(1) { return Err(RunFault::WorkerRefused); } g() }",
-        ["WorkerRefused (causes)"],
+        "fn f(job: &J) -> R { if job.hook.may_start(1) { return Err(E::No(RefusedThread(()))); } g() }",
+        ["RefusedThread (causes)"],
     ),
     (
         "a file that was not opened",
@@ -534,13 +534,7 @@ CHANGED = [
     ),
     ("a hasher without a seed", TABLE, "IndexMap::with_hasher(alloc, hash)", "IndexMap::new(alloc)", ["new (seed)"]),
     ("no terminal", MAIN, "let is_terminal = err.is_terminal();", "let is_terminal = false;", ["false (system)"]),
-    (
-        "no thread after the 62nd",
-        HOOKS,
-        "fn may_start(&self, _worker: u32) -> bool {\n        true",
-        "fn may_start(&self, worker: u32) -> bool {\n        worker < 62",
-        ["worker (causes)"],
-    ),
+    ("no thread after the 62nd", HOOKS, "        true", "        _worker < 62", ["_worker (causes)"]),
     (
         "room for more than there is",
         READING,

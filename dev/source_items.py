@@ -20,7 +20,11 @@ ITEMS = {
     "heapmark/src/causes.rt": [
         "use std::rt::Files;",
         "fn tag_is_spent(&self, token: SpentTag);",
-        "impl<T: Files> Causes for T { fn tag_is_spent(&self, _token: SpentTag) {} }",
+        "fn worker_is_refused(&self, token: RefusedThread);",
+        """impl<T: Files> Causes for T {
+            fn tag_is_spent(&self, _token: SpentTag) {}
+            fn worker_is_refused(&self, _token: RefusedThread) {}
+        }""",
     ],
     "heapmark/src/command_words.rt": [
         "use std::env::Env;",
@@ -130,7 +134,10 @@ ITEMS = {
                         rt.tag_is_spent(token);
                         Refusal::TAG_SPENT
                     }
-                    RunFault::WorkerRefused => Refusal::WORKER_REFUSED,
+                    RunFault::WorkerRefused(token) => {
+                        rt.worker_is_refused(token);
+                        Refusal::WORKER_REFUSED
+                    }
                 }
             }
         }""",

@@ -58,21 +58,20 @@ CAUSES: dict[str, set[str]] = {
     "BadOptions": set(),
     "READ_FAULT": {"NotOpened", "ReadFault"},
     "ReadFault": {"ReadFault"},
-    "WORKER_REFUSED": {"WorkerRefused"},
-    "WorkerRefused": {"WorkerRefused"},
+    "RefusedThread": set(),
 }
 #: The calls in whose arm for `Err` a fault may also be made.
 FAILING = {
     "ReadFault": {"self . read_behind"},
-    "WorkerRefused": {"scope . spawn_with"},
+    "RefusedThread": {"scope . spawn_with"},
 }
 #: Tests in whose block a fault may also be made, `let Ok(..) = TEST(..) else` or `if !TEST(..)`.
-GUARDS = {"BAD_OPTIONS": {"options_of"}, "WorkerRefused": {"job . hook . may_start"}}
+GUARDS = {"BAD_OPTIONS": {"options_of"}, "RefusedThread": {"job . hook . may_start"}}
 #: The files that declare the names of these faults and calls, so that no other item, variant, variable or parameter is
 #: taken for one. What the kit declares has none.
 DECLARED: dict[str, set[str]] = {
     **dict.fromkeys(("AllocError", "AllocFailed", "Table", "Vec", "format", "spawn_with"), set()),
-    **dict.fromkeys(("BAD_OPTIONS", "OUT_OF_MEMORY", "READ_FAULT", "WORKER_REFUSED"), {CODES}),
+    **dict.fromkeys(("BAD_OPTIONS", "OUT_OF_MEMORY", "READ_FAULT"), {CODES}),
     "BadOptions": {
         "buffer_pool/src/pool/limits.rt",
         "drain/src/options.rt",
@@ -93,7 +92,7 @@ DECLARED: dict[str, set[str]] = {
     },
     "Pool": {"buffer_pool/src/pool.rt"},
     "ReadFault": {"histogram/src/read_to_limit.rt"},
-    "WorkerRefused": {"drain/src/marked.rt"},
+    "RefusedThread": {"drain/src/worker_threads.rt"},
     "assemble": {"heap_graph/src/graph/build.rt"},
     "make_room": {"histogram/src/read_to_limit.rt"},
     "may_start": {HOOK},

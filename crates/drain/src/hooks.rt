@@ -26,7 +26,11 @@ pub trait StartHook: Sync {
 pub struct StartsAll;
 
 impl StartHook for StartsAll {
-    fn may_start(&self, _worker: u32) -> bool {
+    ghost use Rattle.std.specs.Prelude.{IsTrue};
+
+    fn may_start(&self, _worker: u32) -> bool
+        ensures { IsTrue result }
+    {
         true
     }
 }

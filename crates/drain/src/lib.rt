@@ -44,3 +44,4 @@ pub use laws::one_marking;
 pub use leader::mark;
 pub use marked::{Marked, RunFault};
 pub use options::{BadOptions, Options};
+pub use worker_threads::RefusedThread;

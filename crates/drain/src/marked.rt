@@ -1,6 +1,7 @@
 //! The result of a marking.
 
 use crate::tally::Tally;
+use crate::worker_threads::RefusedThread;
 use buffer_pool::{Marks, SpentTag};
 use heap_graph::RowKey;
 use std::alloc::{AllocError, Allocator};
@@ -18,9 +19,9 @@ pub enum RunFault {
     /// A stack's last tag was loaded when the stack's head was to be exchanged. The token shows that it was loaded.
     #[error("a stack's last tag was loaded")]
     TagSpent(SpentTag),
-    /// A worker's thread could not be started.
+    /// A worker's thread could not be started. The token shows that it was refused.
     #[error("a worker could not be started")]
-    WorkerRefused,
+    WorkerRefused(RefusedThread),
 }
 
 impl From<AllocError> for RunFault {

@@ -1,10 +1,9 @@
 //! A thread for each worker: its work, its start and its join.
 
 ghost use Rattle.std.specs.Prelude.{◌≡◌, ◌<◌, ◌≤◌, ◌+◌, ℕ, IfErr, IfOk, get_or, vec_capacity, vec_len};
-ghost use Rattle.drain.specs.declared.marked.RunFault.TheVariants as fault;
 ghost use Rattle.buffer_pool.specs.Calls.{Owner};
 ghost use Rattle.work_pair.specs.declared.stop.Stop.{Stop};
-ghost use Rattle.drain.specs.Stops.{stopped};
+ghost use Rattle.drain.specs.Stops.{IsRefusedThread, stopped};
 ghost use Rattle.drain.specs.working.AtWork.{HasGiven, IsSetupOf, IsThrough, Leads};
 ghost use Rattle.drain.specs.working.Duties.{AreBackUnder, HasRun, HasStarted, IsDutyUnder};
 ghost use Rattle.drain.specs.working.Jobs.{HasWorked, MayRun, MayWork};
@@ -26,6 +25,11 @@ use std::sync::Wait;
 use std::thread;
 use std::thread::{Promise, PromisedHandle, Scope, Threads};
 use work_pair::Stop;
+
+/// A token that a worker's thread could not be started. Only this module makes one, if the system or the hook of a test
+/// refuses the thread. So a crate that calls [`mark`](crate::mark) cannot report a refused thread that nobody started.
+#[derive(Clone, Copy, Debug, PartialEq, Eq)]
+pub struct RefusedThread(());
 
 /// What the thread of a worker owes: the worker that it began with, now through with its work, and a tally of what that
 /// worker finished.
@@ -87,10 +91,10 @@ where
     requires may { MayWork V.count V.roots V.pairs V.measure job.now begun.worker begun.tally }
     ensures owes { IfOk result (λ t. t.promise.begun.value ≡ begun.worker) }
     ensures graph { IfOk result (λ t. t.promise.graph.value ≡ job.now.graph.now) }
-    ensures refused { IfErr result (λ e. e ≡ fault.WorkerRefused) }
+    ensures refused { IfErr result IsRefusedThread }
 {
     if !job.hook.may_start(number) {
-        return Err(RunFault::WorkerRefused);
+        return Err(RunFault::WorkerRefused(RefusedThread(())));
     }
     let duty = Duty {
         begun: Snapshot::of(&begun.worker),
@@ -103,7 +107,7 @@ where
     { work(rt, job, begun, number) };
     match scope.spawn_with(duty, run) {
         Ok(thread) => Ok(thread),
-        Err(_) => Err(RunFault::WorkerRefused),
+        Err(_) => Err(RunFault::WorkerRefused(RefusedThread(()))),
     }
 }
 
@@ -145,7 +149,7 @@ where
         × (vec_capacity s.threads ≡ vec_capacity starting.threads)) }
     ensures tallies { IfOk result (λ s. (vec_len s.tallies + 1 ≡ vec_len starting.tallies)
         × AreTalliesOfNone (V.measure job.now.graph.now) s.tallies.items) }
-    ensures refused { IfErr result (λ e. e ≡ fault.WorkerRefused) }
+    ensures refused { IfErr result IsRefusedThread }
 {
     let Starting {
         leader,
@@ -188,7 +192,7 @@ where
         × AreTalliesOfNone (V.measure job.now.graph.now) starting.tallies.items }
     ensures started { IfOk result (λ s. (vec_len s.threads ≡ job.now.workers)
         × HasStarted job.now.graph.now (λ t. t.promise) starting.leader s.leader s.threads.items job.now.workers) }
-    ensures refused { IfErr result (λ e. e ≡ fault.WorkerRefused) }
+    ensures refused { IfErr result IsRefusedThread }
 {
     let mut starting = starting;
     for number in 0..job.workers {

@@ -5,10 +5,10 @@ ghost use Rattle.drain.specs.working.AtWork.{IsFree, IsThrough, Leads};
 ghost use Rattle.drain.specs.working.Duties.{IsDutyUnder};
 ghost use Rattle.drain.specs.working.Tallying.{HasTallied};
 
-use crate::faults::{Fault, spent_tag};
+use crate::faults::{Fault, Tokens, tokens};
 use buffer_pool::{Edges, Pool, SpentTag, Worker};
-use drain::RunFault;
 use drain::inside::{Duty, Measured, StartedWorker, TalliedWorker, Tally, join_all};
+use drain::{RefusedThread, RunFault};
 use std::alloc::Global;
 use std::snapshot::Snapshot;
 use std::sync::Wait;
@@ -57,12 +57,14 @@ fn stop_of(fault: Option<Fault>, token: SpentTag) -> Option<Stop> {
     }
 }
 
-/// Starts a thread that returns `begun`, or `stop` if there is one.
+/// Starts a thread that returns `begun`, or `stop` if there is one. `refused` is the token for a thread that the system
+/// refuses.
 fn answer<'s, E, V: Measured + Sync>(
     scope: &'s Scope<'s, E>,
     graph: &'s V,
     begun: TalliedWorker<Global>,
     stop: Option<Stop>,
+    refused: RefusedThread,
 ) -> Result<StartedWorker<Global, V>, RunFault>
     requires free { IsFree begun.worker }
     requires tally { HasTallied (V.measure graph.now) begun.worker begun.tally }
@@ -87,12 +89,12 @@ fn answer<'s, E, V: Measured + Sync>(
     };
     match scope.spawn_with(duty, run) {
         Ok(thread) => Ok(thread),
-        Err(_) => Err(RunFault::WorkerRefused),
+        Err(_) => Err(RunFault::WorkerRefused(refused)),
     }
 }
 
 /// Splits a worker off `leader` for each of `stops`, and starts a thread that returns the worker, or is stopped if
-/// there is a fault. `token` is that of a spent tag. Returns the leader and the threads.
+/// there is a fault. `tokens` are those of faults. Returns the leader and the threads.
 fn answer_all<'s, E, V: Measured + Sync>(
     scope: &'s Scope<'s, E>,
     alloc: Global,
@@ -100,7 +102,7 @@ fn answer_all<'s, E, V: Measured + Sync>(
     pool: &Pool<Global>,
     leader: Worker<Global>,
     stops: &[Option<Fault>],
-    token: SpentTag,
+    tokens: Tokens,
 ) -> Result<(Worker<Global>, Vec<StartedWorker<Global, V>>), RunFault>
     requires pool { leader.pool ≡ pool.now }
     requires share { length stops.now < leader.book.account.share }
@@ -117,7 +119,8 @@ fn answer_all<'s, E, V: Measured + Sync>(
         leader = rest;
         let tally = Tally::new(alloc, graph.rows())?;
         let begun = TalliedWorker { worker, tally };
-        let thread = answer(scope, graph, begun, stop_of(stops[number], token))?;
+        let stop = stop_of(stops[number], tokens.spent_tag);
+        let thread = answer(scope, graph, begun, stop, tokens.refused_thread)?;
         threads.push_reserved(thread);
     }
     Ok((leader, threads))
@@ -130,7 +133,7 @@ fn told<T: Threads + Wait, V: Measured + Sync>(
     alloc: Global,
     graph: &V,
     stops: &[Option<Fault>],
-    token: SpentTag,
+    tokens: Tokens,
 ) -> Result<Option<RunFault>, Fail>
     requires { length stops.now ≤ 64 }
 {
@@ -147,7 +150,7 @@ fn told<T: Threads + Wait, V: Measured + Sync>(
             requires share { length stops.now < leader.book.account.share }
             requires room { (vec_len back ≡ 0) × (length stops.now ≤ vec_capacity back) }
         {
-            let (_leader, threads) = answer_all(scope, alloc, graph, pool, leader, stops, token)?;
+            let (_leader, threads) = answer_all(scope, alloc, graph, pool, leader, stops, tokens)?;
             join_all(rt, threads, back)
         },
     );
@@ -174,9 +177,9 @@ static ANSWERS: [(&[Option<Fault>], Option<Fault>); 7] = [
 fn of_the_refused_workers_the_one_with_the_least_number_is_told(
     rt: HostRuntime,
 ) -> Result<(), Fail> {
-    let token = spent_tag(&rt, rt.alloc())?;
+    let tokens = tokens(&rt, rt.alloc())?;
     for (stops, want) in ANSWERS {
-        let outcome = told(&rt, rt.alloc(), &Nothing, stops, token)?;
+        let outcome = told(&rt, rt.alloc(), &Nothing, stops, tokens)?;
         assert_eq!(rt; outcome.map(Fault::from), want);
     }
     Ok(())

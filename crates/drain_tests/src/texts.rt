@@ -1,16 +1,22 @@
 //! The texts that are printed if a graph is not marked.
 
-use crate::faults::spent_tag;
+use crate::faults::tokens;
 use drain::{BadOptions, RunFault};
 use std::test::Fail;
 
 #[test]
 fn faults_are_printed_in_words(rt: HostRuntime) -> Result<(), Fail> {
-    let token = spent_tag(&rt, rt.alloc())?;
+    let tokens = tokens(&rt, rt.alloc())?;
     for (fault, want) in [
         (RunFault::OutOfMemory, "out of memory"),
-        (RunFault::TagSpent(token), "a stack's last tag was loaded"),
-        (RunFault::WorkerRefused, "a worker could not be started"),
+        (
+            RunFault::TagSpent(tokens.spent_tag),
+            "a stack's last tag was loaded",
+        ),
+        (
+            RunFault::WorkerRefused(tokens.refused_thread),
+            "a worker could not be started",
+        ),
     ] {
         let text = format!(in rt.alloc(); "{fault}")?;
         assert_eq!(rt; text.as_str(), want);

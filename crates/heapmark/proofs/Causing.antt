@@ -1,4 +1,4 @@
--- Refusals other than that of a spent tag need no cause.
+-- Refusals other than those of a spent tag and of a refused thread need no cause.
 use Rattle.std.proofs.Common.{arith, subst, sym, ℕ, ⊎_elim, ◌≡◌, ◌≢◌, ◌≤◌, ◌⊎◌}
 use Rattle.heap_graph.specs.declared.skip.refusal.SkipRefusal.{SkipRefusal}
 use Rattle.heap_graph.specs.declared.skip.refusal.SkipRefusal.TheVariants as skipping
@@ -10,17 +10,20 @@ use Rattle.heapmark.specs.declared.refusal.Refusal.{Refusal}
 use Rattle.histogram.specs.declared.report_writing.WriteRefusal.{WriteRefusal}
 use Rattle.histogram.specs.declared.report_writing.WriteRefusal.TheVariants as writing
 
-other : (causes : KnownCauses) (refusal : Refusal) → refusal.code ≢ 16 → HasCause causes refusal
-other causes refusal none = record { spent_tag = λ code. absurd (none code) }
+other : (causes : KnownCauses) (refusal : Refusal) → refusal.code ≢ 16 → refusal.code ≢ 18 → HasCause causes refusal
+other causes refusal no_tag no_thread = record {
+  spent_tag = λ code. absurd (no_tag code);
+  refused_thread = λ code. absurd (no_thread code);
+}
 
 pub starved_cause : (causes : KnownCauses) → HasCause causes out_of_memory
-starved_cause causes = other causes out_of_memory (λ h. omega (arith, h))
+starved_cause causes = other causes out_of_memory (λ h. omega (arith, h)) (λ h. omega (arith, h))
 
 pub read_fault_cause : (causes : KnownCauses) → HasCause causes read_fault
-read_fault_cause causes = other causes read_fault (λ h. omega (arith, h))
+read_fault_cause causes = other causes read_fault (λ h. omega (arith, h)) (λ h. omega (arith, h))
 
 pub bad_options_cause : (causes : KnownCauses) → HasCause causes bad_options_refusal
-bad_options_cause causes = other causes bad_options_refusal (λ h. omega (arith, h))
+bad_options_cause causes = other causes bad_options_refusal (λ h. omega (arith, h)) (λ h. omega (arith, h))
 
 pub same_starved_cause : (causes : KnownCauses) (refusal : Refusal) → refusal ≡ out_of_memory → HasCause causes refusal
 same_starved_cause causes refusal same = subst (HasCause causes) (sym same) (starved_cause causes)
@@ -28,7 +31,7 @@ same_starved_cause causes refusal same = subst (HasCause causes) (sym same) (sta
 -- the refusals of reading and linking
 pub low_cause : (causes : KnownCauses) (refusal : Refusal) → IsRunRefusal refusal × (refusal.code ≤ 15)
     → HasCause causes refusal
-low_cause causes refusal known = other causes refusal (λ h. omega (arith, h, known.1))
+low_cause causes refusal known = other causes refusal (λ h. omega (arith, h, known.1)) (λ h. omega (arith, h, known.1))
 
 pub reader_cause : (causes : KnownCauses) (refusal : Refusal) → (refusal ≡ out_of_memory) ⊎ (refusal ≡ read_fault)
     → HasCause causes refusal
@@ -38,7 +41,7 @@ reader_cause causes refusal is = ⊎_elim
     is
 
 each_write : (causes : KnownCauses) (refusal : WriteRefusal) → HasCause causes (write_refusal refusal)
-each_write causes writing.WriteFault = other causes write_fault (λ h. omega (arith, h))
+each_write causes writing.WriteFault = other causes write_fault (λ h. omega (arith, h)) (λ h. omega (arith, h))
 each_write causes writing.OutOfMemory = starved_cause causes
 
 pub writer_cause : (causes : KnownCauses) (from : WriteRefusal) (refusal : Refusal) → refusal ≡ write_refusal from

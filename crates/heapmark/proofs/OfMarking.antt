@@ -16,7 +16,7 @@ IsToldOf text refusal = RefusesFirstFault text refusal ⊎ (refusal ≡ out_of_m
 each_fault : (text : List ℕ) (fault : RunFault) → IsAcceptedText text → IsToldOf text (run_refusal fault)
 each_fault text OutOfMemory accepted = inr (inl refl)
 each_fault text (TagSpent token) accepted = inr (inr (accepted, inl refl))
-each_fault text WorkerRefused accepted = inr (inr (accepted, inr refl))
+each_fault text (WorkerRefused token) accepted = inr (inr (accepted, inr refl))
 
 pub of_marking : (text : List ℕ) (refusal : Refusal) (fault : RunFault) → refusal ≡ run_refusal fault
     → IsAcceptedText text → IsToldOf text refusal
@@ -25,7 +25,7 @@ of_marking text refusal fault same accepted = subst (IsToldOf text) (sym same) (
 known_fault : (fault : RunFault) → IsKnown (run_refusal fault)
 known_fault OutOfMemory = known_unplaced 15 (omega arith) (omega arith) (λ h. omega (arith, h))
 known_fault (TagSpent token) = known_unplaced 16 (omega arith) (omega arith) (λ h. omega (arith, h))
-known_fault WorkerRefused = known_unplaced 18 (omega arith) (omega arith) (λ h. omega (arith, h))
+known_fault (WorkerRefused token) = known_unplaced 18 (omega arith) (omega arith) (λ h. omega (arith, h))
 
 -- the refusal for a fault of a marking has a code that a run may have before it writes
 pub known_marking : (refusal : Refusal) (fault : RunFault) → refusal ≡ run_refusal fault

@@ -11,9 +11,13 @@ use Rattle.histogram.specs.Counting.{AppendsBeginning}
 use Rattle.hprof_grammar.specs.Fault.{FirstFault}
 use Rattle.hprof_grammar.specs.Record.{Record}
 
--- The bytes of a run: all that its reader gives, but at most one byte more than the largest dump has.
+-- The most bytes of a run: one more than the largest dump has.
+abbrev pub read_limit : ℕ
+read_limit = 1073741825
+
+-- The bytes of a run: all that its reader gives, but at most `read_limit`.
 abbrev pub bytes_read : List ℕ → List ℕ
-bytes_read given = take 1073741825 given
+bytes_read given = take read_limit given
 
 -- The bytes of a run were taken from what the reader gives, and no others.
 abbrev pub ConsumesBytesRead : Option (List ℕ) → Option (List ℕ) → Type 0

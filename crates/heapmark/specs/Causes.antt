@@ -7,7 +7,10 @@ use Rattle.heapmark.specs.declared.refusal.Refusal.{Refusal}
 pub record KnownCauses : Type 1 where
   -- A worker loaded a stack's last tag when an exchange was due.
   pub spent_tag : Type 0
+  -- A worker's thread could not be started.
+  pub refused_thread : Type 0
 
 -- The refusal has its cause, if its code is one that only a token shows.
 pub record HasCause (causes : KnownCauses) (refusal : Refusal) : Type 0 where
   pub spent_tag : refusal.code ≡ 16 → causes.spent_tag
+  pub refused_thread : refusal.code ≡ 18 → causes.refused_thread

@@ -59,7 +59,8 @@ pub record PrintsReason (bytes_at : List ℕ → Option (List ℕ)) (is_unread :
   -- options are refused only if they are bad, and a file only if it could not be opened or read
   pub options : refusal.code ≡ 21 → HasBadOptions words
   pub unread : refusal.code ≡ 19 → HasUnreadFile is_unread words
-  -- a tag is spent only if a worker loaded a stack's last one
+  -- a tag is spent only if a worker loaded a stack's last one, and a worker refused only if its thread could not be
+  -- started
   pub cause : HasCause causes refusal
   pub line : AppendsBeginning old new (refusal_line refusal)
 

@@ -35,7 +35,7 @@ worker_refused = record { code = 18; offset = None }
 abbrev pub run_refusal : RunFault → Refusal
 run_refusal marking.OutOfMemory = out_of_memory
 run_refusal (marking.TagSpent token) = tag_spent
-run_refusal marking.WorkerRefused = worker_refused
+run_refusal (marking.WorkerRefused token) = worker_refused
 
 -- of the reader
 abbrev pub reader_refusal : ReaderRefusal → Refusal

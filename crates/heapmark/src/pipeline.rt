@@ -10,7 +10,7 @@ ghost use Rattle.histogram.specs.Counting.{ConsumesFewer, failures_of, inner_of,
 ghost use Rattle.histogram.specs.HistogramOf.{histogram_of};
 ghost use Rattle.heapmark.specs.Answer.{ConsumesBytesRead, IsAcceptedText, IsRunRefusal, IsRefusalOf};
 ghost use Rattle.heapmark.specs.Answer.{RefusesFirstFault, WritesReport};
-ghost use Rattle.heapmark.specs.Answer.{WritesBeginning, WritesSomeBeginning, WritesSomeReport, bytes_read};
+ghost use Rattle.heapmark.specs.Answer.{WritesBeginning, WritesSomeBeginning, WritesSomeReport, bytes_read, read_limit};
 ghost use Rattle.heapmark.specs.Causes.{HasCause};
 ghost use Rattle.heapmark.specs.Headline.{Headline};
 ghost use Rattle.heapmark.specs.RunRefusals.{HasCode, out_of_memory, read_fault};
@@ -80,7 +80,8 @@ where
         (IsAcceptedText (bytes_read given) → ⊥) → IsErrAnd result (IsRefusalOf (bytes_read given))) }
     ensures known { IfErr result IsRunRefusal }
 
-    // A tag is spent only if a worker loaded a stack's last one.
+    // A tag is spent only if a worker loaded a stack's last one. A worker is refused only if its thread could not be
+    // started.
     ensures cause { IfErr result (HasCause (T.causes rt.now)) }
 
     // The bytes read were taken from the reader, and no others: no read is made after the limit is reached.
@@ -89,9 +90,9 @@ where
     ensures consumed_at_a_refusal { IfErr result (λ refusal. refusal.code ≢ 15 → refusal.code ≢ 19
         → ConsumesBytesRead (R.remaining (inner_of reader.old)) (R.remaining (inner_of reader.new))) }
     ensures below { HasCode result 19
-        → ConsumesFewer 1073741825 (R.remaining (inner_of reader.old)) (R.remaining (inner_of reader.new)) }
+        → ConsumesFewer read_limit (R.remaining (inner_of reader.old)) (R.remaining (inner_of reader.new)) }
     ensures within { HasCode result 15
-        → ConsumesFewer 1073741826 (R.remaining (inner_of reader.old)) (R.remaining (inner_of reader.new)) }
+        → ConsumesFewer (read_limit + 1) (R.remaining (inner_of reader.old)) (R.remaining (inner_of reader.new)) }
 
     // A refusal with 19 raises the reader's count of failures by one, a refusal with 20 that of the writer. No other
     // outcome changes a count.
@@ -125,9 +126,9 @@ pub(crate) fn read_bytes<A: Allocator, R: Read>(
         (ConsumesBytesRead (R.remaining (inner_of reader.old)) (R.remaining (inner_of reader.new))) }
     ensures refusal { IfErr result (λ refusal. (refusal ≡ out_of_memory) ⊎ (refusal ≡ read_fault)) }
     ensures below { HasCode result 19
-        → ConsumesFewer 1073741825 (R.remaining (inner_of reader.old)) (R.remaining (inner_of reader.new)) }
+        → ConsumesFewer read_limit (R.remaining (inner_of reader.old)) (R.remaining (inner_of reader.new)) }
     ensures within { (HasCode result 19 → ⊥)
-        → ConsumesFewer 1073741826 (R.remaining (inner_of reader.old)) (R.remaining (inner_of reader.new)) }
+        → ConsumesFewer (read_limit + 1) (R.remaining (inner_of reader.old)) (R.remaining (inner_of reader.new)) }
     ensures fault { HasCode result 19 ↔ (failures_of reader.new ≡ failures_of reader.old + 1) }
     ensures no_fault { (HasCode result 19 → ⊥) → failures_of reader.new ≡ failures_of reader.old }
 {

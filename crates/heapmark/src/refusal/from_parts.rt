@@ -65,7 +65,8 @@ impl From<SkipRefusal> for Refusal {
 impl Refusal {
     ghost use Rattle.heapmark.specs.Causes.{HasCause};
 
-    /// Returns the refusal of a run whose marking failed with `fault`. Passes the token of a spent tag to `rt`.
+    /// Returns the refusal of a run whose marking failed with `fault`. Passes the token of the fault to `rt`,
+    /// if it has one.
     pub(crate) fn of_marking<T: Causes>(rt: &T, fault: RunFault) -> Refusal
         ensures value { result ≡ run_refusal fault }
         ensures cause { HasCause (T.causes rt.now) result }
@@ -76,7 +77,10 @@ impl Refusal {
                 rt.tag_is_spent(token);
                 Refusal::TAG_SPENT
             }
-            RunFault::WorkerRefused => Refusal::WORKER_REFUSED,
+            RunFault::WorkerRefused(token) => {
+                rt.worker_is_refused(token);
+                Refusal::WORKER_REFUSED
+            }
         }
     }
 }

@@ -11,6 +11,7 @@ use super::program::{BAD_TAG, answered};
 use super::skips::REFERENCES;
 use crate::{Causes, CommandWords, Counted, Dumps, process};
 use buffer_pool::SpentTag;
+use drain::RefusedThread;
 use std::alloc::{Alloc, AllocError, Global};
 use std::io;
 use std::io::{Cursor, Seek};
@@ -75,9 +76,13 @@ impl<'a, T> Dumps for InMemory<'a, T> {
 impl<T> Causes for InMemory<'_, T> {
     ghost use Rattle.heapmark.specs.Causes.{KnownCauses};
 
-    ghost causes = { λ _. record { spent_tag = Unit } };
+    ghost causes = { λ _. record { spent_tag = Unit; refused_thread = Unit } };
 
     fn tag_is_spent(&self, _token: SpentTag)
+        ensures { Unit }
+    {}
+
+    fn worker_is_refused(&self, _token: RefusedThread)
         ensures { Unit }
     {}
 }
