@@ -26,8 +26,8 @@ pub enum WriteRefusal {
 
 /// Writes the text of `report`, and flushes `writer`. Makes the whole text before the first write.
 ///
-/// `Err(OutOfMemory)` if an allocation for the text fails, `Err(WriteFault)` if a write or the flush fails. The variants
-/// of [`WriteRefusal`] say what was written then.
+/// `Err(OutOfMemory)` if an allocation for the text fails, `Err(WriteFault)` if a write or the flush fails. The
+/// variants of [`WriteRefusal`] say what was written then.
 pub fn write_report<A: Allocator, B: Allocator, W: Write>(
     alloc: B,
     report: &Report<A>,
