@@ -91,7 +91,7 @@ fn refused_thread<T: Threads + Wait + Sync>(rt: &T, alloc: Global) -> Result<Ref
 }
 
 /// Returns a token of each kind.
-pub fn tokens<T: Threads + Wait + Sync>(rt: &T, alloc: Global) -> Result<Tokens, Fail> {
+pub fn make_tokens<T: Threads + Wait + Sync>(rt: &T, alloc: Global) -> Result<Tokens, Fail> {
     Ok(Tokens {
         spent_tag: spent_tag(rt, alloc)?,
         refused_thread: refused_thread(rt, alloc)?,

@@ -5,7 +5,7 @@ ghost use Rattle.drain.specs.working.AtWork.{IsFree, IsThrough, Leads};
 ghost use Rattle.drain.specs.working.Duties.{IsDutyUnder};
 ghost use Rattle.drain.specs.working.Tallying.{HasTallied};
 
-use crate::faults::{Fault, Tokens, tokens};
+use crate::faults::{Fault, Tokens, make_tokens};
 use buffer_pool::{Edges, Pool, SpentTag, Worker};
 use drain::inside::{Duty, Measured, StartedWorker, TalliedWorker, Tally, join_all};
 use drain::{RefusedThread, RunFault};
@@ -177,7 +177,7 @@ static ANSWERS: [(&[Option<Fault>], Option<Fault>); 7] = [
 fn of_the_refused_workers_the_one_with_the_least_number_is_told(
     rt: HostRuntime,
 ) -> Result<(), Fail> {
-    let tokens = tokens(&rt, rt.alloc())?;
+    let tokens = make_tokens(&rt, rt.alloc())?;
     for (stops, want) in ANSWERS {
         let outcome = told(&rt, rt.alloc(), &Nothing, stops, tokens)?;
         assert_eq!(rt; outcome.map(Fault::from), want);

@@ -1,12 +1,12 @@
 //! The texts that are printed if a graph is not marked.
 
-use crate::faults::tokens;
+use crate::faults::make_tokens;
 use drain::{BadOptions, RunFault};
 use std::test::Fail;
 
 #[test]
 fn faults_are_printed_in_words(rt: HostRuntime) -> Result<(), Fail> {
-    let tokens = tokens(&rt, rt.alloc())?;
+    let tokens = make_tokens(&rt, rt.alloc())?;
     for (fault, want) in [
         (RunFault::OutOfMemory, "out of memory"),
         (
