@@ -5,7 +5,7 @@ from typing import Callable, List, NamedTuple, Optional, Sequence, Tuple
 
 from heap_tools.candidates import FIELD, Candidate, joint_name
 from heap_tools.heap_objects import HeapObjects
-from heap_tools.line_order import CHAIN, HARDLY_ANY, Features, LineOrder, Scoring
+from heap_tools.line_order import CHAIN, HARDLY_ANY, NEARLY, Features, LineOrder, Scoring
 from heap_tools.object_parts import FieldUses
 from heap_tools.probe import EarlierProbe, GrowthProbe, Probe, Retained
 from heap_tools.reference_paths import ReferencePaths
@@ -91,10 +91,12 @@ class Lines:
         return objects_that_hold(self.probe, held, self.uses)
 
     def _order(self) -> LineOrder:
-        return LineOrder(self.features, self._holds_all, self.probe.unit.of(self.probe.growth), self.scoring)
+        return LineOrder(self.features, self._holds, self.probe.unit.of(self.probe.growth), self.scoring)
 
-    def _holds_all(self, upper: int, lower: int) -> bool:
-        return self.probe.holds_all(self.every[upper], self.every[lower])
+    def _holds(self, upper: int, lower: int) -> bool:
+        """Tests whether a line holds nearly all that another one does: a field of a general class, such as a list of a
+        library, nearly always has an instance elsewhere, too."""
+        return self.probe.holds_part(self.every[upper], self.every[lower], NEARLY)
 
     def _features(self, held: Retained, is_line: bool) -> Features:
         """Returns what the order has to know of `held`."""

@@ -1,7 +1,7 @@
 """The order of the lines of `leaks`, the answer first.
 
-A line's score is what it gained without what came with new instances (unless one object gained most), without what
-moved there from above it or from a field of its class, and nothing if it did not grow at each step between dumps. If no
+A line's score is what it gained without what came with new instances (unless one object gained most), without what was
+above it, below it or in a field of its class before, and nothing if it did not grow at each step between dumps. If no
 score is a quarter of the growth, nothing that lasts holds what grew: the answer is the topmost line, a thread before
 others. Else the answer is the deepest line on the path of the best score (of those with nine tenths of it, of the line
 whose name says most), above or below it, that has half of that score: the accumulation point. A collection, a variable
@@ -32,8 +32,8 @@ HARDLY_ANY = 0.1
 CHAIN = 0.5
 #: Of how many lines below the answer it is asked at most whether one object gained most: each takes some 10 runs.
 MOST_ASKED = 3
-#: What `Features.says` is of a single line of the program.
-OF_PROGRAM = 3
+#: What `Features.says` is of a single line of the program, and of several that hold something only together.
+OF_PROGRAM, TOGETHER = 3, 1
 
 
 class Scoring(enum.Enum):
@@ -80,16 +80,13 @@ class Features:
         return all(kind in (THREAD, THREADS) for kind in self.kinds)
 
     @property
-    def is_joint(self) -> bool:
-        """Tests whether several hold it only together."""
-        return len(self.kinds) > 1
-
-    @property
     def says(self) -> int:
-        """How much its name says of what it is for: `OF_PROGRAM`, 2 of the JDK, 1 if several hold it only together, 0
-        of a collection, a variable of a lambda or a thread."""
-        if self.is_joint or self.is_collection or self.is_thread or "$$Lambda" in self.name:
-            return int(self.is_joint)
+        """How much its name says of what it is for: `OF_PROGRAM`, 2 of the JDK, `TOGETHER`, 0 of a collection, a
+        variable of a lambda or a thread."""
+        if len(self.kinds) > 1:
+            return TOGETHER
+        if self.is_collection or self.is_thread or "$$Lambda" in self.name:
+            return 0
         return OF_PROGRAM if self.is_own else 2
 
     @property
@@ -115,18 +112,16 @@ class Features:
         return min(1.0, max(0.0, *parts)) if parts else 1.0
 
 
-#: Tests whether the first of two lines, by their numbers, holds all that the second does.
-HoldsAll = Callable[[int, int], bool]
+#: Tests whether the first of two lines, by their numbers, holds all that the second does, or nearly: `NEARLY` of it.
+Holds = Callable[[int, int], bool]
 
 
 class LineOrder:
-    """The order of `lines`, of which some are `Features.is_line`: numbers of these, by what `holds_all`. `growth` is
+    """The order of `lines`, of which some are `Features.is_line`: numbers of these, by what `holds` what. `growth` is
     what shares are of."""
 
-    def __init__(
-        self, lines: Sequence[Features], holds_all: HoldsAll, growth: int, scoring: Scoring = Scoring.GAIN
-    ) -> None:
-        self.lines, self.holds_all, self.growth, self.scoring = lines, holds_all, growth, scoring
+    def __init__(self, lines: Sequence[Features], holds: Holds, growth: int, scoring: Scoring = Scoring.GAIN) -> None:
+        self.lines, self.holds, self.growth, self.scoring = lines, holds, growth, scoring
         self.numbers = [number for number, line in enumerate(lines) if line.is_line]
         self.some_are_steady = any(lines[number].grew_at_each_step for number in self.numbers)
         self.scores = {number: self.score(number) for number in self.numbers}
@@ -164,9 +159,13 @@ class LineOrder:
         if not self._is_steady(number):
             return 0.0
         score = max(line.lasting_gain, line.of_one * line.gain)
-        for upper, other in enumerate(self.lines):
-            if upper != number and other.gain < MOST * line.gain and self.holds_all(upper, number):
-                score = min(score, line.gain * line.part_of(other))
+        for it, other in enumerate(self.lines):
+            both = line.gain * line.part_of(other)
+            if it != number and other.gain < MOST * line.gain and self.holds(it, number):
+                score = min(score, both)
+            below = both + line.amount - other.amount
+            if it != number and both <= below < NEARLY * score and self.holds(number, it):
+                score = below
         return score
 
     def best(self) -> int:
@@ -178,7 +177,7 @@ class LineOrder:
         if others and self.scores[self._largest(others)] >= MOST * self.scores[chosen]:
             chosen = self._largest(others)
         single = [it for it in self.numbers if self.lines[it].is_telling]
-        if single and self.lines[chosen].is_joint and self._lasts(self._largest(single)):
+        if single and self.lines[chosen].says == TOGETHER and self._lasts(self._largest(single)):
             chosen = self._largest(single)
         return chosen
 
@@ -201,7 +200,7 @@ class LineOrder:
     def topmost(self) -> int:
         """Returns the line that no other one holds, of several a thread, else the one that gained most."""
         lines, steady = self.lines, [it for it in self.numbers if self._is_steady(it)]
-        top = [it for it in steady if not any(self.holds_all(upper, it) for upper in steady if upper != it)]
+        top = [it for it in steady if not any(self.holds(upper, it) for upper in steady if upper != it)]
         return max(top or steady, key=lambda it: (lines[it].is_thread, not lines[it].is_collection, lines[it].gain))
 
     def deepest_with(self, best: int, numbers: Sequence[int]) -> int:
@@ -224,7 +223,7 @@ class LineOrder:
             return []
         lines, least = self.lines, MOST * self.lines[answer].gain
         found = [it for it in self.numbers if self._has_objects(it) and lines[it].gain >= least]
-        found = [it for it in found if it == answer or self.holds_all(answer, it)]
+        found = [it for it in found if it == answer or self.holds(answer, it)]
         found.sort(key=lambda it: (-max(lines[it].says, 1), lines[it].with_value))
         return [*found[:MOST_ASKED], *([] if answer in found else [answer])]
 
@@ -238,14 +237,14 @@ class LineOrder:
     def _own_below(self, number: int, path: Sequence[int]) -> int:
         """Returns the deepest own line of `path` below a line, else that line."""
         own = (it for it in path if it != number and self.lines[it].says == OF_PROGRAM)
-        return min((it for it in own if self.holds_all(number, it)), key=self._depth, default=number)
+        return min((it for it in own if self.holds(number, it)), key=self._depth, default=number)
 
     def _is_steady(self, number: int) -> bool:
         """Tests whether a line grew at each step, or none did."""
         return self.lines[number].grew_at_each_step or not self.some_are_steady
 
     def _is_on_path(self, number: int, best: int) -> bool:
-        return number == best or self.holds_all(number, best) or self.holds_all(best, number)
+        return number == best or self.holds(number, best) or self.holds(best, number)
 
     def _depth(self, number: int) -> Tuple[bool, int, str]:
         """Returns what the deepest line is the smallest by, among those with one score."""

@@ -104,6 +104,15 @@ class Probe:
             return False
         return self.retained([*upper.candidates, *lower.candidates]).heap == upper.heap
 
+    def holds_part(self, upper: Retained, lower: Retained, part: float) -> bool:
+        """Tests whether `upper` holds at least this part of the objects that `lower` does."""
+        least = part * lower.heap.objects
+        common = ((amount.objects, upper.lost.get(name, Amount()).objects) for name, amount in lower.lost.items())
+        if sum(min(pair) for pair in common) < least:
+            return False
+        together = self.retained([*upper.candidates, *lower.candidates]).heap.objects
+        return upper.heap.objects + lower.heap.objects - together >= least
+
 
 class EarlierProbe(Probe):
     """Asks an earlier dump what candidates of a later one hold: those that have the same name in it."""

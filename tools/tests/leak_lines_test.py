@@ -6,6 +6,7 @@ from unittest import mock
 
 from heap_tools.candidates import FIELD, STATIC, Candidate
 from heap_tools.leak_lines import LineObjects, Lines
+from heap_tools.line_order import NEARLY
 from heap_tools.object_names import Name
 from heap_tools.probe import Retained
 from heap_tools.reports import Amount
@@ -27,6 +28,18 @@ def holding(*percents: float) -> List[HoldingObject]:
     return [
         HoldingObject("shop/Tenant", [Name("its field name", "one")], Amount(1, 80), each, True) for each in percents
     ]
+
+
+class NearlyAllTest(unittest.TestCase):
+    """Whether a line counts as above another one."""
+
+    def test_holds_part(self) -> None:
+        """It is above one that has up to a tenth of its objects elsewhere, unless they lead to more together."""
+        for elsewhere, both, is_above in ((10, 0, True), (11, 0, False), (10, 1, False)):
+            things: Things = [([["A.a"], ["L.list"]], 90), ([["L.list"]], elsewhere), ([["A.a", "L.list"]], both)]
+            probe = ToldGains([], things)
+            upper, lower = (probe.retained([field(name)]) for name in ("A.a", "L.list"))
+            self.assertEqual(probe.holds_part(upper, lower, NEARLY), is_above, (elsewhere, both))
 
 
 class LinesTest(unittest.TestCase):

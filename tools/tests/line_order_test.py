@@ -17,6 +17,7 @@ GROWTH = 1000
 SPOKEN: Dict[str, Dict[str, Any]] = {
     "null": {"before": 0},
     "large": {"before": 9000},
+    "had": {"before": 400},
     "one": {"of_one": 0.9},
     "half": {"of_one": 0.6},
     "unsteady": {"grew_at_each_step": False},
@@ -40,6 +41,8 @@ rule 1, it had no instance: shop/A.a (900 0..9 null), *static shop/B.b (400)
 rule 1, one object gained most: *shop/A.a (900 10..110 one), static shop/B.b (400)
 rule 1, it moved from below what is above: shop/Swap.s (moved) > shop/A.a (900), *static shop/B.b (400)
 rule 1, something else went from there: shop/Swap.s (other) > *shop/A.a (900), static shop/B.b (400)
+rule 1, what is below it had it before: shop/A.a (900 null) > shop/C.c (500 had), *static shop/B.b (600)
+rule 1, something else went from below it: *shop/A.a (900 null) > shop/C.c (100 had other), static shop/B.b (600)
 rule 1, it did not grow at each step: static shop/A.a (600 unsteady), *static shop/B.b (400)
 rule 1, nothing grew at each step: *static shop/A.a (600 unsteady), static shop/B.b (400 unsteady)
 rule 2, nothing lasts: *shop/Session.orders (9..99) > shop/Order.text (10..110)

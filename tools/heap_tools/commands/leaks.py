@@ -45,13 +45,13 @@ threads in its method. Fields above a field, from a static field, a local
 variable or a thread down, stand before it: in `A > B`, A holds all that B does.
 
 A line's score is what it gained without what came with new instances (unless
-one object gained most), without what moved there from above it or from a field
-of its class, and nothing if it did not grow at each step between dumps. If no
-score is a quarter of the growth, nothing that lasts holds what grew: the answer
-is the topmost line, a thread before others. Else the answer is the deepest line
-on the path of the best score (of those with nine tenths of it, of the line
-whose name says most), above or below it, that has half of that score: the
-accumulation point. A collection, a variable of a lambda or a thread is the
+one object gained most), without what was above it, below it or in a field of
+its class before, and nothing if it did not grow at each step between dumps. If
+no score is a quarter of the growth, nothing that lasts holds what grew: the
+answer is the topmost line, a thread before others. Else the answer is the
+deepest line on the path of the best score (of those with nine tenths of it, of
+the line whose name says most), above or below it, that has half of that score:
+the accumulation point. A collection, a variable of a lambda or a thread is the
 answer only if no other line on that path has nine tenths of that score, or half
 of it below; of fields, own ones come before the JDK's in the same way. The
 other lines follow by their scores.
