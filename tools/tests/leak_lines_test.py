@@ -5,9 +5,11 @@ from typing import List, Optional, Sequence, Tuple
 from unittest import mock
 
 from heap_tools.candidates import FIELD, STATIC, Candidate
+from heap_tools.heap_objects import FieldValue
 from heap_tools.leak_lines import LineObjects, Lines
 from heap_tools.line_order import NEARLY
 from heap_tools.object_names import Name
+from heap_tools.object_parts import Parts
 from heap_tools.probe import Retained
 from heap_tools.reports import Amount
 from heap_tools.which_object import HoldingObject
@@ -46,13 +48,16 @@ class LinesTest(unittest.TestCase):
     """Lines"""
 
     def lines(self, found: Sequence[Candidate], earlier: Things, things: Things, before: int = 0) -> Lines:
-        """Returns the lines about `found`, each of which had `before` holders."""
+        """Returns the lines about `found`, each of which had `before` instances, and has a value in all."""
         probe = ToldGains(earlier, things)
+        probe.runs = mock.Mock()
+        uses = mock.Mock(of=lambda each: Parts([FieldValue(0, 0)] * each.count))
         probe.candidates = mock.Mock(**{"statics.return_value": [], "fields.return_value": FIELDS})
         probe.base = mock.Mock()
         search = mock.Mock(found=[probe.retained([each]) for each in found], steady=[])
         with mock.patch.object(type(probe.earlier), "instances", return_value=before):
-            return Lines(search, probe, [])
+            with mock.patch("heap_tools.leak_lines.FieldUses", return_value=uses):
+                return Lines(search, probe, [])
 
     def asked(self, objects: Sequence[List[HoldingObject]]) -> Tuple[Optional[LineObjects], List[str], int]:
         """Asks of the mails which objects gained most: `objects` are what is found, of one line after another. Returns
