@@ -90,11 +90,6 @@ class Features:
         return OF_PROGRAM if self.is_own else 2
 
     @property
-    def is_telling(self) -> bool:
-        """Tests whether it is a single one whose name says what it is for."""
-        return self.says > 1
-
-    @property
     def lasting_gain(self) -> float:
         """What the instances gained that it had before, too, on average, at least what one has; or what all gained,
         without what the new ones would have held before, if they are few."""
@@ -176,7 +171,7 @@ class LineOrder:
         others = [it for it in self.numbers if not self.lines[it].is_collection]
         if others and self.scores[self._largest(others)] >= MOST * self.scores[chosen]:
             chosen = self._largest(others)
-        single = [it for it in self.numbers if self.lines[it].is_telling]
+        single = [it for it in self.numbers if self.lines[it].says > TOGETHER]
         if single and self.lines[chosen].says == TOGETHER and self._lasts(self._largest(single)):
             chosen = self._largest(single)
         return chosen
@@ -200,7 +195,7 @@ class LineOrder:
     def topmost(self) -> int:
         """Returns the line that no other one holds, of several a thread, else the one that gained most."""
         lines, steady = self.lines, [it for it in self.numbers if self._is_steady(it)]
-        top = [it for it in steady if not any(self.holds(upper, it) for upper in steady if upper != it)]
+        top = [it for it in steady if not any(self._is_below(it, upper) for upper in steady)]
         return max(top or steady, key=lambda it: (lines[it].is_thread, not lines[it].is_collection, lines[it].gain))
 
     def deepest_with(self, best: int, numbers: Sequence[int]) -> int:
@@ -223,7 +218,7 @@ class LineOrder:
             return []
         lines, least = self.lines, MOST * self.lines[answer].gain
         found = [it for it in self.numbers if self._has_objects(it) and lines[it].gain >= least]
-        found = [it for it in found if it == answer or self.holds(answer, it)]
+        found = [it for it in found if it == answer or self._is_below(it, answer)]
         found.sort(key=lambda it: (-max(lines[it].says, 1), lines[it].with_value))
         return [*found[:MOST_ASKED], *([] if answer in found else [answer])]
 
@@ -232,16 +227,20 @@ class LineOrder:
         does says little, and the first of a chain always does."""
         line = self.lines[number]
         is_one = line.kinds == (FIELD,) and line.instances > 1
-        return is_one and not line.is_chain and (line.is_telling or line.with_value <= FEW)
+        return is_one and not line.is_chain and (line.says > TOGETHER or line.with_value <= FEW)
 
     def _own_below(self, number: int, path: Sequence[int]) -> int:
         """Returns the deepest own line of `path` below a line, else that line."""
-        own = (it for it in path if it != number and self.lines[it].says == OF_PROGRAM)
-        return min((it for it in own if self.holds(number, it)), key=self._depth, default=number)
+        own = (it for it in path if self.lines[it].says == OF_PROGRAM and self._is_below(it, number))
+        return min(own, key=self._depth, default=number)
 
     def _is_steady(self, number: int) -> bool:
         """Tests whether a line grew at each step, or none did."""
         return self.lines[number].grew_at_each_step or not self.some_are_steady
+
+    def _is_below(self, lower: int, upper: int) -> bool:
+        """Tests whether a line is below another one: of two that hold nearly the same, that which holds less."""
+        return lower != upper and self.lines[lower].heap <= self.lines[upper].heap and self.holds(upper, lower)
 
     def _is_on_path(self, number: int, best: int) -> bool:
         return number == best or self.holds(number, best) or self.holds(best, number)
@@ -249,7 +248,7 @@ class LineOrder:
     def _depth(self, number: int) -> Tuple[bool, int, str]:
         """Returns what the deepest line is the smallest by, among those with one score."""
         line = self.lines[number]
-        return not line.is_telling, line.heap, line.name
+        return line.says <= TOGETHER, line.heap, line.name
 
 
 def by_share(found: Iterable[Retained], share: Callable[[Sequence[Candidate]], float]) -> List[Retained]:

@@ -186,6 +186,14 @@ class LineOrderTest(unittest.TestCase):
         self.assertEqual(self.sorted(f"all: {store}, static shop/B.b (400)"), [*wanted, "shop/Order.text"])
         self.assertEqual(LineOrder([], lambda upper, lower: False, GROWTH).sorted(), [])
 
+    def test_nearly_the_same(self) -> None:
+        """Each of two lines that hold nearly the same holds the other: that which holds less is below."""
+        deepest = "static shop/A.STORE > *shop/Store.map"
+        topmost = "*shop/Session.orders (9..99) > shop/Order.text (10..110)"
+        for row in (Row.of(f"deepest: {deepest}"), Row.of(f"topmost: {topmost}")):
+            order = LineOrder(row.lines, lambda upper, lower: True, GROWTH)
+            self.assertEqual(row.lines[order.sorted()[0]].name, row.answer, row.why)
+
     def test_beside(self) -> None:
         """Of one dump the best own line that is neither above the answer nor below it is the second, whatever it has;
         of two dumps it comes by its score. One that many instances explain has none."""
