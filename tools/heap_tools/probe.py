@@ -1,6 +1,6 @@
 """What candidates retain: the difference that they make to the report of a dump, and to the growth between two."""
 
-from typing import Callable, Dict, FrozenSet, List, NamedTuple, Optional, Sequence
+from typing import Callable, Dict, FrozenSet, List, NamedTuple, Optional, Sequence, Set
 
 from heap_tools.candidates import Candidate, Candidates, Key
 from heap_tools.changed_copy import Changes
@@ -50,6 +50,8 @@ class Probe:
         #: What shares are of: of one dump all that is asked for, as if the heap had been empty before.
         self.growth = self.whole if of is None else of
         self._known: Dict[FrozenSet[Key], Retained] = {}
+        #: What else holds nothing that the group does not hold, for each group of which that was asked.
+        self._inside: Dict[FrozenSet[Key], Set[FrozenSet[Key]]] = {}
 
     def retained(self, group: Sequence[Candidate]) -> Retained:
         """Returns what a group holds: the difference that it makes to the report. Each group is asked for once."""
@@ -97,12 +99,27 @@ class Probe:
         return self.bound(group)
 
     def holds_all(self, upper: Retained, lower: Retained) -> bool:
-        """Tests whether `upper` holds all that `lower` does: without both, no more is unreachable than without it."""
+        """Tests whether `upper` holds all that `lower` does: without both, no more is unreachable than without it. It is
+        not asked for if it follows from what was: what `upper` holds all of may hold all that `lower` does."""
         if upper.heap.objects < lower.heap.objects:
             return False
         if any(amount.objects > upper.lost.get(name, Amount()).objects for name, amount in lower.lost.items()):
             return False
-        return self.retained([*upper.candidates, *lower.candidates]).heap == upper.heap
+        key, below = (frozenset(each.key for each in held.candidates) for held in (upper, lower))
+        if below not in self._below(key):
+            if self.retained([*upper.candidates, *lower.candidates]).heap != upper.heap:
+                return False
+            self._inside.setdefault(key, set()).add(below)
+        return True
+
+    def _below(self, key: FrozenSet[Key]) -> Set[FrozenSet[Key]]:
+        """Returns what is known to be held by what has this key, directly or by way of each other."""
+        found, waiting = {key}, [key]
+        while waiting:
+            more = self._inside.get(waiting.pop(), set()) - found
+            found |= more
+            waiting += more
+        return found
 
     def holds_part(self, upper: Retained, lower: Retained, part: float) -> bool:
         """Tests whether `upper` holds at least this part of the objects that `lower` does."""

@@ -38,14 +38,23 @@ class ReferencePaths:
         if is_static(held):
             return []
         path: List[Retained] = []
-        for each in self.found:
-            if not self._is_above(each, held):
-                continue
+        for each in self._all_above(held):
             if is_static(each) or is_root(each) and path and not is_root(path[-1]):
                 path = []
             if not path or self.probe.holds_all(path[-1], each):
                 path.append(each)
         return [each for each in path if is_root(each)] if is_root(held) else path
+
+    def _all_above(self, held: Retained) -> List[Retained]:
+        """Returns what holds all that `held` does, from the top down. It is asked for from there up, and first whether
+        it holds what is next below it: mostly it does, and then all below that, too."""
+        found = [held]
+        for each in reversed(self.found):
+            if each.heap.objects > held.heap.objects and len(found) > 1:
+                self._is_above(each, found[-1])
+            if self._is_above(each, held):
+                found.append(each)
+        return found[:0:-1]
 
     def _is_above(self, upper: Retained, lower: Retained) -> bool:
         """Tests whether `upper` holds all that `lower` does, and more."""

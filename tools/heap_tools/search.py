@@ -4,10 +4,14 @@ What a part of a group holds is never more than what the group holds. So a group
 each part of any other group is looked into: what holds enough alone is found. What a group *gained* between two dumps
 bounds nothing, since a part that shrank cancels one that grew; it is asked only of what is found to hold enough.
 
+Fields of what the static fields, local variables and threads hold that were found are likely to hold it, too: they are
+asked for first, and the others together mostly hold little.
+
 Static fields that hold much, and of no class more or less than before, are cut while fields are searched: what fields
 gained below them only moved there. So the fields of a large steady catalog hold nothing, and are not looked into.
 """
 
+import itertools
 from typing import Iterator, List, Sequence
 
 from heap_tools.candidates import STATIC, Candidate
@@ -69,10 +73,13 @@ class Search:
         return 100 * changed < UNCHANGED * self.at_least * unit.of(self.probe.growth)
 
     def look_in(self, group: Sequence[Candidate]) -> None:
-        """Finds those of `group` that hold enough, own ones first, and notes whether they have the share."""
+        """Finds those of `group` that hold enough, likely ones and own ones first, and notes whether they have the
+        share."""
         self.all, self.left = self.all + len(group), self.left + len(group)
-        for is_own in True, False:
-            for (each,) in self.heavy([[each] for each in group if each.is_own == is_own], MOST_QUESTIONS):
+        likely = frozenset().union(*(held.lost for held in self.found))
+        for is_likely, is_own in itertools.product((True, False), repeat=2):
+            some = [it for it in group if it.is_own == is_own and is_likely != likely.isdisjoint(it.classes)]
+            for (each,) in self.heavy([[it] for it in some], MOST_QUESTIONS):
                 held = self.probe.retained([each])
                 (self.found if self.probe.share([each]) >= self.at_least else self.steady).append(held)
 
