@@ -73,15 +73,16 @@ class PartSearch:
         """Returns the share of an amount in percent."""
         return self.measure.probe.unit.percent(amount, self.whole)
 
-    def find(self) -> List[Holding]:
+    def find(self, least: float = 0) -> List[Holding]:
         """Returns the objects that hold `OF_ONE` percent or more, the heaviest first, in at most `MOST_RUNS` runs. Of
-        those that hold one another only such that hold most of it by themselves."""
+        those that hold one another only such that hold most of it by themselves. Some may be missing if they cannot
+        have `least` percent together."""
         found: List[Holding] = []
         last = self.measure.runs + MOST_RUNS
         groups: List[Tuple[float, Sequence[FieldValue]]] = [(self.percent(self.together), self.values)] * bool(
             self.values
         )
-        while groups and self.measure.runs < last:
+        while groups and self.measure.runs < last and self._may_have(least, found, groups):
             # First the group whose objects hold most each: the smaller a group, the more a heavy one weighs in it.
             groups.sort(key=lambda group: (-group[0] / len(group[1]), len(group[1])))
             bound, group = groups.pop(0)
@@ -94,6 +95,12 @@ class PartSearch:
         self.most = max([OF_ONE, *(bound for bound, _ in groups), *(self.percent(each.amount) for each in found)])
         found.sort(key=lambda each: -self.measure.probe.unit.of(each.amount))
         return self._disjoint(found) if self.are_nested else found
+
+    def _may_have(self, least: float, found: Sequence[Holding], groups: Sequence[Tuple[float, object]]) -> bool:
+        """Tests whether what was found and what is in `groups` may have `least` percent together. What holds one
+        another may have more than is known of its groups."""
+        most = sum(self.percent(each.amount) for each in found) + sum(bound for bound, _ in groups)
+        return self.are_nested or most >= least
 
     def _halves(self, bound: float, group: Sequence[FieldValue]) -> List[Tuple[float, Sequence[FieldValue]]]:
         """Returns the halves of a group that holds at most `bound` percent, each with the most that it can hold."""

@@ -145,7 +145,7 @@ def objects_that_hold(probe: Probe, held: Retained, uses: Optional[FieldUses] = 
     nothing if many hold a little each, or if it is no question about some of many objects. `uses` may know the values
     of the field."""
     for parts in ways(probe, held, uses):
-        found = parts.search(held.amount).find()
+        found = parts.search(held.amount).find(OF_ALL)
         if sum(probe.unit.percent(each.amount, held.amount) for each in found) >= OF_ALL:
             return [it._replace(least_gain=it.percent) for it in parts.described(found, held.amount)]
     return []
@@ -181,7 +181,7 @@ class GrownParts:
     def find(self) -> List[HoldingObject]:
         """Returns the objects that gained most. What one held before is at most what all did; the earlier dump is asked
         what each held only if that leaves it open, and what its heaviest held only if some are not found there."""
-        found = self.now.search(self.gain).find()
+        found = self.now.search(self.gain).find(OF_ALL)
         if sum(self.percent(each.amount) for each in found) < OF_ALL:
             return []
         certain = self._grown(found)

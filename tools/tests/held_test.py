@@ -158,9 +158,10 @@ class HeldTest(ToolTest):
             self.assertIn("shop/Order", names)
 
     def test_threads(self) -> None:
-        """Local variables and threads, as lines of holders and leaks have them."""
+        """Local variables and threads, as lines of holders and leaks have them: without the class of an array, which is
+        never unloaded."""
         threads().write("threads.hprof")
-        served = line(5, 0, "Message") + line(1, 40, "[LMessage;") + line(1, 0, "<class>")
+        served = line(5, 0, "Message") + line(1, 40, "[LMessage;")
         for end in ("local com/shop/Server.serve", 'thread "http-0" > local com/shop/Server.serve'):
             for begin in ("", "         5              0   62%         1  ", "  5    0   62%     0     5    1  "):
                 self.expect(["threads.hprof", begin + end], served)
@@ -260,7 +261,7 @@ class HeldTest(ToolTest):
         huge = {"GLIBC_TUNABLES": "glibc.malloc.hugetlb=1"}
         said = "held: nothing is retained by *"
         self.expect(["cache.hprof", VALUE], said=said, heapmark=other, variables=huge)
-        words = (f"--skip={VALUE} -- /dev/null", "-- cache.hprof", "-- /dev/stdin")
+        words = (f"--skip={VALUE} -- /dev/null", "-- cache.hprof", *["-- /dev/stdin"] * 2)
         asked = "".join(f"glibc.malloc.hugetlb=1 {each}\n" for each in words)
         self.assertEqual(pathlib.Path("runs").read_text(), asked)
         other = self.program('case $* in *stdin) exit 1 ;; esac\nexec HEAPMARK "$@"')

@@ -84,6 +84,9 @@ class HoldsTest(unittest.TestCase):
         self.assertEqual(asked.find(), [])
         self.assertLessEqual(asked.measure.runs, 14)
         self.assertEqual(self.holding(Queues([100] * 64)), [])
+        asked = search(Queues([100] * 64))
+        self.assertEqual(asked.find(OF_ALL), [])
+        self.assertLessEqual(asked.measure.runs, 6)
 
     def test_most_runs(self) -> None:
         """A search of many that hold much of what one dump gained ends at the bound of runs."""

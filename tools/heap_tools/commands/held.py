@@ -40,7 +40,8 @@ nothing. A name that begins with a hyphen goes after `--`.
 As for holders and leaks, soft, weak, final and phantom references lead nowhere,
 unless --weak is given or FIELDS names java/lang/ref/Reference.referent. Nor do
 the list of a group's threads (JDK 17), which are roots themselves, and that of
-references that are not in their queues yet.
+references that are not in their queues yet. Classes that are never unloaded
+are roots.
 
 Counts of objects are those of heapmark, which are proved for each dump. Bytes
 are those of the heap, with headers and padding of objects: sizes --help says
@@ -119,7 +120,7 @@ def difference(path: str, text: str, follows_weak: bool = False, dump_bytes: boo
     dumps = counted_in_heap([DumpRuns.of(heapmark, path, "held")], dump_bytes)
     runs = dumps.dump
     candidates = Candidates(runs.dump, follows_weak or any(each.endswith(WEAK) for each in fields))
-    runs = runs.with_cut(candidates.not_counted())
+    runs = candidates.prepared(runs)
     changes: Changes = {}
     entries = []
     for word in words:
