@@ -64,7 +64,10 @@ class HeapObjects:
 
     def texts(self, strings: Iterable[int]) -> Dict[int, str]:
         """Returns the texts of the Strings with these identifiers. Walks over all objects up to twice."""
-        places = self.places_of(strings)
+        return self.texts_at(self.places_of(strings))
+
+    def texts_at(self, places: Dict[int, int]) -> Dict[int, str]:
+        """Returns the texts of the Strings at these places, by their identifiers. Walks over all objects."""
         values = {key: self.reference(at, "java/lang/String", "value") for key, at in places.items()}
         arrays = self.places_of(values.values())
         return {key: self._string(at, arrays.get(values[key])) for key, at in places.items()}

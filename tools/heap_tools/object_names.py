@@ -108,9 +108,33 @@ class ObjectNames:
         """Returns the names of the objects at these places, without those of their owners. Others may have them, too.
         Walks over all objects some times."""
         found: Dict[int, List[Name]] = {at: [] for at in places}
-        for at, name in [*self._by_text(places), *self._by_key(places), *self._by_thread_local(places)]:
+        fields = {at: self.objects.references_of(at) for at in places}
+        keys, entries = self._keys_and_entries(places)
+        named = {target for of_object in fields.values() for target in of_object.values()}
+        known = self.objects.places_of({*named, *(key for _, key in keys)})
+        texts = self.objects.texts_at(known)
+        by_key = self._by_key(keys, known, texts)
+        for at, name in [*self._by_text(fields, texts), *by_key, *self._by_thread_local(entries)]:
             found[at].append(name)
         return found
+
+    def _keys_and_entries(self, places: Sequence[int]) -> Tuple[List[Tuple[int, int]], List[Tuple[int, int]]]:
+        """Returns the objects at these places that a map has under a key, with the key, and those that are values or
+        entries of thread-locals, with the entry. Walks over all objects."""
+        wanted = {self.dump.id(at + 1): at for at in places}
+        keys: List[Tuple[int, int]] = []
+        entries = [(at, at) for at in places if self._is_entry(at)]
+        for node, place in self.objects.values_of([*(value for value, _, _ in MAP_NODES), THREAD_LOCAL], set(wanted)):
+            at = wanted[self.dump.id(place)]
+            if self._is_entry(node):
+                entries.append((at, node))
+            else:
+                of_node = [self.objects.reference(node, owner, key) for _, owner, key in MAP_NODES]
+                keys += [(at, key) for key in of_node if key]
+        return keys, entries
+
+    def _is_entry(self, at: int) -> bool:
+        return self.dump.names.get(self.objects.class_of(at)) == ENTRY
 
     def _by_owner(self, places: Sequence[int], others: Sequence[int]) -> Dict[int, List[Name]]:
         """Returns the names of the nearest owners that have any. A name that another object has too names nothing."""
@@ -177,48 +201,36 @@ class ObjectNames:
             return ""
         return f"static {self.dump.names[self.dump.id(owner.place + 1)]}.{owner.field}"
 
-    def _by_text(self, places: Sequence[int]) -> Iterable[Tuple[int, Name]]:
-        """Yields the objects that have a text which names them."""
-        fields = {at: self.objects.references_of(at) for at in places}
-        texts = self.objects.texts({target for of_object in fields.values() for target in of_object.values()})
+    def _by_text(self, fields: Mapping[int, Mapping[str, int]], texts: Mapping[int, str]) -> Iterable[Tuple[int, Name]]:
+        """Yields the objects that have one of these texts in a field which names them."""
         for at, of_object in fields.items():
             named = {field: texts[target] for field, target in of_object.items() if texts.get(target)}
             best = best_of(named)
             if best is not None:
                 yield at, Name(f"its field {best}", shown_text(named[best]))
 
-    def _by_key(self, places: Sequence[int]) -> Iterable[Tuple[int, Name]]:
-        """Yields the objects that a map has under a key, with the key."""
-        wanted = {self.dump.id(at + 1): at for at in places}
-        keys: List[Tuple[int, int]] = []
-        for node, place in self.objects.values_of([value for value, _, _ in MAP_NODES], set(wanted)):
-            of_node = [self.objects.reference(node, owner, key) for _, owner, key in MAP_NODES]
-            keys += [(wanted[self.dump.id(place)], key) for key in of_node if key]
-        spelled = self._spelled({key for _, key in keys})
+    def _by_key(
+        self, keys: Sequence[Tuple[int, int]], known: Mapping[int, int], texts: Mapping[int, str]
+    ) -> Iterable[Tuple[int, Name]]:
+        """Yields the objects that a map has under these keys, with the key: a text or a boxed number."""
         for at, key in keys:
-            if key in spelled:
-                yield at, Name("the map's key", spelled[key])
+            spelled = self._spelled(key, known, texts)
+            if spelled:
+                yield at, Name("the map's key", spelled)
 
-    def _spelled(self, identifiers: Iterable[int]) -> Dict[int, str]:
-        """Returns the texts and the boxed numbers among these objects, as they are shown."""
-        identifiers = [each for each in identifiers if each]
-        found = {key: shown_text(text) for key, text in self.objects.texts(identifiers).items() if text}
-        for key, at in self.objects.places_of(identifiers).items():
-            box = self.dump.names.get(self.objects.class_of(at), "")
-            place = self.objects.place_of_value(at, box, "value", BOXES[box]) if box in BOXES else None
-            if place is not None:
-                found[key] = str(self._signed(place, self.dump.value_sizes[BOXES[box]]))
-        return found
+    def _spelled(self, key: int, known: Mapping[int, int], texts: Mapping[int, str]) -> str:
+        """Returns a text or a boxed number as it is shown, empty if it is neither or missing."""
+        if texts.get(key) or key not in known:
+            return shown_text(texts[key]) if texts.get(key) else ""
+        box = self.dump.names.get(self.objects.class_of(known[key]), "")
+        place = self.objects.place_of_value(known[key], box, "value", BOXES[box]) if box in BOXES else None
+        return "" if place is None else str(self._signed(place, self.dump.value_sizes[BOXES[box]]))
 
     def _signed(self, place: int, size: int) -> int:
         return int.from_bytes(self.dump.bytes[place : place + size], "big", signed=True)
 
-    def _by_thread_local(self, places: Sequence[int]) -> Iterable[Tuple[int, Name]]:
+    def _by_thread_local(self, entries: Sequence[Tuple[int, int]]) -> Iterable[Tuple[int, Name]]:
         """Yields the entries and values of thread-locals that a static field names, with the field."""
-        wanted = {self.dump.id(at + 1): at for at in places}
-        entries = [(at, at) for at in places if self.dump.names.get(self.objects.class_of(at)) == ENTRY]
-        for entry, place in self.objects.values_of([THREAD_LOCAL], set(wanted)):
-            entries.append((wanted[self.dump.id(place)], entry))
         statics = self._static_fields() if entries else {}
         for at, entry in entries:
             field = statics.get(self.objects.reference(entry, "java/lang/ref/Reference", "referent"))
