@@ -72,6 +72,20 @@ class SearchTest(unittest.TestCase):
             self.assertEqual(self.search(probe, fields), names)
             self.assertLessEqual(len(probe.asked), most, at)
 
+    def test_likely(self) -> None:
+        """Fields of the classes of what was found are asked for first, and the others at once: so few are asked for one
+        by one."""
+        root, fields = Candidate(STATIC, "app/Main.ALL", 1, {}), [field(f"app/A.{number:03}") for number in range(512)]
+        heavy = fields[37::100]
+        for classes, most in (frozenset({"shop/Thing"}), 21), (frozenset({"shop/Other"}), 70):
+            for each in (*heavy, fields[7]):
+                object.__setattr__(each, "classes", classes)
+            probe = ToldGains([], [([[root.name], *([each.name] for each in heavy)], 100)])
+            search = searched(probe, [root], fields)
+            self.assertEqual(search.found[1:], [probe.retained([each]) for each in heavy])
+            self.assertLessEqual(len(probe.asked), most)
+            self.assertGreater(len(probe.asked), most // 2)
+
     def test_most_questions(self) -> None:
         """Where hundreds of fields hold as much as the growth, only the first ones are tried, and the rest is
         counted."""
@@ -268,6 +282,17 @@ class PathsTest(unittest.TestCase):
         probe = ToldGains([], [([*ways, ["app/C.ALL"]], 40), (ways, 10), ([["app/A.a", "app/A.b"]], 50)])
         found = [probe.retained(group) for group in ([one, other], [one], [upper], [lower])]
         self.assertEqual([ReferencePaths(probe, found).above(each) for each in found[1:]], [[], [], []])
+
+    def test_few_questions(self) -> None:
+        """Of a path it is asked of each step once: what a step holds all of, what is above it does, too."""
+        names = [f"app/A{number}.it" for number in range(9)]
+        probe = ToldGains([], [([[name] for name in names[: number + 1]], 10) for number in range(9)])
+        found = [probe.retained([field(name)]) for name in names]
+        paths = ReferencePaths(probe, found)
+        for lower, asked in (8, 8), (4, 0), (8, 0), (0, 0):
+            probe.asked.clear()
+            self.assertEqual(paths.above(found[lower]), found[:lower])
+            self.assertEqual(len(probe.asked), asked, lower)
 
 
 class ProgressTest(unittest.TestCase):
