@@ -11,8 +11,7 @@ Static fields that hold much, and of no class more or less than before, are cut 
 gained below them only moved there. So the fields of a large steady catalog hold nothing, and are not looked into.
 """
 
-import itertools
-from typing import Iterator, List, Sequence
+from typing import Iterator, List, Sequence, Tuple
 
 from heap_tools.candidates import STATIC, Candidate
 from heap_tools.probe import Probe, Retained
@@ -76,12 +75,23 @@ class Search:
         """Finds those of `group` that hold enough, likely ones and own ones first, and notes whether they have the
         share."""
         self.all, self.left = self.all + len(group), self.left + len(group)
-        likely = frozenset().union(*(held.lost for held in self.found))
-        for is_likely, is_own in itertools.product((True, False), repeat=2):
-            some = [it for it in group if it.is_own == is_own and is_likely != likely.isdisjoint(it.classes)]
-            for (each,) in self.heavy([[it] for it in some], MOST_QUESTIONS):
+        for some, share in self.by_likelihood(group):
+            for (each,) in self.heavy([[it] for it in some], MOST_QUESTIONS, share):
                 held = self.probe.retained([each])
                 (self.found if self.probe.share([each]) >= self.at_least else self.steady).append(held)
+
+    def by_likelihood(self, group: Sequence[Candidate]) -> List[Tuple[List[Candidate], float]]:
+        """Returns the likely ones of `group`, then the others, each with the share that they hold by estimate."""
+        likely = frozenset().union(*(held.lost for held in self.found))
+        first, others = (
+            [
+                [it for it in group if it.is_own == is_own and it.classes.isdisjoint(likely) != is_likely]
+                for is_own in (True, False)
+            ]
+            for is_likely in (True, False)
+        )
+        rest = [[*others[0], *others[1]]] if any(first) else others
+        return [*((some, self.at_least) for some in first), *((some, 0.0) for some in rest)]
 
     def heavy(self, units: Sequence[Tried], questions: int, likely: float = 0.0) -> Iterator[Tried]:
         """Yields those of `units` that hold enough each, until the probe has been asked so many `questions`. `likely`
