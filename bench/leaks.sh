@@ -11,11 +11,12 @@
 #   load   services of real libraries, with requests inside the library while a dump is made
 #   hard   leaks in plain Java that are hard to name
 #   beside plain Java and real libraries, beside a catalog and a cache that has other pages each day
-#   judge  new ones of the same kind, by other classes of the JDK and other libraries
+#   tried  new ones of the same kind, by other classes of the JDK and other libraries
+#   judge  new ones again, with leaks of other kinds
 #
-# The order of tools/leaks is tuned on the programs of shop, load, hard and beside, and judged on those of judge: their
-# holders were written down before tools/leaks ran on them. A program of judge whose line is read to change the order is
-# one to tune on from then on: those of beside were the judging group until their lines were read.
+# The order of tools/leaks is tuned on the programs of shop, load, hard, beside and tried, and judged on those of judge:
+# their holders were written down before tools/leaks ran on them. A program of judge whose line is read to change the
+# order is one to tune on from then on: those of beside and tried were judging groups until their lines were read.
 #
 # Java is that of JAVA_HOME, else that of PATH. A program is left out if it needs a later version, or a library that
 # /usr/share/java does not have; the row then says the Debian package.
@@ -243,68 +244,138 @@ beside/ReplyService 17 2 libokhttp-java okhttp,okio
 beside/ActorService 17 2 libjctools-java jctools-core
     org/jctools/queues/BaseMpscLinkedArrayQueueConsumerFields.consumerBuffer | beside/ActorService$Actor.mailbox
     says system/billing
-judge/HandleService 17 2
+tried/HandleService 17 2
     jdk/internal/ref/CleanerImpl.phantomCleanableList | jdk/internal/ref/CleanerImpl.activeList
         | jdk/internal/ref/CleanerImpl$CleanableList.head
-judge/MemoService 17 2
-    judge/MemoService$Memo.results
+tried/MemoService 17 2
+    tried/MemoService$Memo.results
     says vat-rate
-judge/OverflowService 17 2
-    judge/OverflowService$DeadLetters.refused
+tried/OverflowService 17 2
+    tried/OverflowService$DeadLetters.refused
     says exports
-judge/LedgerService 17 2
-    judge/LedgerService$Partner.awaited
+tried/LedgerService 17 2
+    tried/LedgerService$Partner.awaited
     says ledger.example.org
-judge/HeaderService 17 2
-    judge/HeaderService$Inbound.headers
-judge/PluginService 17 2
+tried/HeaderService 17 2
+    tried/HeaderService$Inbound.headers
+tried/PluginService 17 2
     static java/sql/DriverManager.registeredDrivers
-judge/ConsoleService 17 2
+tried/ConsoleService 17 2
     sun/management/NotificationEmitterSupport.listenerList
-judge/NightlyService 17 2
+tried/NightlyService 17 2
     java/util/logging/Logger$ConfigurationData.handlers
     says jobs.nightly
-judge/StreamService 17 2
+tried/StreamService 17 2
     java/util/concurrent/SubmissionPublisher$BufferedSubscription.array
     says warehouse
-judge/DedupService 17 2
-    judge/DedupService$Partition.seen
+tried/DedupService 17 2
+    tried/DedupService$Partition.seen
     says orders-7
-judge/FilterService 17 2
-    judge/FilterService$Server.chain
-judge/CallbackService 17 2
+tried/FilterService 17 2
+    tried/FilterService$Server.chain
+tried/CallbackService 17 2
     sun/net/httpserver/ContextList.list | sun/net/httpserver/ServerImpl.contexts
-judge/CloseService 17 2 libnetty-java netty-common,netty-buffer,netty-transport,netty-resolver
+tried/CloseService 17 2 libnetty-java netty-common,netty-buffer,netty-transport,netty-resolver
     io/netty/util/concurrent/DefaultFutureListeners.listeners | io/netty/util/concurrent/DefaultPromise.listeners
     says bank.example.org
-judge/TemporaryService 17 2 libh2-java h2
+tried/TemporaryService 17 2 libh2-java h2
     org/h2/engine/SessionLocal.localTempTables | org/h2/mvstore/db/Store.tableMap
-judge/WebhookService 17 2 libjetty9-extra-java,libjetty9-java jetty9-client,jetty9-util,jetty9-http,jetty9-io
+tried/WebhookService 17 2 libjetty9-extra-java,libjetty9-java jetty9-client,jetty9-util,jetty9-http,jetty9-io
     org/eclipse/jetty/client/HttpClient.destinations | org/eclipse/jetty/util/component/ContainerLifeCycle._beans
-judge/BarrierService 17 2 libzookeeper-java zookeeper,zookeeper-jute,netty-all,slf4j-api
+tried/BarrierService 17 2 libzookeeper-java zookeeper,zookeeper-jute,netty-all,slf4j-api
     org/apache/zookeeper/server/watch/WatchManager.watchTable
         | org/apache/zookeeper/server/watch/WatchManager.watch2Paths
-judge/LetterService 17 2 libclojure-java clojure
+tried/LetterService 17 2 libclojure-java clojure
     clojure/lang/Agent.aq | clojure/lang/Agent$ActionQueue.q
     says printer
-judge/RuleService 17 2 librhino-java js
+tried/RuleService 17 2 librhino-java js
     org/mozilla/javascript/HashSlotMap.map | org/mozilla/javascript/SlotMapContainer.map
-        | org/mozilla/javascript/ScriptableObject.slotMap | judge/RuleService$Customer.scope
+        | org/mozilla/javascript/ScriptableObject.slotMap | tried/RuleService$Customer.scope
     says northwind
-judge/PlotService 17 2 libjfreechart-java jfreechart,jcommon
+tried/PlotService 17 2 libjfreechart-java jfreechart,jcommon
     org/jfree/data/general/AbstractDataset.listenerList | javax/swing/event/EventListenerList.listenerList
-judge/FeedService 17 2 libdom4j-java dom4j
+tried/FeedService 17 2 libdom4j-java dom4j
     org/dom4j/tree/QNameCache.namespaceCache
-judge/LoginService 17 2 libshiro-java,libslf4j-java shiro-core,slf4j-api
+tried/LoginService 17 2 libshiro-java,libslf4j-java shiro-core,slf4j-api
     org/apache/shiro/session/mgt/SimpleSession.attributes
     says 10.20.0.9
-judge/AdvertService 17 2 liblucene4.10-java lucene-core-4.10.4,lucene-analyzers-common-4.10.4
+tried/AdvertService 17 2 liblucene4.10-java lucene-core-4.10.4,lucene-analyzers-common-4.10.4
     org/apache/lucene/index/BufferedUpdates.terms
         | org/apache/lucene/index/DocumentsWriterDeleteQueue.globalBufferedUpdates
-judge/AttachmentService 17 2 libcommons-io-java commons-io
+tried/AttachmentService 17 2 libcommons-io-java commons-io
     org/apache/commons/io/FileCleaningTracker.trackers
-judge/CampaignService 17 2 libspring-beans-java,libspring-core-java spring3-beans,spring3-core,commons-logging
+tried/CampaignService 17 2 libspring-beans-java,libspring-core-java spring3-beans,spring3-core,commons-logging
     org/springframework/beans/factory/support/DefaultSingletonBeanRegistry.singletonObjects
+judge/GatherService 17 2
+    java/util/concurrent/ExecutorCompletionService.completionQueue | static judge/GatherService.RENDERED
+judge/TypeService 17 2
+    java/lang/ClassLoader.parallelLockMap
+judge/GatewayService 17 2
+    java/lang/Throwable.suppressedExceptions | judge/GatewayService$Gateway.unavailable
+    says clearing
+judge/SnoozeService 17 2
+    judge/SnoozeService$Outbox.snoozed | java/util/concurrent/DelayQueue.q
+    says text-messages
+judge/DraftService 17 2
+    judge/DraftService$Draft.latest | judge/DraftService$Version.previous
+    says annual-report
+judge/CookieService 17 2
+    java/net/InMemoryCookieStore.cookieJar | java/net/InMemoryCookieStore.uriIndex | java/net/CookieManager.cookieJar
+    says bargains
+judge/CursorService 17 2
+    judge/CursorService$Pages.cursors
+judge/ThrottleService 17 2
+    judge/ThrottleService$Limiter.stripes
+    says sign-in
+judge/SpanService 17 2
+    judge/SpanService$Span.children
+    says scheduler
+judge/ReceiptService 17 2
+    com/sun/org/apache/xerces/internal/dom/CoreDocumentImpl.identifiers
+judge/ArchiveService 17 2
+    jdk/nio/zipfs/ZipFileSystemProvider.filesystems
+judge/PreferenceService 17 2
+    java/util/prefs/AbstractPreferences.kidCache | judge/PreferenceService.visitors
+judge/ConvertService 17 2
+    judge/ConvertService$JobStore.jobs
+judge/UsageService 17 2 libguava-java guava
+    com/google/common/collect/StandardTable.backingMap | judge/UsageService.uses
+    says acme-trial
+judge/KeyService 17 2 libnetty-java netty-common
+    io/netty/util/ConstantPool.constants | static io/netty/util/AttributeKey.pool
+judge/RefundService 17 2 liblog4j2-java log4j-api
+    org/apache/logging/log4j/spi/MutableThreadContextStack.list | java/lang/ThreadLocal$ThreadLocalMap$Entry.value
+        | java/lang/ThreadLocal$ThreadLocalMap.table | java/lang/Thread.threadLocals | thread "refunds"
+    says refunds
+judge/StompService 17 2 libspring-messaging-java spring3-messaging,spring3-core,spring3-expression,commons-logging
+    org/springframework/messaging/simp/broker/DefaultSubscriptionRegistry$SessionSubscriptionInfo.destinationLookup
+    says kiosk-lobby
+judge/TeaserService 17 2 libjsoup-java jsoup
+    judge/TeaserService.teasers
+judge/PatternService 17 2 libcommons-lang3-java commons-lang3
+    org/apache/commons/lang3/time/FormatCache.cInstanceCache | static org/apache/commons/lang3/time/FastDateFormat.cache
+judge/RelayService 17 2 libokio-java okio
+    okio/Buffer.head | judge/RelayService$Receiver.unread
+    says cold-storage
+judge/MetalService 17 2 libclojure-java clojure
+    clojure/lang/ARef.watches
+    says palladium
+judge/TransferService 17 2 libcommons-net-java commons-net
+    org/apache/commons/net/util/ListenerList.listeners | org/apache/commons/net/ProtocolCommandSupport.listeners
+        | org/apache/commons/net/SocketClient.commandSupport
+    says north-sea
+judge/MailingService 17 2 libmail-java javax.mail,javax.activation
+    javax/mail/internet/InternetHeaders.headers | javax/mail/internet/MimeMessage.headers
+    says newsletter
+judge/ModuleService 17 2 libjackson2-databind-java jackson-core,jackson-databind,jackson-annotations
+    com/fasterxml/jackson/databind/cfg/SerializerFactoryConfig._additionalSerializers
+        | com/fasterxml/jackson/databind/ser/BasicSerializerFactory._factoryConfig
+        | com/fasterxml/jackson/databind/ObjectMapper._serializerFactory
+judge/SiftService 17 2 liblogback-java,libslf4j-java logback-classic,logback-core,slf4j-api
+    ch/qos/logback/core/spi/AbstractComponentTracker.liveMap
+        | ch/qos/logback/core/sift/SiftingAppenderBase.appenderTracker
+judge/RealmService 17 2 libplexus-classworlds-java plexus-classworlds
+    org/codehaus/plexus/classworlds/ClassWorld.realms | judge/RealmService.world
 PROGRAMS
 }
 

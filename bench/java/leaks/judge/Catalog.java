@@ -3,51 +3,55 @@ package judge;
 import hard.Course;
 import java.util.ArrayList;
 import java.util.HashMap;
+import java.util.LinkedHashMap;
 import java.util.List;
 import java.util.Map;
-import java.util.concurrent.ConcurrentHashMap;
 
 /**
- * The steady neighbours of each leak: articles with their variants, some four times as large as what leaks, and a cache
- * of thumbnails, which is emptied at the beginning of a day and has the same size at its end.
+ * The steady neighbours of each leak: albums with their tracks, some four times as large as what leaks, and a cache of
+ * the pages that were rendered last, which always has the same number of them.
  */
 final class Catalog {
-    static final int ARTICLES = 14_000 * Course.SCALE;
-    static final int VARIANTS = 3;
-    static final int THUMBNAILS = 3_500 * Course.SCALE;
+    static final int ALBUMS = 11_000 * Course.SCALE;
+    static final int TRACKS = 4;
+    static final int PAGES = 3_000 * Course.SCALE;
 
-    record Article(String title, List<Variant> variants) {
+    record Album(String title, String artist, List<Track> tracks) {
     }
 
-    record Variant(String code, long cents, byte[] drawing) {
+    record Track(String title, int seconds, byte[] sample) {
     }
 
-    static final Map<Integer, Article> PRODUCTS = new ConcurrentHashMap<>();
-    static final Map<String, byte[]> THUMBS = new HashMap<>();
+    static final Map<String, Album> PRODUCTS = new HashMap<>();
+    static final Map<String, byte[]> RENDERED = new LinkedHashMap<>() {
+        @Override
+        protected boolean removeEldestEntry(Map.Entry<String, byte[]> eldest) {
+            return size() > PAGES;
+        }
+    };
 
-    /** Runs the program: it has the catalog, makes the thumbnails of a day, and does the work of that day. */
+    /** Runs the program: it has the catalog, renders the pages of a day, and does the work of that day. */
     static void run(String[] words, Course.Day work) {
         fill();
         Course.run(words, day -> {
-            draw(day);
+            render(day);
             work.work(day);
         });
     }
 
     private static void fill() {
-        for (int number = 0; number < ARTICLES; number++) {
-            List<Variant> variants = new ArrayList<>();
-            for (int variant = 0; variant < VARIANTS; variant++) {
-                variants.add(new Variant(number + "/" + variant, 1_995 + variant, new byte[360]));
+        for (int number = 0; number < ALBUMS; number++) {
+            List<Track> tracks = new ArrayList<>();
+            for (int track = 0; track < TRACKS; track++) {
+                tracks.add(new Track("track " + track + " of " + number, 180 + track, new byte[340]));
             }
-            PRODUCTS.put(number, new Article("article number " + number, variants));
+            PRODUCTS.put("album-" + number, new Album("album number " + number, "artist " + number % 900, tracks));
         }
     }
 
-    private static void draw(int day) {
-        THUMBS.clear();
-        for (int number = 0; number < THUMBNAILS; number++) {
-            THUMBS.put(day + "/" + (number * 7 + day) + ".png", new byte[520]);
+    private static void render(int day) {
+        for (int number = 0; number < PAGES + PAGES / 2; number++) {
+            RENDERED.put("/albums/" + (day * 5 + number * 3) + "?day=" + day, new byte[600]);
         }
     }
 }
