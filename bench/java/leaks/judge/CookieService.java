@@ -13,7 +13,7 @@ import java.util.Map;
  */
 final class CookieService {
     static final int SHOPS = 40;
-    static final int REPLIES_A_DAY = 2_600 * Course.SCALE;
+    static final int REPLIES_A_DAY = 4_200 * Course.SCALE;
 
     private final Map<String, CookieManager> browsers = new LinkedHashMap<>();
 

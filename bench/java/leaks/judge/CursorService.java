@@ -13,7 +13,7 @@ import java.util.concurrent.CopyOnWriteArrayList;
  */
 final class CursorService {
     static final int OFFERS = 1_500;
-    static final int CALLERS_A_DAY = 330 * Course.SCALE;
+    static final int CALLERS_A_DAY = 180 * Course.SCALE;
 
     record Offer(int number, long cents) {
     }

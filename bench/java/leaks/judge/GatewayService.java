@@ -9,7 +9,7 @@ import java.io.IOException;
  */
 final class GatewayService {
     static final int GATEWAYS = 30;
-    static final int CALLS_A_DAY = 4_500 * Course.SCALE;
+    static final int CALLS_A_DAY = 2_000 * Course.SCALE;
 
     static final class Gateway {
         private final String name;

@@ -14,9 +14,9 @@ final class GatherService {
 
     static void day(int day) throws Exception {
         for (int number = 0; number < COVERS_A_DAY; number++) {
-            byte shade = (byte) number;
-            byte[] cover = RENDERED.submit(() -> new byte[] {shade, shade}).get();
-            if (cover.length != 2) {
+            int size = 180 + number % 40;
+            byte[] cover = RENDERED.submit(() -> new byte[size]).get();
+            if (cover.length != size) {
                 throw new IllegalStateException("no cover");
             }
         }

@@ -13,7 +13,7 @@ import java.io.IOException;
  * name, so to the mapper each is a new one.
  */
 final class ModuleService {
-    static final int REPLIES_A_DAY = 2_700 * Course.SCALE;
+    static final int REPLIES_A_DAY = 3_300 * Course.SCALE;
 
     record Amount(long cents) {
     }

@@ -11,7 +11,7 @@ import org.apache.commons.lang3.time.FastDateFormat;
  * keeps a format for each pattern.
  */
 final class PatternService {
-    static final int INVOICES_A_DAY = 900 * Course.SCALE;
+    static final int INVOICES_A_DAY = 1_100 * Course.SCALE;
 
     private long written;
 

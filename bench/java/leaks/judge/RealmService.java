@@ -6,7 +6,7 @@ import org.codehaus.plexus.classworlds.realm.ClassRealm;
 
 /** Runs each build in a realm of Classworlds with a name of its own, as Maven does, and disposes of none. */
 final class RealmService {
-    static final int BUILDS_A_DAY = 1_300 * Course.SCALE;
+    static final int BUILDS_A_DAY = 700 * Course.SCALE;
 
     private final ClassWorld world = new ClassWorld();
 

@@ -10,7 +10,7 @@ import org.w3c.dom.Element;
  * it is printed. The document keeps all that ever had an identifier.
  */
 final class ReceiptService {
-    static final int RECEIPTS_A_DAY = 2_200 * Course.SCALE;
+    static final int RECEIPTS_A_DAY = 1_700 * Course.SCALE;
 
     private final Document document;
     private final Element receipts;

@@ -28,8 +28,9 @@ final class RefundService {
     }
 
     private void day(int day) throws Exception {
+        String rest = ", which a customer has sent back, by the account from which it was paid in the first place";
         for (int number = 0; number < EVENTS_A_DAY; number++) {
-            handle("refunds", "refund of the order " + day + "/" + number, false);
+            handle("refunds", "refund of the order " + day + "/" + number + rest, false);
             handle("kind-" + number % (KINDS - 1), "event " + number, true);
         }
         for (ExecutorService thread : threads.values()) {

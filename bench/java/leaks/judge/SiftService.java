@@ -14,7 +14,7 @@ import org.slf4j.MDC;
  * number of the request, too, and an appender without events stays for half an hour.
  */
 final class SiftService {
-    static final int REQUESTS_A_DAY = 3_000 * Course.SCALE;
+    static final int REQUESTS_A_DAY = 1_900 * Course.SCALE;
 
     private final Logger log;
 

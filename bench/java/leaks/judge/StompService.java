@@ -16,7 +16,7 @@ import org.springframework.messaging.support.GenericMessage;
  */
 final class StompService {
     static final int SESSIONS = 600;
-    static final int ORDERS_A_DAY = 3_300 * Course.SCALE;
+    static final int ORDERS_A_DAY = 5_000 * Course.SCALE;
 
     private final DefaultSubscriptionRegistry registry = new DefaultSubscriptionRegistry();
 

@@ -8,7 +8,7 @@ import org.jsoup.nodes.Element;
 
 /** Keeps the title of each page of its partners, as an element of jsoup, which has the whole page above it. */
 final class TeaserService {
-    static final int PAGES_A_DAY = 240 * Course.SCALE;
+    static final int PAGES_A_DAY = 120 * Course.SCALE;
     static final int PARAGRAPHS = 30;
 
     private final Map<String, Element> teasers = new HashMap<>();

@@ -7,7 +7,7 @@ import hard.Course;
  * none. The class loaders keep a lock for each name that they were asked for.
  */
 final class TypeService {
-    static final int CUSTOMERS_A_DAY = 5_000 * Course.SCALE;
+    static final int CUSTOMERS_A_DAY = 8_000 * Course.SCALE;
 
     static final class Common {
         private long handled;
