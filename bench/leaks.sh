@@ -362,7 +362,7 @@ judge/MetalService 17 2 libclojure-java clojure
     says palladium
 judge/TransferService 17 2 libcommons-net-java commons-net
     org/apache/commons/net/util/ListenerList.listeners | org/apache/commons/net/ProtocolCommandSupport.listeners
-        | org/apache/commons/net/SocketClient.commandSupport
+        | org/apache/commons/net/ftp/FTP._commandSupport_
     says north-sea
 judge/MailingService 17 2 libmail-java javax.mail,javax.activation
     javax/mail/internet/InternetHeaders.headers | javax/mail/internet/MimeMessage.headers

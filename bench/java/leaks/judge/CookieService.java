@@ -13,12 +13,12 @@ import java.util.Map;
  */
 final class CookieService {
     static final int SHOPS = 40;
-    static final int REPLIES_A_DAY = 4_200 * Course.SCALE;
+    static final int REPLIES_A_DAY = 2_600 * Course.SCALE;
 
     private final Map<String, CookieManager> browsers = new LinkedHashMap<>();
 
     private static HttpCookie cookie(String name) {
-        HttpCookie cookie = new HttpCookie(name, "0123456789abcdef".repeat(10));
+        HttpCookie cookie = new HttpCookie(name, "0123456789abcdef".repeat(20));
         cookie.setMaxAge(31_536_000);
         cookie.setPath("/");
         return cookie;
