@@ -28,6 +28,11 @@ class Retained(NamedTuple):
         return any(each.is_own for each in self.candidates)
 
 
+def key_of(held: Retained) -> FrozenSet[Key]:
+    """Returns the keys of what holds something, which do not depend on their order."""
+    return frozenset(each.key for each in held.candidates)
+
+
 class Probe:
     """Asks a dump what candidates hold of `families`, or of all that is reachable if that is None: `whole` is how much
     of it is reachable. Shares are in `unit`. Calls `before_run` before each run of heapmark. `base` is the report of
@@ -99,13 +104,13 @@ class Probe:
         return self.bound(group)
 
     def holds_all(self, upper: Retained, lower: Retained) -> bool:
-        """Tests whether `upper` holds all that `lower` does: without both, no more is unreachable than without it. It is
-        not asked for if it follows from what was: what `upper` holds all of may hold all that `lower` does."""
+        """Tests whether `upper` holds all that `lower` does: without both, no more is unreachable than without it. It
+        is not asked for if it follows from what was: what `upper` holds all of may hold all that `lower` does."""
         if upper.heap.objects < lower.heap.objects:
             return False
         if any(amount.objects > upper.lost.get(name, Amount()).objects for name, amount in lower.lost.items()):
             return False
-        key, below = (frozenset(each.key for each in held.candidates) for held in (upper, lower))
+        key, below = key_of(upper), key_of(lower)
         if below not in self._below(key):
             if self.retained([*upper.candidates, *lower.candidates]).heap != upper.heap:
                 return False
@@ -127,6 +132,8 @@ class Probe:
         common = ((amount.objects, upper.lost.get(name, Amount()).objects) for name, amount in lower.lost.items())
         if sum(min(pair) for pair in common) < least:
             return False
+        if key_of(lower) in self._below(key_of(upper)):
+            return True
         together = self.retained([*upper.candidates, *lower.candidates]).heap.objects
         return upper.heap.objects + lower.heap.objects - together >= least
 
