@@ -12,8 +12,7 @@ both dumps, in objects and bytes of the dump, which are heapmark's. An instance 
 an array, for each byte that it has in the dump, as much as those by which the class grew.
 
 Prints a row of a table: the dumps, the line's field, how much grew as leaks and as the histograms have it, how much the
-line's part of it is, and both shares in percent. Exit status 1 if the shares differ by more than three in a hundred:
-besides the leak, the heap has some 20 to 70 kB more between two dumps, which is up to three in a hundred of 3 MB.
+line's part of it is, and both shares in percent. Exit status 1 if the shares differ by more than one in a hundred.
 """
 
 from __future__ import annotations
@@ -39,7 +38,7 @@ from heap_tools.reports import Amount, read_histogram, read_report  # noqa: E402
 #: What there is of each class.
 Rows = Dict[str, Amount]
 #: The most by which the shares may differ, in percent.
-MOST = 3.0
+MOST = 1.0
 #: What the virtual machine logs of the collection with which a dump begins, and before a histogram.
 DUMPED = re.compile(rb"(GC\(\d+\)) Pause Full \(Heap Dump Initiated GC\)")
 HISTOGRAM = re.compile(rb"\[gc,classhisto,start\] Class Histogram \(after full gc\)")

@@ -3,11 +3,11 @@
 #
 # usage: bench/shares.sh [NAME..]
 #
-# NAME..: programs of bench/leaks.sh (ten of them). Each dumps itself before and after its leak grew, and its virtual
+# NAME..: programs of bench/leaks.sh (eleven of them). Each dumps itself before and after its leak grew, and its virtual
 # machine logs a histogram as each dump begins: what `jcmd PID GC.class_histogram` prints. Prints a table, as
 # bench/share_figures.py says: program, field, growth of the heap in megabytes as leaks and as the histograms have it,
-# what the line holds of that, by both, and both shares in percent. Fails if a share differs. What only weak or soft
-# references hold is in the histograms, but not in the growth of leaks: programs with such a cache have other shares.
+# what the line holds of that, by both, and both shares in percent. Fails if a share differs. The collections of the run
+# leave no dead object in the heap: a histogram has these, too, and leaks counts what is reachable.
 #
 # Java is that of JAVA_HOME, else that of PATH. heapmark is the binary of crates/heapmark/out, or what the variable
 # HEAPMARK names. KEPT: a folder in which dumps and logs stay; those that are there are not made again.
@@ -16,18 +16,19 @@ set -euo pipefail
 top=$(cd "$(dirname "$0")/.." && pwd)
 # shellcheck source=bench/usage.sh
 . "$top/bench/usage.sh"
-[ $# -gt 0 ] || set -- MetricsService QuoteService TracingService DriverService PaymentService PriceService TagService \
-    TimeoutService UploadService MailService
+[ $# -gt 0 ] || set -- MetricsService QuoteService PaymentService UploadService MailService TracingService TagService \
+    BasketService InboxService LabelService RegionService
 kept=${KEPT:-$(mktemp -d)} status=0
 [ -n "${KEPT:-}" ] || trap 'rm -rf "$kept"' EXIT
 mkdir -p "$kept"
 
 # logged NAME: dumps a program, and keeps the log of its virtual machine.
 logged() {
-    local room
+    local room options
     room=$(mktemp -d "$kept/XXXXXX")
+    options="-XX:+UseSerialGC -XX:MarkSweepDeadRatio=0 -XX:MarkSweepAlwaysCompactCount=1"
     KEPT=$kept HEAPMARK=true LEAKS=true HELD=true \
-        JAVA_TOOL_OPTIONS="-XX:+UseSerialGC -Xlog:gc,gc+classhisto*=trace:file=$room/%p" \
+        JAVA_TOOL_OPTIONS="$options -Xlog:gc,gc+classhisto*=trace:file=$room/%p" \
         "$top/bench/leaks.sh" "$1" > "$room/told" 2>&1 || true
     mv "$(grep -l 'Heap Dump Initiated GC' "$room"/*)" "$kept/$1.log"
     rm -r "$room"
