@@ -4,9 +4,10 @@ A line's score is what it gained without what came with new instances (unless on
 above it, below it or in a field of its class before, and nothing if it did not grow at each step between dumps. If no
 score is a quarter of the growth, nothing that lasts holds what grew: the answer is the topmost line, a thread before
 others. Else the answer is the deepest line on the path of the best score (of those with nine tenths of it, of the line
-whose name says most), above or below it, that has half of that score: the accumulation point. A collection, a variable
-of a lambda or a thread is the answer only if no other line on that path has nine tenths of that score, or half of it
-below; of fields, own ones come before the JDK's in the same way. The other lines follow by their scores.
+whose name says most), above or below it, that has half of that score: the accumulation point. A collection, several of
+the JDK together, a variable of a lambda or a thread is the answer only if no other line on that path has nine tenths of
+that score, or half of it below; of fields, own ones come before the JDK's in the same way. The other lines follow by
+their scores.
 """
 
 import enum
@@ -81,10 +82,10 @@ class Features:
 
     @property
     def says(self) -> int:
-        """How much its name says of what it is for: `OF_PROGRAM`, 2 of the JDK, `TOGETHER`, 0 of a collection, a
-        variable of a lambda or a thread."""
+        """How much its name says of what it is for: `OF_PROGRAM`, 2 of the JDK, `TOGETHER`, 0 of a collection, several
+        of the JDK together, a variable of a lambda or a thread."""
         if len(self.kinds) > 1:
-            return TOGETHER
+            return TOGETHER if self.is_own else 0
         if self.is_collection or self.is_thread or "$$Lambda" in self.name:
             return 0
         return OF_PROGRAM if self.is_own else 2
@@ -245,10 +246,10 @@ class LineOrder:
     def _is_on_path(self, number: int, best: int) -> bool:
         return number == best or self.holds(number, best) or self.holds(best, number)
 
-    def _depth(self, number: int) -> Tuple[bool, int, str]:
-        """Returns what the deepest line is the smallest by, among those with one score."""
+    def _depth(self, number: int) -> Tuple[bool, bool, int, str]:
+        """Returns what the deepest line is the smallest by, among those with one score: a thread, if none says more."""
         line = self.lines[number]
-        return line.says <= TOGETHER, line.heap, line.name
+        return line.says <= TOGETHER, line.says == 0 and not line.is_thread, line.heap, line.name
 
 
 def by_share(found: Iterable[Retained], share: Callable[[Sequence[Candidate]], float]) -> List[Retained]:

@@ -60,6 +60,8 @@ rule 4, a collection beside that has far more: *java/util/HashMap.table, static 
 rule 4, no variable of a lambda: *static shop/A.STORE > shop/Bus$$Lambda.arg$1
 rule 4, no thread: thread "main" > *local shop/Main.run
 rule 4, a thread, if nothing else is there: *thread "main", java/util/HashMap.table (600)
+rule 4, no fields of the JDK together: *thread "main" > java/lang/Thread.target (together)
+rule 4, a thread rather than a collection: *thread "main" > java/util/HashMap.table
 rule 4, no field of the JDK: *static shop/A.STORE > java/lang/Queue.list
 rule 4, one of the JDK, if what is above has less: static shop/A.a (899) > *java/lang/Queue.list
 rule 4, one of the JDK rather than a collection: *java/lang/Queue.list > java/util/HashMap.table
