@@ -104,6 +104,7 @@ FORMS: Dict[str, Dict[str, Any]] = {
         "all": AMOUNT,
         "reachable": AMOUNT,
         "unreachable": AMOUNT,
+        "omitted": AMOUNT,
         "waiting_stacks": AMOUNT,
         "classes": [{"name": str, "all": AMOUNT, "reachable": AMOUNT, "unreachable": AMOUNT}],
         "hidden": int,
