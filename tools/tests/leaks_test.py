@@ -169,9 +169,9 @@ class LeaksTest(ToolTest):
         self.assertEqual(rows[0][-1], 'together thread "http-0", static shop/Journal.EVENTS')
 
     def test_executor(self) -> None:
-        """Who owns the queue, of which a worker thread knows, too."""
+        """Who owns the queue, of which a worker thread knows, too. Two that own it only together say less than it."""
         rows = self.found(worker(20), worker(80))
-        timer, queue = "static shop/Service.TIMER", "java/util/Executor.queue > java/util/Queue.table"
+        timer, queue = "static shop/Service.TIMER", "java/util/Executor.queue"
         self.assertEqual([row[-1] for row in rows[:2]], [timer, f"{timer} > {queue}"])
         owned_twice = [worker(count) for count in (20, 80)]
         for dump in owned_twice:
@@ -180,7 +180,7 @@ class LeaksTest(ToolTest):
             dump.root(10)
         both = f"together static shop/Screen.SHOWN, {timer}"
         rows = self.found(owned_twice[0], owned_twice[1])
-        self.assertEqual([row[-1] for row in rows[:2]], [both, f"{both} > {queue}"])
+        self.assertEqual([row[-1] for row in rows[:2]], [f"{both} > {queue}", both])
 
     def test_running_calls(self) -> None:
         """Calls that are running do not hide what holds the growth, and what they hold is none, in whichever dump."""
@@ -211,12 +211,10 @@ class LeaksTest(ToolTest):
             self.assertEqual("local shop/Service.load" in " ".join(names), not is_cut, names)
 
     def test_order(self) -> None:
-        """What grew comes before what moved, what grew at each step before what is large by chance, holders before
-        what leaks itself. The number of holders that changed is shown, and the help has the reasons."""
-        rows = self.found(swapped(20, False), swapped(80, True))
-        self.assertEqual(
-            [row[-1] for row in rows][:: len(rows) - 1], [self.PATH, "static shop/Stock.STORE > shop/Stock.green"]
-        )
+        """What only moved is no line. What grew at each step comes before what is large by chance, holders before what
+        leaks itself. The number of holders that changed is shown, and the help has the reasons."""
+        names = [row[-1] for row in self.found(swapped(20, False), swapped(80, True))]
+        self.assertEqual([names[0], "Stock" in " ".join(names)], [self.PATH, False])
         rows = self.found(emptied(0, 60, 100), emptied(60, 0, 1000))
         self.assertEqual([row[-1] for row in rows[:2]], ["static shop/Tables.ORDERS", "static shop/Pages.ALL"])
         rows = self.found(noisy(20, 900), noisy(80, 9000))

@@ -34,7 +34,9 @@ def section(page: str, head: str) -> str:
 
 
 def in_words(number: int) -> str:
-    """Returns a number below a hundred in words."""
+    """Returns a number below two hundred in words."""
+    if number >= 100:
+        return "a hundred" + (f" and {in_words(number - 100)}" if number > 100 else "")
     ones, (tens, rest) = [*ONES.split(), "eighteen", "nineteen"], divmod(number, 10)
     return ones[number] if number < 20 else TENS.split()[tens] + (f"-{ones[rest]}" if rest else "")
 
