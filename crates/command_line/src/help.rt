@@ -5,7 +5,7 @@
 /// `rt --version` prints: `dev/statuses` compares the two. The kit, which `rt --version` prints first, is omitted,
 /// since machines may have different kits with the same logic.
 pub(crate) const VERSION: &str = "\
-0.2.0
+0.3.0
 rattle logic dac8208d650f15bf";
 
 /// The first paragraph of the help.
