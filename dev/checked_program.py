@@ -30,8 +30,9 @@ CRATE = TOP / "crates/heapmark"
 SMALL = CRATE / "data/two_objects.hprof"
 WORKERS = (1, 2, 4, 64)
 #: The most bytes of memory for each object besides the file, if objects are in order and if they are in none, with at
-#: most `FEW_WORKERS`.
-IN_ORDER, IN_NO_ORDER, FEW_WORKERS = 11, 20, 4
+#: most `FEW_WORKERS`. Those in no order are close together, so that narrow entries serve: 8.2 bytes, 4 for the place
+#: and less than 1 for the rest. With wide entries it would be 17, and the bound and `SPARE` are 16.5 for 16,777,216.
+IN_ORDER, IN_NO_ORDER, FEW_WORKERS = 11, 15, 4
 #: What is done in parts if objects are in order, and if they are in none.
 PHASES_IN_ORDER = ("reading", "gathering identifiers", "testing links", "counting unmarked objects")
 PHASES_IN_NO_ORDER = ("reading", "noting granules", "testing links", "counting unmarked objects")

@@ -44,17 +44,17 @@ impl<'a> Reader<'a> {
         Ok(first)
     }
 
-    /// Skips a number of `width` bytes.
-    pub fn skip(&mut self, width: u8) -> Result<(), Flaw>
+    /// Advances past a number of `width` bytes.
+    pub fn advance(&mut self, width: u8) -> Result<(), Flaw>
         ensures { Passes result self.new.rest.now (number_at width self.old.rest.now) }
     {
         self.raw(u64::from(width))?;
         Ok(())
     }
 
-    /// Skips `count` numbers of `width` bytes each.
+    /// Advances past `count` numbers of `width` bytes each.
     #[tactic(auto, using(crate::proofs::Counts::numbers_are_bytes))]
-    pub fn skip_all(&mut self, count: u32, width: u8) -> Result<(), Flaw>
+    pub fn advance_all(&mut self, count: u32, width: u8) -> Result<(), Flaw>
         ensures { Passes result self.new.rest.now (list_at (number_at width) count self.old.rest.now) }
     {
         self.raw(u64::from(count) * u64::from(width))?;

@@ -1,5 +1,5 @@
 //! Reads the sub-records of a heap record, field by field. Reads the values of counts, sizes and type codes, which say
-//! how much follows, and skips all other values.
+//! how much follows, and advances past all other values.
 
 ghost use Rattle.std.specs.Prelude.{◌≡◌, ◌≤◌, IfOk, Some, slice_get, ℕ};
 ghost use Rattle.std.specs.Option.{option_and_then};
@@ -16,7 +16,7 @@ use crate::kinds::{Kind, ObjectKind, RootKind, TypePlace};
 use crate::reader::Reader;
 use crate::tags_and_types::{kind_of, size_of};
 
-/// Reads a type code that is allowed at `place`, and skips a value of that type.
+/// Reads a type code that is allowed at `place`, and advances past a value of that type.
 fn typed_value(reader: &mut Reader<'_>, id_size: u8, place: TypePlace) -> Result<(), Flaw>
     ensures { Passes result reader.new.rest.now
         (then_at (type_at place) (λ t. raw_at (tables.size_of id_size t)) reader.old.rest.now) }
@@ -30,7 +30,7 @@ fn typed_value(reader: &mut Reader<'_>, id_size: u8, place: TypePlace) -> Result
 fn constant(reader: &mut Reader<'_>, id_size: u8) -> Result<(), Flaw>
     ensures { Passes result reader.new.rest.now (constant_at id_size reader.old.rest.now) }
 {
-    reader.skip(2)?;
+    reader.advance(2)?;
     typed_value(reader, id_size, TypePlace::InConstant)
 }
 
@@ -40,17 +40,17 @@ fn static_field(reader: &mut Reader<'_>, id_size: u8) -> Result<(), Flaw>
     requires high { id_size ≤ 8 }
     ensures { Passes result reader.new.rest.now (static_at id_size reader.old.rest.now) }
 {
-    reader.skip(id_size)?;
+    reader.advance(id_size)?;
     typed_value(reader, id_size, TypePlace::InStatic)
 }
 
-/// Reads an instance field that a class declares: the identifier of its name and its type code.
-fn instance_field(reader: &mut Reader<'_>, id_size: u8) -> Result<(), Flaw>
+/// Reads a member, an instance field that a class declares: the identifier of its name and its type code.
+fn member(reader: &mut Reader<'_>, id_size: u8) -> Result<(), Flaw>
     requires low { 1 ≤ id_size }
     requires high { id_size ≤ 8 }
     ensures { Passes result reader.new.rest.now (member_at id_size reader.old.rest.now) }
 {
-    reader.skip(id_size)?;
+    reader.advance(id_size)?;
     reader.type_code(TypePlace::InMember)?;
     Ok(())
 }
@@ -83,9 +83,9 @@ fn statics(reader: &mut Reader<'_>, id_size: u8) -> Result<(), Flaw>
     Ok(())
 }
 
-/// Reads a count of two bytes and that many instance fields.
+/// Reads a count of two bytes and that many members.
 #[tactic(auto, using(crate::proofs::Counts::turns))]
-fn instance_fields(reader: &mut Reader<'_>, id_size: u8) -> Result<(), Flaw>
+fn members(reader: &mut Reader<'_>, id_size: u8) -> Result<(), Flaw>
     requires low { 1 ≤ id_size }
     requires high { id_size ≤ 8 }
     ensures { Passes result reader.new.rest.now
@@ -93,7 +93,7 @@ fn instance_fields(reader: &mut Reader<'_>, id_size: u8) -> Result<(), Flaw>
 {
     let count = reader.u16()?;
     for _i in 0..count {
-        instance_field(reader, id_size)?;
+        member(reader, id_size)?;
     }
     Ok(())
 }
@@ -105,18 +105,18 @@ fn class(reader: &mut Reader<'_>, id_size: u8) -> Result<(), Flaw>
     requires high { id_size ≤ 8 }
     ensures { Passes result reader.new.rest.now (class_dump_at id_size reader.old.rest.now) }
 {
-    reader.skip(id_size)?; // the object
-    reader.skip(4)?; // the stack trace
-    reader.skip(id_size)?; // the superclass
-    reader.skip(id_size)?; // the class loader
-    reader.skip(id_size)?; // the signers
-    reader.skip(id_size)?; // the protection domain
-    reader.skip(id_size)?; // reserved
-    reader.skip(id_size)?; // reserved
-    reader.skip(4)?; // the instance size
+    reader.advance(id_size)?; // the object
+    reader.advance(4)?; // the stack trace
+    reader.advance(id_size)?; // the superclass
+    reader.advance(id_size)?; // the class loader
+    reader.advance(id_size)?; // the signers
+    reader.advance(id_size)?; // the protection domain
+    reader.advance(id_size)?; // reserved
+    reader.advance(id_size)?; // reserved
+    reader.advance(4)?; // the instance size
     constants(reader, id_size)?;
     statics(reader, id_size)?;
-    instance_fields(reader, id_size)
+    members(reader, id_size)
 }
 
 /// Reads the fields of an INSTANCE DUMP after its tag.
@@ -126,9 +126,9 @@ fn instance(reader: &mut Reader<'_>, id_size: u8) -> Result<(), Flaw>
     requires high { id_size ≤ 8 }
     ensures { Passes result reader.new.rest.now (instance_at id_size reader.old.rest.now) }
 {
-    reader.skip(id_size)?; // the object
-    reader.skip(4)?; // the stack trace
-    reader.skip(id_size)?; // the class
+    reader.advance(id_size)?; // the object
+    reader.advance(4)?; // the stack trace
+    reader.advance(id_size)?; // the class
     let size = reader.u32()?;
     reader.raw(u64::from(size))?;
     Ok(())
@@ -141,11 +141,11 @@ fn object_array(reader: &mut Reader<'_>, id_size: u8) -> Result<(), Flaw>
     requires high { id_size ≤ 8 }
     ensures { Passes result reader.new.rest.now (object_array_at id_size reader.old.rest.now) }
 {
-    reader.skip(id_size)?; // the object
-    reader.skip(4)?; // the stack trace
+    reader.advance(id_size)?; // the object
+    reader.advance(4)?; // the stack trace
     let count = reader.u32()?;
-    reader.skip(id_size)?; // the class
-    reader.skip_all(count, id_size)
+    reader.advance(id_size)?; // the class
+    reader.advance_all(count, id_size)
 }
 
 /// Reads the fields of a PRIMITIVE ARRAY DUMP after its tag.
@@ -155,8 +155,8 @@ fn primitive_array(reader: &mut Reader<'_>, id_size: u8) -> Result<(), Flaw>
     requires high { id_size ≤ 8 }
     ensures { Passes result reader.new.rest.now (primitive_array_at id_size reader.old.rest.now) }
 {
-    reader.skip(id_size)?; // the object
-    reader.skip(4)?; // the stack trace
+    reader.advance(id_size)?; // the object
+    reader.advance(4)?; // the stack trace
     let count = reader.u32()?;
     let code = reader.type_code(TypePlace::InArray)?;
     reader.raw(u64::from(count) * u64::from(size_of(id_size, code)))?;
@@ -169,18 +169,18 @@ fn root(reader: &mut Reader<'_>, id_size: u8, kind: RootKind) -> Result<(), Flaw
     requires high { id_size ≤ 8 }
     ensures { Passes result reader.new.rest.now (root_at id_size kind reader.old.rest.now) }
 {
-    reader.skip(id_size)?; // the object
+    reader.advance(id_size)?; // the object
     match kind {
         RootKind::Unknown | RootKind::StickyClass | RootKind::MonitorUsed => {}
         RootKind::JniGlobal => {
-            reader.skip(id_size)?; // the reference
+            reader.advance(id_size)?; // the reference
         }
         RootKind::NativeStack | RootKind::ThreadBlock => {
-            reader.skip(4)?; // the thread
+            reader.advance(4)?; // the thread
         }
         RootKind::JniLocal | RootKind::JavaFrame | RootKind::ThreadObject => {
-            reader.skip(4)?; // the thread
-            reader.skip(4)?; // the frame, or the stack trace
+            reader.advance(4)?; // the thread
+            reader.advance(4)?; // the frame, or the stack trace
         }
     }
     Ok(())

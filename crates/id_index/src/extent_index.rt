@@ -4,9 +4,9 @@ ghost use Rattle.std.specs.Prelude.{position, ◌==◌, ◌≡◌};
 ghost use Rattle.id_index.specs.Repeats.{IsFirstRepeat};
 
 use crate::beginnings::Beginnings;
+use crate::extent_look_up::first_bearer;
 use crate::extents::Extent;
-use crate::look_up::first_bearer;
-use crate::probed::Probed;
+use crate::look_up::LookUp;
 use std::alloc::Allocator;
 use std::marker::Model;
 
@@ -49,7 +49,7 @@ impl<A: Allocator> ExtentIndex<A> {
     /// Looks up the first object that bears `id`. The probes are extents.
     // Inlined, as the `find` of an index is, which only forwards to this.
     #[inline(always)]
-    pub(crate) fn look_up(&self, id: u64) -> Probed
+    pub(crate) fn look_up(&self, id: u64) -> LookUp
         ensures { result.number ≡ position (λ x. x == id) self.now }
     {
         first_bearer(&self.extents[..self.kept], &self.beginnings, id)

@@ -7,12 +7,12 @@ ghost use Rattle.std.specs.Prelude.{◌==◌, ◌≡◌, ◌↔◌, ◌%◌, ◌
 ghost use Rattle.id_index.specs.Aligned.{whole_ids};
 ghost use Rattle.id_index.specs.Repeats.{IsFirstRepeat};
 
-use crate::builder::ExtentIndexBuilder;
 use crate::extent_index::ExtentIndex;
+use crate::extent_index_builder::ExtentIndexBuilder;
+use crate::look_up::LookUp;
 use crate::narrow_entries::NarrowIndex;
-use crate::probed::Probed;
 use crate::wide_entries::WideIndex;
-use crate::{look_up, narrow_entries, wide_entries};
+use crate::{extent_look_up, narrow_entries, wide_entries};
 use std::alloc::{AllocError, Allocator};
 use std::marker::Model;
 
@@ -83,11 +83,11 @@ impl<A: Allocator> IdIndex<A> {
     /// made of it.
     // Inlined, as `find` is.
     #[inline(always)]
-    pub fn look_up(&self, id: u64) -> Probed
+    pub fn look_up(&self, id: u64) -> LookUp
         ensures { result.number ≡ position (λ x. x == id) self.now }
     {
         if id & self.mask != self.bits.low {
-            return Probed::nothing();
+            return LookUp::nothing();
         }
         match &self.form {
             Form::Extents(extents) => return extents.look_up(id >> self.bits.shift),
@@ -111,7 +111,7 @@ impl<A: Allocator> IdIndex<A> {
         ensures { IsTrue result → Contains self.now id }
     {
         let most = match &self.form {
-            Form::Extents(_) => look_up::GUESSED,
+            Form::Extents(_) => extent_look_up::GUESSED,
             Form::Narrow(_) => narrow_entries::GUESSED,
             Form::Wide(_) => wide_entries::GUESSED,
         };

@@ -12,46 +12,48 @@
 //! is. Otherwise they are wide: they have the whole identifier.
 //!
 //! `index` has the index and the builder for objects that are mostly in order, `narrow_entries_builder` the builder for
-//! objects that are close together, and `wide_builder` that for all others. The first two shift the lowest bits out, in
-//! which all identifiers agree.
+//! objects that are close together, and `wide_entries_builder` that for all others. The first two shift the lowest bits
+//! out, in which all identifiers agree. `look_up` has what a look-up in any form returns.
 //!
-//! Extents: `builder` makes them, one object after the other, and `sorting` sorts them. `repeats` looks for the first
-//! object whose identifier an earlier one bears. `pruning` moves the extents to the front that have a granule which no
-//! earlier extent of their page has: an `extent_index` searches only those. A look-up goes through a table of where
-//! pages begin (`beginnings`) to the first extent of a page (`pages`), and over the extents of that page (`look_up`).
-//! The search for the first extent reads a bounded number of extents (`probes`).
+//! Extents: `extent_index_builder` makes them, one object after the other, and `sorting` sorts them. `repeats` looks
+//! for the first object whose identifier an earlier one bears. `pruning` moves the extents to the front that have a
+//! granule which no earlier extent of their page has: an `extent_index` searches only those. A look-up
+//! (`extent_look_up`) goes through a table of where pages begin (`beginnings`) to the first extent of a page
+//! (`page_search`), and over the extents of that page. The search for the first extent reads a bounded number of
+//! extents (`probes`).
 //!
 //! Narrow entries: `used_ids` notes which granules have an object, in the memory that the entries take later.
 //! `page_words` has the pages from the first to the last one with an object, and counts the objects before each.
-//! `narrow_builder` writes entries where the page words guess them, and makes an index of `narrow_entries` if no entry
-//! is missing and all ascend.
+//! `narrow_index_builder` writes entries where the page words guess them, and makes an index of `narrow_entries` if no
+//! entry is missing and all ascend.
 //!
-//! Wide entries: `wide_builder` sorts them, and `wide_entries` halves, between ends that `entry_guesses` guesses.
+//! Wide entries: `wide_entries_builder` sorts them, and `wide_entries` halves, between ends that `entry_guesses`
+//! guesses.
 #![tactic(auto)]
 
 mod beginnings;
-mod builder;
 mod entry_guesses;
 mod extent_index;
+mod extent_index_builder;
+mod extent_look_up;
 mod extents;
 mod index;
 mod look_up;
-mod narrow_builder;
 mod narrow_entries;
 mod narrow_entries_builder;
+mod narrow_index_builder;
+mod page_search;
 mod page_words;
-mod pages;
-mod probed;
 mod probes;
 mod pruning;
 mod repeats;
 mod sorting;
 mod used_ids;
-mod wide_builder;
 mod wide_entries;
+mod wide_entries_builder;
 
 pub use index::{IdIndex, IdIndexBuilder, LowBits};
+pub use look_up::LookUp;
 pub use narrow_entries_builder::NarrowEntriesBuilder;
-pub use probed::Probed;
 pub use used_ids::{UsedIds, are_close};
-pub use wide_builder::WideEntriesBuilder;
+pub use wide_entries_builder::WideEntriesBuilder;

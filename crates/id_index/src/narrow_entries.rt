@@ -5,8 +5,8 @@ ghost use Rattle.std.specs.Prelude.{IsTrue, MatchOption, length, position, ◌==
 ghost use Rattle.id_index.specs.working.NarrowEntries.{AreSet, DoAscend, Names};
 ghost use Rattle.id_index.specs.Repeats.{IsFirstRepeat};
 
+use crate::look_up::LookUp;
 use crate::page_words::PageWords;
-use crate::probed::Probed;
 use std::alloc::Allocator;
 use std::marker::Model;
 
@@ -69,7 +69,7 @@ pub(crate) fn do_ascend(entries: &[NarrowEntry]) -> bool
 /// Looks up the object that bears `id` in the ascending `entries`, for an `id` that the guessed entry does not have.
 // Not inlined, so that nearly all look-ups are one straight line.
 #[inline(never)]
-fn search_narrow(entries: &[NarrowEntry], lowest: u64, id: u64) -> Probed
+fn search_narrow(entries: &[NarrowEntry], lowest: u64, id: u64) -> LookUp
     requires low { lowest ≤ id }
     requires ascend { DoAscend entries.now (length entries.now) }
     ensures { MatchOption result.number ((n : ℕ) → Names entries.now lowest id n → ⊥)
@@ -81,13 +81,13 @@ fn search_narrow(entries: &[NarrowEntry], lowest: u64, id: u64) -> Probed
         entry.at as u64
     }) {
         Ok(at) => {
-            return Probed {
+            return LookUp {
                 number: Some(entries[at].number),
                 probes,
             };
         }
         Err(_) => {
-            return Probed {
+            return LookUp {
                 number: None,
                 probes,
             };
@@ -99,16 +99,16 @@ impl<A: Allocator> NarrowIndex<A> {
     /// Looks up the object that bears `id`. The probes are entries.
     // Inlined, as is the `find` of an index, which forwards to it.
     #[inline(always)]
-    pub(crate) fn look_up(&self, id: u64) -> Probed
+    pub(crate) fn look_up(&self, id: u64) -> LookUp
         ensures { result.number ≡ position (λ x. x == id) self.now }
     {
         if id < self.lowest {
-            return Probed::nothing();
+            return LookUp::nothing();
         }
         let at = id - self.lowest;
         let near = self.words.guess(at);
         if near < self.entries.len() && self.entries[near].at as u64 == at {
-            return Probed {
+            return LookUp {
                 number: Some(self.entries[near].number),
                 probes: GUESSED,
             };

@@ -3,7 +3,7 @@
 ghost use Rattle.std.specs.Prelude.{IfOk, IfSome, IsTrue, [], ◌≡◌, ◌↔◌, ◌%◌, ◌++◌, ◌∷◌, ◌<◌, ◌^◌};
 
 use crate::index::{Form, IdIndex, LowBits};
-use crate::narrow_builder::NarrowIndexBuilder;
+use crate::narrow_index_builder::NarrowIndexBuilder;
 use crate::used_ids::UsedIds;
 use std::alloc::{AllocError, Allocator};
 use std::marker::Model;

@@ -6,7 +6,7 @@ ghost use Rattle.id_index.specs.working.WideEntries.{AreOrdered, IsBetween, IsFi
 ghost use Rattle.id_index.specs.working.WideEntries.{id_of, key_of};
 
 use crate::entry_guesses::EntryGuesses;
-use crate::probed::Probed;
+use crate::look_up::LookUp;
 use std::alloc::Allocator;
 use std::marker::Model;
 
@@ -150,18 +150,18 @@ impl<A: Allocator> WideIndex<A> {
     /// Looks up the first object that bears `id`. The probes are entries.
     // Not inlined, so that a worker's loop stays small.
     #[inline(never)]
-    pub(crate) fn look_up(&self, id: u64) -> Probed
+    pub(crate) fn look_up(&self, id: u64) -> LookUp
         ensures { result.number ≡ position (λ x. x == id) self.now }
     {
         let (at, halving) = first_from(&self.entries, &self.guesses, id);
         let probes = halving.saturating_add(1);
         if at < self.entries.len() && self.entries[at].id() == id {
-            return Probed {
+            return LookUp {
                 number: Some(self.entries[at].number),
                 probes,
             };
         }
-        Probed {
+        LookUp {
             number: None,
             probes,
         }

@@ -11,7 +11,7 @@ ghost use Rattle.hprof_grammar.specs.working.ClassParts.{fields_from_constants, 
 use crate::view::identifiers::number_at;
 use crate::view::ids::Ids;
 use crate::view::members::Members;
-use crate::view::values::{Values, skip_values};
+use crate::view::values::{Values, after_values};
 use crate::view::{BEHIND_STACK_TRACE, View, bytes_from, u32_at};
 
 /// The offset of the first identifier after the stack trace of a class dump. This and the next two offsets are numbers
@@ -137,7 +137,7 @@ impl<'a> View<'a> {
         requires { (c : Class) × Stands self.now at (class_dump c) }
         ensures { (c : Class) → Stands self.now at (class_dump c) → result ≡ c.members }
     {
-        let members = skip_values(self.statics_from(at), self.id_size, self.id_size);
+        let members = after_values(self.statics_from(at), self.id_size, self.id_size);
         Members::new(members, self.id_size)
     }
 
@@ -167,6 +167,6 @@ impl<'a> View<'a> {
         ensures { (c : Class) → Stands self.now at (class_dump c)
             → IsPartOf self.now.id_size c (fields_from_statics self.now.id_size c) result.now }
     {
-        skip_values(self.constants_from(at), self.id_size, INDEX_SIZE)
+        after_values(self.constants_from(at), self.id_size, INDEX_SIZE)
     }
 }

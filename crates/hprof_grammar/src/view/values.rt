@@ -139,8 +139,8 @@ fn split_value(bytes: &[u8], id_size: u8, front: u8) -> (u8, &[u8], &[u8])
     (type_code, value, behind)
 }
 
-/// Skips a count and that many values, and returns the bytes after them.
-pub(crate) fn skip_values(bytes: &[u8], id_size: u8, front: u8) -> &[u8]
+/// Returns the bytes after a count and that many values.
+pub(crate) fn after_values(bytes: &[u8], id_size: u8, front: u8) -> &[u8]
     requires { HasCountedValues id_size front bytes.now }
     ensures { result.now ≡ behind_counted_values id_size front bytes.now }
 {
