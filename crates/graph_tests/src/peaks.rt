@@ -3,15 +3,15 @@
 //! and `docs/PERFORMANCE.md`).
 
 use crate::graphs::{count_apart, dump_of};
-use crate::unordered::{Order, dump};
+use crate::unordered::dump;
 use heap_graph::Skip;
 use hprof_grammar::Team;
 use limited_heap::LimitedHeap;
 use std::alloc::{AllocError, Global};
 use std::test::Fail;
 use std::thread::Threads;
-use test_dumps::Bytes;
 use test_dumps::Sub::Class;
+use test_dumps::{Bytes, Order};
 
 /// The number of objects of a dump. It is a power of two, so a list that doubled is full.
 const OBJECTS: usize = 65_536;

@@ -10,65 +10,17 @@ use limited_heap::LimitedHeap;
 use std::alloc::{AllocError, Global};
 use std::test::Fail;
 use std::thread::Threads;
-use test_dumps::Bytes;
 use test_dumps::Sub::Values;
+use test_dumps::{Bytes, Order};
 
 /// The type code of bytes.
 const BYTE: u8 = 8;
-
-/// How the identifiers of a dump's objects follow one another.
-#[derive(Clone, Copy, Debug)]
-pub enum Order {
-    /// Each object is the neighbour of the one before it.
-    Ascending,
-    /// In no order, each granule taken.
-    Close,
-    /// In no order, each thousandth granule taken.
-    Far,
-    /// In no order, and some objects have other lowest bits than the rest.
-    Unaligned,
-    /// The first 1,024 objects as in `Ascending`, the others as in `Close`.
-    LateDisorder,
-    /// As in `Close`, but one object that no sample has is apart from all others.
-    Outlier,
-}
-
-/// The number of an object that no sample of 70,000 objects has.
-const UNSEEN: u64 = 1050;
-
-impl Order {
-    /// Returns the granule of object `number` of `count`.
-    fn granule_of(self, number: u64, count: u64) -> u64 {
-        // 7919 is a prime, and no divisor of a count of this file.
-        let scattered = number.wrapping_mul(7919) % count.max(1);
-        match self {
-            Order::Ascending => number,
-            Order::Close | Order::Unaligned => scattered,
-            Order::Far => scattered.wrapping_mul(1000),
-            Order::LateDisorder if number < 1024 => number,
-            Order::LateDisorder => count.wrapping_add(scattered),
-            Order::Outlier if number == UNSEEN => count.wrapping_mul(4),
-            Order::Outlier => scattered,
-        }
-    }
-
-    /// Returns the identifier of object `number` of `count`.
-    fn id_of(self, number: u64, count: u64) -> u64 {
-        let low = match self {
-            Order::Unaligned => number % 2,
-            _ => 0,
-        };
-        0x7f00_0000u64
-            .wrapping_add(self.granule_of(number, count).wrapping_mul(8))
-            .wrapping_add(low)
-    }
-}
 
 /// Returns `count` objects in `order`.
 fn objects(alloc: Global, order: Order, count: u32) -> Result<Bytes, AllocError> {
     let mut heap = Bytes::new(alloc, 8);
     for number in 0..count {
-        let id = order.id_of(u64::from(number), u64::from(count));
+        let id = order.id_of(u64::from(number), u64::from(count), 0x7f00_0000, 8);
         heap.sub(Values(id, BYTE, 0, &[]))?;
     }
     Ok(heap)

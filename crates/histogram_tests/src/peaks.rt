@@ -20,33 +20,8 @@ use std::alloc::{AllocError, Allocator, Global};
 use std::sync::Wait;
 use std::test::Fail;
 use std::thread::Threads;
-use test_dumps::Bytes;
 use test_dumps::Sub::{Class, Instance, Root};
-
-/// How the identifiers of the unmarked instances follow one another.
-#[derive(Clone, Copy, Debug)]
-enum Order {
-    /// Each instance is the neighbour of the one before it.
-    Ascending,
-    /// In no order, each granule taken.
-    Close,
-    /// In no order, each thousandth granule taken.
-    Far,
-}
-
-impl Order {
-    /// Returns the identifier of instance `number` of `count`.
-    fn id_of(self, number: u64, count: u64) -> u64 {
-        // 7919 is a prime, and no divisor of a count of this file.
-        let scattered = number.wrapping_mul(7919) % count.max(1);
-        let granule = match self {
-            Order::Ascending => number,
-            Order::Close => scattered,
-            Order::Far => scattered.wrapping_mul(1000),
-        };
-        granule.wrapping_mul(16).wrapping_add(0x100_0000)
-    }
-}
+use test_dumps::{Bytes, Order};
 
 /// The number of classes without a name, each with an instance that is a root; the order of the instances of the first
 /// class that are not marked, and their number.
@@ -105,7 +80,7 @@ fn objects(alloc: Global, case: Heap) -> Result<Bytes, AllocError> {
         heap.sub(Root(0x80_0000 + granule))?;
     }
     for number in 0..unmarked {
-        let id = order.id_of(u64::from(number), u64::from(unmarked));
+        let id = order.id_of(u64::from(number), u64::from(unmarked), 0x100_0000, 16);
         heap.sub(Instance(id, 0x10000, &[]))?;
     }
     Ok(heap)

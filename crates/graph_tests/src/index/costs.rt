@@ -10,6 +10,7 @@ use limited_heap::LimitedHeap;
 use std::alloc::{AllocError, Allocator, Global};
 use std::test::Fail;
 use std::thread::Threads;
+use test_dumps::Order;
 
 /// The number of identifiers of a list. Like the number of their extents it is a power of two, so a list of extents
 /// that doubled is full.
@@ -44,41 +45,13 @@ enum Form {
     Wide,
 }
 
-/// How the identifiers of a list follow one another.
-#[derive(Clone, Copy)]
-enum Order {
-    /// Each is after the one before it.
-    Ascending,
-    /// Sixteen stretches ascend, and each is before all earlier ones.
-    Stretches,
-    /// In no order.
-    Mixed,
-    /// Ascending, but the last one is so far after the others that these are in one bucket.
-    Crowded,
-}
-
-impl Order {
-    /// Returns the identifier of object `number`. From one place to the next one there are `apart` granules.
-    fn id_of(self, number: u64, apart: u64) -> u64 {
-        let many = MANY as u64;
-        let place = match self {
-            Order::Ascending => number,
-            Order::Stretches => number ^ (many - many / 16),
-            Order::Mixed => number.wrapping_mul(7919) % many,
-            Order::Crowded if number == many - 1 => 1 << 50,
-            Order::Crowded => number,
-        };
-        0x7f00_0000u64.wrapping_add(place.wrapping_mul(apart).wrapping_mul(8))
+/// Returns `MANY` identifiers in `order`. From one place to the next one there are `apart` granules.
+fn ids_in(alloc: Global, order: Order, apart: u64) -> Result<Vec<u64>, AllocError> {
+    let mut ids = Vec::with_capacity(alloc, MANY)?;
+    for number in 0..MANY as u64 {
+        ids.push(order.id_of(number, MANY as u64, 0x7f00_0000, apart.wrapping_mul(8)))?;
     }
-
-    /// Returns `MANY` identifiers in this order.
-    fn ids(self, alloc: Global, apart: u64) -> Result<Vec<u64>, AllocError> {
-        let mut ids = Vec::with_capacity(alloc, MANY)?;
-        for number in 0..MANY {
-            ids.push(self.id_of(number as u64, apart))?;
-        }
-        Ok(ids)
-    }
+    Ok(ids)
 }
 
 /// What an index costs.
@@ -159,7 +132,7 @@ fn cost_of<T: Threads + Sync>(
     apart: u64,
 ) -> Result<Option<Cost>, AllocError> {
     let heap = LimitedHeap::new(alloc, u64::MAX);
-    let ids = order.ids(alloc, apart)?;
+    let ids = ids_in(alloc, order, apart)?;
     match look_ups_in(rt, &heap, form, &ids)? {
         Some(Cost { peak: _, most, all }) => {
             let peak = heap.usage().peak;
@@ -200,16 +173,16 @@ const COSTS: [(Form, Order, u64, usize, usize, usize); 17] = [
     (Form::Extents, Order::Ascending, 64, 36 * MANY, NEAR, 21),
     (Form::Extents, Order::Ascending, 512, 36 * MANY, NEAR, 21),
     (Form::Extents, Order::Stretches, 1, 48 * MANY / 64, NEAR, 21),
-    (Form::Extents, Order::Mixed, 1, 36 * MANY, NEAR, 365),
-    (Form::Extents, Order::Mixed, 64, 36 * MANY, NEAR, 21),
+    (Form::Extents, Order::Close, 1, 36 * MANY, NEAR, 365),
+    (Form::Extents, Order::Close, 64, 36 * MANY, NEAR, 21),
     (Form::Extents, Order::Crowded, 64, 36 * MANY, CROWDED, 460),
-    (Form::Narrow(1), Order::Mixed, 1, DENSE, NARROW, 10),
-    (Form::Narrow(4), Order::Mixed, 1, DENSE, NARROW, 10),
-    (Form::Narrow(1), Order::Mixed, 31, 14 * MANY, NARROW, 10),
-    (Form::Narrow(4), Order::Mixed, 31, 14 * MANY, NARROW, 10),
-    (Form::Wide, Order::Mixed, 1, 13 * MANY, WIDE, 70),
-    (Form::Wide, Order::Mixed, 1000, 13 * MANY, WIDE, 70),
-    (Form::Wide, Order::Mixed, 1 << 40, 13 * MANY, WIDE, 70),
+    (Form::Narrow(1), Order::Close, 1, DENSE, NARROW, 10),
+    (Form::Narrow(4), Order::Close, 1, DENSE, NARROW, 10),
+    (Form::Narrow(1), Order::Close, 31, 14 * MANY, NARROW, 10),
+    (Form::Narrow(4), Order::Close, 31, 14 * MANY, NARROW, 10),
+    (Form::Wide, Order::Close, 1, 13 * MANY, WIDE, 70),
+    (Form::Wide, Order::Close, 1000, 13 * MANY, WIDE, 70),
+    (Form::Wide, Order::Close, 1 << 40, 13 * MANY, WIDE, 70),
     (Form::Wide, Order::Crowded, 1, 13 * MANY, WIDE, 180),
 ];
 

@@ -8,6 +8,7 @@ use id_index::{IdIndex, WideEntriesBuilder};
 use limited_heap::{LimitedHeap, requests_of};
 use std::alloc::{AllocError, Allocator, Global};
 use std::test::Fail;
+use test_dumps::Order;
 
 /// Returns the index of objects with the identifiers `ids`, made of whole identifiers.
 pub fn wide_index<A: Allocator + Copy>(alloc: A, ids: &[u64]) -> Result<IdIndex<A>, AllocError>
@@ -48,9 +49,7 @@ const MANY: u64 = 5000;
 fn spread(alloc: Global, apart: u64) -> Result<Vec<u64>, AllocError> {
     let mut ids = Vec::new(alloc);
     for number in 0..MANY {
-        // 7919 and `MANY` have no common divisor.
-        let place = number.wrapping_mul(7919) % MANY;
-        ids.push(place.wrapping_mul(apart))?;
+        ids.push(Order::Close.id_of(number, MANY, 0, apart))?;
     }
     Ok(ids)
 }
