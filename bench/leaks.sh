@@ -12,11 +12,10 @@
 #   hard   leaks in plain Java that are hard to name
 #   beside plain Java and real libraries, beside a catalog and a cache that has other pages each day
 #   tried  new ones of the same kind, by other classes of the JDK and other libraries
-#   judge  new ones again, with leaks of other kinds
+#   seen   new ones again, with leaks of other kinds
 #
-# The order of tools/leaks is tuned on the programs of shop, load, hard, beside and tried, and judged on those of judge:
-# their holders were written down before tools/leaks ran on them. A program of judge whose line is read to change the
-# order is one to tune on from then on: those of beside and tried were judging groups until their lines were read.
+# The order of tools/leaks is tuned on these programs. Those of beside, tried and seen were judging groups, one after the
+# other, until their lines were read: their holders were written down before tools/leaks ran on them.
 #
 # Java is that of JAVA_HOME, else that of PATH. A program is left out if it needs a later version, or a library that
 # /usr/share/java does not have; the row then says the Debian package.
@@ -306,76 +305,76 @@ tried/AttachmentService 17 2 libcommons-io-java commons-io
     org/apache/commons/io/FileCleaningTracker.trackers
 tried/CampaignService 17 2 libspring-beans-java,libspring-core-java spring3-beans,spring3-core,commons-logging
     org/springframework/beans/factory/support/DefaultSingletonBeanRegistry.singletonObjects
-judge/GatherService 17 2
-    java/util/concurrent/ExecutorCompletionService.completionQueue | static judge/GatherService.RENDERED
-judge/TypeService 17 2
+seen/GatherService 17 2
+    java/util/concurrent/ExecutorCompletionService.completionQueue | static seen/GatherService.RENDERED
+seen/TypeService 17 2
     java/lang/ClassLoader.parallelLockMap
-judge/GatewayService 17 2
-    java/lang/Throwable.suppressedExceptions | judge/GatewayService$Gateway.unavailable
+seen/GatewayService 17 2
+    java/lang/Throwable.suppressedExceptions | seen/GatewayService$Gateway.unavailable
     says clearing
-judge/SnoozeService 17 2
-    judge/SnoozeService$Outbox.snoozed | java/util/concurrent/DelayQueue.q
+seen/SnoozeService 17 2
+    seen/SnoozeService$Outbox.snoozed | java/util/concurrent/DelayQueue.q
     says text-messages
-judge/DraftService 17 2
-    judge/DraftService$Draft.latest | judge/DraftService$Version.previous
+seen/DraftService 17 2
+    seen/DraftService$Draft.latest | seen/DraftService$Version.previous
     says annual-report
-judge/CookieService 17 2
+seen/CookieService 17 2
     java/net/InMemoryCookieStore.cookieJar | java/net/InMemoryCookieStore.uriIndex | java/net/CookieManager.cookieJar
     says bargains
-judge/CursorService 17 2
-    judge/CursorService$Pages.cursors
-judge/ThrottleService 17 2
-    judge/ThrottleService$Limiter.stripes
+seen/CursorService 17 2
+    seen/CursorService$Pages.cursors
+seen/ThrottleService 17 2
+    seen/ThrottleService$Limiter.stripes
     says sign-in
-judge/SpanService 17 2
-    judge/SpanService$Span.children
+seen/SpanService 17 2
+    seen/SpanService$Span.children
     says scheduler
-judge/ReceiptService 17 2
+seen/ReceiptService 17 2
     com/sun/org/apache/xerces/internal/dom/CoreDocumentImpl.identifiers
-judge/ArchiveService 17 2
+seen/ArchiveService 17 2
     jdk/nio/zipfs/ZipFileSystemProvider.filesystems
-judge/PreferenceService 17 2
-    java/util/prefs/AbstractPreferences.kidCache | judge/PreferenceService.visitors
-judge/ConvertService 17 2
-    judge/ConvertService$JobStore.jobs
-judge/UsageService 17 2 libguava-java guava
-    com/google/common/collect/StandardTable.backingMap | judge/UsageService.uses
+seen/PreferenceService 17 2
+    java/util/prefs/AbstractPreferences.kidCache | seen/PreferenceService.visitors
+seen/ConvertService 17 2
+    seen/ConvertService$JobStore.jobs
+seen/UsageService 17 2 libguava-java guava
+    com/google/common/collect/StandardTable.backingMap | seen/UsageService.uses
     says acme-trial
-judge/KeyService 17 2 libnetty-java netty-common
+seen/KeyService 17 2 libnetty-java netty-common
     io/netty/util/ConstantPool.constants | static io/netty/util/AttributeKey.pool
-judge/RefundService 17 2 liblog4j2-java log4j-api
+seen/RefundService 17 2 liblog4j2-java log4j-api
     org/apache/logging/log4j/spi/MutableThreadContextStack.list | java/lang/ThreadLocal$ThreadLocalMap$Entry.value
         | java/lang/ThreadLocal$ThreadLocalMap.table | java/lang/Thread.threadLocals | thread "refunds"
     says refunds
-judge/StompService 17 2 libspring-messaging-java spring3-messaging,spring3-core,spring3-expression,commons-logging
+seen/StompService 17 2 libspring-messaging-java spring3-messaging,spring3-core,spring3-expression,commons-logging
     org/springframework/messaging/simp/broker/DefaultSubscriptionRegistry$SessionSubscriptionInfo.destinationLookup
     says kiosk-lobby
-judge/TeaserService 17 2 libjsoup-java jsoup
-    judge/TeaserService.teasers
-judge/PatternService 17 2 libcommons-lang3-java commons-lang3
+seen/TeaserService 17 2 libjsoup-java jsoup
+    seen/TeaserService.teasers
+seen/PatternService 17 2 libcommons-lang3-java commons-lang3
     org/apache/commons/lang3/time/FormatCache.cInstanceCache | static org/apache/commons/lang3/time/FastDateFormat.cache
-judge/RelayService 17 2 libokio-java okio
-    okio/Buffer.head | judge/RelayService$Receiver.unread
+seen/RelayService 17 2 libokio-java okio
+    okio/Buffer.head | seen/RelayService$Receiver.unread
     says cold-storage
-judge/MetalService 17 2 libclojure-java clojure
+seen/MetalService 17 2 libclojure-java clojure
     clojure/lang/ARef.watches
     says palladium
-judge/TransferService 17 2 libcommons-net-java commons-net
+seen/TransferService 17 2 libcommons-net-java commons-net
     org/apache/commons/net/util/ListenerList.listeners | org/apache/commons/net/ProtocolCommandSupport.listeners
         | org/apache/commons/net/ftp/FTP._commandSupport_
     says north-sea
-judge/MailingService 17 2 libmail-java javax.mail,javax.activation
+seen/MailingService 17 2 libmail-java javax.mail,javax.activation
     javax/mail/internet/InternetHeaders.headers | javax/mail/internet/MimeMessage.headers
     says newsletter
-judge/ModuleService 17 2 libjackson2-databind-java jackson-core,jackson-databind,jackson-annotations
+seen/ModuleService 17 2 libjackson2-databind-java jackson-core,jackson-databind,jackson-annotations
     com/fasterxml/jackson/databind/cfg/SerializerFactoryConfig._additionalSerializers
         | com/fasterxml/jackson/databind/ser/BasicSerializerFactory._factoryConfig
         | com/fasterxml/jackson/databind/ObjectMapper._serializerFactory
-judge/SiftService 17 2 liblogback-java,libslf4j-java logback-classic,logback-core,slf4j-api
+seen/SiftService 17 2 liblogback-java,libslf4j-java logback-classic,logback-core,slf4j-api
     ch/qos/logback/core/spi/AbstractComponentTracker.liveMap
         | ch/qos/logback/core/sift/SiftingAppenderBase.appenderTracker
-judge/RealmService 17 2 libplexus-classworlds-java plexus-classworlds
-    org/codehaus/plexus/classworlds/ClassWorld.realms | judge/RealmService.world
+seen/RealmService 17 2 libplexus-classworlds-java plexus-classworlds
+    org/codehaus/plexus/classworlds/ClassWorld.realms | seen/RealmService.world
 PROGRAMS
 }
 

@@ -4,7 +4,7 @@ import com.sun.management.HotSpotDiagnosticMXBean;
 import java.lang.management.ManagementFactory;
 
 /**
- * The course of every program of hard, beside, tried and judge: it works for a day and dumps its live objects; before
+ * The course of every program of hard and of the later folders: it works for a day and dumps its live objects; before
  * each further dump it works for three days.
  *
  * <p>Usage: {@code java hard.NAME DUMP..}: the files of the dumps, which must not exist.

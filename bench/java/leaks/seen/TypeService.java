@@ -1,4 +1,4 @@
-package judge;
+package seen;
 
 import hard.Course;
 
@@ -17,7 +17,7 @@ final class TypeService {
 
     private Object handler(String customer) {
         try {
-            return Class.forName("judge.handlers.of.customers." + customer + ".OrderEventHandler")
+            return Class.forName("seen.handlers.of.customers." + customer + ".OrderEventHandler")
                     .getDeclaredConstructor().newInstance();
         } catch (ReflectiveOperationException missing) {
             return common;

@@ -1,4 +1,4 @@
-package judge;
+package seen;
 
 import ch.qos.logback.classic.LoggerContext;
 import ch.qos.logback.classic.Logger;

@@ -1,4 +1,4 @@
-package judge;
+package seen;
 
 import com.google.common.collect.HashBasedTable;
 import com.google.common.collect.Table;

@@ -1,4 +1,4 @@
-package judge;
+package seen;
 
 import clojure.lang.AFn;
 import clojure.lang.Atom;

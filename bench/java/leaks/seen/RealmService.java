@@ -1,4 +1,4 @@
-package judge;
+package seen;
 
 import hard.Course;
 import org.codehaus.plexus.classworlds.ClassWorld;
@@ -12,8 +12,8 @@ final class RealmService {
 
     private void build(String name) throws Exception {
         ClassRealm realm = world.newRealm(name, RealmService.class.getClassLoader());
-        realm.importFrom(RealmService.class.getClassLoader(), "judge");
-        if (realm.loadClass("judge.RealmService") != RealmService.class) {
+        realm.importFrom(RealmService.class.getClassLoader(), "seen");
+        if (realm.loadClass("seen.RealmService") != RealmService.class) {
             throw new IllegalStateException("not imported");
         }
     }

@@ -1,4 +1,4 @@
-package judge;
+package seen;
 
 import com.fasterxml.jackson.core.JsonGenerator;
 import com.fasterxml.jackson.databind.ObjectMapper;
