@@ -13,9 +13,11 @@
 #   beside plain Java and real libraries, beside a catalog and a cache that has other pages each day
 #   tried  new ones of the same kind, by other classes of the JDK and other libraries
 #   seen   new ones again, with leaks of other kinds
+#   judge  new ones, by other libraries and other parts of the JDK
 #
-# The order of tools/leaks is tuned on these programs. Those of beside, tried and seen were judging groups, one after the
-# other, until their lines were read: their holders were written down before tools/leaks ran on them.
+# The order of tools/leaks is tuned on all of these but those of judge, on which it is judged: their holders were written
+# down before tools/leaks ran on them. A program of judge whose line is read to change the order is one to tune on from
+# then on: those of beside, tried and seen were judging groups until their lines were read.
 #
 # Java is that of JAVA_HOME, else that of PATH. A program is left out if it needs a later version, or a library that
 # /usr/share/java does not have; the row then says the Debian package.
@@ -375,6 +377,80 @@ seen/SiftService 17 2 liblogback-java,libslf4j-java logback-classic,logback-core
         | ch/qos/logback/core/sift/SiftingAppenderBase.appenderTracker
 seen/RealmService 17 2 libplexus-classworlds-java plexus-classworlds
     org/codehaus/plexus/classworlds/ClassWorld.realms | seen/RealmService.world
+judge/ReplicaService 17 2
+    java/io/ObjectOutputStream$HandleTable.objs | java/io/ObjectOutputStream.handles | judge/ReplicaService$Replica.out
+    says lisbon-2
+judge/RemoteService 17 2
+    judge/RemoteService$Recorder.calls
+    says tariffs
+judge/TillService 17 2
+    judge/TillService$Till.unprinted
+    says till-11
+judge/EditorService 17 2
+    javax/swing/undo/CompoundEdit.edits | judge/EditorService$Document.edits
+    says price-list
+judge/NoticeService 17 2
+    judge/NoticeService$Way.failed
+    says PAGER
+judge/BookingService 17 2
+    judge/BookingService$Room.root
+    says lobby
+judge/SupplierService 17 2
+    local judge/SupplierService$Supplier.run | thread "import-tyres"
+    says import-tyres
+judge/OfferService 17 2
+    com/sun/org/apache/xerces/internal/util/SymbolTable.fBuckets | judge/OfferService.parser
+judge/TextService 17 2
+    static java/util/ResourceBundle.cacheList
+judge/BoardService 17 3
+    java/util/concurrent/SubmissionPublisher.clients | judge/BoardService.departures
+judge/VisitService 17 2
+    judge/VisitService$Visitors.bySilence
+judge/TripService 17 2
+    judge/TripService$Node.edges
+judge/OutlineService 17 3
+    static judge/OutlineService.OUTLINES
+judge/TellerService 17 2 libhsqldb-java hsqldb
+    org/hsqldb/StatementManager.csidMap | org/hsqldb/StatementManager.statementSet
+        | org/hsqldb/Session.statementManager
+    says night-audit
+judge/QueryService 17 2 libcaffeine-java caffeine
+    com/github/benmanes/caffeine/cache/BoundedLocalCache.data
+        | com/github/benmanes/caffeine/cache/*.accessOrder*Deque
+        | com/github/benmanes/caffeine/cache/AbstractLinkedDeque.first
+        | com/github/benmanes/caffeine/cache/BoundedLocalCache$BoundedLocalManualCache.cache
+        | judge/QueryService$Rules.compiled
+    says inbox-search
+judge/LatencyService 17 2 libdropwizard-metrics-java,libslf4j-java metrics-core,slf4j-api
+    com/codahale/metrics/SlidingTimeWindowReservoir.measurements | com/codahale/metrics/Histogram.reservoir
+    says checkout
+judge/DelayService 17 3 libcommons-math3-java commons-math3
+    org/apache/commons/math3/util/ResizableDoubleArray.internalArray
+        | org/apache/commons/math3/stat/descriptive/DescriptiveStatistics.eDA | judge/DelayService$Line.delays
+    says airport
+judge/FerryService 17 2 librx-java,libreactive-streams-java rxjava,reactive-streams
+    io/reactivex/rxjava3/subjects/ReplaySubject$UnboundedReplayBuffer.buffer
+        | io/reactivex/rxjava3/subjects/ReplaySubject.buffer
+    says north-pier
+judge/SeatService 17 3 libfastutil-java fastutil
+    it/unimi/dsi/fastutil/longs/Long2ObjectOpenHashMap.value | judge/SeatService$Hall.holds
+    says open-air
+judge/NumberService 17 2 libvavr0-java vavr-0.10.3,vavr-match-0.10.3
+    judge/NumberService$Numbers.all
+judge/TileService 17 2 libcommons-configuration2-java commons-configuration2,commons-lang3,commons-logging,commons-text
+    org/apache/commons/configuration2/event/EventListenerList.listeners
+        | org/apache/commons/configuration2/event/BaseEventSource.eventListeners
+judge/GreetingService 17 2 libspring-context-java spring3-context,spring3-core,commons-logging
+    org/springframework/context/support/MessageSourceSupport.messageFormatsPerMessage
+judge/TrailService 17 2 liblog4j2-java log4j-api
+    static org/apache/logging/log4j/MarkerManager.MARKERS
+judge/SwitchService 17 2 libjsch-java jsch
+    com/jcraft/jsch/KnownHosts.pool | com/jcraft/jsch/JSch.known_hosts
+judge/ScanService 17 2 libcommons-vfs-java commons-vfs2,commons-logging
+    org/apache/commons/vfs2/provider/ram/RamFileSystem.cache
+        | org/apache/commons/vfs2/provider/ram/RamFileData.children
+judge/SenderService 17 2 libdnsjava-java dnsjava
+    org/xbill/DNS/Cache.data | judge/SenderService.found
 PROGRAMS
 }
 
