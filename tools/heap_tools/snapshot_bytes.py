@@ -1,7 +1,8 @@
 """Files of several kinds in bytes of one kind, so that they can be compared."""
 
 import os
-from typing import Dict, List, Sequence, Tuple
+from dataclasses import replace
+from typing import Dict, List, NamedTuple, Sequence, Tuple
 
 from heap_tools.class_names import CLASSES
 from heap_tools.dump_runs import read_dump
@@ -13,6 +14,7 @@ from heap_tools.object_totals import shapes_of
 from heap_tools.object_sizes import ObjectSizes, RowSizes
 from heap_tools.reports import Amount, Report, Row
 from heap_tools.snapshots import Snapshot
+from heap_tools.unloaded_classes import unloaded_classes
 
 #: The rows of a report, and of a histogram, that are another row where both are compared: class objects are objects of
 #: their class, and arrays that fill gaps in the heap are arrays of int in a dump.
@@ -36,33 +38,47 @@ def in_common_bytes(snapshots: Sequence[Snapshot], dump_bytes: bool) -> Tuple[Li
     return found, words
 
 
+class _Measured(NamedTuple):
+    """What the rows of a dump take in the heap, and the class objects that a histogram beside it has and the dump
+    lacks."""
+
+    sizes: RowSizes
+    omitted: Amount
+
+
 def _in_heap(snapshots: Sequence[Snapshot]) -> Tuple[List[Snapshot], str]:
     """Returns dumps in bytes of the heap, beside histograms; or all as they are, if the layout of one is not known."""
     dumps = [each for each in snapshots if each.kind == "dump"]
     if not all(os.path.isfile(each.path) for each in dumps):
         return [*snapshots], ""
-    found: Dict[str, RowSizes] = {}
+    found: Dict[str, _Measured] = {}
     for each in dumps:
         try:
-            found[each.path] = _sizes_of(each, len(dumps) < len(snapshots))
+            found[each.path] = _measured(each, len(dumps) < len(snapshots))
         except UnknownLayout as unknown:
             return [*snapshots], unknown_words(each.path, each.report, str(unknown))
-    last = found[dumps[-1].path] if dumps else None
-    counted = [_counted(each, found[each.path].like(last)) if last and each in dumps else each for each in snapshots]
+    last = found[dumps[-1].path].sizes if dumps else None
+    counted = [_counted(each, found[each.path], last) if last and each in dumps else each for each in snapshots]
     return counted, layout_words(last)
 
 
-def _sizes_of(snapshot: Snapshot, beside_histogram: bool) -> RowSizes:
-    """Returns what rows of a dump take. Beside a histogram, which has the sizes of all objects, all are read."""
+def _measured(snapshot: Snapshot, beside_histogram: bool) -> _Measured:
+    """Returns what a dump has in the heap. Beside a histogram, which has the sizes of all objects, all are read."""
     dump = read_dump(snapshot.path, os.path.getsize(snapshot.path), snapshot.report)
     with dump.file:
         sizes = ObjectSizes(dump)
-        return sizes.of_all(shapes_of(dump)) if beside_histogram else sizes.rows
+        if not beside_histogram:
+            return _Measured(sizes.rows, Amount())
+        omitted = unloaded_classes(dump, sizes.is_ascending, snapshot.report.unresolved)
+        return _Measured(sizes.of_all(shapes_of(dump)), omitted)
 
 
-def _counted(snapshot: Snapshot, sizes: RowSizes) -> Snapshot:
-    """Returns a dump in bytes of the heap."""
-    return snapshot._replace(report=sizes.report(snapshot.report))
+def _counted(snapshot: Snapshot, measured: _Measured, last: RowSizes) -> Snapshot:
+    """Returns a dump in bytes of the heap, in rows that the last dump has, too, as by its sizes. The omitted class
+    objects are in their class's row, but not in the totals, which are heapmark's."""
+    report = measured.sizes.like(last).report(snapshot.report)
+    omitted = [Row(CLASS_OBJECTS, measured.omitted)] if measured.omitted.objects else []
+    return snapshot._replace(report=replace(report, rows=[*report.rows, *omitted]))
 
 
 def _joined(report: Report) -> Report:

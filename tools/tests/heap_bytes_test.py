@@ -4,9 +4,11 @@ import os
 import pathlib
 import tempfile
 import unittest
+from dataclasses import replace
 from unittest import mock
 
 from heap_tools import heap_bytes
+from heap_tools.class_growth import growths
 from heap_tools.faults import Fault
 from heap_tools.heap_bytes import counted_in_heap
 from heap_tools.heap_layout import Layout
@@ -118,6 +120,31 @@ class FilesTest(unittest.TestCase):
             with self.assertRaisesRegex(Fault, "histogram: a histogram: its bytes are not those of"):
                 in_common_bytes([self.histogram, other], dump_bytes)
         self.assertTrue(pathlib.Path("few").exists())
+
+    def test_class_objects(self) -> None:
+        """Class objects that only the histogram has, since the dump omits them, are no growth and do not shrink."""
+        it = heap(8)
+        table = it.of_class("[Ljava/lang/Object;", number=it.place(112))
+        lacking = [it.place(size) for size in (112, 120, 136)]
+        it.dump.root(it.values(BYTE, 8), it.array(table, 4, [*lacking, table]))
+        it.written().write("dump")
+        dump = self.dump._replace(report=replace(MarkedRuns(it.read()).report, unresolved=len(lacking)))
+        (alone, _), _ = in_common_bytes([dump, dump], False)
+        loaded = alone.report.amount("<class>")
+        rows = [Row("java/lang/Class", loaded.plus(Amount(3, 368)))]
+        rows += [row for row in alone.report.rows if row.name != "<class>"]
+        histogram = self.histogram._replace(report=Report(rows, in_heap=True))
+        for files in ([dump, histogram], [histogram, dump], [dump, histogram, dump]):
+            found, _ = in_common_bytes(files, False)
+            self.assertEqual(growths([each.report for each in found]), [])
+            reports = [each.report for each in found if each.kind == "dump"]
+            self.assertEqual({each.reachable for each in reports}, {alone.report.reachable})
+        more = histogram._replace(
+            report=replace(histogram.report, rows=[*rows, Row("java/lang/Class", Amount(1, 112))])
+        )
+        found, _ = in_common_bytes([dump, more], False)
+        (growth,) = growths([each.report for each in found])
+        self.assertEqual((growth.name, growth.amount), ("java/lang/Class", Amount(1, 112)))
 
 
 if __name__ == "__main__":

@@ -36,11 +36,12 @@ older than the one before it, or if the files seem to be of two programs.
 
 Bytes are those of the heap, with headers and padding of objects, as a histogram
 has them: sizes --help says how they are found, which is not proved. The counts
-of objects in dumps are: they are heapmark's. Bytes of a saved report are those
-of the dump: reports are not mixed with histograms, and dumps beside a report
-count as it does. So do dumps whose layout is not known, and those that come
-from a pipe. A file that is not plain must be a dump. Put a name that begins
-with a hyphen after `--`.
+of objects in dumps are: they are heapmark's. Only beside a histogram, the class
+objects that a dump omits are added, whose number is not proved: those of the
+line (omitted) of sizes. Bytes of a saved report are those of the dump: reports
+are not mixed with histograms, and dumps beside a report count as it does. So do
+dumps whose layout is not known, and those that come from a pipe. A file that is
+not plain must be a dump. Put a name that begins with a hyphen after `--`.
 
 heapmark is taken from the variable HEAPMARK, else from beside this tool, else
 from the build in this repository, else from PATH. It runs with
