@@ -16,7 +16,7 @@ HIDDEN_HOLDERS = (
     f"({VIRTUAL_THREADS})"
 )
 #: Why objects are unreachable, by the kind of dump.
-WHY_UNREACHABLE = f"garbage in dumps with -all; in live dumps {HIDDEN_HOLDERS}"
+WHY_UNREACHABLE = f"garbage in dumps with -all or of an OutOfMemoryError; in live dumps {HIDDEN_HOLDERS}"
 #: What no dump shows, of whatever program.
 NEVER_SHOWN = [
     "Memory outside of the heap: direct buffers, class metadata, compiled code, and the memory of stacks.",

@@ -20,6 +20,11 @@ class OmissionsTest(unittest.TestCase):
             with self.subTest(wanted):
                 self.assertTrue(omissions.more_unreachable(more).startswith(wanted), omissions.more_unreachable(more))
 
+    def test_why(self) -> None:
+        """A dump of an OutOfMemoryError has garbage, as one with -all has: no collection comes before either."""
+        said = omissions.more_unreachable(Amount(2, 48))
+        self.assertIn("garbage in dumps with -all or of an OutOfMemoryError; in live dumps only class objects", said)
+
     def test_on_page(self) -> None:
         """Only what is more is said."""
         self.assertEqual(omissions.on_page(Amount(-1, 0)), [])

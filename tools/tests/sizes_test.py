@@ -19,7 +19,6 @@ LAYOUT = (
     "sizes: the layout that neighbours show: header 12 bytes, of an array 16, references 4 (compressed), sizes are "
 )
 LAYOUT += "multiples of 8"
-HOLDERS_HIDDEN = "sizes: * objects are unreachable: garbage in dumps with -all; *"
 
 
 def shop() -> LaidOutHeap:

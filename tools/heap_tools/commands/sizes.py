@@ -38,11 +38,12 @@ is counted by heapmark, which is proved; what is not, class by class, is counted
 by this tool. Sizes are not proved, but were compared with virtual machines.
 
 The last lines are what is reachable, what is not, and all. Objects are
-unreachable if they are garbage, in dumps with -all, or if dumps omit what holds
-them. If a line (omitted) is before the last, the heap has class objects that
-the dump lacks, of classes in the JDK's archive that were not loaded: an array
-of the virtual machine refers to them. The line java/lang/Class has the others,
-with their static fields. An array counts for the package of its elements.
+unreachable if they are garbage, in dumps with -all or of an OutOfMemoryError,
+or if dumps omit what holds them. If a line (omitted) is before the last, the
+heap has class objects that the dump lacks, of classes in the JDK's archive that
+were not loaded: an array of the virtual machine refers to them. The line
+java/lang/Class has the others, with their static fields. An array counts for
+the package of its elements.
 
 Free memory is not shown, and neither is what no object has, such as the stacks
 of threads. The stacks of virtual threads that wait are objects: a line on
@@ -69,7 +70,7 @@ def parser() -> Parser:
     it.operand("dump", "A heap dump, in a plain file: it is read several times")
     it.flag("--packages", "Show packages in place of classes")
     it.flag("--unreachable", "Show only classes that have unreachable objects, those with most bytes of these first")
-    it.option("--top", "N", "Show at most N lines, besides the last three", type=number(1))
+    it.option("--top", "N", "Show at most N lines, besides the totals at the end", type=number(1))
     it.option("--html", "FILE", "Also write a page for a browser, with a picture of the heap, to FILE")
     it.flag("--json", "Print all that lines and notes say as a JSON document")
     return it
