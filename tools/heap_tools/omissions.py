@@ -2,7 +2,7 @@
 
 from typing import List, Optional
 
-from heap_tools.humanize import more_are, size
+from heap_tools.humanize import counted, more_are, size
 from heap_tools.reports import Amount
 
 #: What dumps omit of virtual threads that wait, by the version of the JDK.
@@ -34,6 +34,12 @@ MUCH_OF_MORE, MUCH_OF_HEAP = 20, 1
 def more_unreachable(more: Amount) -> str:
     """Returns how much more is unreachable in a later dump, and why. `more` is above 0 in one figure at least."""
     return f"{more_are(*more)} unreachable: {WHY_UNREACHABLE}"
+
+
+def counted_by_histogram(unreachable: int, dump: str) -> str:
+    """Returns that a histogram also counts the `unreachable` objects of the dump with which it is compared."""
+    what = counted(unreachable, "object")
+    return f"a histogram also counts what is unreachable in {dump}, unless it is garbage: {what}"
 
 
 def on_page(more: Amount) -> List[str]:

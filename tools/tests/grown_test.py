@@ -10,7 +10,9 @@ from typing import Any, Sequence
 from unittest import mock
 
 from heap_tools.class_growth import ClassGrowth, lines_to_print
+from heap_tools.heap_layout import Layout
 from heap_tools.reports import Amount, Unit
+from tests.support.laid_out_heap import LaidOutHeap
 from tests.support.tool_test import TOP, Row, ToolTest, histogram, report
 
 TWO_OBJECTS = TOP / "crates/heapmark/data/two_objects.hprof"
@@ -244,6 +246,18 @@ class GrownTest(ToolTest):
         self.expect(["after", "before"])
         self.expect(["before", "after", "before", "after"], said=grows)
         self.expect(["--more-than", "0", "before", "after"], said=grows)
+
+    def test_unreachable_beside_a_histogram(self) -> None:
+        """A histogram counts what is unreachable in a dump, so it is not said that more is unreachable in the dump."""
+        heap = LaidOutHeap(Layout(8, 12, 4, 16))
+        heap.mixed(200)
+        order = heap.of_class("shop/Order", 2)
+        heap.dump.root(heap.instance(order))
+        heap.written().write("heap.hprof")
+        pathlib.Path("counted").write_text(histogram((1, 24, "shop.Order"), (1, 16, "java.lang.Class")))
+        said = "grown: a histogram also counts what is unreachable in heap.hprof, unless it is garbage: 2,4* objects"
+        self.expect(["heap.hprof", "counted"], said=said)
+        self.expect(["counted", "heap.hprof"], said=said)
 
     def test_two_programs(self) -> None:
         """Files of two programs have few own classes in common."""

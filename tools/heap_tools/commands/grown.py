@@ -11,8 +11,8 @@ from heap_tools.command_line import Parser, number
 from heap_tools.console import is_terminal, say, write
 from heap_tools.documents import document, grown_fields
 from heap_tools.faults import MORE
-from heap_tools.omissions import more_unreachable
-from heap_tools.reports import Report, Unit
+from heap_tools.omissions import counted_by_histogram, more_unreachable
+from heap_tools.reports import Unit
 from heap_tools.same_program import Taken, other_program, same_file, wrong_order
 from heap_tools.snapshot_bytes import in_common_bytes
 from heap_tools.snapshots import Snapshot, hours_between, read_snapshots
@@ -31,8 +31,9 @@ then stops is no leak. The steps and the growth per hour are in objects, with
 Classes of the same name are added together. So are hidden classes, such as
 those of lambdas, whose names differ only in a counter and an address:
 `$14+0x..` is cut off. A line on standard error says if more objects are
-unreachable in the last file, which --more-than does not count, if a dump is
-older than the one before it, or if the files seem to be of two programs.
+unreachable in the last file, which --more-than does not count, if a histogram
+has what is unreachable in a dump, if a dump is older than the one before it, or
+if the files seem to be of two programs.
 
 Bytes are those of the heap, with headers and padding of objects, as a histogram
 has them: sizes --help says how they are found, which is not proved. The counts
@@ -88,9 +89,13 @@ def order_note(snapshots: Sequence[Snapshot]) -> str:
     return wrong_order([Taken(each.path, each.time) for each in snapshots]) or ""
 
 
-def unreachable_note(first: Report, last: Report) -> str:
-    """Returns how much more is unreachable in the last file, empty if that is nothing."""
-    more = last.unreachable.minus(first.unreachable)
+def unreachable_note(first: Snapshot, last: Snapshot) -> str:
+    """Returns how much more is unreachable in the last file, or what is in a dump beside a histogram, which does not
+    tell it apart. Empty if that is nothing."""
+    if "histogram" in (first.kind, last.kind):
+        both = ((each.report.unreachable.objects, each.path) for each in (first, last))
+        return next((counted_by_histogram(*each) for each in both if each[0]), "")
+    more = last.report.unreachable.minus(first.report.unreachable)
     return f"{more_unreachable(more)}: compare outputs of jmap -histo:live, which count it" if max(more) > 0 else ""
 
 
@@ -103,7 +108,7 @@ def program_note(first: Snapshot, last: Snapshot) -> str:
 def grown_sentences(snapshots: Sequence[Snapshot]) -> List[str]:
     """Returns what is said beside the lines."""
     first, last = snapshots[0], snapshots[-1]
-    every = order_note(snapshots), unreachable_note(first.report, last.report), program_note(first, last)
+    every = order_note(snapshots), unreachable_note(first, last), program_note(first, last)
     return [each for each in every if each]
 
 
