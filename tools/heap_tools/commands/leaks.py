@@ -84,8 +84,9 @@ and the last are asked what the lines held; of others only the reports are used.
 
 Of one dump, the columns are the objects and bytes that are held, their share of
 all that is reachable, and the number of instances. The score of a line is what
-it holds, unless more than 64 instances have a value in the field, of which no
-one holds most. The second line is beside the first: something else may leak,
+it holds; of a field that has a value in more than 64 instances, what one of
+these holds if that is most of it, else nothing. If an own line is beside the
+first, neither above nor below it, the best such one is second: it may leak,
 too. Messages say how full the heap is, which object holds most, what is in it,
 and in which methods memory ran out: of an unlucky thread, which need not be the
 cause.
