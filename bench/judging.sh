@@ -1,9 +1,9 @@
 # Programs that are dumped, and lines of tools/leaks that are judged. To be sourced by leaks.sh and oom.sh, which have a
 # function `programs` that prints their tables, before they do anything: it reads their words by usage.sh.
 #
-# Sets `java` and the functions of machine.sh; `top`, the repository; `leaks`, the command that is tried, and `held`;
-# `room`, a folder that is removed at the end; `dumps`, the folder of the dumps; and HEAPMARK, a program that counts how
-# often it is started and becomes heapmark.
+# Sets `java` and the functions of machine.sh; `release`, the version of Java, unless DUMPED is set; `top`, the
+# repository; `leaks`, the command that is tried, and `held`; `room`, a folder that is removed at the end; `dumps`, the
+# folder of the dumps; and HEAPMARK, a program that counts how often it is started and becomes heapmark.
 #
 # A table has three lines for each program or more, of which each but the first is indented:
 #
@@ -25,6 +25,7 @@ read -r -a held <<< "${HELD:-$top/tools/held}"
 room=$(mktemp -d)
 trap 'rm -rf "$room"' EXIT
 dumps=${DUMPED:-${KEPT:-$room}}
+[ -n "${DUMPED:-}" ] || release=$(version)
 right=0 partly=0 wrong=0 omitted=0
 
 # counting: writes the program that counts its starts.
@@ -69,10 +70,10 @@ megabytes() {
     stat -c %s "$@" | awk '{ printf "%s%.1f", (NR == 1 ? "" : ", "), $1 / 1e6 }'
 }
 
-# class_path JARS: sets `path` to the class path of the jars. Returns 1 if one is missing.
+# class_path JARS: sets `path` to the class path of the jars, a colon before each. Returns 1 if one is missing.
 class_path() {
     local jar jars
-    path=$room/classes
+    path=
     [ "$1" != - ] || return 0
     IFS=, read -r -a jars <<< "$1"
     for jar in "${jars[@]}"; do
@@ -88,18 +89,32 @@ missing() {
     local last=${1#*-}
     if [ -n "${DUMPED:-}" ]; then
         [ -e "${files[0]:-}" ] || echo "a dump${files[0]:+, $(basename "${files[0]}")}"
-    elif [ "${1%-*}" -gt "$(version)" ]; then
+    elif [ "${1%-*}" -gt "$release" ]; then
         echo "Java ${1%-*}"
-    elif [[ $1 = *-* && $last -lt $(version) ]]; then
+    elif [[ $1 = *-* && $last -lt $release ]]; then
         echo "Java $last or older"
     else
         class_path "$3" || echo "${2//,/ }"
     fi
 }
 
-# compiled SOURCES FILE: compiles a program of the folder SOURCES by the class path `path`.
-compiled() {
-    "${java}javac" -Xlint:-options -encoding UTF-8 -sourcepath "$1" -cp "$path" -d "$room/classes" "$2"
+# compile SOURCES: compiles the programs of `chosen` that lack nothing, those of a folder of SOURCES by one javac. A
+# library's annotation processor would run on the programs of others, too: so none does.
+compile() {
+    local row folder name needed packages jars
+    local -A paths=()
+    for row in "${chosen[@]}"; do
+        IFS=$'\t' read -r folder name needed _ packages jars _ <<< "$row"
+        if [ -z "$(missing "$needed" "$packages" "$jars")" ]; then
+            class_path "$jars"
+            paths[$folder]+=$path
+            echo "\"$1/$folder/$name.java\"" >> "$room/$folder.files"
+        fi
+    done
+    for folder in "${!paths[@]}"; do
+        "${java}javac" -Xlint:-options -proc:none -encoding UTF-8 -sourcepath "$1" \
+            -cp "$room/classes${paths[$folder]}" -d "$room/classes" "@$room/$folder.files"
+    done
 }
 
 # is FIELD HOLDERS: tests whether FIELD is one of HOLDERS. More words may come after the field.

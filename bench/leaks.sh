@@ -464,12 +464,11 @@ catalog() {
     { "${held[@]}" "$1" "$2/Catalog.PRODUCTS" 2> /dev/null || true; } | awk '{ bytes += $2 } END { print bytes }'
 }
 
-# dumped FOLDER NAME: compiles the program and runs it, which dumps itself to `files`.
+# dumped FOLDER NAME: runs the program, which dumps itself to `files`.
 dumped() {
-    compiled "$top/bench/java/leaks" "$top/bench/java/leaks/$1/$2.java"
     rm -f "${files[@]}"
-    "${java}java" -cp "$path" "-Xmx$((64 + 64 * scale))m" "-Dscale=$scale" "-Djava.io.tmpdir=$room" "$1.$2" \
-        "${files[@]}" > "$room/told" 2>&1 || { cat "$room/told" >&2; exit 1; }
+    "${java}java" -cp "$room/classes$path" "-Xmx$((64 + 64 * scale))m" "-Dscale=$scale" "-Djava.io.tmpdir=$room" \
+        "$1.$2" "${files[@]}" > "$room/told" 2>&1 || { cat "$room/told" >&2; exit 1; }
 }
 
 # judge HOLDERS WORDS: counts and prints what the answer is worth.
@@ -499,8 +498,9 @@ try() {
 choose "$@"
 counting
 mkdir -p "$dumps"
+[ -n "${DUMPED:-}" ] || compile "$top/bench/java/leaks"
 on=${DUMPED:+, searched again}
-echo "| Service | Dumps, MB | Grew, MB | Catalog, MB | Seconds | Runs | First line${on:-, on Java $(version)} |"
+echo "| Service | Dumps, MB | Grew, MB | Catalog, MB | Seconds | Runs | First line${on:-, on Java $release} |"
 echo '|---|---|---|---|---|---|---|'
 for row in "${chosen[@]}"; do
     IFS=$'\t' read -r folder name needed number packages jars holders words _ <<< "$row"

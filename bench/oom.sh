@@ -120,18 +120,17 @@ PROGRAMS
 
 # collector NUMBER: prints the collector of the program of this number in the table.
 collector() {
-    echo "${COLLECTOR:-${collectors[($1 + ($(version) - 17) / 4) % ${#collectors[@]}]}}"
+    echo "${COLLECTOR:-${collectors[($1 + (release - 17) / 4) % ${#collectors[@]}]}}"
 }
 
-# dumped FOLDER NAME FILE: compiles the program and runs it, whose heap is dumped to FILE.
+# dumped FOLDER NAME FILE: runs the program, whose heap is dumped to FILE.
 dumped() {
     local options=("-Xmx${memory}m" "-XX:+Use${collector}GC")
-    compiled "$top/bench/java/oom" "$top/bench/java/oom/$1/$2.java"
     rm -f "$3"
     if [ "$1" = full ]; then
         options+=(-XX:+HeapDumpOnOutOfMemoryError "-XX:HeapDumpPath=$3" -XX:+ExitOnOutOfMemoryError)
     fi
-    timeout "$limit" "${java}java" -cp "$path" "${options[@]}" "$1.$2" "$3" > "$room/told" 2>&1 || true
+    timeout "$limit" "${java}java" -cp "$room/classes$path" "${options[@]}" "$1.$2" "$3" > "$room/told" 2>&1 || true
     [ -s "$3" ] || { cat "$room/told" >&2; echo "$1/$2: no dump" >&2; exit 1; }
 }
 
@@ -212,6 +211,7 @@ try() {
 choose "$@"
 counting
 mkdir -p "$dumps"
+[ -n "${DUMPED:-}" ] || compile "$top/bench/java/oom"
 shopt -s nullglob
 mapfile -t order < <(rows | cut -f 2)
 echo '| Dump | MB | Seconds | Runs | First line |'
@@ -223,7 +223,7 @@ for row in "${chosen[@]}"; do
     else
         for number in "${!order[@]}"; do [ "${order[number]}" != "$name" ] || break; done
         collector=$(collector "$number")
-        files=("$dumps/$name-$(version)-$collector.hprof")
+        files=("$dumps/$name-$release-$collector.hprof")
     fi
     lacking=$(missing "$needed" "$packages" "$jars")
     if [ -n "$lacking" ]; then

@@ -1,4 +1,5 @@
-"""Tests how bench/leaks.sh and bench/oom.sh judge what leaks prints, with small programs in place of leaks and held."""
+"""Tests how bench/leaks.sh and bench/oom.sh compile programs and judge what leaks prints, with small programs in place
+of a JDK, leaks and held."""
 
 from __future__ import annotations
 
@@ -17,6 +18,21 @@ cat "$(dirname "$0")/lines"; cat "$(dirname "$0")/told" >&2
 """
 #: Prints the line of the file `hanging` that begins with the fields and a colon, without these.
 HELD = '#!/bin/sh\nsed -n "s|^$2: ||p" "$(dirname "$0")/hanging"\n'
+#: Says its version, or writes the dumps of a program.
+JAVA = """#!/bin/sh
+[ "$2" != -version ] || echo '    java.specification.version = 17' >&2
+for word; do
+    case $word in
+        -*) ;;
+        *.hprof) echo dump > "$word" ;;
+    esac
+done
+"""
+#: Notes in a line the sources that the file has which its last word names.
+JAVAC = """#!/bin/sh
+for word; do :; done
+sed 's|.*/||; s|"$||' "${word#@}" | paste -s -d ' ' - >> "$(dirname "$0")/compiled"
+"""
 FIGURES = "       30          2048     90%  0 -> 9        1  "
 RAN_OUT = 'leaks: memory ran out in thread "chat-3" in full/Chat.say, full/Chat.serve\n'
 RAN_OUT_OF_TOKENS = 'leaks: cache "tokens"\nleaks: memory ran out in thread "cart-1" in full/Eternal.serve\n'
@@ -29,12 +45,17 @@ class JudgingTest(unittest.TestCase):
         room = tempfile.TemporaryDirectory()
         self.addCleanup(room.cleanup)
         self.room = pathlib.Path(room.name)
-        (self.room / "dumps").mkdir()
+        for name in ("dumps", "bin"):
+            (self.room / name).mkdir()
         for name, text in (("heapmark", HEAPMARK), ("leaks", LEAKS), ("held", HELD), ("hanging", "")):
-            (self.room / name).write_text(text)
-            (self.room / name).chmod(0o755)
+            self.program(name, text)
 
-    def ended(self, script: str, *words: str, line: str = "", told: str = "") -> tuple[int, str]:
+    def program(self, name: str, text: str) -> None:
+        """Writes a program."""
+        (self.room / name).write_text(text)
+        (self.room / name).chmod(0o755)
+
+    def ended(self, script: str, *words: str, line: str = "", told: str = "", **variables: str) -> tuple[int, str]:
         """Runs a script of bench/ on the dumps, where leaks prints a line and says something. Returns its status and
         what it printed."""
         (self.room / "lines").write_text(f"{FIGURES}{line}\n" if line else "")
@@ -42,7 +63,7 @@ class JudgingTest(unittest.TestCase):
         given = {"HEAPMARK": "heapmark", "LEAKS": "leaks", "HELD": "held", "DUMPED": "dumps"}
         run = subprocess.run(
             [str(TOP / "bench" / script), *words],
-            env={**os.environ, **{name: str(self.room / file) for name, file in given.items()}},
+            env={**os.environ, **{name: str(self.room / file) for name, file in given.items()}, **variables},
             stdin=subprocess.DEVNULL,
             stdout=subprocess.PIPE,
             stderr=subprocess.STDOUT,
@@ -54,6 +75,29 @@ class JudgingTest(unittest.TestCase):
         """Writes dumps of these names."""
         for name in names:
             (self.room / "dumps" / f"{name}.hprof").write_text("dump")
+
+    def test_compiled(self) -> None:
+        """The programs of a folder are compiled at once, but for those that lack something."""
+        self.program("bin/java", JAVA)
+        self.program("bin/javac", JAVAC)
+        for script, words, compiled, rows in (
+            (
+                "leaks.sh",
+                ["MetricsService", "ScopeService", "BasketService", "QuoteService"],
+                ["BasketService.java", "MetricsService.java QuoteService.java"],
+                "0 right, 3 wrong, 1 left out",
+            ),
+            (
+                "oom.sh",
+                ["Chat", "Pages", "Report"],
+                ["Chat.java Report.java", "Pages.java"],
+                "0 right, 3 wrong, 0 left out",
+            ),
+        ):
+            (self.room / "bin/compiled").write_text("")
+            _, out = self.ended(script, *words, DUMPED="", JAVA_HOME=str(self.room))
+            self.assertEqual(out.splitlines()[-1], rows)
+            self.assertEqual(sorted((self.room / "bin/compiled").read_text().splitlines()), compiled)
 
     def test_two_dumps(self) -> None:
         """A line is right if it ends with the holder, and partly right if nothing says which object it is."""
