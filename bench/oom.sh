@@ -36,8 +36,9 @@ set -euo pipefail
 # shellcheck source=bench/judging.sh
 . "$(dirname "$0")/judging.sh"
 collectors=(G1 Serial Parallel Z Shenandoah)
-# The megabytes of a heap, and the seconds in which it has to be full.
-memory=48 limit=60
+# The megabytes of a heap, the seconds in which it has to be full (a slow machine took more than 60), and the status of
+# what was killed then.
+memory=48 limit=600 killed=137
 asked=()
 
 # programs: prints the table, as judging.sh says. The number of dumps is 1.
@@ -123,14 +124,16 @@ collector() {
     echo "${COLLECTOR:-${collectors[($1 + (release - 17) / 4) % ${#collectors[@]}]}}"
 }
 
-# dumped FOLDER NAME FILE: runs the program, whose heap is dumped to FILE.
+# dumped FOLDER NAME FILE: runs the program, whose heap is dumped to FILE. One that takes too long is killed: another
+# signal would start a thread in it, which may run out of memory and dump the heap.
 dumped() {
     local options=("-Xmx${memory}m" "-XX:+Use${collector}GC")
     rm -f "$3"
     if [ "$1" = full ]; then
         options+=(-XX:+HeapDumpOnOutOfMemoryError "-XX:HeapDumpPath=$3" -XX:+ExitOnOutOfMemoryError)
     fi
-    timeout "$limit" "${java}java" -cp "$room/classes$path" "${options[@]}" "$1.$2" "$3" > "$room/told" 2>&1 || true
+    timeout --signal=KILL "$limit" "${java}java" -cp "$room/classes$path" "${options[@]}" "$1.$2" "$3" \
+        > "$room/told" 2>&1 || [ $? != $killed ] || rm -f "$3"
     [ -s "$3" ] || { cat "$room/told" >&2; echo "$1/$2: no dump" >&2; exit 1; }
 }
 

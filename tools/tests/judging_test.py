@@ -99,6 +99,15 @@ class JudgingTest(unittest.TestCase):
             self.assertEqual(out.splitlines()[-1], rows)
             self.assertEqual(sorted((self.room / "bin/compiled").read_text().splitlines()), compiled)
 
+    def test_killed(self) -> None:
+        """A program that does not run out of memory in time has no dump, and that is an error."""
+        self.program("bin/java", JAVA)
+        self.program("bin/javac", JAVAC)
+        self.program("bin/timeout", '#!/bin/sh\nshift 2\n"$@"\nexit 137\n')
+        path = f"{self.room}/bin:{os.environ['PATH']}"
+        status, out = self.ended("oom.sh", "Chat", DUMPED="", JAVA_HOME=str(self.room), PATH=path)
+        self.assertEqual((status, out.splitlines()[-1]), (1, "full/Chat: no dump"))
+
     def test_two_dumps(self) -> None:
         """A line is right if it ends with the holder, and partly right if nothing says which object it is."""
         self.dump("BasketService-before", "BasketService-after")
