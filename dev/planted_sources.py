@@ -172,16 +172,10 @@ FOUND = [
         ["AllocError (memory)"],
     ),
     (
-        "a file that nobody read",
-        PIPELINE,
-        "fn f(g: &Graph) -> R { if g.len() == 12345 { return Err(Refusal::READ_FAULT); } h(g) }",
-        ["READ_FAULT (causes)"],
-    ),
-    (
         "a refusal in the arm of another",
         PIPELINE,
-        "fn f(e: E) -> R { match e { E::OutOfMemory => R::BAD_OPTIONS, E::ReadFault => R::READ_FAULT } }",
-        ["BAD_OPTIONS (causes)"],
+        "fn f(e: E) -> R { match e { E::OutOfMemory => R::READ_FAULT, E::ReadFault => R::OUT_OF_MEMORY } }",
+        ["OUT_OF_MEMORY (memory)"],
     ),
     (
         "a refused thread that nobody started",
@@ -189,20 +183,19 @@ FOUND = [
         "fn f() -> R { R::from(RunFault::WorkerRefused(RefusedThread(()))) }",
         ["RefusedThread (causes)"],
     ),
-    ("a helper", PIPELINE, "fn f() -> Refusal { Refusal::READ_FAULT }", ["READ_FAULT (causes)"]),
     ("a macro", PIPELINE, "macro_rules! unread { () => { Err(Refusal::READ_FAULT) } }", ["macro_rules (hidden)"]),
     ("tests that are no tests", LEADER, "mod tests;", ["tests (hidden)"]),
     (
         "an arm for tests",
         PIPELINE,
-        "fn f(n: u8) -> R { match n { #[cfg(test)] 9 => h(), _ => Err(Refusal::READ_FAULT) } }",
-        ["cfg (hidden)", "READ_FAULT (causes)"],
+        "fn f(n: u8) -> R { match n { #[cfg(test)] 9 => h(), _ => Err(Refusal::OUT_OF_MEMORY) } }",
+        ["cfg (hidden)", "OUT_OF_MEMORY (memory)"],
     ),
     (
         "any other fault",
         PIPELINE,
-        "fn f(e: E) -> R { match e { fault if fault != E::ReadFault => R::READ_FAULT, _ => h() } }",
-        ["READ_FAULT (causes)"],
+        "fn f(e: E) -> R { match e { fault if fault != E::OutOfMemory => R::OUT_OF_MEMORY, _ => h() } }",
+        ["OUT_OF_MEMORY (memory)"],
     ),
     (
         "a failed call that starts nothing",
@@ -233,42 +226,6 @@ FOUND = [
         THREADS,
         "fn f(job: &J) -> R { if job.hook.may_start(1) { return Err(E::No(RefusedThread(()))); } g() }",
         ["RefusedThread (causes)"],
-    ),
-    (
-        "a file that was not opened",
-        COMMAND,
-        "fn f(a: &A) -> R { if a.workers == 63 { return Err(NoReport::Stopped(Refusal::READ_FAULT, None)); } g() }",
-        ["READ_FAULT (causes)"],
-    ),
-    (
-        "a failed call that reads nothing",
-        COMMAND,
-        "fn f() -> R { match g() { Err(_) => Err(Refusal::READ_FAULT), Ok(x) => h(x) } }",
-        ["READ_FAULT (causes)"],
-    ),
-    (
-        "a read that went well",
-        PIPELINE,
-        "fn f() -> R { match g() { Ok(_) => Err(E::ReadFault), Err(e) => Err(e) } }",
-        ["ReadFault (causes)"],
-    ),
-    (
-        "options that are good",
-        COMMAND,
-        "fn f(e: &mut E, a: &A) -> u8 { if a.workers == 63 { return print_refusal(e, &Refusal::BAD_OPTIONS); } 0 }",
-        ["BAD_OPTIONS (causes)"],
-    ),
-    (
-        "options after another test",
-        COMMAND,
-        "fn f() -> R { let Ok(x) = g() else { return Err(Refusal::BAD_OPTIONS); }; h(x) }",
-        ["BAD_OPTIONS (causes)"],
-    ),
-    (
-        "the fault of options elsewhere",
-        PIPELINE,
-        "fn f() -> R { R::from(SkipRefusal::BadOptions) }",
-        ["BadOptions (causes)"],
     ),
     (
         "a code by its number",
@@ -355,8 +312,8 @@ FOUND = [
     (
         "a binding with the name of the cause",
         PIPELINE,
-        "fn f(n: usize) -> R { match n { ReadFault if ReadFault == 12_345 => Err(Refusal::READ_FAULT), _ => h() } }",
-        ["READ_FAULT (causes)"],
+        "fn f(n: usize) -> R { match n { OutOfMemory if OutOfMemory == 1 => Err(Refusal::OUT_OF_MEMORY), _ => h() } }",
+        ["OUT_OF_MEMORY (memory)"],
     ),
     (
         "a variant with the name of the cause",
@@ -365,7 +322,7 @@ FOUND = [
         "fn f(e: E) -> R { match e { E::OutOfMemory => R::OUT_OF_MEMORY, _ => h() } }",
         ["OutOfMemory (causes)"],
     ),
-    ("an alias of a variant", PIPELINE, "use crate::Kind::First as ReadFault;", ["ReadFault (causes)"]),
+    ("an alias of a variant", PIPELINE, "use crate::Kind::First as OutOfMemory;", ["OutOfMemory (causes)"]),
     ("a failure of its own", PIPELINE, "struct AllocFailed;", ["AllocFailed (causes)"]),
     (
         "a method with the name of a call",
@@ -606,26 +563,11 @@ RIGHT = [
         "fn f(r: R) -> bool { let g = || -> Result<u8, AllocError> { h() }; matches!(r, Err(E::OutOfMemory)) }",
     ),
     ("a variant", PIPELINE, "pub enum E { Fault(u8), Refused }"),
-    (
-        "arms for the causes",
-        PIPELINE,
-        "fn f(e: E) -> R { match e { E::ReadFault => R::READ_FAULT, E::BadOptions => R::BAD_OPTIONS } }",
-    ),
-    (
-        "a read that failed",
-        PIPELINE,
-        "fn f() -> R { match self.read_behind(b, 1) { Err(_) => Err(E::ReadFault), Ok(x) => h(x) } }",
-    ),
     ("the codes of others", PIPELINE, "fn f(fault: &mut Fault) -> u8 { g(&mut fault.length, fault.code) }"),
-    (
-        "options that are tested",
-        COMMAND,
-        "fn f() -> R { let Ok(x) = options_of(a) else { return Err(Refusal::BAD_OPTIONS); }; h(x) }",
-    ),
     (
         "codes that are compared",
         PIPELINE,
-        "fn f(r: &Refusal) -> u8 { match r.code { BAD_OPTIONS if g() => 1, code => h(code == READ_FAULT) } }",
+        "fn f(r: &Refusal) -> u8 { match r.code { OUT_OF_MEMORY if g() => 1, code => h(code == OUT_OF_MEMORY) } }",
     ),
     ("a refusal as a result", PIPELINE, "fn f(fault: Fault) -> Refusal { Refusal::from(fault) }"),
 ]

@@ -52,33 +52,14 @@ ALLOCATING = {
     "line . texts",
     "words_of",
 }
-#: Other faults and refusals, and what the pattern of an arm names in which each may be made.
-CAUSES: dict[str, set[str]] = {
-    "BAD_OPTIONS": {"BadOptions"},
-    "BadOptions": set(),
-    "READ_FAULT": {"NotOpened", "ReadFault"},
-    "ReadFault": {"ReadFault"},
-    "RefusedThread": set(),
-}
-#: The calls in whose arm for `Err` a fault may also be made.
-FAILING = {
-    "ReadFault": {"self . read_behind"},
-    "RefusedThread": {"scope . spawn_with"},
-}
-#: Tests in whose block a fault may also be made, `let Ok(..) = TEST(..) else` or `if !TEST(..)`.
-GUARDS = {"BAD_OPTIONS": {"options_of"}, "RefusedThread": {"job . hook . may_start"}}
+#: The token of a thread that was refused, the call in whose arm for `Err` it may be made, and the test in whose block.
+REFUSED_THREAD, STARTING, MAY_START = "RefusedThread", {"scope . spawn_with"}, {"job . hook . may_start"}
 #: The files that declare the names of these faults and calls, so that no other item, variant, variable or parameter is
 #: taken for one. What the kit declares has none.
 DECLARED: dict[str, set[str]] = {
     **dict.fromkeys(("AllocError", "AllocFailed", "Table", "Vec", "format", "spawn_with"), set()),
-    **dict.fromkeys(("BAD_OPTIONS", "OUT_OF_MEMORY", "READ_FAULT"), {CODES}),
-    "BadOptions": {
-        "buffer_pool/src/pool/limits.rt",
-        "drain/src/options.rt",
-        "heap_graph/src/skip/refusal.rt",
-    },
+    "OUT_OF_MEMORY": {CODES},
     "Graph": {"heap_graph/src/graph.rt"},
-    "NotOpened": {"heapmark/src/no_report.rt"},
     "OutOfMemory": {
         "buffer_pool/src/pool/limits.rt",
         "drain/src/marked.rt",
@@ -91,12 +72,10 @@ DECLARED: dict[str, set[str]] = {
         "work_pair/src/stop.rt",
     },
     "Pool": {"buffer_pool/src/pool.rt"},
-    "ReadFault": {"histogram/src/read_to_limit.rt"},
     "RefusedThread": {"drain/src/worker_threads.rt"},
     "assemble": {"heap_graph/src/graph/build.rt"},
     "make_room": {"histogram/src/read_to_limit.rt"},
     "may_start": {HOOK},
-    "options_of": {"heapmark/src/command.rt"},
     "push": {
         "buffer_pool/src/buffer.rt",
         "buffer_pool/src/pool/stacks.rt",
@@ -111,7 +90,6 @@ DECLARED: dict[str, set[str]] = {
         "mark_core/src/state/stacks.rt",
         "work_pair/src/pair/spill_list.rt",
     },
-    "read_behind": {"histogram/src/read_to_limit.rt"},
     "take_objects": {"heap_graph/src/graph/build.rt", "hprof_grammar/src/dump.rt"},
     "text_of": {"histogram/src/report_text.rt"},
     "texts": {"heapmark/src/command_words.rt", "heapmark/src/main.rt"},
@@ -121,5 +99,3 @@ DECLARED: dict[str, set[str]] = {
 FAULTS_OF_BYTES = {"FormatFault": "hprof_grammar", "LinkFault": "heap_graph"}
 #: What lets a test refuse a thread, and the crate that may name it.
 HOOKS, HOOKED = {"StartHook", "StartsAll", "may_start", "mark_where"}, "drain"
-#: The only files that may make a fault. There a clause says what is wrong with the options.
-MAKERS = {"BadOptions": {"buffer_pool/src/pool.rt", "drain/src/options.rt", "heap_graph/src/skip.rt"}}
