@@ -1,20 +1,22 @@
 #!/usr/bin/env bash
 # Unpacks a JDK of another Debian release, and prints a folder for JAVA_HOME. Nothing is installed.
 #
-# usage: bench/debian_jdk.sh VERSION [SUITE]
+# usage: bench/debian_jdk.sh VERSION [SUITE [ARCHITECTURE]]
 #
-# VERSION: as in the package openjdk-VERSION-jdk-headless of SUITE (trixie, which has 21 and 25). The packages are kept
-# unpacked in ~/.cache/heapmark-bench, and are not downloaded again.
+# VERSION: as in the package openjdk-VERSION-jdk-headless of SUITE (trixie, which has 21 and 25; bookworm has 17).
+# ARCHITECTURE: that of this system, or i386, whose virtual machine has 32 bits. The packages are kept unpacked in
+# ~/.cache/heapmark-bench, and are not downloaded again.
 #
-# Programs of a later release need its C library. So each program of the printed folder is a script that mounts the
-# folder of those libraries over this system's, for itself alone, and then becomes the program. That wants root.
+# Programs of another release or architecture need its C library. So each program of the printed folder is a script that
+# mounts the folder of those libraries over this system's, for itself alone, and then becomes the program. That wants
+# root.
 set -euo pipefail
 
 # shellcheck source=bench/usage.sh
 . "$(dirname "$0")/usage.sh"
 require_number VERSION "$1"
-version=$1 suite=${2:-trixie}
-kept=${XDG_CACHE_HOME:-$HOME/.cache}/heapmark-bench/$suite
+version=$1 suite=${2:-trixie} architecture=${3:-$(dpkg --print-architecture)}
+kept=${XDG_CACHE_HOME:-$HOME/.cache}/heapmark-bench/$suite${3:+-$3}
 root=$kept/root-$version home=$kept/jdk-$version
 packages=(openjdk-"$version"-{jdk,jre}-headless libc6 libstdc++6 libgcc-s1 zlib1g libjpeg62-turbo liblcms2-2)
 
@@ -32,7 +34,8 @@ Components: main
 Signed-By: /usr/share/keyrings/debian-archive-keyring.gpg
 END
     options=(-qq -o APT::Sandbox::User=root -o Dir::Etc::sourcelist="$kept/apt/suite.sources" -o Dir::Etc::sourceparts=-
-        -o Dir::State::lists="$kept/apt/lists" -o Dir::State::status="$kept/apt/status" -o Dir::Cache="$kept/apt/cache")
+        -o Dir::State::lists="$kept/apt/lists" -o Dir::State::status="$kept/apt/status" -o Dir::Cache="$kept/apt/cache"
+        -o APT::Architecture="$architecture" -o APT::Architectures="$architecture")
     apt-get "${options[@]}" update
     (cd "$root/debs" && apt-get "${options[@]}" download "${packages[@]}")
 }
@@ -51,15 +54,13 @@ unpacked() {
 
 # wrapped: writes the scripts that start the JDK's programs.
 wrapped() {
-    local libraries jdk program
-    libraries=$(basename "$root"/usr/lib/*-linux-gnu)
+    local jdk program
     jdk=$(echo "$root"/usr/lib/jvm/java-"$version"-openjdk-*)
     mkdir -p "$home/bin"
     for program in "$jdk"/bin/*; do
         cat > "$home/bin/$(basename "$program")" << END
 #!/bin/sh
-exec unshare --mount sh -c 'mount --bind "\$0" /usr/lib/$libraries && exec "\$@"' \\
-    "$root/usr/lib/$libraries" "$program" "\$@"
+exec unshare --mount sh -c 'mount --bind "\$0" /usr/lib && exec "\$@"' "$root/usr/lib" "$program" "\$@"
 END
     done
     chmod +x "$home"/bin/*

@@ -7,7 +7,7 @@
 # classes; with objects at multiples of 16 bytes; with compact object headers; from Java 21 on 3,000 parked virtual
 # threads; and Filler with MEGABYTES (500) by G1, ZGC and Shenandoah. Then prints a table, as bench/size_figures.py
 # says, and fails if a comparison does. Java is that of JAVA_HOME, else that of PATH; bench/debian_jdk.sh unpacks
-# others.
+# others. Names of dumps of 32 bits have `-32-bit`: JAVA_HOME=$(bench/debian_jdk.sh 17 bookworm i386) makes such ones.
 #
 # DIR (/tmp/heapmark-sizes) gets the dumps with their histograms; those that are there are not made again, and each dump
 # NAME.hprof in DIR with a NAME.histogram is compared. PATTERN: only dumps whose names match it, such as '*-g1'.
@@ -21,6 +21,11 @@ room=${1:-/tmp/heapmark-sizes} large=${2:-500} pattern=${3:-*}
 require_number MEGABYTES "$large"
 mkdir -p "$room/classes"
 status=0
+
+# bits: prints `-32-bit` if the virtual machine has 32 bits.
+bits() {
+    "${java}java" -XshowSettings:properties -version 2>&1 | sed -n 's/^ *sun.arch.data.model = 32$/-32-bit/p'
+}
 
 # accepts OPTION..: tests whether the virtual machine takes these options without a word.
 accepts() {
@@ -53,20 +58,20 @@ compared() {
 
 # filler NAME OPTION..: compares Filler with 40 MB, if the virtual machine takes the options.
 filler() {
-    local name=j$number-$1
+    local name=$jdk-$1
     shift
     ! accepts "$@" || compared "$name" -Xmx700m "$@" Filler 40
 }
 
 # large NAME OPTION..: compares Filler with many megabytes.
 large() {
-    local name=j$number-$1
+    local name=$jdk-$1
     shift
     ! accepts "$@" || compared "$name" "-Xmx$((large * 5 / 2))m" "$@" Filler "$large"
     [ "${HEAP_SIZES_KEEP:-yes}" = yes ] || rm -f "$room/$name.hprof"
 }
 
-number=$(version)
+number=$(version) jdk=j$(version)$(bits)
 "${java}javac" -encoding UTF-8 -d "$room/classes" "$top/bench/java/Filler.java"
 echo '| Dump | Layout | Classes | In the dump | Omitted | With these | Off | Took |'
 echo '|---|---|---|---|---|---|---|---|'
@@ -84,7 +89,7 @@ filler compact -XX:+UseCompactObjectHeaders
 filler compact-z -XX:+UseCompactObjectHeaders -XX:+UseZGC
 if [ "$number" -ge 21 ]; then
     "${java}javac" -encoding UTF-8 -d "$room/classes" "$top/bench/java/newer/Virtual.java"
-    compared "j$number-virtual" -Xmx700m Virtual 3000
+    compared "$jdk-virtual" -Xmx700m Virtual 3000
 fi
 large large-g1 -XX:+UseG1GC
 large large-z -XX:+UseZGC
