@@ -86,6 +86,16 @@ def alone_in(names: Mapping[int, Sequence[Name]]) -> Dict[int, List[Name]]:
     return {at: [name for name in of_object if count[name] == 1] for at, of_object in names.items()}
 
 
+def joined(names: Iterable[Name]) -> List[Name]:
+    """Returns names of an object with each text once: what has the same text is joined, as in `its field id and the
+    map's key`."""
+    found: Dict[str, List[str]] = {}
+    for how, text in names:
+        of_text = found.setdefault(text, [])
+        of_text += [how] * (how not in of_text)
+    return [Name(" and ".join(of_text), text) for text, of_text in found.items()]
+
+
 class ObjectNames:
     """Looks up what names objects of `dump`."""
 
@@ -93,12 +103,13 @@ class ObjectNames:
         self.dump, self.objects = dump, HeapObjects(dump)
 
     def names_of(self, places: Sequence[int], others: Sequence[int] = ()) -> Dict[int, List[Name]]:
-        """Returns the names of the objects at these places, at most a few of each: texts and keys that neither another
-        of them nor one at `others` has, and thread-locals. If an object has none, those of its owners count that the
-        first of `others` do not have, too. Walks over all objects some times."""
+        """Returns the names of the objects at these places, at most a few of each, and each text once: texts and keys
+        that neither another of them nor one at `others` has, and thread-locals. If an object has none, those of its
+        owners count that the first of `others` do not have, too. Walks over all objects some times."""
         own = self.own_names([*places, *others])
         alone = alone_in(own)
-        found = {at: [name for name in own[at] if name in alone[at] or name.how == BY_THREAD_LOCAL] for at in places}
+        telling = {at: [name for name in own[at] if name in alone[at] or name.how == BY_THREAD_LOCAL] for at in places}
+        found = {at: joined(names) for at, names in telling.items()}
         nameless = [at for at in places if not found[at]]
         if nameless:
             found.update(self._by_owner(nameless, others[:OTHERS]))
@@ -147,8 +158,10 @@ class ObjectNames:
         for at in places:
             of_others = {name for other in names if other != at for step in names[other] for name in step}
             telling = (sorted(step - of_others, key=likeliest_first) for step in names[at])
-            nearest: List[Tuple[str, str]] = next(filter(None, telling), [])
-            found[at] = [Name(how, shown_text(text) if text else "") for how, text in nearest[:OWNER_NAMES]]
+            once: Dict[str, Name] = {}
+            for how, text in next(filter(None, telling), ()):
+                once.setdefault(text or how, Name(how, shown_text(text) if text else ""))
+            found[at] = list(once.values())[:OWNER_NAMES]
         return found
 
     def _keyed_names(self, owners: Iterable[Referrer]) -> Dict[Referrer, Set[Tuple[str, str]]]:

@@ -65,6 +65,26 @@ class NamesTest(unittest.TestCase):
         weak.instance(61_000, 30, 300, 60_000)
         self.assertEqual(self.names(weak, 300), [['the map\'s key "eu"']])
 
+    def test_said_once(self) -> None:
+        """A text that names an object several times is said once: what has it is joined, but of owners the first one
+        with it is enough."""
+        dump = Queues([1, 1], names=["orders", "carts"])
+        dump.string(60_000, "orders")
+        for node, key, value in ((61_000, 60_000, 1000), (61_001, 60_000, 1000), (61_002, 20_000, 1001)):
+            dump.instance(node, 5, key, value)
+        wanted = [['its field name and the map\'s key "orders"'], ['its field name "carts"', 'the map\'s key "orders"']]
+        self.assertEqual([self.names(dump, 1000), self.names(dump, 1001)], [wanted[:1], wanted[1:]])
+        owned = Queues([])
+        owned.of_class(20, "shop/Atom")
+        owned.of_class(21, "shop/Shelf", {"FIRST": 310}, fields=["atom", "name", "label"])
+        owned.of_class(22, "shop/Hall", {"ONLY": 320}, fields=["atom", "name"])
+        owned.instance(300, 20)
+        owned.instance(310, 21, 300, 60_000, 0)
+        owned.instance(320, 22, 300, 60_001)
+        owned.string(60_000, "eu")
+        owned.string(60_001, "eu")
+        self.assertEqual(self.names(owned, 300), [['of shop/Hall, its field name "eu"']])
+
     def boxes(self) -> Queues:
         """Returns a dump with four objects without names, a text and three boxed numbers."""
         dump = Queues([])
