@@ -13,7 +13,7 @@ from heap_tools.object_owners import Owners
 
 STRING_CLASS = "java/lang/String"
 #: The fields of a text that names an object, the likeliest first. An object with one text only is named by that.
-NAMING = ("name", "id", "key", "destination", "topic", "queue", "title", "label", "path", "url")
+NAMING = ("name", "id", "key", "destination", "topic", "queue", "title", "label", "path", "url", "host")
 #: The fields of the nodes of maps: the object, and its key.
 MAP_NODES = (
     ("java/util/HashMap$Node.value", "java/util/HashMap$Node", "key"),

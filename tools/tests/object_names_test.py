@@ -247,14 +247,16 @@ class NamesTest(unittest.TestCase):
         dump.of_class(21, "shop/Customer", fields=["code", "id", "note"])
         dump.of_class(22, "shop/Other", fields=["code", "note"])
         dump.of_class(23, "shop/Person", fields=["id", "name"])
+        dump.of_class(24, "shop/Route", fields=["scheme", "host"])
         dump.string(60_000, "a")
         dump.string(60_001, "b")
         dump.instance(300, 20, 60_000, 301)
         dump.instance(301, 21, 60_000, 60_001, 60_000)
         dump.instance(302, 22, 60_000, 60_001)
         dump.instance(303, 23, 60_000, 60_001)
-        wanted = [['its field code "a"'], ['its field id "b"'], [], ['its field name "b"']]
-        self.assertEqual(self.names(dump, 300, 301, 302, 303), wanted)
+        dump.instance(304, 24, 60_000, 60_001)
+        wanted = [['its field code "a"'], ['its field id "b"'], [], ['its field name "b"'], ['its field host "b"']]
+        self.assertEqual(self.names(dump, 300, 301, 302, 303, 304), wanted)
 
     def test_shown(self) -> None:
         """Texts are shown in one line, at most 60 characters long."""
