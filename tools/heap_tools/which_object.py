@@ -4,7 +4,8 @@ from typing import Dict, FrozenSet, Iterator, List, NamedTuple, Optional, Sequen
 
 from heap_tools.candidates import FIELD, STATIC
 from heap_tools.heap_objects import FieldValue, HeapObjects
-from heap_tools.object_names import Name, ObjectNames, alone_in
+from heap_tools.naming import Name, alone_in
+from heap_tools.object_names import ObjectNames
 from heap_tools.object_parts import MOST_OBJECTS, FieldUses, Parts, elements
 from heap_tools.part_search import OF_ONE, Holding, Measure, PartSearch
 from heap_tools.probe import GrowthProbe, Probe, Retained

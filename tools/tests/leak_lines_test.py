@@ -8,7 +8,7 @@ from heap_tools.candidates import FIELD, STATIC, Candidate
 from heap_tools.heap_objects import FieldValue
 from heap_tools.leak_lines import LineObjects, Lines
 from heap_tools.line_order import NEARLY
-from heap_tools.object_names import Name
+from heap_tools.naming import Name
 from heap_tools.object_parts import Parts
 from heap_tools.probe import Retained
 from heap_tools.reports import Amount

@@ -8,7 +8,7 @@ from heap_tools.candidates import FIELD, Candidate
 from heap_tools.direct_buffers import DirectMemory
 from heap_tools.leak_lines import Answer, Line, LineObjects
 from heap_tools.leak_notes import PATTERNS, Notes, captured_words, notes_of, objects_words, shown_objects
-from heap_tools.object_names import Name
+from heap_tools.naming import Name
 from heap_tools.probe import Retained
 from heap_tools.reports import Amount, Unit
 from heap_tools.thread_counts import ThreadCount

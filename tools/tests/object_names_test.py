@@ -7,7 +7,8 @@ from typing import List, Sequence
 from heap_tools import hprof_format as hprof
 from heap_tools.heap_dump import HeapDump
 from heap_tools.heap_objects import HeapObjects
-from heap_tools.object_names import ObjectNames, shown_text
+from heap_tools.naming import shown_text
+from heap_tools.object_names import ObjectNames
 from tests.support.dump_writer import BYTE, DumpWriter, word
 from tests.support.queues import Queues
 

@@ -1,0 +1,64 @@
+"""The names of objects: in which fields they are, how they are spelled, and which of them tell objects apart."""
+
+import re
+from collections import Counter
+from typing import Dict, Iterable, List, Mapping, NamedTuple, Optional, Sequence, Tuple
+
+from heap_tools.class_names import printable
+
+#: The fields of a text that names an object, the likeliest first. An object with one text only is named by that.
+NAMING = ("name", "id", "key", "destination", "topic", "queue", "title", "label", "path", "url", "host")
+#: How many characters of a text are shown.
+LONGEST_TEXT = 60
+
+
+class Name(NamedTuple):
+    """What names an object: `how` in words, such as `its field name`, and the text, as it is shown."""
+
+    how: str
+    text: str
+
+    def __str__(self) -> str:
+        return f"{self.how} {self.text}".rstrip()
+
+
+def shown_text(text: str) -> str:
+    """Returns a text of a dump in quotes and in one line, cut to its first characters if it is long."""
+    cut = text if len(text) <= LONGEST_TEXT else text[: LONGEST_TEXT - 2] + ".."
+    return f'"{printable(cut)}"'
+
+
+def is_naming(field: str) -> bool:
+    """Tests whether a field is called as what names an object is."""
+    return field in NAMING or field.endswith("Name")
+
+
+def likeliest_first(name: Tuple[str, str]) -> Tuple[bool, Tuple[str, str]]:
+    """Returns what names of owners are sorted by: those come first whose last field is called as what names is."""
+    return not is_naming(re.split("[ .]", name[0])[-1]), name
+
+
+def best_of(named: Mapping[str, str]) -> Optional[str]:
+    """Returns which of the fields with these texts names their object, or None. A text of several lines, such as the
+    stack where an object was made, is no name, and neither is what is called a trace."""
+    named = {
+        field: text for field, text in named.items() if text and "\n" not in text and field[-5:].lower() != "trace"
+    }
+    likely = [field for field in NAMING if field in named] or [field for field in named if is_naming(field)]
+    return next(iter(likely or (named if len(named) == 1 else ())), None)
+
+
+def alone_in(names: Mapping[int, Sequence[Name]]) -> Dict[int, List[Name]]:
+    """Returns the names of each object that no other has, too: the others tell nothing apart."""
+    count = Counter(name for of_object in names.values() for name in set(of_object))
+    return {at: [name for name in of_object if count[name] == 1] for at, of_object in names.items()}
+
+
+def joined(names: Iterable[Name]) -> List[Name]:
+    """Returns names of an object with each text once: what has the same text is joined, as in `its field id and the
+    map's key`."""
+    found: Dict[str, List[str]] = {}
+    for how, text in names:
+        of_text = found.setdefault(text, [])
+        of_text += [how] * (how not in of_text)
+    return [Name(" and ".join(of_text), text) for text, of_text in found.items()]
