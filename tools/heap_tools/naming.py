@@ -62,3 +62,11 @@ def joined(names: Iterable[Name]) -> List[Name]:
         of_text = found.setdefault(text, [])
         of_text += [how] * (how not in of_text)
     return [Name(" and ".join(of_text), text) for text, of_text in found.items()]
+
+
+def first_of_texts(names: Iterable[Name]) -> List[Name]:
+    """Returns the first of the names with each text, and those without a text."""
+    found: Dict[str, Name] = {}
+    for each in names:
+        found.setdefault(each.text or each.how, each)
+    return list(found.values())

@@ -1,5 +1,5 @@
-"""What names an object of a dump: a text in it, its key in a map, the static field of a thread-local, or what names an
-object that leads to it."""
+"""What names an object of a dump: a text in it, its key in a map, the static field of a thread-local, what names an
+object that it is made of, or one that leads to it."""
 
 from typing import Dict, Iterable, List, Mapping, Sequence, Tuple
 
@@ -7,7 +7,7 @@ from heap_tools import hprof_format as hprof
 from heap_tools.heap_dump import HeapDump
 from heap_tools.heap_objects import HeapObjects
 from heap_tools.naming import Name, alone_in, best_of, joined, shown_text
-from heap_tools.owner_names import MAP_NODES, OTHERS, OwnerNames
+from heap_tools.outer_names import MAP_NODES, OTHERS, OuterNames
 
 #: The entries of a thread's map of thread-locals: the field of the value. The thread-local itself is the referent.
 ENTRY = "java/lang/ThreadLocal$ThreadLocalMap$Entry"
@@ -31,15 +31,16 @@ class ObjectNames:
 
     def names_of(self, places: Sequence[int], others: Sequence[int] = ()) -> Dict[int, List[Name]]:
         """Returns the names of the objects at these places, at most a few of each, and each text once: texts and keys
-        that neither another of them nor one at `others` has, and thread-locals. If an object has none, those of its
-        owners count that the first of `others` do not have, too. Walks over all objects some times."""
+        that neither another of them nor one at `others` has, and thread-locals. If an object has none, those of what
+        it is made of count, then those of its owners, which the first of `others` do not have, too. Walks over all
+        objects some times."""
         own = self.own_names([*places, *others])
         alone = alone_in(own)
         telling = {at: [name for name in own[at] if name in alone[at] or name.how == BY_THREAD_LOCAL] for at in places}
         found = {at: joined(names) for at, names in telling.items()}
         nameless = [at for at in places if not found[at]]
         if nameless:
-            found.update(OwnerNames(self.objects).by_owner(nameless, others[:OTHERS]))
+            found.update(OuterNames(self.objects).of(nameless, others[:OTHERS]))
         return found
 
     def own_names(self, places: Sequence[int]) -> Dict[int, List[Name]]:

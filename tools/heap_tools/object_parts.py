@@ -6,7 +6,7 @@ from heap_tools import hprof_format as hprof
 from heap_tools.candidates import FIELD, STATIC, Candidate
 from heap_tools.changed_copy import Changes
 from heap_tools.heap_objects import FieldValue, HeapObjects
-from heap_tools.owner_names import OTHERS
+from heap_tools.outer_names import OTHERS
 
 #: Among how many objects it is asked at most which hold most: more of them would make each run read too many changes.
 MOST_OBJECTS = 100_000

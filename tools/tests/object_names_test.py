@@ -178,7 +178,7 @@ class NamesTest(unittest.TestCase):
         return dump
 
     def test_parent(self) -> None:
-        """What an object leads to, too, names it if something else leads there: a registry is no element."""
+        """What leads to an object names it, also if the object leads there, too: a registry is no element."""
         dump = Queues([])
         dump.of_class(20, "shop/Tenant", fields=["registry", "messages"])
         dump.of_class(21, "shop/Registry", {"ONE": 310}, fields=["tenant", "name"])
@@ -188,7 +188,7 @@ class NamesTest(unittest.TestCase):
         dump.instance(320, 22, 60_001, 300)
         dump.string(60_000, "eu")
         dump.string(60_001, "message")
-        self.assertEqual(self.names(dump, 300), [['of shop/Registry, its field name "eu"']])
+        self.assertEqual(self.names(dump, 300), [['its field registry.name "eu"']])
 
     def test_alike(self) -> None:
         """A text that several of the objects have, or one of the others, names none of them."""
@@ -196,9 +196,35 @@ class NamesTest(unittest.TestCase):
         self.assertEqual(self.names(dump, 1000, 1001, 1002), [[], [], ['its field name "Etc/GMT"']])
         self.assertEqual(self.names(dump, 1000, 1003, others=[1001]), [[], ['its field name "Etc/CET"']])
 
+    def test_parts(self) -> None:
+        """An object without a name has that of what it is made of, then those of its owners. A constant, a thread and
+        the first node of a map name nothing that has them, and neither does what others have, too."""
+        dump = Queues([])
+        dump.of_class(20, "java/lang/Enum", fields=["name"])
+        dump.of_class(21, "shop/Priority", superclass=20)
+        dump.of_class(22, "java/lang/Thread", fields=["name"])
+        dump.of_class(23, "shop/Shelf", fields=["label", "first"])
+        fields = ["priority", "thread", "first", "shop", "reader"]
+        dump.of_class(24, "shop/Stream", fields=fields)
+        dump.of_class(25, "shop/Reader", fields=["name", "stream"])
+        for number, text in enumerate(("HIGH", "main", "page-1", "shop", "warehouse", "hall 7"), 60_000):
+            dump.string(number, text)
+        dump.instance(310, 21, 60_000)
+        dump.instance(311, 22, 60_001)
+        dump.instance(312, 5, 60_002, 0)
+        dump.instance(313, 25, 60_003, 0)
+        dump.instance(314, 25, 60_004, 300)
+        dump.instance(300, 24, 310, 311, 312, 313, 314)
+        dump.instance(301, 24, 310, 311, 312, 313, 0)
+        dump.instance(315, 23, 60_005, 300)
+        dump.root(315)
+        wanted = ['its field reader.name "warehouse"', 'of shop/Shelf, its field label "hall 7"']
+        self.assertEqual(self.names(dump, 300, others=[301]), [wanted])
+        self.assertEqual(self.names(dump, 301, others=[300]), [[]])
+
     def test_neighbour(self) -> None:
-        """The name of a neighbour, an object of the same class, names no object that it leads to, and neither does the
-        stack where an object was made; what an owner is made of does."""
+        """The name of a neighbour, an object of the same class, names no object that it leads to, be it by one of the
+        class or not, and neither does the stack where an object was made; what an owner is made of does."""
         dump = Queues([])
         dump.of_class(20, "shop/Atom")
         dump.of_class(21, "shop/Link", {"FIRST": 310}, fields=["atom", "next", "name"])
@@ -214,6 +240,15 @@ class NamesTest(unittest.TestCase):
         dump.instance(321, 23, 60_002)
         names = [[], ["static shop/Pooled.ONE"], ["static shop/Traced.ONE"]]
         self.assertEqual(self.names(dump, 300, 320, 321), [["static shop/Link.FIRST"], *names[1:]])
+        chain = Queues([])
+        chain.of_class(20, "shop/Reader", fields=["name"])
+        chain.of_class(21, "shop/Stream", {"FIRST": 310}, fields=["next", "reader", "name"])
+        for number, (name, reader) in enumerate(((60_000, 0), (0, 320), (0, 0))):
+            chain.instance(310 + number, 21, 311 + number if number < 2 else 0, reader, name)
+        chain.instance(320, 20, 60_001)
+        chain.string(60_000, "eu")
+        chain.string(60_001, "us")
+        self.assertEqual(self.names(chain, 311, 312), [['its field reader.name "us"'], []])
 
     def test_many_point(self) -> None:
         """Many of one class that lead to an object from elsewhere do not leave it without the name that it has in a

@@ -1,0 +1,132 @@
+"""What names an object that has no name of its own: what it is made of, and what leads to it."""
+
+from typing import Dict, Iterable, List, Mapping, Sequence, Set, Tuple
+
+from heap_tools import hprof_format as hprof
+from heap_tools.heap_objects import HeapObjects, Referrer
+from heap_tools.naming import Name, alone_in, best_of, first_of_texts, is_naming, likeliest_first, shown_text
+from heap_tools.object_owners import Owners
+
+#: The fields of the nodes of maps: the object, and its key.
+MAP_NODES = (
+    ("java/util/HashMap$Node.value", "java/util/HashMap$Node", "key"),
+    ("java/util/concurrent/ConcurrentHashMap$Node.val", "java/util/concurrent/ConcurrentHashMap$Node", "key"),
+    ("java/util/TreeMap$Entry.value", "java/util/TreeMap$Entry", "key"),
+    ("java/util/Hashtable$Entry.value", "java/util/Hashtable$Entry", "key"),
+    ("java/util/WeakHashMap$Entry.value", "java/lang/ref/Reference", "referent"),
+    ("java/util/concurrent/ConcurrentSkipListMap$Node.val", "java/util/concurrent/ConcurrentSkipListMap$Node", "key"),
+)
+NODE_CLASSES = frozenset(node for _, node, key in MAP_NODES if key == "key")
+#: Fields that are called like names, but say nothing of what leads there: the name of a thread or of a constant, and
+#: the key of a map's node, such as the first one, which is that of its value.
+OTHER_NAMES = (("java/lang/Thread", "name"), ("java/lang/Enum", "name"), *((node, "key") for node in NODE_CLASSES))
+#: How many of these names are shown.
+OUTER_NAMES = 2
+#: With how many other objects they are compared: each is looked for in the whole dump.
+OTHERS = 3
+
+
+class OuterNames:
+    """Looks up what names parts and owners of objects."""
+
+    def __init__(self, objects: HeapObjects) -> None:
+        self.objects, self.dump = objects, objects.dump
+
+    def of(self, places: Sequence[int], others: Sequence[int]) -> Dict[int, List[Name]]:
+        """Returns the name of what each of the objects at `places` is made of, and those of its nearest owners that
+        have any. A name that another object has too names nothing. Walks over all objects some times."""
+        parts, owners = self._by_part(places, others), self._by_owner(places, others)
+        return {at: first_of_texts([*parts[at][:1], *owners[at]])[:OUTER_NAMES] for at in places}
+
+    def _by_part(self, places: Sequence[int], others: Sequence[int]) -> Dict[int, List[Name]]:
+        """Returns the names of what objects are made of: texts in fields that are called like names."""
+        fields = {at: self.objects.references_of(at) for at in [*places, *others]}
+        known = self.objects.places_of({target for of_object in fields.values() for target in of_object.values()})
+        parts = {at: self._texts_of_parts(at, of_object, known) for at, of_object in fields.items()}
+        texts = self.objects.texts({key for paths in parts.values() for key in paths.values()})
+        names = {
+            at: [Name(f"its field {path}", shown_text(texts[key])) for path, key in paths.items() if texts.get(key)]
+            for at, paths in parts.items()
+        }
+        return alone_in(names)
+
+    def _by_owner(self, places: Sequence[int], others: Sequence[int]) -> Dict[int, List[Name]]:
+        """Returns the names of the nearest owners that have any."""
+        above = Owners(self.objects).above([*places, *others])
+        owners = {at: self._without_neighbours(at, steps) for at, steps in above.items()}
+        keyed = self._keyed_names({owner for steps in owners.values() for step in steps for owner in step})
+        names: Dict[int, List[Set[Tuple[str, str]]]] = {}
+        for at, steps in owners.items():
+            names[at] = [{name for owner in step for name in keyed[owner]} for step in steps]
+        found = {}
+        for at in places:
+            of_others = {name for other in names if other != at for step in names[other] for name in step}
+            telling = (sorted(step - of_others, key=likeliest_first) for step in names[at])
+            nearest: List[Tuple[str, str]] = next(filter(None, telling), [])
+            found[at] = [Name(how, shown_text(text) if text else "") for how, text in nearest]
+        return found
+
+    def _without_neighbours(self, at: int, steps: Sequence[Sequence[Referrer]]) -> List[List[Referrer]]:
+        """Returns the owners of the object at `at` without its neighbours: objects of its class with a field that leads
+        to it or to another neighbour, as in a chain. They have their own names."""
+        own, kin, found = self.objects.class_name(at), {self.dump.id(at + 1)}, []
+        for step in steps:
+            near = [each for each in step if each.target in kin and self.objects.class_name(each.place) == own]
+            kin = {self.dump.id(each.place + 1) for each in near}
+            found.append([each for each in step if each not in near])
+        return found
+
+    def _keyed_names(self, owners: Iterable[Referrer]) -> Dict[Referrer, Set[Tuple[str, str]]]:
+        """Returns what names each of these owners: in words, and the text. Walks over all objects three times."""
+        targets = {each: self._naming_targets(each) for each in owners}
+        known = self.objects.places_of({target for found in targets.values() for target in found.values()})
+        parts = {owner: self._texts_of_parts(owner.place, found, known) for owner, found in targets.items()}
+        texts = self.objects.texts({key for named in (targets, parts) for of in named.values() for key in of.values()})
+        names: Dict[Referrer, Set[Tuple[str, str]]] = {}
+        for owner, found in targets.items():
+            class_name = self.objects.class_name(owner.place)
+            static = self._static_of(owner)
+            names[owner] = {(static, "")} if static else set()
+            own = {field: texts[target] for field, target in found.items() if texts.get(target)}
+            best = best_of(own)
+            if best is not None:
+                how = "the map's key" if class_name in NODE_CLASSES else f"of {class_name}, its field {best}"
+                names[owner].add((how, own[best]))
+            of_parts = ((f"of {class_name}, its field {path}", texts.get(key)) for path, key in parts[owner].items())
+            names[owner].update((how, text) for how, text in of_parts if text)
+        return names
+
+    def _naming_targets(self, owner: Referrer) -> Dict[str, int]:
+        """Returns the objects that may name an owner, by the fields of it: of the node of a map only its key."""
+        if self.dump.bytes[owner.place] != hprof.INSTANCE:
+            return {}
+        found = self.objects.references_of(owner.place)
+        if self.dump.names.get(self.objects.class_of(owner.place)) in NODE_CLASSES:
+            found = {field: target for field, target in found.items() if field == "key"}
+        return {field: target for field, target in found.items() if target != owner.target}
+
+    def _texts_of_parts(self, at: int, fields: Mapping[str, int], known: Mapping[int, int]) -> Dict[str, int]:
+        """Returns what the fields that are called like names lead to in the objects that the object at `at` has in
+        `fields`, by the path to it, such as `symbol.name`. An object of its own class, such as the next one of a chain,
+        is its neighbour: that has its own name."""
+        own = self.objects.class_name(at)
+        parts = {field: known[target] for field, target in fields.items() if target in known}
+        return {
+            f"{field}.{name}": target
+            for field, part in parts.items()
+            if self.objects.class_name(part) != own
+            for name, target in self._inner_texts(part).items()
+        }
+
+    def _inner_texts(self, at: int) -> Dict[str, int]:
+        """Returns the objects in those fields of the object at `at` that are called like names and say something of
+        what refers to it."""
+        if self.dump.bytes[at] != hprof.INSTANCE or any(self.objects.reference(at, *each) for each in OTHER_NAMES):
+            return {}
+        return {field: target for field, target in self.objects.references_of(at).items() if is_naming(field)}
+
+    def _static_of(self, owner: Referrer) -> str:
+        """Returns the static field by which a class owns an object, empty if the owner is no class."""
+        if self.dump.bytes[owner.place] != hprof.CLASS_DUMP:
+            return ""
+        return f"static {self.dump.names[self.dump.id(owner.place + 1)]}.{owner.field}"
