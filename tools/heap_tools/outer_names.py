@@ -67,13 +67,12 @@ class OuterNames:
         return found
 
     def _without_neighbours(self, at: int, steps: Sequence[Sequence[Referrer]]) -> List[List[Referrer]]:
-        """Returns the owners of the object at `at` without its neighbours: objects of its class with a field that leads
-        to it or to another neighbour, as in a chain. They have their own names."""
-        own, kin, found = self.objects.class_name(at), {self.dump.id(at + 1)}, []
+        """Returns the owners of the object at `at` without neighbours: an object with a field that leads to another one
+        of its class, as in a chain. Each has a name of its own."""
+        known, found = {self.dump.id(at + 1): self.objects.class_name(at)}, []
         for step in steps:
-            near = [each for each in step if each.target in kin and self.objects.class_name(each.place) == own]
-            kin = {self.dump.id(each.place + 1) for each in near}
-            found.append([each for each in step if each not in near])
+            found.append([each for each in step if known.get(each.target) != self.objects.class_name(each.place)])
+            known = {self.dump.id(each.place + 1): self.objects.class_name(each.place) for each in step}
         return found
 
     def _keyed_names(self, owners: Iterable[Referrer]) -> Dict[Referrer, Set[Tuple[str, str]]]:
@@ -90,7 +89,7 @@ class OuterNames:
             own = {field: texts[target] for field, target in found.items() if texts.get(target)}
             best = best_of(own)
             if best is not None:
-                how = "the map's key" if class_name in NODE_CLASSES else f"of {class_name}, its field {best}"
+                how = "the map's key" if self._is_node(owner.place) else f"of {class_name}, its field {best}"
                 names[owner].add((how, own[best]))
             of_parts = ((f"of {class_name}, its field {path}", texts.get(key)) for path, key in parts[owner].items())
             names[owner].update((how, text) for how, text in of_parts if text)
@@ -101,9 +100,13 @@ class OuterNames:
         if self.dump.bytes[owner.place] != hprof.INSTANCE:
             return {}
         found = self.objects.references_of(owner.place)
-        if self.dump.names.get(self.objects.class_of(owner.place)) in NODE_CLASSES:
+        if self._is_node(owner.place):
             found = {field: target for field, target in found.items() if field == "key"}
         return {field: target for field, target in found.items() if target != owner.target}
+
+    def _is_node(self, at: int) -> bool:
+        """Tests whether the object at `at` is a node of a map, also of a map that inherits from one of the JDK's."""
+        return any(self.objects.reference(at, node, "key") for node in NODE_CLASSES)
 
     def _texts_of_parts(self, at: int, fields: Mapping[str, int], known: Mapping[int, int]) -> Dict[str, int]:
         """Returns what the fields that are called like names lead to in the objects that the object at `at` has in

@@ -177,6 +177,23 @@ class NamesTest(unittest.TestCase):
         dump.array(330, 24, 320)
         return dump
 
+    def test_node_that_inherits(self) -> None:
+        """The nodes of a map that inherits from one of the JDK's have keys, too."""
+        dump = Queues([])
+        dump.of_class(20, "java/util/LinkedHashMap$Entry", fields=["before", "after"], superclass=5)
+        dump.of_class(21, "shop/Tenant", fields=["inbox"])
+        dump.of_class(22, "shop/Inbox")
+        dump.of_class(23, "shop/Tenants", {"FIRST": 320})
+        for number, text in enumerate(("eu", "us")):
+            dump.string(60_000 + number, text)
+            dump.instance(300 + number, 22)
+            dump.instance(310 + number, 21, 300 + number)
+        dump.instance(320, 20, 0, 321, 60_000, 310)
+        dump.instance(321, 20, 320, 0, 60_001, 311)
+        wanted = [['the map\'s key "eu"'], ['the map\'s key "us"']]
+        self.assertEqual(self.names(dump, 310, 311), wanted)
+        self.assertEqual(self.names(dump, 300, 301), wanted)
+
     def test_parent(self) -> None:
         """What leads to an object names it, also if the object leads there, too: a registry is no element."""
         dump = Queues([])
