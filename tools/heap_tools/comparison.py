@@ -120,8 +120,7 @@ def comparison_of(dumps: Sequence[DumpRuns], options: Options, progress: SearchP
     ends, unit = (dumps[0], dumps[-1]), options.unit
     families = [family_of(options.of_class, dumps[-1].dump, dumps[-1].report)] if options.of_class else None
     direct = direct_memory(ends[0].dump), direct_memory(ends[1].dump)
-    followed = Followed(True) if options.weak else followed_of(ends, families, unit)
-    sides = followed.sides(ends)
+    followed, sides = followed_of(ends, families, unit, options.weak)
     asked = with_growth(sides, with_direct_memory(sides, Asked(families, unit), direct), dumps)
     growth = grown(sides, asked.families, asked.unit)
     # What holds less than at_least percent is no line, and nothing below it is.

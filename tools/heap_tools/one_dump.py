@@ -54,8 +54,7 @@ def question_of(runs: DumpRuns, options: Options, progress: SearchProgress) -> H
     """Returns what asks a dump. Calls that are running do not count, nor do weak references, unless the user follows
     them or they hold most. Shares are of all that is reachable."""
     families = [family_of(options.of_class, runs.dump, runs.report)] if options.of_class else None
-    followed = Followed(True) if options.weak else followed_of([runs], families, options.unit)
-    (side,) = followed.sides([runs])
+    followed, (side,) = followed_of([runs], families, options.unit, options.weak)
     if families:
         require_objects(families[0], runs, side.base)
     whole, percent = options.unit.of(side.base.total(families)), max(PASSING, options.at_least - 1)

@@ -1,6 +1,6 @@
 """What grew and is held by soft, weak, final or phantom references alone: it is not reachable if these are cut."""
 
-from typing import List, NamedTuple, Optional, Sequence
+from typing import List, NamedTuple, Optional, Sequence, Tuple
 
 from heap_tools.dump_runs import DumpRuns
 from heap_tools.humanize import counted, more_are, size
@@ -27,23 +27,30 @@ class Followed(NamedTuple):
         return prepared(dumps, self.is_any, cuts)
 
 
-def followed_of(runs: Sequence[DumpRuns], families: Optional[List[str]], unit: Unit) -> Followed:
-    """Returns which weak references are to be followed in the first and the last of some dumps, or in one, if the user
-    leaves it open: those of a kind that alone hold most of what grew then, or of what is reachable in one dump. Soft
-    ones never are: what they hold is a cache."""
+def followed_of(
+    runs: Sequence[DumpRuns], families: Optional[List[str]], unit: Unit, wants_all: bool = False
+) -> Tuple[Followed, List[DumpSide]]:
+    """Returns which weak references are to be followed in the first and the last of some dumps, or in one, and the
+    dumps with these: all if the user wants that, else those of a kind that alone hold most of what grew then, or of
+    what is reachable in one dump. Soft ones never are by themselves: what they hold is a cache."""
+    if wants_all:
+        return Followed(True), Followed(True).sides(runs)
     cut = prepared(runs, follows_weak=False)
     whole = weak_growth(cut, prepared(runs, follows_weak=True), families)
     growth = grown(cut, families, unit)
     if not is_most(unit.of(whole), growth):
-        return Followed(False, amount=whole)
-    best = Followed(False, amount=whole)
+        return Followed(False, amount=whole), cut
+    best, sides = Followed(False, amount=whole), cut
     for kind in (kind for kind in WeakKind if kind is not WeakKind.SOFT):
         followed = Followed(True, kind)
-        amount = weak_growth(cut, followed.sides(runs), families)
+        of_kind = followed.sides(runs)
+        amount = weak_growth(cut, of_kind, families)
         is_better = best.kind is None or unit.of(amount) > unit.of(best.amount)
         if is_better and is_most(unit.of(amount), growth):
-            best = followed._replace(amount=amount)
-    return best._replace(amount=Amount(), why=why_followed(best.kind, best.amount, runs)) if best.kind else best
+            best, sides = followed._replace(amount=amount), of_kind
+    if best.kind:
+        best = best._replace(amount=Amount(), why=why_followed(best.kind, best.amount, runs))
+    return best, sides
 
 
 def is_most(part: int, rest: int) -> bool:

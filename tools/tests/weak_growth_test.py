@@ -3,6 +3,7 @@
 import tempfile
 import unittest
 from typing import Dict, List, Tuple
+from unittest import mock
 
 from heap_tools.dump_runs import DumpRuns
 from heap_tools.heap_dump import HeapDump
@@ -51,8 +52,10 @@ class FollowedTest(unittest.TestCase):
     """followed_of"""
 
     def followed(self, *both: DumpRuns) -> Followed:
-        """Returns what is followed in two dumps."""
-        return followed_of(both, None, Unit.BYTES)
+        """Returns what is followed in two dumps: the dumps are those with that, and their reports are known."""
+        found, sides = followed_of(both, None, Unit.BYTES)
+        self.assertEqual([side.base.rows for side in sides], [side.base.rows for side in found.sides(both)])
+        return found
 
     def test_kinds(self) -> None:
         """Those of one kind are followed if they alone hold most of the growth; soft ones never, and none if it takes
@@ -89,6 +92,15 @@ class FollowedTest(unittest.TestCase):
         self.assertEqual(
             self.followed(referring(9, {}), referring(9, {"final": 30}, blocked=True)).why, said + blocked + so
         )
+
+    def test_asked_once(self) -> None:
+        """Each dump is asked once without weak references, once with all, and if that is much, once with each of three
+        kinds. What is followed then is not asked again."""
+        for counts, runs in (({"soft": 2}, 2), ({"final": 30}, 2 + 3)):
+            both = referring(1000, {}), referring(1500, counts)
+            with mock.patch.object(MarkedRuns, "without", autospec=True, side_effect=MarkedRuns.without) as asked:
+                followed_of(both, None, Unit.BYTES)
+            self.assertEqual(asked.call_count, 2 * runs, counts)
 
     def test_side(self) -> None:
         """Only the references of the kind lead somewhere, in any dump."""
