@@ -1,7 +1,7 @@
 """The search for what holds enough only together: static fields, or fields with few instances and roots."""
 
 import math
-from typing import Callable, Dict, Iterable, List, NamedTuple, Sequence
+from typing import Callable, Dict, Iterable, List, NamedTuple, Sequence, Tuple
 
 from heap_tools.candidates import STATIC, THREAD, THREADS, Candidate
 from heap_tools.class_names import package
@@ -13,7 +13,7 @@ from heap_tools.search import Search, Tried
 PART_NEEDED, MOST_NEEDED = 0.9, 6
 #: The most groups that are asked for to find which of many hold enough only together: of fields, if nothing else is
 #: found, and of roots, if it is known what holds the growth, but not from where.
-MOST_GROUPS, MOST_GROUPS_OF_ROOTS = 110, 50
+MOST_GROUPS, MOST_GROUPS_OF_ROOTS = 60, 30
 
 
 class Budget(NamedTuple):
@@ -32,7 +32,8 @@ class SearchTogether:
         self.statics = [each for each in self.probe.candidates.statics() if not each.is_of_machine]
 
     def find_statics(self) -> None:
-        """Finds static fields that hold enough only together, those of own classes first."""
+        """Finds static fields that hold enough only together: those of own classes if these are enough, and those that
+        hold much, but gained hardly anything alone, only if the others are not."""
         whole = self.share_or_bound(self.statics, self.at_least)
         roots = [held for held in self.search.found if all(each.kind == STATIC for each in held.candidates)]
         alone = [each for held in roots for each in held.candidates]
@@ -42,9 +43,11 @@ class SearchTogether:
             return
         least = max((base + whole) / 2, self.at_least)
         rest = [each for each in self.statics if each.key not in {known.key for known in alone}]
-        own = [each for each in rest if each.is_own]
-        if own and self.share_or_bound([*own, *alone], least) >= least:
-            rest = own
+        changed = self.unknown(rest)
+        for some in ([each for each in changed if each.is_own], changed):
+            if some and self.share_or_bound([*some, *alone], least) >= least:
+                rest = some
+                break
         budget = self.budget()
         if self.find_kin(self.unknown(rest), budget):
             return
@@ -87,10 +90,15 @@ class SearchTogether:
             ordered.sort(key=lambda each: (-probe.unit.of(probe.retained([each]).amount), str(each)))
         self.search.found.append(probe.retained(ordered)._replace(candidates=ordered))
 
-    def share_or_bound(self, candidates: Sequence[Candidate], least: float) -> float:
-        """Returns the share of `candidates`, or a bound of it if that is below `least`."""
-        bound = self.probe.bound(candidates) if candidates else 0.0
-        return bound if bound < least else self.probe.share(candidates)
+    def share_or_bound(
+        self, candidates: Sequence[Candidate], least: float, before: Tuple[float, float] = (0.0, math.inf)
+    ) -> float:
+        """Returns the share of `candidates`, or a bound of it if that shows whether the share is below `least`.
+        `before` is what they held before at least and at most, in percent."""
+        held = self.probe.bound(candidates) if candidates else 0.0
+        if held - before[0] < least:
+            return held - before[0]
+        return held - before[1] if held - before[1] >= least else self.probe.share(candidates)
 
     def has_share(self, candidates: Sequence[Candidate]) -> bool:
         """Tests whether `candidates` have the share that each line must have."""
@@ -127,27 +135,38 @@ class SearchTogether:
         return False
 
     def needed(
-        self, group: List[Candidate], others: List[Candidate], base: float, least: float, budget: Budget
+        self, group: Sequence[Candidate], others: Sequence[Candidate], base: float, least: float, budget: Budget
     ) -> List[Candidate]:
-        """Returns a small part of `group` that together with `others` holds `least` percent. Without `group`, `others`
-        hold `base` percent. Returns nothing if many of `group` hold a little each, or if that exceeds `budget`."""
-        if budget.needed < 1 or self.probe.questions >= budget.questions:
-            return []
-        if len(group) == 1:
-            return group
-        half, little, bounds = len(group) // 2, (least - base) / 2 + 2 * base, 0.0
-        parts = group[:half], group[half:]
-        for part in parts:
-            bound = self.share_or_bound([*part, *others], least)
-            if bound >= least:
-                return self.needed(part, others, base, least, budget)
-            bounds += bound
-        if bounds > little and sum(self.probe.share([*part, *others]) for part in parts) > little:
-            return []
-        right = self.needed(group[half:], [*others, *group[:half]], base, least, budget)
-        budget = budget._replace(needed=budget.needed - len(right))
-        left = right and self.needed(group[:half], [*others, *right], base, least, budget)
-        return left and left + right
+        """Returns a small part of `group` that together with `others` holds `least` percent, as all of it does: those
+        of which none can be left out. Without `group`, `others` hold `base` percent. The last one of the shortest
+        beginning of the group that is enough is needed; then the same is asked of those before it, beside those that
+        are needed. Returns nothing if many hold a little each, or if that exceeds `budget`."""
+        before = self.percent_before(others), self.percent_before([*group, *others])
+        little = (base + least) / 2
+        found: List[Candidate] = []
+        rest = list(group)
+        while rest and len(found) < budget.needed:
+            low, high = 0, len(rest)
+            while high - low > 1:
+                if self.probe.questions >= budget.questions:
+                    return []
+                middle = (low + high) // 2
+                together = [*rest[:middle], *found, *others]
+                share = self.share_or_bound(together, least, before)
+                if share >= least:
+                    high = middle
+                elif share <= little or self.probe.share(together) <= little:
+                    low = middle
+                else:
+                    return []
+            found, rest = [rest[low], *found], rest[:low]
+            if self.share_or_bound([*found, *others], least, before) >= least:
+                return found
+        return []
+
+    def percent_before(self, group: Sequence[Candidate]) -> float:
+        """Returns what a group held before, in percent of the growth."""
+        return self.probe.unit.percent(self.probe.before(group).amount, self.probe.growth) if group else 0.0
 
 
 def by_class(group: Iterable[Candidate]) -> List[Tried]:

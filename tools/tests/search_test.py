@@ -167,7 +167,7 @@ class KinTest(unittest.TestCase):
         for way in (["app/A.a", "app/A.c"], ["app/A.a", "app/B.b"], ["app/A.b", "app/lib/C.c"]):
             found, asked = self.found([([way], 100)], fields)
             self.assertEqual(found, [f"together {', '.join(way)}"])
-            self.assertLessEqual(asked, 30)
+            self.assertLessEqual(asked, 16)
 
     def test_little_each(self) -> None:
         """Many that hold a little each are found as fields of one class, and not as others."""
@@ -196,7 +196,7 @@ class KinTest(unittest.TestCase):
         ways = [[each.name for each in roots], ["lib/30/A.list", "lib/70/A.list"], ["lib/80/A.list"]]
         found, asked = self.found([(ways[:2], 100)], fields, [roots])
         self.assertEqual(found, ["together lib/30/A.list, lib/70/A.list"])
-        self.assertLessEqual(asked, 50)
+        self.assertLessEqual(asked, 20)
         self.assertEqual(self.found([(ways, 100)], fields, [roots, fields[80:81]]), ([], 0))
 
     def test_most_needed(self) -> None:
@@ -205,7 +205,7 @@ class KinTest(unittest.TestCase):
         for count in 6, 7, 30:
             found, asked = self.found([([[each.name for each in fields[: 3 * count : 3]]], 100)], fields)
             self.assertEqual(len(found), count <= 6)
-            self.assertLessEqual(asked, 90)
+            self.assertLessEqual(asked, 50)
 
     def test_most_asked(self) -> None:
         """It is not asked for ever which of many fields, or static fields, are needed."""
