@@ -4,6 +4,7 @@ import dataclasses
 from typing import Callable, List, NamedTuple, Optional, Sequence, Tuple
 
 from heap_tools.candidates import FIELD, Candidate, joint_name
+from heap_tools.container_sizes import ContainerSizes
 from heap_tools.heap_objects import HeapObjects
 from heap_tools.line_order import CHAIN, HARDLY_ANY, NEARLY, Features, LineOrder, Scoring
 from heap_tools.object_parts import FieldUses
@@ -165,9 +166,10 @@ def searched(probe: Probe, at_least: int, progress: SearchProgress) -> Search:
     """Searches for what holds `at_least` percent of what the probe asks for, alone or together."""
     search, fields = Search(probe, at_least, progress), probe.candidates.fields(probe.base)
     search.find(fields)
-    together = SearchTogether(search)
+    together = SearchTogether(search, ContainerSizes(HeapObjects(probe.runs.dump)).largest_first)
+    together.find_fields(fields)
     together.find_statics()
-    together.find_few(fields)
+    together.find_roots(fields)
     return search
 
 

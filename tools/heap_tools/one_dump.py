@@ -5,8 +5,10 @@ from typing import List, NamedTuple, Optional
 
 from heap_tools.class_lookup import family_of
 from heap_tools.class_objects import require_objects
+from heap_tools.container_sizes import ContainerSizes
 from heap_tools.dump_runs import DumpRuns
 from heap_tools.heap_dump import HeapDump
+from heap_tools.heap_objects import HeapObjects
 from heap_tools.leak_lines import Line, LineObjects, lines_found
 from heap_tools.leak_notes import shown_objects
 from heap_tools.leak_options import Options
@@ -70,7 +72,9 @@ def answer_of_one(question: HeapQuestion, options: Options, progress: SearchProg
     probe = question.probe
     search, fields = Search(probe, options.at_least, progress), probe.candidates.fields(probe.base)
     search.find(fields)
-    SearchTogether(search).find_few(fields)
+    together = SearchTogether(search, ContainerSizes(HeapObjects(probe.runs.dump)).largest_first)
+    together.find_fields(fields)
+    together.find_roots(fields)
     lines, objects, hidden = lines_found(search, probe, options.top)
     objects = shown_objects(objects, options.shows_values)
     contents = contents_of(lines[0].held, probe.unit) if lines else []

@@ -6,6 +6,7 @@ from typing import Callable, Dict, Iterable, List, NamedTuple, Sequence, Tuple
 from heap_tools.candidates import STATIC, THREAD, THREADS, Candidate
 from heap_tools.class_names import package
 from heap_tools.line_order import FEW
+from heap_tools.probe import Retained
 from heap_tools.reference_paths import is_root
 from heap_tools.search import Search, Tried
 
@@ -24,10 +25,14 @@ class Budget(NamedTuple):
 
 
 class SearchTogether:
-    """Adds what holds enough only together to what `search` has found."""
+    """Adds what holds enough only together to what `search` has found. `likeliest` returns fields, those first that are
+    likely to hold what grew."""
 
-    def __init__(self, search: Search) -> None:
+    def __init__(
+        self, search: Search, likeliest: Callable[[Sequence[Candidate]], Sequence[Candidate]] = lambda fields: fields
+    ) -> None:
         self.search, self.probe, self.at_least = search, search.probe, search.at_least
+        self.likeliest = likeliest
         #: What the virtual machine keeps with a class is no place where a program puts something.
         self.statics = [each for each in self.probe.candidates.statics() if not each.is_of_machine]
 
@@ -56,26 +61,40 @@ class SearchTogether:
         if needed and self.has_share(together):
             self.add(together)
 
-    def find_few(self, fields: Sequence[Candidate]) -> None:
+    def find_fields(self, fields: Sequence[Candidate]) -> None:
         """Finds those of `fields` with few instances that hold enough only together, if what is found leaves as much:
-        those of one class or package; else, if nothing with few instances is found, any of them and roots. If no root
-        is found, it finds roots that hold enough only together, whatever is found below. Threads do not count as found:
-        what they lead to may be held together below, too. Nor do roots that hold enough only together."""
-        single = [held for held in self.search.found if held.instances <= FEW and len(held.candidates) == 1]
-        single = [held for held in single if held.candidates[0].kind not in (THREAD, THREADS)]
+        those of one class or package; else, if nothing with few instances is found, any of them, the likeliest first.
+        """
+        few, single = self.unknown([each for each in fields if each.count <= FEW]), self.single()
         largest = max((self.probe.share(held.candidates) for held in single), default=0.0)
-        budget, few = self.budget(MOST_NEEDED), self.unknown([each for each in fields if each.count <= FEW])
-        if largest <= 100 - self.at_least and self.has_share(few) and self.find_kin(few, budget):
+        if largest > 100 - self.at_least or not self.has_share(few):
             return
-        if single and any(map(is_root, self.search.found)):
+        budget = self.budget(MOST_NEEDED)
+        if not self.find_kin(few, budget) and not single:
+            self.find_any(self.likeliest(few), budget)
+
+    def find_roots(self, fields: Sequence[Candidate]) -> None:
+        """If no root is found, finds roots that hold enough only together, whatever is found below; if nothing with few
+        instances is found either, and `fields` with few instances do not hold enough, roots and such fields."""
+        single, every = self.single(), self.search.found
+        if any(len(held.candidates) > 1 and not is_root(held) for held in every) or single and any(map(is_root, every)):
             return
-        rest = self.unknown([*self.statics, *([] if single else few)])
-        if not self.has_share([*rest, self.probe.candidates.all_threads()]):
-            return
-        rest = [*rest, *self.unknown(self.threads())]
+        few = self.unknown([each for each in fields if each.count <= FEW])
+        rest = [*self.unknown(self.statics), *([] if single or self.has_share(few) else few)]
+        if self.has_share([*rest, self.probe.candidates.all_threads()]):
+            self.find_any([*rest, *self.unknown(self.threads())], self.budget(MOST_NEEDED, MOST_GROUPS_OF_ROOTS))
+
+    def single(self) -> List[Retained]:
+        """Returns what is found of single candidates with few instances. Threads do not count: what they lead to may be
+        held together below, too. Nor do roots that hold enough only together."""
+        single = [held for held in self.search.found if held.instances <= FEW and len(held.candidates) == 1]
+        return [held for held in single if held.candidates[0].kind not in (THREAD, THREADS)]
+
+    def find_any(self, group: Sequence[Candidate], budget: Budget) -> None:
+        """Finds those of `group` that hold together nearly all that it does, those first that come first."""
         # All together may gain more than the growth, if something else shrank.
-        least = max(PART_NEEDED * min(self.share_or_bound(rest, self.at_least), 100), self.at_least)
-        needed = self.needed(rest, [], 0, least, self.budget(MOST_NEEDED, MOST_GROUPS_OF_ROOTS) if single else budget)
+        least = max(PART_NEEDED * min(self.share_or_bound(group, self.at_least), 100), self.at_least)
+        needed = self.needed(group, [], 0, least, budget)
         if self.has_share(needed):
             self.add(needed)
 

@@ -155,7 +155,9 @@ class KinTest(unittest.TestCase):
         probe.candidates = candidates_of([])
         search.found = [probe.retained(group) for group in known]
         probe.asked.clear()
-        SearchTogether(search).find_few(fields)
+        together = SearchTogether(search)
+        together.find_fields(fields)
+        together.find_roots(fields)
         # How many fields are said to be left is never below zero.
         notes = cast(mock.Mock, search.progress.note).call_args_list
         self.assertFalse([it for it in notes if it[0][0] < 0])
@@ -198,6 +200,16 @@ class KinTest(unittest.TestCase):
         self.assertEqual(found, ["together lib/30/A.list, lib/70/A.list"])
         self.assertLessEqual(asked, 20)
         self.assertEqual(self.found([(ways, 100)], fields, [roots, fields[80:81]]), ([], 0))
+
+    def test_likeliest(self) -> None:
+        """Of several ways to hold it only together, that of the likeliest fields is found."""
+        fields = [field(f"lib/{number}/A.list") for number in range(99)]
+        ways = [["lib/20/A.list", "lib/40/A.list"], ["lib/30/A.list", "lib/70/A.list"]]
+        for likely in (ways[1], ways[0]):
+            search = Search(ToldGains([], [(ways, 100)]), 30, mock.Mock())
+            search.probe.candidates = candidates_of([])
+            SearchTogether(search, lambda few: sorted(few, key=lambda it: it.name not in likely)).find_fields(fields)
+            self.assertEqual([joint_name(it.candidates) for it in search.found], [f"together {', '.join(likely)}"])
 
     def test_most_needed(self) -> None:
         """If more than a few are needed, it is not asked which, and they are no line."""
@@ -250,7 +262,7 @@ class KinTest(unittest.TestCase):
         probe.candidates = candidates_of([])
         search.look_in(both)
         self.assertEqual((len(search.found), len(search.steady)), (0, 1))
-        SearchTogether(search).find_few(both)
+        SearchTogether(search).find_fields(both)
         self.assertEqual([joint_name(held.candidates) for held in search.found], ["together app/A.a, app/A.b"])
 
     def test_beside_a_thread(self) -> None:
@@ -267,7 +279,7 @@ class KinTest(unittest.TestCase):
             probe = ToldGains([], [(ways, 100)])
             search = Search(probe, 30, mock.Mock())
             probe.candidates, search.found = candidates_of(roots), [probe.retained(group) for group in known]
-            SearchTogether(search).find_few([queue])
+            SearchTogether(search).find_roots([queue])
             self.assertEqual([joint_name(held.candidates) for held in search.found[len(known) :]], wanted)
 
 

@@ -209,8 +209,8 @@ class DumpWriter:
         superclass: int = 0,
         loader: int = 0,
     ) -> None:
-        """Writes a class. Its fields are of type object, except `coder`, `pid`,
-        `startTime` and those whose names begin with `int`."""
+        """Writes a class. Its fields are of type object, except `coder`, `size`, `pid`, `startTime` and those whose
+        names begin with `int`."""
         if name is not None:
             self.loaded(number, name)
         static = [(self.text(one), OBJECT, self.form.spell([value])) for one, value in (statics or {}).items()]
@@ -259,4 +259,4 @@ def word(number: int) -> bytes:
 
 def kind_of(field: str) -> int:
     """Returns the type's code of a field by its name, or by the beginning of that."""
-    return INT if field.startswith("int") else {"coder": BYTE, "pid": LONG, "startTime": LONG}.get(field, OBJECT)
+    return INT if field.startswith("int") else {"coder": BYTE, "size": INT, "pid": LONG, "startTime": LONG}.get(field, OBJECT)

@@ -1,0 +1,40 @@
+"""How many elements the containers have that fields lead to: what piles up is in large ones."""
+
+from typing import Dict, Iterable, List, Sequence
+
+from heap_tools import hprof_format as hprof
+from heap_tools.candidates import Candidate
+from heap_tools.heap_objects import HeapObjects
+from heap_tools.line_order import FEW
+
+#: The number that collections keep of their elements. Of others the length of their array counts.
+SIZE = "size"
+
+
+class ContainerSizes:
+    """Reads the sizes of containers in the dump of `objects`."""
+
+    def __init__(self, objects: HeapObjects) -> None:
+        self.objects = objects
+
+    def largest_first(self, fields: Sequence[Candidate]) -> List[Candidate]:
+        """Returns fields of at most `FEW` instances, those first that lead to the largest containers. Walks over all
+        objects three times."""
+        id_at, values = self.objects.dump.id, self.objects.values_by_field([each.name for each in fields], FEW, 0)
+        targets = {name: {id_at(each.value) for each in found.values} for name, found in values.items()}
+        places = self.objects.places_of(key for keys in targets.values() for key in keys)
+        parts = {key: self.objects.references_of(at).values() for key, at in places.items()}
+        known = self.objects.places_of(key for keys in parts.values() for key in keys)
+        sizes = {
+            key: self._size(at, [known[part] for part in parts[key] if part in known]) for key, at in places.items()
+        }
+        return sorted(fields, key=lambda each: -max((sizes.get(key, 0) for key in targets[each.name]), default=0))
+
+    def _size(self, at: int, parts: Iterable[int]) -> int:
+        """Returns how many elements the object at `at` has: an array, or an object with these parts."""
+        dump = self.objects.dump
+        for _, place, field in self.objects.fields_of(self.objects.class_of(at)):
+            if (field.name, field.kind) == (SIZE, hprof.INT):
+                return dump.number(at + place, 4)
+        arrays = (each for each in [at, *parts] if dump.bytes[each] == hprof.OBJECT_ARRAY)
+        return max(map(self.objects.length_of, arrays), default=0)
