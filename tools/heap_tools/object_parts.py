@@ -6,6 +6,7 @@ from heap_tools import hprof_format as hprof
 from heap_tools.candidates import FIELD, STATIC, Candidate
 from heap_tools.changed_copy import Changes
 from heap_tools.heap_objects import FieldValue, HeapObjects
+from heap_tools.map_entries import MapEntries
 from heap_tools.outer_names import OTHERS
 
 #: Among how many objects it is asked at most which hold most: more of them would make each run read too many changes.
@@ -43,8 +44,8 @@ class FieldUses:
 
 def elements(objects: HeapObjects, field: Candidate, changes: Changes) -> Parts:
     """Returns the elements of the list, the map or the array in `field`, a static field or one that few instances have:
-    of the largest, if it has several. `changes` are those by which the field leads nowhere in this dump. Walks over all
-    objects some times."""
+    of the largest, if it has several; of a map what it has under its keys. `changes` are those by which the field leads
+    nowhere in this dump. Walks over all objects some times."""
     named = {objects.dump.id(place + 1) for place in changes} if field.kind == STATIC else set()
     if field.kind == FIELD:
         named = {objects.dump.id(each.value) for each in objects.values_of([field.name])}
@@ -57,7 +58,9 @@ def elements(objects: HeapObjects, field: Candidate, changes: Changes) -> Parts:
     places = objects.elements_of(largest)
     held = objects.places_of({objects.dump.id(place) for place in places})
     known = [(held.get(objects.dump.id(place)), place) for place in places]
-    return Parts([FieldValue(at, place) for at, place in known if at is not None], are_elements=True)
+    values = [FieldValue(at, place) for at, place in known if at is not None]
+    entries = MapEntries(objects, [each.instance for each in values])
+    return Parts(entries.elements() or values if entries.are_entries else values, are_elements=True)
 
 
 def _arrays(objects: HeapObjects, identifiers: Set[int]) -> List[int]:

@@ -6,6 +6,7 @@ import unittest
 from typing import Dict, List, Optional, Sequence, Tuple
 
 from heap_tools.heap_objects import HeapObjects
+from heap_tools.map_entries import LONGEST_CHAIN
 from heap_tools.object_parts import FieldUses
 from heap_tools.part_search import MOST_RUNS, OF_ONE, PartSearch
 from heap_tools.reports import Amount
@@ -21,7 +22,7 @@ from heap_tools.which_object import (
 )
 from tests.support.dump_writer import BYTE, OBJECT, DumpWriter
 from tests.support.marked import growth_of, held_by, probe_of
-from tests.support.queues import Folders, Queues
+from tests.support.queues import Chains, Folders, Queues
 from tests.support.random_heaps import random_pair
 from tests.support.tool_test import ToolTest
 
@@ -156,6 +157,27 @@ class HoldsTest(unittest.TestCase):
             for dump, field in ((in_list, "shop/Shop.queues"), (Queues(sizes, id_size), "shop/Queues.ALL")):
                 words = said(field, self.holding(dump, field))
                 self.assertTrue(fnmatch.fnmatchcase(words, f"1 of 6 elements of {field} {wanted}"), words)
+
+    def test_map(self) -> None:
+        """The elements of a map are what it has under its keys, wherever in a chain and whatever else leads to the
+        entries; those of a set are its keys."""
+        names = ["java/util/HashMap$Node", "java/util/concurrent/ConcurrentHashMap$Node"]
+        for name, linked in (*((each, False) for each in names), (names[0], True)):
+            for heavy in range(5):
+                dump = Chains([9_000 if number == heavy else 7 for number in range(5)], name, linked)
+                words = said("shop/Shop.rooms", self.holding(dump, "shop/Shop.rooms"))
+                named = f'byte[] (the map\'s key "room {heavy}"): 9'
+                self.assertIn(f"1 of 5 elements of shop/Shop.rooms holds most: {named}", words, (name, linked))
+        in_set = Chains([5, 6, 9_000, 8, 7], names[0], is_set=True)
+        words = said("shop/Shop.rooms", self.holding(in_set, "shop/Shop.rooms"))
+        self.assertIn('1 of 5 elements of shop/Shop.rooms holds most: shop/Room (its field name "room 2"): 9', words)
+
+    def test_long_chain(self) -> None:
+        """If a chain is long, its first entry stands for all of it."""
+        for count, of in ((LONGEST_CHAIN, LONGEST_CHAIN + 1), (LONGEST_CHAIN + 1, 2)):
+            dump = Chains([5] * (count - 1) + [9_000], "java/util/HashMap$Node", chains=1, alone=1)
+            (found,) = self.holding(dump, "shop/Shop.rooms")
+            self.assertEqual(found.of, of)
 
     def test_tell_apart(self) -> None:
         """All of several objects that no name tells apart say nothing; some of them do, and all with names."""

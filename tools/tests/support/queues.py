@@ -65,3 +65,44 @@ class Folders(DumpWriter):
             self.instance(10_000 + number, 3, 40_000 + number, b"\0")
             self.values(40_000 + number, BYTE, b"folder %d" % number)
         self.root(1)
+
+
+class Chains(DumpWriter):
+    """A static field names a shop, whose field `rooms` leads to a map with an array of `chains` chains of entries of the
+    class `entry`, or with `linked` of one that inherits from it, which the map's first entry leads to, too. The entry
+    `n` has the key "room n" and `sizes[n]` bytes. `is_set`: the key is a room of that name with these bytes, and the
+    value is the same object for all. `alone`: how many more chains with an entry without bytes there are."""
+
+    def __init__(
+        self,
+        sizes: Sequence[int],
+        entry: str,
+        linked: bool = False,
+        is_set: bool = False,
+        chains: int = 2,
+        alone: int = 0,
+    ) -> None:
+        super().__init__()
+        self.of_class(1, "shop/Shop", {"ONE": 100}, fields=["rooms"])
+        self.of_class(2, "java/util/HashMap", fields=["head", "table"])
+        self.of_class(3, "java/lang/String", fields=["value", "coder"])
+        self.of_class(4, entry, fields=["key", "val" if "concurrent" in entry else "value", "next"])
+        self.of_class(5, "java/util/LinkedHashMap$Entry", fields=["after"], superclass=4)
+        self.of_class(6, "[Ljava/lang/Object;")
+        self.of_class(7, "shop/Room", fields=["name", "content"])
+        self.instance(100, 1, 200)
+        self.instance(200, 2, 1000 if linked else 0, 201)
+        count = len(sizes) + alone
+        self.array(201, 6, *range(1000, 1000 + chains), *range(1000 + len(sizes), 1000 + count))
+        self.values(202, BYTE, b"")
+        for number in range(count):
+            text, content, room = 2000 + number, 3000 + number, 4000 + number
+            after = [1001 + number if number + 1 < count else 0] if linked else []
+            follower = 1000 + number + chains if number + chains < len(sizes) else 0
+            key, value = (room, 202) if is_set else (text, content)
+            self.instance(1000 + number, 5 if linked else 4, *after, key, value, follower)
+            self.instance(text, 3, text + 10_000, b"\0")
+            self.values(text + 10_000, BYTE, b"room %d" % number)
+            self.values(content, BYTE, bytes(sizes[number] if number < len(sizes) else 0))
+            self.instance(room, 7, text, content if is_set else 0)
+        self.root(1)

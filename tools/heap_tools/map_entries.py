@@ -1,0 +1,58 @@
+"""The entries of a map that keeps them in an array of chains: what it has under its keys."""
+
+from typing import Iterator, List, Sequence, Tuple
+
+from heap_tools import hprof_format as hprof
+from heap_tools.heap_objects import FieldValue, HeapObjects
+from heap_tools.outer_names import MAP_NODES, NODE_CLASSES
+
+#: The classes of entries, and their fields of values and of keys.
+VALUES = [(owner, field) for name, _, _ in MAP_NODES for owner, _, field in [name.rpartition(".")]]
+KEYS = [(node, "key") for node in NODE_CLASSES]
+#: The longest chain that is followed, in entries: each takes a walk over all objects. Of usual ones few have more.
+LONGEST_CHAIN = 12
+#: What a concurrent map has in its array for a chain that became a tree: it leads to the first entry.
+TREE = "java/util/concurrent/ConcurrentHashMap$TreeBin"
+
+
+class MapEntries:
+    """Reads entries of maps in the dump of `objects`. `first` are the first entries of the chains of a map."""
+
+    def __init__(self, objects: HeapObjects, first: Sequence[int]) -> None:
+        self.objects, self.first = objects, first
+
+    @property
+    def are_entries(self) -> bool:
+        """Tests whether the objects are entries of a map of the JDK, or of one that inherits from it."""
+        return any(self._places(self.first[:1], KEYS))
+
+    def elements(self) -> List[FieldValue]:
+        """Returns what the map has under its keys: where it is, and where the reference to it is. If most values are
+        the same few objects, as in a set, these are the keys. Returns nothing if a chain is longer than
+        `LONGEST_CHAIN`. Walks over all objects for each entry of the longest chain."""
+        entries, last = list(self.first), list(self.first)
+        for _ in range(LONGEST_CHAIN):
+            last = list(self.objects.places_of(map(self._next, last)).values())
+            entries += last
+        if last:
+            return []
+        of_values, id_at = self._references(entries, VALUES), self.objects.dump.id
+        are_shared = 2 * len({id_at(place) for place in of_values}) < len(entries)
+        places = self._references(entries, KEYS) if are_shared else of_values
+        known = self.objects.places_of(map(id_at, places))
+        return [FieldValue(known[key], at) for at, key in zip(places, map(id_at, places)) if key in known]
+
+    def _next(self, at: int) -> int:
+        """Returns the identifier of the entry after the one at `at` in its chain, 0 if there is none."""
+        of_nodes = (self.objects.reference(at, owner, "next") for owner, _ in VALUES)
+        return next(filter(None, [*of_nodes, self.objects.reference(at, TREE, "first")]), 0)
+
+    def _references(self, entries: Sequence[int], fields: Sequence[Tuple[str, str]]) -> List[int]:
+        """Returns where the references of entries in these fields are, by class and name, which are not null."""
+        return [place for place in self._places(entries, fields) if self.objects.dump.id(place)]
+
+    def _places(self, entries: Sequence[int], fields: Sequence[Tuple[str, str]]) -> Iterator[int]:
+        """Yields where entries have these fields."""
+        for at in entries:
+            every = (self.objects.place_of_value(at, owner, name, hprof.OBJECT) for owner, name in fields)
+            yield from (place for place in every if place is not None)
