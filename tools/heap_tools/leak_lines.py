@@ -6,7 +6,7 @@ from typing import Callable, List, NamedTuple, Optional, Sequence, Tuple
 from heap_tools.candidates import FIELD, Candidate, joint_name
 from heap_tools.container_sizes import ContainerSizes
 from heap_tools.heap_objects import HeapObjects
-from heap_tools.line_order import CHAIN, HARDLY_ANY, NEARLY, Features, LineOrder, Scoring
+from heap_tools.line_order import CHAIN, HARDLY_ANY, MOST, NEARLY, Features, LineOrder, Scoring
 from heap_tools.object_parts import FieldUses
 from heap_tools.probe import EarlierProbe, GrowthProbe, Probe, Retained
 from heap_tools.reference_paths import ReferencePaths
@@ -134,12 +134,14 @@ class Lines:
 
     def _kin(self, held: Retained) -> List[Candidate]:
         """Returns the fields of the class that declares the field `held`, static ones if it is static, if it held
-        hardly anything before: then another one of them may have held the same objects. Else nothing."""
-        unit, before = self.probe.unit, self.probe.before(held.candidates).amount
-        if len(held.candidates) > 1 or unit.of(before) > HARDLY_ANY * unit.of(held.amount):
+        hardly anything before: then another one of them may have held the same objects. Returns nothing if they held so
+        little before that they gained half of what the field did, or more, since they hold all that it does."""
+        now, was = (self.probe.unit.of(each.amount) for each in (held, self.probe.before(held.candidates)))
+        if len(held.candidates) > 1 or was > HARDLY_ANY * now:
             return []
         kin = kin_of(held.candidates[0], self.probe)
-        return kin if len(kin) > 1 else []
+        had = self.probe.unit.of(self.probe.before(kin).amount) if len(kin) > 1 else 0
+        return kin if now - had < MOST * (now - was) else []
 
 
 def kin_of(candidate: Candidate, probe: Probe) -> List[Candidate]:

@@ -85,6 +85,17 @@ class LinesTest(unittest.TestCase):
         lines = self.lines([green, other], [(ways[:1], 90)], [(ways[1:], 90), ([["shop/Other.all"]], 40)], before=1)
         self.assertEqual([str(held.candidates[0]) for held in lines.sorted()], ["shop/Other.all", "shop/S.green"])
 
+    def test_kin_asked(self) -> None:
+        """What the fields of a class hold now is asked only if they held more than half of it before: else it cannot
+        show that they gained little."""
+        _, green, _ = FIELDS
+        for before, is_asked in ((50, False), (51, True)):
+            things: Things = [([["shop/S.blue"], ["shop/S.green"]], 100)]
+            lines = self.lines([green], [([["shop/S.blue"]], before)], things, before=1)
+            assert isinstance(lines.probe, ToldGains)
+            self.assertEqual(["shop/S.blue", "shop/S.green"] in lines.probe.asked, is_asked)
+            self.assertIn(["shop/S.blue", "shop/S.green"], lines.probe.earlier.asked)
+
 
 if __name__ == "__main__":
     unittest.main()
