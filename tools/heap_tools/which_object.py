@@ -84,16 +84,19 @@ class PartsOfField:
         else leads to do."""
         if self.count < FEWEST_OBJECTS or not 1 <= len(self.parts.values) <= MOST_OBJECTS:
             return False
-        unit = self.probe.unit
-        together = self.measure.amount(self.parts.values) if self.parts.are_elements else self.held.amount
-        return unit.of(together) <= unit.of(self.held.amount)
+        return self.probe.unit.of(self.together) <= self.probe.unit.of(self.held.amount)
+
+    @property
+    def together(self) -> Amount:
+        """What they hold together: elements may hold less than the field, if something else leads to them, too."""
+        return self.measure.amount(self.parts.values) if self.parts.are_elements else self.held.amount
 
     def search(self, whole: Amount) -> PartSearch:
         """Returns a search among them for those that hold much of `whole`. One may hold another if without the field
         some of the instances that have it are unreachable."""
         classes: FrozenSet[str] = frozenset() if self.parts.are_elements else self.held.candidates[0].classes
         are_nested = any(self.held.lost.get(name, Amount()).objects > 0 for name in classes)
-        return PartSearch(self.measure, self.parts.values, self.held.amount, whole, are_nested)
+        return PartSearch(self.measure, self.parts.values, self.together, whole, are_nested)
 
     @property
     def count(self) -> int:

@@ -158,6 +158,18 @@ class HoldsTest(unittest.TestCase):
                 words = said(field, self.holding(dump, field))
                 self.assertTrue(fnmatch.fnmatchcase(words, f"1 of 6 elements of {field} {wanted}"), words)
 
+    def test_held_elsewhere(self) -> None:
+        """Of a list whose elements something else leads to, too, it is asked only what they hold together."""
+        dump = Queues([5] * 300 + [90_000] + [5] * 200)
+        dump.of_class(20, "shop/Other", {"ALL": 700})
+        dump.array(700, 2, *range(1000, 1501))
+        dump.root(20)
+        probe = probe_of(dump)
+        held = held_by(probe, "shop/Queues.ALL")
+        runs = probe.runs.heapmark.runs
+        self.assertEqual(objects_that_hold(probe, held._replace(amount=Amount(1, 90_000))), [])
+        self.assertEqual(probe.runs.heapmark.runs, runs + 1)
+
     def test_map(self) -> None:
         """The elements of a map are what it has under its keys, wherever in a chain and whatever else leads to the
         entries; those of a set are its keys."""
