@@ -244,7 +244,8 @@ class LineOrder:
         return lower != upper and self.lines[lower].heap <= self.lines[upper].heap and self.holds(upper, lower)
 
     def _is_on_path(self, number: int, best: int) -> bool:
-        return number == best or self.holds(number, best) or self.holds(best, number)
+        upper, lower = sorted((number, best), key=lambda it: -self.lines[it].heap)
+        return number == best or self.holds(upper, lower) or self.holds(lower, upper)
 
     def _depth(self, number: int) -> Tuple[bool, bool, int, str]:
         """Returns what the deepest line is the smallest by, among those with one score: a thread, if none says more."""

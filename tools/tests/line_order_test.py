@@ -196,6 +196,18 @@ class LineOrderTest(unittest.TestCase):
             order = LineOrder(row.lines, lambda upper, lower: True, GROWTH)
             self.assertEqual(row.lines[order.sorted()[0]].name, row.answer, row.why)
 
+    def test_larger_asked_first(self) -> None:
+        """Whether a line is on the path of another one is asked first of the one that holds more."""
+        row = Row.of("all: static shop/A.STORE > *shop/Store.map > java/util/HashMap.table")
+        asked: List[Tuple[int, int]] = []
+
+        def holds(upper: int, lower: int) -> bool:
+            asked.append((upper, lower))
+            return upper < lower
+
+        self.assertEqual(LineOrder(row.lines, holds, GROWTH).answer(), 1)
+        self.assertEqual([each for each in asked if each[0] > each[1]], [])
+
     def test_beside(self) -> None:
         """Of one dump the best own line that is neither above the answer nor below it is the second, whatever it has;
         of two dumps it comes by its score. One that many instances explain has none."""
