@@ -4,6 +4,7 @@ from typing import Dict, Iterable, List, Sequence
 
 from heap_tools import hprof_format as hprof
 from heap_tools.candidates import Candidate
+from heap_tools.field_values import values_by_field
 from heap_tools.heap_objects import HeapObjects
 from heap_tools.line_order import FEW
 
@@ -20,7 +21,7 @@ class ContainerSizes:
     def largest_first(self, fields: Sequence[Candidate]) -> List[Candidate]:
         """Returns fields of at most `FEW` instances, those first that lead to the largest containers. Walks over all
         objects three times."""
-        id_at, values = self.objects.dump.id, self.objects.values_by_field([each.name for each in fields], FEW, 0)
+        id_at, values = self.objects.dump.id, values_by_field(self.objects, [each.name for each in fields], FEW, 0)
         targets = {name: {id_at(each.value) for each in found.values} for name, found in values.items()}
         places = self.objects.places_of(key for keys in targets.values() for key in keys)
         parts = {key: self.objects.references_of(at).values() for key, at in places.items()}

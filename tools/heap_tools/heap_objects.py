@@ -1,13 +1,17 @@
 """Walks over the objects of a heap dump: how many there are of a class, where they are, and what their fields hold."""
 
 import itertools
+import sys
+from array import array
 from typing import Dict, Iterable, Iterator, List, NamedTuple, Optional, Set, Tuple
 from weakref import WeakKeyDictionary
 
 from heap_tools import hprof_format as hprof
 from heap_tools.class_names import CLASSES, PRIMITIVES, family
 from heap_tools.heap_dump import Field, HeapDump, Span
+from heap_tools.object_records import chosen_objects
 from heap_tools.parallel import shared
+from heap_tools.span_order import order_of_segments
 
 #: The fewest segments for which a process of its own pays. Those of a virtual machine have a million bytes each.
 FEWEST_SEGMENTS = 64
@@ -22,13 +26,6 @@ class FieldValue(NamedTuple):
 
     instance: int
     value: int
-
-
-class FieldValues(NamedTuple):
-    """Values of a field that are not null, and where instances are in which it is null."""
-
-    values: List[FieldValue]
-    nulls: List[int]
 
 
 class Referrer(NamedTuple):
@@ -73,20 +70,29 @@ class HeapObjects:
         return {key: self._string(at, arrays.get(values[key])) for key, at in places.items()}
 
     def places_of(self, identifiers: Iterable[int]) -> Dict[int, int]:
-        """Returns where the objects with these identifiers are. Walks over all objects."""
-        wanted = {each for each in identifiers if each}
+        """Returns where the objects with these identifiers are, in the order of the file. Reads the segments in which
+        they must be if identifiers ascend, and all others only for what is not there."""
+        wanted = {each for each in identifiers if each} - self.dump.classes.keys()
+        order, segments = order_of_segments(self.dump), self.dump.segments
+        near = order.around(wanted) if order.is_ascending else {}
+        likely = [each for number, each in enumerate(segments) if number in near]
+        others = [each for number, each in enumerate(segments) if number not in near]
+        found = self._places_in(likely, wanted)
+        found.update(self._places_in(others, wanted - found.keys()))
+        return dict(sorted(found.items(), key=lambda each: each[1]))
 
-        def found_in(segments: List[Span]) -> Dict[int, int]:
+    def _places_in(self, segments: List[Span], wanted: Set[int]) -> Dict[int, int]:
+        """Returns where those of the objects with the identifiers `wanted` are that are in these segments."""
+
+        def found_in(some: List[Span]) -> Dict[int, int]:
             found: Dict[int, int] = {}
-            id_at, data, objects = self.dump.unpack_id, self.dump.bytes, hprof.OBJECTS
-            for at, tag in self.dump.sub_records(segments):
-                if id_at(data, at + 1)[0] in wanted and tag in objects:
-                    found[id_at(data, at + 1)[0]] = at
-                    if len(found) == len(wanted):
-                        break
+            for at, identifier, _ in chosen_objects(self.dump, some, wanted):
+                found[identifier] = at
+                if len(found) == len(wanted):
+                    break
             return found
 
-        parts = shared(found_in, self.dump.segments, FEWEST_SEGMENTS) if wanted else []
+        parts = shared(found_in, segments, FEWEST_SEGMENTS) if wanted and segments else []
         return {key: at for part in parts for key, at in part.items()}
 
     def count(self, names: Set[str]) -> int:
@@ -132,11 +138,17 @@ class HeapObjects:
         """Returns how many elements the array of references at `at` has."""
         return self.dump.number(at + 5 + self.dump.id_size, 4)
 
-    def elements_of(self, at: int) -> List[int]:
-        """Returns where the elements of the array of references at `at` are that are not null."""
-        size, begin = self.dump.id_size, at + 9 + 2 * self.dump.id_size
-        every = range(begin, begin + self.length_of(at) * size, size)
-        return [place for place in every if self.dump.id(place)]
+    def elements_of(self, at: int) -> "array[int]":
+        """Returns the identifiers that are the elements of the array of references at `at`, 0 for null."""
+        size, begin = self.dump.id_size, self.element_at(at, 0)
+        found = array("Q" if size == 8 else "I", self.dump.bytes[begin : begin + self.length_of(at) * size])
+        if sys.byteorder == "little":
+            found.byteswap()
+        return found
+
+    def element_at(self, at: int, number: int) -> int:
+        """Returns where an element of the array of references at `at` is. The first has the number 0."""
+        return at + 9 + (2 + number) * self.dump.id_size
 
     def fields_of(self, class_id: int) -> Iterator[Tuple[int, int, Field]]:
         """Yields the fields of an instance of a class, inherited ones too: the class that declares each, where its
@@ -156,49 +168,21 @@ class HeapObjects:
         for all hidden classes of its name. `targets`: only the values that are one of these identifiers. `kind` is the
         code of the fields' type: a class may have a field of the same name and of another type. Walks over all
         objects."""
-        dump, places = self.dump, self._places_in_instances(fields, kind)
+        dump, places = self.dump, self.places_in_instances(fields, kind)
 
         def values_in(segments: List[Span]) -> List[FieldValue]:
             found: List[FieldValue] = []
-            id_at, data, class_at = dump.unpack_id, dump.bytes, 5 + dump.id_size
-            for at, tag in dump.sub_records(segments):
-                if tag == hprof.INSTANCE:
-                    for _, place in places.get(id_at(data, at + class_at)[0], ()):
-                        if targets is None or id_at(data, at + place)[0] in targets:
-                            found.append(FieldValue(at, at + place))
+            id_at, data = dump.unpack_id, dump.bytes
+            for at, _, class_id in chosen_objects(dump, segments, (), places):
+                for _, place in places[class_id]:
+                    if targets is None or id_at(data, at + place)[0] in targets:
+                        found.append(FieldValue(at, at + place))
             return found
 
         parts = shared(values_in, dump.segments, FEWEST_SEGMENTS) if places else []
         return [each for part in parts for each in part]
 
-    def values_by_field(self, fields: Iterable[str], most: int, most_null: int) -> Dict[str, FieldValues]:
-        """Returns for each of `fields` the values that are not null, at most `most`, and the instances in which it is
-        null, at most `most_null`. Walks over all objects."""
-        dump, places = self.dump, self._places_in_instances(fields, hprof.OBJECT)
-
-        def values_in(segments: List[Span]) -> Dict[str, FieldValues]:
-            found = {name: FieldValues([], []) for name in fields}
-            id_at, data, class_at = dump.unpack_id, dump.bytes, 5 + dump.id_size
-            for at, tag in dump.sub_records(segments):
-                if tag == hprof.INSTANCE:
-                    for name, place in places.get(id_at(data, at + class_at)[0], ()):
-                        values, nulls = found[name]
-                        if not id_at(data, at + place)[0]:
-                            if len(nulls) < most_null:
-                                nulls.append(at)
-                        elif len(values) < most:
-                            values.append(FieldValue(at, at + place))
-            return found
-
-        parts = shared(values_in, dump.segments, FEWEST_SEGMENTS) if places else []
-        found = {}
-        for name in fields:
-            values = [each for part in parts for each in part[name].values]
-            nulls = [at for part in parts for at in part[name].nulls]
-            found[name] = FieldValues(values[:most], nulls[:most_null])
-        return found
-
-    def _places_in_instances(self, fields: Iterable[str], kind: int) -> Dict[int, List[Tuple[str, int]]]:
+    def places_in_instances(self, fields: Iterable[str], kind: int) -> Dict[int, List[Tuple[str, int]]]:
         """Returns for each class the names of those of `fields` that its instances have, and where the values are,
         counted from the begin of an instance."""
         dump, wanted = self.dump, set(fields)

@@ -17,6 +17,7 @@ from heap_tools import hprof_format as hprof
 from heap_tools.heap_dump import HeapDump, Span
 from heap_tools.object_records import HeapObject, heap_objects, short_spans, some_instances
 from heap_tools.parallel import shared
+from heap_tools.span_order import ASCENDING, SpanOrder
 
 #: How many objects a sample has, about: enough that the classes which matter are in it.
 SAMPLED = 200_000
@@ -27,8 +28,6 @@ PARTS = 40
 LONGEST = 1 << 16
 #: The bits of an address within a range, all of whose objects are taken. A range is at least `LONGEST` bytes long.
 RANGE_BITS = 16
-#: The least share of objects after which a larger identifier comes, for a file to be one in which they ascend.
-ASCENDING = 0.8
 #: The fewest parts of the file for which a process of its own pays.
 FEWEST_SPANS = 16
 #: The classes to which OpenJDK adds fields that no dump shows.
@@ -135,25 +134,9 @@ def _with_their_next(dump: HeapDump, spans: Sequence[Span], wanted: Sequence[int
     """Returns pairs of objects of which the first is one of `wanted`, or has a class object of `wanted` after it.
     Identifiers ascend in the file."""
     found: List[List[HeapObject]] = []
-    for number, some in list(spans_around(dump, spans, wanted).items())[:MOST_SPECIAL]:
+    for number, some in list(SpanOrder(dump, spans).around(wanted).items())[:MOST_SPECIAL]:
         found += _around(dump, spans[number], sorted(some))
     return found
-
-
-def spans_around(dump: HeapDump, spans: Sequence[Span], wanted: Iterable[int]) -> Dict[int, List[int]]:
-    """Returns the numbers of the parts of the file that have the objects before and after the identifiers `wanted`, and
-    which of these are in each, if identifiers ascend in the file."""
-    begins = sorted((each[0], number) for number, span in enumerate(spans) for each in _beginning(dump, span, 1))
-    firsts = [identifier for identifier, _ in begins]
-    chosen: Dict[int, List[int]] = {}
-    for each in wanted:
-        place = bisect_right(firsts, each)
-        # Mostly one part; not where the addresses of a part go on from those of the last space to those of the first.
-        numbers = {begins[place - 1][1]} if place else set()
-        numbers |= {max(0, begins[place][1] - 1)} if place < len(begins) else set()
-        for number in numbers:
-            chosen.setdefault(number, []).append(each)
-    return chosen
 
 
 def _around(dump: HeapDump, span: Span, wanted: List[int]) -> List[List[HeapObject]]:

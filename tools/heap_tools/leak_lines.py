@@ -64,8 +64,8 @@ class Lines:
         if self.scoring is Scoring.GAIN:
             self.others = [*search.steady, *(probe.retained(kin) for kin in map(self._kin, self.found) if kin)]
         self.every = [*self.found, *self.others]
-        self.uses = FieldUses(HeapObjects(probe.runs.dump))
-        self.uses.read(held.candidates[0] for held in self.every if self._may_be_null(held))
+        fields = [held.candidates[0] for held in self.found if self._is_field(held)]
+        self.uses = FieldUses(HeapObjects(probe.runs.dump), fields)
         self.features = [self._features(held, number < len(self.found)) for number, held in enumerate(self.every)]
 
     def sorted(self) -> List[Retained]:
@@ -109,7 +109,7 @@ class Lines:
             is_own=held.is_own,
             is_collection=all(each.is_collection for each in candidates),
             instances=held.instances,
-            with_value=len(self.uses.of(candidates[0]).values) if self._may_be_null(held) else held.instances,
+            with_value=self._with_value(held) if is_line else held.instances,
             instances_before=probe.instances_before(candidates),
             amount=probe.unit.of(held.amount),
             before=probe.unit.of(was.amount),
@@ -120,9 +120,14 @@ class Lines:
             is_line=is_line,
         )
 
-    def _may_be_null(self, held: Retained) -> bool:
-        """Tests whether some of several instances may have no value in a line's field."""
-        return len(held.candidates) == 1 and held.candidates[0].kind == FIELD and held.instances > 1
+    def _with_value(self, held: Retained) -> int:
+        """Returns how many instances have a value in a line's field: of several some may have none."""
+        may_be_null = self._is_field(held) and held.instances > 1
+        return self.uses.count(held.candidates[0]) if may_be_null else held.instances
+
+    def _is_field(self, held: Retained) -> bool:
+        """Tests whether a line is one field of instances."""
+        return len(held.candidates) == 1 and held.candidates[0].kind == FIELD
 
     def _grew_at_each_step(self, held: Retained) -> bool:
         """Tests whether `held` gained between each two of the dumps that are asked."""

@@ -1,10 +1,10 @@
 """The objects of many by which a field holds what it holds: the instances that have it, or the elements of its list."""
 
-from typing import Dict, Iterable, List, NamedTuple, Sequence, Set
+from typing import Dict, Iterable, List, NamedTuple, Optional, Sequence, Set
 
 from heap_tools import hprof_format as hprof
-from heap_tools.candidates import FIELD, STATIC, Candidate
-from heap_tools.changed_copy import Changes
+from heap_tools.candidates import FIELD, Candidate
+from heap_tools.field_values import FieldValues, values_by_field
 from heap_tools.heap_objects import FieldValue, HeapObjects
 from heap_tools.map_entries import MapEntries
 from heap_tools.outer_names import OTHERS
@@ -24,41 +24,52 @@ class Parts(NamedTuple):
 
 
 class FieldUses:
-    """Reads which instances of a dump have a value in a field, of several fields in one walk over all objects."""
+    """Knows which instances of a dump have a value in a field, of each field some more than may be looked into at most.
+    The values in `fields` are read in one walk over all objects, when one of them is asked for; those in another field
+    take a walk of their own."""
 
-    def __init__(self, objects: HeapObjects) -> None:
+    def __init__(self, objects: HeapObjects, fields: Iterable[Candidate] = ()) -> None:
         self.objects = objects
-        self._known: Dict[str, Parts] = {}
+        self._together = {each.name for each in fields}
+        self._known: Dict[str, FieldValues] = {}
 
-    def read(self, fields: Iterable[Candidate]) -> None:
-        """Reads the values in `fields` that are not known yet: of each some more than may be looked into at most."""
-        names = {each.name for each in fields if each.kind == FIELD} - set(self._known)
-        found = self.objects.values_by_field(names, MOST_OBJECTS + 1, OTHERS) if names else {}
-        self._known.update({name: Parts(each.values, each.nulls) for name, each in found.items()})
+    def _values_of(self, field: Candidate) -> FieldValues:
+        if field.name not in self._known:
+            names = {field.name} | (self._together - self._known.keys())
+            self._known.update(values_by_field(self.objects, names, MOST_OBJECTS + 1, OTHERS))
+        return self._known[field.name]
+
+    def count(self, field: Candidate) -> int:
+        """Returns how many instances have a value in `field`: one more than may be looked into, if there are more."""
+        return self._values_of(field).count
+
+    def only_target(self, field: Candidate) -> int:
+        """Returns the identifier of the object that all instances name by `field`, 0 if they name several or none."""
+        targets = self._values_of(field).targets
+        return next(iter(targets)) if len(targets) == 1 else 0
 
     def of(self, field: Candidate) -> Parts:
         """Returns the instances whose `field` is not null; none of a static field."""
-        self.read([field])
-        return self._known[field.name] if field.kind == FIELD else Parts([])
+        if field.kind != FIELD:
+            return Parts([])
+        found = self._values_of(field)
+        return Parts(found.values, found.nulls)
 
 
-def elements(objects: HeapObjects, field: Candidate, changes: Changes) -> Parts:
-    """Returns the elements of the list, the map or the array in `field`, a static field or one that few instances have:
-    of the largest, if it has several; of a map what it has under its keys. `changes` are those by which the field leads
-    nowhere in this dump. Walks over all objects some times."""
-    named = {objects.dump.id(place + 1) for place in changes} if field.kind == STATIC else set()
-    if field.kind == FIELD:
-        named = {objects.dump.id(each.value) for each in objects.values_of([field.name])}
-        if len(named) > 1:
-            return Parts([], are_elements=True)
-    arrays = _arrays(objects, named)
-    largest = max(arrays, key=objects.length_of, default=None)
+def elements(objects: HeapObjects, lists: Set[int], most: Optional[int] = None, unresolved: int = 0) -> Parts:
+    """Returns the elements of the list, the map or the array that is named `lists`: of the largest, if there are
+    several; of a map what it has under its keys. Returns none if there surely are more than `most`. `unresolved`: how
+    many references of the dump name no object; all others do, and only class objects are no elements."""
+    largest = max(_arrays(objects, lists), key=objects.length_of, default=None)
     if largest is None:
         return Parts([], are_elements=True)
-    places = objects.elements_of(largest)
-    held = objects.places_of({objects.dump.id(place) for place in places})
-    known = [(held.get(objects.dump.id(place)), place) for place in places]
-    values = [FieldValue(at, place) for at, place in known if at is not None]
+    targets = objects.elements_of(largest)
+    if most is not None and len(targets) - targets.count(0) - unresolved > most:
+        if sum(each not in objects.dump.classes for each in targets if each) - unresolved > most:
+            return Parts([], are_elements=True)
+    places = objects.places_of(set(targets))
+    found = [(places[each], number) for number, each in enumerate(targets) if each in places]
+    values = [FieldValue(at, objects.element_at(largest, number)) for at, number in found]
     entries = MapEntries(objects, [each.instance for each in values])
     return Parts(entries.elements() or values if entries.are_entries else values, are_elements=True)
 

@@ -1,7 +1,7 @@
 """The objects of a heap dump as their records have them."""
 
 import struct
-from typing import Iterable, Iterator, List, Optional, Tuple
+from typing import Callable, Container, Iterable, Iterator, List, Optional, Tuple
 
 from heap_tools import hprof_format as hprof
 from heap_tools.heap_dump import HeapDump, Span, UnknownTag
@@ -9,6 +9,8 @@ from heap_tools.heap_dump import HeapDump, Span, UnknownTag
 #: An object: its identifier, that of its class (0 for an array of primitive values), the code of its elements' type (0
 #: for an instance), and how many elements it has, or how many bytes of fields. A plain tuple, since there are millions.
 HeapObject = Tuple[int, int, int, int]
+#: Where an object is, its identifier, and that of its class, 0 for an array.
+PlacedObject = Tuple[int, int, int]
 #: Up to JDK 8 a heap below 2 GB is one record. To be read in parts, records longer than this are cut.
 LONG_RECORD = 4 << 20
 #: How long the parts are into which a long record is cut, and how many objects are read to see that a cut is right.
@@ -20,11 +22,7 @@ FREQUENT = "java/lang/String"
 def heap_objects(dump: HeapDump, spans: Iterable[Span]) -> Iterator[HeapObject]:
     """Yields the objects in some parts of the file, in its order. Class dumps and roots are none."""
     data, size, sizes = dump.bytes, dump.id_size, dump.value_sizes
-    number = "Q" if size == 8 else "I"
-    instance = struct.Struct(f">{number}4x{number}I").unpack_from
-    array = struct.Struct(f">{number}4xI{number}").unpack_from
-    primitive = struct.Struct(f">{number}4xIB").unpack_from
-    root_sizes = {**hprof.ROOT_SIZES, hprof.JNI_GLOBAL: size}
+    instance, array, primitive = _heads(size)
     head = 9 + 2 * size
     for at, end in spans:
         while at < end:
@@ -41,12 +39,58 @@ def heap_objects(dump: HeapDump, spans: Iterable[Span]) -> Iterator[HeapObject]:
                 identifier, length, class_id = array(data, at + 1)
                 at += head + length * size
                 yield identifier, class_id, hprof.OBJECT, length
-            elif tag == hprof.CLASS_DUMP:
-                at = _end_of_class(dump, at)
-            elif tag in root_sizes:
-                at += 1 + size + root_sizes[tag]
             else:
-                raise UnknownTag(tag, at)
+                at = _end_of_other(dump, tag, at)
+
+
+def chosen_objects(
+    dump: HeapDump, spans: Iterable[Span], identifiers: Container[int], classes: Container[int] = ()
+) -> Iterator[PlacedObject]:
+    """Yields the objects in some parts of the file, in its order, that have one of these identifiers or are instances
+    of one of these classes. This is `heap_objects` once more, since a walk that yields every object takes twice the
+    time."""
+    data, size, sizes = dump.bytes, dump.id_size, dump.value_sizes
+    instance, array, primitive = _heads(size)
+    head = 9 + 2 * size
+    for at, end in spans:
+        while at < end:
+            tag = data[at]
+            if tag == hprof.INSTANCE:
+                identifier, class_id, length = instance(data, at + 1)
+                if class_id in classes or identifier in identifiers:
+                    yield at, identifier, class_id
+                at += head + length
+            elif tag == hprof.PRIMITIVE_ARRAY:
+                identifier, length, kind = primitive(data, at + 1)
+                if identifier in identifiers:
+                    yield at, identifier, 0
+                at += 10 + size + length * sizes[kind]
+            elif tag == hprof.OBJECT_ARRAY:
+                identifier, length, class_id = array(data, at + 1)
+                if identifier in identifiers:
+                    yield at, identifier, 0
+                at += head + length * size
+            else:
+                at = _end_of_other(dump, tag, at)
+
+
+def _heads(size: int) -> List[Callable[..., Tuple[int, ...]]]:
+    """Returns what unpacks the heads of records from the identifier on: of an instance that and the class and the bytes
+    of fields, of an array of references the length and the class, of another array the length and the type."""
+    number = "Q" if size == 8 else "I"
+    every = f">{number}4x{number}I", f">{number}4xI{number}", f">{number}4xIB"
+    return [struct.Struct(each).unpack_from for each in every]
+
+
+def _end_of_other(dump: HeapDump, tag: int, at: int) -> int:
+    """Returns where the class dump or the root at `at` ends. Raises `UnknownTag` if it is neither."""
+    if tag == hprof.CLASS_DUMP:
+        return _end_of_class(dump, at)
+    if tag == hprof.JNI_GLOBAL:
+        return at + 1 + 2 * dump.id_size
+    if tag not in hprof.ROOT_SIZES:
+        raise UnknownTag(tag, at)
+    return at + 1 + dump.id_size + hprof.ROOT_SIZES[tag]
 
 
 def _end_of_class(dump: HeapDump, at: int) -> int:

@@ -13,10 +13,11 @@ from typing import Iterator, List, Sequence, Set
 
 from heap_tools import hprof_format as hprof
 from heap_tools.heap_dump import HeapDump, Span
-from heap_tools.heap_sample import FEWEST_SPANS, spans_around
+from heap_tools.heap_sample import FEWEST_SPANS
 from heap_tools.object_records import heap_objects, short_spans
 from heap_tools.parallel import shared
 from heap_tools.reports import Amount
+from heap_tools.span_order import SpanOrder
 
 #: The class of the virtual machine's array.
 ARRAY = "[Ljava/lang/Object;"
@@ -36,7 +37,7 @@ def unloaded_classes(dump: HeapDump, is_ascending: bool, unresolved: int) -> Amo
     spans, ranges = short_spans(dump), _ranges(dump)
     parts = shared(lambda some: _referred(dump, some, ranges), spans, FEWEST_SPANS)
     referred = set(chain.from_iterable(parts))
-    near = [spans[number] for number in spans_around(dump, spans, referred)] if is_ascending else spans
+    near = [spans[number] for number in SpanOrder(dump, spans).around(referred)] if is_ascending else spans
     found = _omitted(dump, near, referred)
     if found.objects > unresolved:
         found = _omitted(dump, spans, referred)

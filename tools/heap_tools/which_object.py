@@ -1,12 +1,12 @@
 """Which objects of many hold most of what a field holds, or gained most of what it gained, and what names them."""
 
-from typing import Dict, FrozenSet, Iterator, List, NamedTuple, Optional, Sequence
+from typing import Dict, FrozenSet, Iterator, List, NamedTuple, Optional, Sequence, Set
 
-from heap_tools.candidates import FIELD, STATIC
+from heap_tools.candidates import FIELD, STATIC, Candidate
 from heap_tools.heap_objects import FieldValue, HeapObjects
 from heap_tools.naming import Name, alone_in
 from heap_tools.object_names import ObjectNames
-from heap_tools.object_parts import MOST_OBJECTS, FieldUses, Parts, elements
+from heap_tools.object_parts import MOST_OBJECTS, FieldUses, elements
 from heap_tools.part_search import OF_ONE, Holding, Measure, PartSearch
 from heap_tools.probe import GrowthProbe, Probe, Retained
 from heap_tools.reports import Amount
@@ -63,20 +63,31 @@ def tell_apart(found: Sequence[HoldingObject]) -> bool:
 
 class PartsOfField:
     """The objects by which the field `held` holds what it holds in the dump that `probe` asks: the instances that have
-    it and a value in it, or with `as_elements` the elements of its list. `uses` may know the values."""
+    it and a value in it, or with `as_elements` the elements of its list. `uses` may know the values. `most`: if there
+    surely are more elements than that, none is looked up."""
 
     def __init__(
-        self, probe: Probe, held: Retained, as_elements: bool = False, uses: Optional[FieldUses] = None
+        self,
+        probe: Probe,
+        held: Retained,
+        as_elements: bool = False,
+        uses: Optional[FieldUses] = None,
+        most: Optional[int] = None,
     ) -> None:
         self.probe, self.held = probe, held
         self.objects, self.measure = HeapObjects(probe.runs.dump), Measure(probe)
-        field = held.candidates[0]
+        field, uses = held.candidates[0], uses or FieldUses(self.objects)
         if as_elements:
-            self.parts: Parts = elements(self.objects, field, probe.changes(field))
+            lists = {uses.only_target(field)} if field.kind == FIELD else self._values_of_static(field)
+            self.parts = elements(self.objects, lists, most, probe.runs.report.unresolved)
         else:
-            self.parts = (uses or FieldUses(self.objects)).of(field)
+            self.parts = uses.of(field)
             self.measure.know(self.parts.values, held.amount)
         self.names = ObjectNames(self.objects.dump)
+
+    def _values_of_static(self, field: Candidate) -> Set[int]:
+        """Returns the identifiers in a static field of all classes of its name."""
+        return {self.objects.dump.id(place + 1) for place in self.probe.changes(field)}
 
     @property
     def is_question(self) -> bool:
@@ -139,7 +150,7 @@ def ways(probe: Probe, held: Retained, uses: Optional[FieldUses]) -> Iterator[Pa
     line with several fields, a local variable or threads has none."""
     if len(held.candidates) == 1 and held.candidates[0].kind in (FIELD, STATIC):
         for as_elements in (False, True):
-            found = PartsOfField(probe, held, as_elements, uses)
+            found = PartsOfField(probe, held, as_elements, uses, MOST_OBJECTS)
             if found.is_question:
                 yield found
 

@@ -5,11 +5,9 @@ from typing import List, Optional, Sequence, Tuple
 from unittest import mock
 
 from heap_tools.candidates import FIELD, STATIC, Candidate
-from heap_tools.heap_objects import FieldValue
 from heap_tools.leak_lines import LineObjects, Lines
 from heap_tools.line_order import NEARLY
 from heap_tools.naming import Name
-from heap_tools.object_parts import Parts
 from heap_tools.probe import Retained
 from heap_tools.reports import Amount
 from heap_tools.which_object import HoldingObject
@@ -51,7 +49,7 @@ class LinesTest(unittest.TestCase):
         """Returns the lines about `found`, each of which had `before` instances, and has a value in all."""
         probe = ToldGains(earlier, things)
         probe.runs = mock.Mock()
-        uses = mock.Mock(of=lambda each: Parts([FieldValue(0, 0)] * each.count))
+        uses = mock.Mock(count=lambda each: each.count)
         probe.candidates = mock.Mock(**{"statics.return_value": [], "fields.return_value": FIELDS})
         probe.base = mock.Mock()
         search = mock.Mock(found=[probe.retained([each]) for each in found], steady=[])
