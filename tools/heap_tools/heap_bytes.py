@@ -1,10 +1,12 @@
 """Whether bytes are those of the heap, as the virtual machine counts, or those of the dump."""
 
-from typing import List, NamedTuple, Optional, Sequence
+from typing import List, NamedTuple, Optional, Sequence, Union
 
 from heap_tools.dump_runs import DumpRuns
+from heap_tools.heap_dump import HeapDump
 from heap_tools.heap_layout import UnknownLayout
 from heap_tools.object_sizes import ObjectSizes, RowSizes
+from heap_tools.parallel import shared
 from heap_tools.reports import Report
 
 #: No virtual machine writes a dump with fewer objects: of such a one it is not said that its layout is not known.
@@ -29,13 +31,29 @@ def counted_in_heap(dumps: Sequence[DumpRuns], dump_bytes: bool) -> Counted:
     if dump_bytes:
         return Counted([*dumps], "")
     found: List[RowSizes] = []
-    for each in dumps:
-        try:
-            found.append(ObjectSizes(each.dump).rows)
-        except UnknownLayout as unknown:
-            return Counted([*dumps], unknown_words(each.path, each.report, str(unknown)))
+    for each, sizes in zip(dumps, _sizes_of(dumps)):
+        if isinstance(sizes, str):
+            return Counted([*dumps], unknown_words(each.path, each.report, sizes))
+        found.append(sizes)
     counted = [each.in_heap(sizes.like(found[-1])) for each, sizes in zip(dumps, found)]
     return Counted(counted, layout_words(found[-1]))
+
+
+def _sizes_of(dumps: Sequence[DumpRuns]) -> List[Union[RowSizes, str]]:
+    """Returns the sizes in each dump, or why its layout is not known. Dumps are looked into at once."""
+
+    def sizes_of(some: List[DumpRuns]) -> List[Union[RowSizes, str]]:
+        return [_sizes_or_why(each.dump) for each in some]
+
+    return [each for part in shared(sizes_of, [*dumps], least=1) for each in part]
+
+
+def _sizes_or_why(dump: HeapDump) -> Union[RowSizes, str]:
+    """Returns the sizes in a dump, or why its layout is not known."""
+    try:
+        return ObjectSizes(dump).rows
+    except UnknownLayout as unknown:
+        return str(unknown)
 
 
 def layout_words(sizes: Optional[RowSizes]) -> str:

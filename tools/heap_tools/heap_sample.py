@@ -8,7 +8,7 @@ of their references), all objects of some ranges of addresses are found by a wal
 from bisect import bisect_left, bisect_right
 from collections import Counter
 from functools import reduce
-from itertools import chain, islice, tee
+from itertools import chain, groupby, islice, tee
 from operator import or_
 from typing import Counter as Counts
 from typing import Dict, Iterable, List, NamedTuple, Sequence, Set, Tuple
@@ -84,11 +84,11 @@ def sample_of(dump: HeapDump) -> Sample:
     if _ascending(stretches) >= ASCENDING:
         stretches += _with_their_next(dump, spans, _special(dump, stretches))
         between = {class_id for each in stretches if each for class_id in classes[slice(*_places(classes, each))]}
-        return _sample({each for stretch in stretches for each in stretch}, between, True)
+        return _sample(chain.from_iterable(stretches), between, True)
     ranges = _ranges(dump, stretches)
     parts = shared(lambda some: _within(dump, some, ranges), spans, FEWEST_SPANS)
     between = {each for each in classes if each >> RANGE_BITS in ranges}
-    return _sample({each for part in parts for each in part}, between, False)
+    return _sample(chain.from_iterable(parts), between, False)
 
 
 def _parts(count: int) -> Dict[int, int]:
@@ -173,10 +173,12 @@ def _within(dump: HeapDump, spans: List[Span], ranges: Set[int]) -> List[HeapObj
     return [each for each in heap_objects(dump, spans) if each[0] >> RANGE_BITS in ranges]
 
 
-def _sample(objects: Set[HeapObject], classes: Set[int], is_ascending: bool) -> Sample:
-    """Returns what is known of these objects and class objects, of which no other is between two."""
+def _sample(objects: Iterable[HeapObject], classes: Set[int], is_ascending: bool) -> Sample:
+    """Returns what is known of these objects and class objects, of which no other is between two. An object may be
+    among them several times. They are no set: most come in order already, and are sorted in a tenth of the time."""
     every = sorted(chain(objects, ((class_id, class_id, CLASS_OBJECT, 0) for class_id in classes)))
+    every = [each for each, _ in groupby(every)]
     pairs = zip(every, islice(every, 1, None))
-    found = Counter((*one[1:], following[0] - one[0]) for one, following in pairs)
+    found = Counter([(of, kind, length, after[0] - here) for (here, of, kind, length), after in pairs])
     near = Counter({Neighbour(*each): count for each, count in found.items() if each[-1] <= LONGEST})
-    return Sample(near, reduce(or_, (each[0] for each in every[:-1]), 0), is_ascending)
+    return Sample(near, reduce(or_, [each[0] for each in every[:-1]], 0), is_ascending)
