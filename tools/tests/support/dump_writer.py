@@ -259,4 +259,8 @@ def word(number: int) -> bytes:
 
 def kind_of(field: str) -> int:
     """Returns the type's code of a field by its name, or by the beginning of that."""
-    return INT if field.startswith("int") else {"coder": BYTE, "size": INT, "pid": LONG, "startTime": LONG}.get(field, OBJECT)
+    return (
+        INT
+        if field.startswith("int")
+        else {"coder": BYTE, "size": INT, "pid": LONG, "startTime": LONG}.get(field, OBJECT)
+    )
