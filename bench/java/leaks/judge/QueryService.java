@@ -13,7 +13,7 @@ import java.util.regex.Pattern;
  */
 final class QueryService {
     static final int SETS = 16;
-    static final int SEARCHES_A_DAY = 2_600 * Course.SCALE;
+    static final int SEARCHES_A_DAY = 1_700 * Course.SCALE;
     static final int LETTERS = 4_000;
 
     static final class Rules {

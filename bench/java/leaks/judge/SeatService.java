@@ -12,7 +12,7 @@ import java.util.List;
  */
 final class SeatService {
     static final int HALLS = 70;
-    static final int ORDERS_A_DAY = 9_000 * Course.SCALE;
+    static final int ORDERS_A_DAY = 7_000 * Course.SCALE;
 
     record Hold(String buyer, long until) {
     }

@@ -13,7 +13,7 @@ import java.util.ResourceBundle;
  * Java remembers each bundle that it did not find. More letters wait for the printer on the first day than later.
  */
 final class TextService {
-    static final int LETTERS_A_DAY = 2_300 * Course.SCALE;
+    static final int LETTERS_A_DAY = 1_600 * Course.SCALE;
     static final Map<String, String> COMMON = Map.of("greeting", "Dear customer", "end", "Yours sincerely");
     static final ResourceBundle.Control FILES =
             ResourceBundle.Control.getNoFallbackControl(ResourceBundle.Control.FORMAT_PROPERTIES);

@@ -9,7 +9,7 @@ import org.apache.logging.log4j.MarkerManager;
  * Log4j keeps each marker by its name.
  */
 final class TrailService {
-    static final int ORDERS_A_DAY = 13_000 * Course.SCALE;
+    static final int ORDERS_A_DAY = 11_000 * Course.SCALE;
 
     private static final Marker ORDERS = MarkerManager.getMarker("ORDERS");
     private static final Marker PRICES = MarkerManager.getMarker("PRICES").setParents(ORDERS);

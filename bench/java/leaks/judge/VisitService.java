@@ -1,9 +1,12 @@
 package judge;
 
 import hard.Course;
+import java.util.ArrayList;
 import java.util.Comparator;
 import java.util.HashMap;
+import java.util.List;
 import java.util.Map;
+import java.util.Random;
 import java.util.TreeSet;
 
 /**
@@ -47,14 +50,18 @@ final class VisitService {
     }
 
     private final Visitors visitors = new Visitors();
-    private int entered;
+    private final List<String> present = new ArrayList<>();
+    private final Random random = new Random(7);
+    private long time;
 
     private void day(int day) {
         for (int number = 0; number < VISITORS_A_DAY; number++) {
-            visitors.enter("token-" + entered++, entered * 10L);
-            if (entered > PRESENT) {
-                visitors.click("token-" + (entered - PRESENT / 2), entered * 10L + 1);
-                visitors.leave("token-" + (entered - PRESENT - 1), entered * 10L + 2);
+            String token = "token-" + day + "-" + number;
+            present.add(token);
+            visitors.enter(token, time++);
+            visitors.click(present.get(random.nextInt(present.size())), time++);
+            if (present.size() > PRESENT) {
+                visitors.leave(present.remove(random.nextInt(present.size())), time++);
             }
         }
     }
