@@ -55,8 +55,9 @@ class Probe:
         #: What shares are of: of one dump all that is asked for, as if the heap had been empty before.
         self.growth = self.whole if of is None else of
         self._known: Dict[FrozenSet[Key], Retained] = {}
-        #: What else holds nothing that the group does not hold, for each group of which that was asked.
+        #: What a group holds all of, and what it does not, for each group of which that was asked.
         self._inside: Dict[FrozenSet[Key], Set[FrozenSet[Key]]] = {}
+        self._outside: Dict[FrozenSet[Key], Set[FrozenSet[Key]]] = {}
 
     def retained(self, group: Sequence[Candidate]) -> Retained:
         """Returns what a group holds: the difference that it makes to the report. Each group is asked for once."""
@@ -105,17 +106,31 @@ class Probe:
 
     def holds_all(self, upper: Retained, lower: Retained) -> bool:
         """Tests whether `upper` holds all that `lower` does: without both, no more is unreachable than without it. It
-        is not asked for if it follows from what was: what `upper` holds all of may hold all that `lower` does."""
+        is not asked for if it follows from what was: what `upper` holds all of may hold all that `lower` does, or what
+        holds all that `upper` does may not hold what `lower` does."""
         if upper.heap.objects < lower.heap.objects:
             return False
         if any(amount.objects > upper.lost.get(name, Amount()).objects for name, amount in lower.lost.items()):
             return False
         key, below = key_of(upper), key_of(lower)
-        if below not in self._below(key):
-            if self.retained([*upper.candidates, *lower.candidates]).heap != upper.heap:
-                return False
-            self._inside.setdefault(key, set()).add(below)
-        return True
+        if below in self._below(key) or self._is_outside(key, below):
+            return below in self._below(key)
+        return self._noted(upper, lower, self.retained([*upper.candidates, *lower.candidates]))
+
+    def _noted(self, upper: Retained, lower: Retained, both: Retained) -> bool:
+        """Notes whether `upper` holds all that `lower` does, of which it is known what both hold, and returns it."""
+        is_inside = both.heap == upper.heap
+        known = self._inside if is_inside else self._outside
+        known.setdefault(key_of(upper), set()).add(key_of(lower))
+        return is_inside
+
+    def _is_outside(self, key: FrozenSet[Key], below: FrozenSet[Key]) -> bool:
+        """Tests whether it is known that the group `key` does not hold all that `below` does: what holds all that `key`
+        does, does not hold all of something that `below` does."""
+        return any(
+            key in self._below(upper) and not lowers.isdisjoint(self._below(below))
+            for upper, lowers in self._outside.items()
+        )
 
     def _below(self, key: FrozenSet[Key]) -> Set[FrozenSet[Key]]:
         """Returns what is known to be held by what has this key, directly or by way of each other."""
@@ -134,8 +149,9 @@ class Probe:
             return False
         if key_of(lower) in self._below(key_of(upper)):
             return True
-        together = self.retained([*upper.candidates, *lower.candidates]).heap.objects
-        return upper.heap.objects + lower.heap.objects - together >= least
+        both = self.retained([*upper.candidates, *lower.candidates])
+        self._noted(upper, lower, both)
+        return upper.heap.objects + lower.heap.objects - both.heap.objects >= least
 
 
 class EarlierProbe(Probe):

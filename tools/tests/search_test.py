@@ -306,6 +306,19 @@ class PathsTest(unittest.TestCase):
             self.assertEqual(paths.above(found[lower]), found[:lower])
             self.assertEqual(len(probe.asked), asked, lower)
 
+    def test_what_follows(self) -> None:
+        """What holds all of one thing, but not of another one, has nothing that holds all of the other."""
+        things: Things = [([["A.a"], ["B.b"], ["C.c"]], 20), ([["A.a"], ["B.b"]], 20), ([["A.a"]], 20), ([["D.d"]], 10)]
+        probe = ToldGains([], things)
+        upper, middle, lower, beside = (probe.retained([field(name)]) for name in ("A.a", "B.b", "C.c", "D.d"))
+        self.assertTrue(probe.holds_part(upper, middle, 0.9))
+        self.assertTrue(probe.holds_all(middle, lower))
+        self.assertFalse(probe.holds_all(upper, beside))
+        probe.asked.clear()
+        self.assertTrue(probe.holds_all(upper, lower))
+        self.assertEqual([probe.holds_all(each, beside) for each in (middle, lower)], [False, False])
+        self.assertEqual(probe.asked, [])
+
 
 class ProgressTest(unittest.TestCase):
     """The line that says how far a search is."""
