@@ -159,8 +159,8 @@ class LineOrder:
             both = line.gain * line.part_of(other)
             if it != number and other.gain < MOST * line.gain and self.holds(it, number):
                 score = min(score, both)
-            below = both + line.amount - other.amount
-            if it != number and both <= below < NEARLY * score and self.holds(number, it):
+            below = max(both, other.gain) + line.amount - other.amount
+            if it != number and other.amount <= line.amount and below < NEARLY * score and self.holds(number, it):
                 score = below
         return score
 

@@ -24,6 +24,7 @@ SPOKEN: Dict[str, Dict[str, Any]] = {
     "chain": {"is_chain": True},
     "together": {"kinds": (STATIC, STATIC)},
     "moved": {"is_line": False, "gain": 0},
+    "few": {"gains": {"byte[]": 9}},
     "other": {"is_line": False, "gain": 0, "gains": {"shop/Order": 900}},
 }
 
@@ -43,6 +44,7 @@ rule 1, it moved from below what is above: shop/Swap.s (moved) > shop/A.a (900),
 rule 1, something else went from there: shop/Swap.s (other) > *shop/A.a (900), static shop/B.b (400)
 rule 1, what is below it had it before: shop/A.a (900 null) > shop/C.c (500 had), *static shop/B.b (600)
 rule 1, something else went from below it: *shop/A.a (900 null) > shop/C.c (100 had other), static shop/B.b (600)
+rule 1, what is below it gained it in few objects: *static shop/A.a > shop/C.c (880 9..99 few), static shop/B.b (400)
 rule 1, it did not grow at each step: static shop/A.a (600 unsteady), *static shop/B.b (400)
 rule 1, nothing grew at each step: *static shop/A.a (600 unsteady), static shop/B.b (400 unsteady)
 rule 2, nothing lasts: *shop/Session.orders (9..99) > shop/Order.text (10..110)
