@@ -6,8 +6,8 @@ score is a quarter of the growth, nothing that lasts holds what grew: the answer
 others. Else the answer is the deepest line on the path of the best score (of those with nine tenths of it, of the line
 whose name says most), above or below it, that has half of that score: the accumulation point. A collection, several of
 the JDK together, a variable of a lambda or a thread is the answer only if no other line on that path has nine tenths of
-that score, or half of it below; of fields, own ones come before the JDK's in the same way. The other lines follow by
-their scores.
+that score, or half of it below; of fields, own ones, and those of which one object gained most, come before the JDK's
+in the same way. The other lines follow by their scores.
 """
 
 import enum
@@ -82,13 +82,13 @@ class Features:
 
     @property
     def says(self) -> int:
-        """How much its name says of what it is for: `OF_PROGRAM`, 2 of the JDK, `TOGETHER`, 0 of a collection, several
-        of the JDK together, a variable of a lambda or a thread."""
+        """How much its name says of what it is for: `OF_PROGRAM`, or of the JDK if one object gained most; 2 of the JDK,
+        `TOGETHER`, 0 of a collection, several of the JDK together, a variable of a lambda or a thread."""
         if len(self.kinds) > 1:
             return TOGETHER if self.is_own else 0
         if self.is_collection or self.is_thread or "$$Lambda" in self.name:
             return 0
-        return OF_PROGRAM if self.is_own else 2
+        return OF_PROGRAM if self.is_own or self.of_one else 2
 
     @property
     def lasting_gain(self) -> float:

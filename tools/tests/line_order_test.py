@@ -79,6 +79,8 @@ rules 1 and 2, what moved does not last: shop/Swap.s (moved) > shop/B.b (900), *
 rules 1 and 3, the payload is deeper: *static shop/A.STORE > shop/Order.text (10..110)
 rules 1 and 3, one object is deeper: static shop/A.STORE > *shop/Tenant.inbox (9..99 one)
 rules 1 and 3, one object has less than half: *static shop/A.STORE > shop/Tenant.inbox (800 9..99 half)
+rules 1 and 4, a field of the JDK of which one object gained most: static shop/A.a > *java/lang/Queue.list (9..9 one)
+rules 1 and 4, a collection of which one object did: *static shop/A.a > java/util/HashMap.table (9..9 one)
 rules 1 and 4, a name that says more did not last: shop/A.a (9..99) > *java/lang/Queue.list
 rules 2 and 3, of what does not last the topmost: *shop/Order.text (10..110) > shop/Order.id (900 10..110)
 rules 2 and 4, of what does not last no collection: java/util/HashMap.table (990 9..99), *shop/B.b (900 9..99)
