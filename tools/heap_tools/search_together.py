@@ -180,8 +180,13 @@ class SearchTogether:
                     return []
             found, rest = [rest[low], *found], rest[:low]
             if self.share_or_bound([*found, *others], least, before) >= least:
-                return found
+                return found if len(found) == 1 or self._are_joint(found, others, base, little) else []
         return []
+
+    def _are_joint(self, found: Sequence[Candidate], others: Sequence[Candidate], base: float, little: float) -> bool:
+        """Tests whether those of `found` hold hardly anything alone, beside `others`: else each holds a part of its
+        own, and their sum is no answer. `base` and `little` are as in `needed`."""
+        return sum(self.probe.share([each, *others]) - base for each in found) <= little - base
 
     def percent_before(self, group: Sequence[Candidate]) -> float:
         """Returns what a group held before, in percent of the growth."""
