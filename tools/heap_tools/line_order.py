@@ -202,10 +202,9 @@ class LineOrder:
     def deepest_with(self, best: int, numbers: Sequence[int]) -> int:
         """Returns the deepest line of `numbers` above or below `best` that has most of its score, of those whose names
         say most."""
-        whole = self.scores[best]
-        path = [it for it in numbers if self.scores[it] >= MOST * whole and self._is_on_path(it, best)]
-        for least in NEARLY * whole, MOST * whole:
-            near = [it for it in path if self.scores[it] >= least and self.lines[it].says]
+        path = [it for it in numbers if self.scores[it] >= MOST * self.scores[best] and self._is_on_path(it, best)]
+        for least in NEARLY, MOST:
+            near = [it for it in path if self.scores[it] >= least * self.scores[best] and self.lines[it].says]
             if near:
                 return self._own_below(min(self._say_most(near), key=self._depth), path)
         return min(path, key=self._depth)
@@ -231,8 +230,9 @@ class LineOrder:
         return is_one and not line.is_chain and (line.says > TOGETHER or line.with_value <= FEW)
 
     def _own_below(self, number: int, path: Sequence[int]) -> int:
-        """Returns the deepest own line of `path` below a line, else that line."""
-        own = (it for it in path if self.lines[it].says == OF_PROGRAM and self._is_below(it, number))
+        """Returns the deepest own line of `path` below a line, of several together below several, else that line."""
+        says = {OF_PROGRAM, TOGETHER} if self.lines[number].says == TOGETHER else {OF_PROGRAM}
+        own = (it for it in path if self.lines[it].says in says and self._is_below(it, number))
         return min(own, key=self._depth, default=number)
 
     def _is_steady(self, number: int) -> bool:

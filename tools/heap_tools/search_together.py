@@ -5,7 +5,7 @@ from typing import Callable, Dict, Iterable, List, NamedTuple, Sequence, Tuple
 
 from heap_tools.candidates import STATIC, THREAD, THREADS, Candidate
 from heap_tools.class_names import package
-from heap_tools.line_order import FEW
+from heap_tools.line_order import FEW, MOST
 from heap_tools.probe import Retained
 from heap_tools.reference_paths import is_root
 from heap_tools.search import Search, Tried
@@ -53,25 +53,27 @@ class SearchTogether:
             if some and self.share_or_bound([*some, *alone], least) >= least:
                 rest = some
                 break
-        budget = self.budget()
-        if self.find_kin(self.unknown(rest), budget):
+        if self.find_of_class(self.unknown(rest)) or self.find_of_package(self.unknown(rest)):
             return
-        needed = self.needed(rest, alone, base, least, budget)
+        needed = self.needed(rest, alone, base, least, self.budget())
         together = needed if self.has_share(needed) else [*alone, *needed]
         if needed and self.has_share(together):
             self.add(together)
 
     def find_fields(self, fields: Sequence[Candidate]) -> None:
         """Finds those of `fields` with few instances that hold enough only together, if what is found leaves as much:
-        those of one class or package; else, if nothing with few instances is found, any of them, the likeliest first.
-        """
-        few, single = self.unknown([each for each in fields if each.count <= FEW]), self.single()
+        those of one class; else, if nothing with few instances is found, any of them that hold most, since these may be
+        below others that hold all, the likeliest first; else those of one package."""
+        few: Sequence[Candidate] = self.unknown([each for each in fields if each.count <= FEW])
+        single = self.single()
         largest = max((self.probe.share(held.candidates) for held in single), default=0.0)
         if largest > 100 - self.at_least or not self.has_share(few):
             return
-        budget = self.budget(MOST_NEEDED)
-        if not self.find_kin(few, budget) and not single:
-            self.find_any(self.likeliest(few), budget)
+        few = self.likeliest(few)
+        if self.find_of_class(few):
+            return
+        if single or not self.find_any(few, MOST, self.budget(MOST_NEEDED)):
+            self.find_of_package(few)
 
     def find_roots(self, fields: Sequence[Candidate]) -> None:
         """If no root is found, finds roots that hold enough only together, whatever is found below; if nothing with few
@@ -82,7 +84,8 @@ class SearchTogether:
         few = self.unknown([each for each in fields if each.count <= FEW])
         rest = [*self.unknown(self.statics), *([] if single or self.has_share(few) else few)]
         if self.has_share([*rest, self.probe.candidates.all_threads()]):
-            self.find_any([*rest, *self.unknown(self.threads())], self.budget(MOST_NEEDED, MOST_GROUPS_OF_ROOTS))
+            budget = self.budget(MOST_NEEDED, MOST_GROUPS_OF_ROOTS)
+            self.find_any([*rest, *self.unknown(self.threads())], PART_NEEDED, budget)
 
     def single(self) -> List[Retained]:
         """Returns what is found of single candidates with few instances. Threads do not count: what they lead to may be
@@ -90,13 +93,15 @@ class SearchTogether:
         single = [held for held in self.search.found if held.instances <= FEW and len(held.candidates) == 1]
         return [held for held in single if held.candidates[0].kind not in (THREAD, THREADS)]
 
-    def find_any(self, group: Sequence[Candidate], budget: Budget) -> None:
-        """Finds those of `group` that hold together nearly all that it does, those first that come first."""
+    def find_any(self, group: Sequence[Candidate], part: float, budget: Budget) -> bool:
+        """Finds those of `group` that together hold a part of what it does, if possible its first ones. Returns whether
+        there are any."""
         # All together may gain more than the growth, if something else shrank.
-        least = max(PART_NEEDED * min(self.share_or_bound(group, self.at_least), 100), self.at_least)
+        least = max(part * min(self.share_or_bound(group, self.at_least), 100), self.at_least)
         needed = self.needed(group, [], 0, least, budget)
         if self.has_share(needed):
             self.add(needed)
+        return bool(needed)
 
     def budget(self, needed: float = math.inf, questions: int = MOST_GROUPS) -> Budget:
         """Returns a budget of so many more questions."""
@@ -137,21 +142,27 @@ class SearchTogether:
         known = {each.key for held in [*self.search.found, *steady] for each in held.candidates}
         return [each for each in group if each.key not in known]
 
-    def find_kin(self, group: Sequence[Candidate], budget: Budget) -> bool:
-        """Finds those of `group` that hold enough only together, of one class or else of one package. Returns whether
-        there are any. All of a class may be needed, but a package says too little."""
-        for kin, is_class in (by_class(group), True), (by_package(group), False):
-            known = len(self.search.found)
-            for unit in self.search.heavy([each for each in kin if len(each) > 1], budget.questions):
-                if self.probe.share(unit) >= self.at_least:
-                    least = max(PART_NEEDED * self.probe.share(unit), self.at_least)
-                    needed = self.needed(list(unit), [], 0, least, budget._replace(needed=math.inf))
-                    needed = needed if self.has_share(needed) else list(unit) if is_class else []
-                    if needed:
-                        self.add(needed)
-            if len(self.search.found) > known:
-                return True
-        return False
+    def find_of_class(self, group: Sequence[Candidate]) -> bool:
+        """Finds those of `group` that hold enough only together and are of one class. Returns whether there are any.
+        All of a class may be needed."""
+        return self._find_of(by_class(group), self.budget(), True)
+
+    def find_of_package(self, group: Sequence[Candidate]) -> bool:
+        """Finds those of `group` that hold enough only together and are of one package. Returns whether there are any.
+        A package that holds enough says too little."""
+        return self._find_of(by_package(group), self.budget(MOST_NEEDED), False)
+
+    def _find_of(self, kin: Sequence[Tried], budget: Budget, may_be_all: bool) -> bool:
+        """Finds those of each unit of `kin` that hold enough only together."""
+        known = len(self.search.found)
+        for unit in self.search.heavy([each for each in kin if len(each) > 1], budget.questions):
+            if self.has_share(unit):
+                least = max(PART_NEEDED * self.probe.share(unit), self.at_least)
+                needed = self.needed(unit, [], 0, least, budget)
+                needed = needed if self.has_share(needed) else list(unit) if may_be_all else []
+                if needed:
+                    self.add(needed)
+        return len(self.search.found) > known
 
     def needed(
         self, group: Sequence[Candidate], others: Sequence[Candidate], base: float, least: float, budget: Budget
@@ -161,9 +172,8 @@ class SearchTogether:
         beginning of the group that is enough is needed; then the same is asked of those before it, beside those that
         are needed. Returns nothing if many hold a little each, or if that exceeds `budget`."""
         before = self.percent_before(others), self.percent_before([*group, *others])
-        little = (base + least) / 2
         found: List[Candidate] = []
-        rest = list(group)
+        rest, held = list(group), base
         while rest and len(found) < budget.needed:
             low, high = 0, len(rest)
             while high - low > 1:
@@ -174,19 +184,20 @@ class SearchTogether:
                 share = self.share_or_bound(together, least, before)
                 if share >= least:
                     high = middle
-                elif share <= little or self.probe.share(together) <= little:
+                elif share <= (held + least) / 2 or self.probe.share(together) <= (held + least) / 2:
                     low = middle
                 else:
                     return []
             found, rest = [rest[low], *found], rest[:low]
-            if self.share_or_bound([*found, *others], least, before) >= least:
-                return found if len(found) == 1 or self._are_joint(found, others, base, little) else []
+            held = self.share_or_bound([*found, *others], least, before)
+            if held >= least:
+                return found if len(found) == 1 or self._are_joint(found, others, base, least) else []
         return []
 
-    def _are_joint(self, found: Sequence[Candidate], others: Sequence[Candidate], base: float, little: float) -> bool:
-        """Tests whether those of `found` hold hardly anything alone, beside `others`: else each holds a part of its
-        own, and their sum is no answer. `base` and `little` are as in `needed`."""
-        return sum(self.probe.share([each, *others]) - base for each in found) <= little - base
+    def _are_joint(self, found: Sequence[Candidate], others: Sequence[Candidate], base: float, least: float) -> bool:
+        """Tests whether those of `found` hold little alone, beside `others`: else each holds a part of its own, and
+        their sum is no answer."""
+        return sum(self.probe.share([each, *others]) - base for each in found) <= (least - base) / 2
 
     def percent_before(self, group: Sequence[Candidate]) -> float:
         """Returns what a group held before, in percent of the growth."""

@@ -86,6 +86,8 @@ rules 2 and 3, of what does not last the topmost: *shop/Order.text (10..110) > s
 rules 2 and 4, of what does not last no collection: java/util/HashMap.table (990 9..99), *shop/B.b (900 9..99)
 rules 3 and 4, one of the JDK below several together: two (together) > *java/lang/Thread.threadLocals
 rules 3 and 4, several together above a collection: *two (together) > java/util/HashMap.table
+rules 3 and 4, several together below several half: two (together) > *fields (500 together)
+rules 3 and 4, several together below several less: *two (together) > fields (499 together)
 rules 3 and 4, below a field of the JDK half: java/lang/Queue.list > *shop/A.a (500)
 rules 3 and 4, below a collection half: static shop/A.STORE > java/util/HashMap.table > *shop/Tenant.inbox (500)
 """
