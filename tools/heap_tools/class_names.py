@@ -60,6 +60,8 @@ def byte_escapes(char: str) -> str:
 
 def family(name: str) -> str:
     """Returns the name of a hidden class without its counter and address, and any other name as it is."""
+    if "+0x" not in name:  # as in most rows of each report
+        return name
     return re.sub(r"(\$[0-9]+)?\+0x[0-9a-f]+", "", name, count=1)
 
 

@@ -14,7 +14,7 @@ from heap_tools.parallel import shared
 from heap_tools.span_order import order_of_segments
 
 #: The fewest segments for which a process of its own pays. Those of a virtual machine have a million bytes each.
-FEWEST_SEGMENTS = 64
+FEWEST_SEGMENTS = 16
 
 
 #: The names of the threads of those dumps that are still read, by their serial numbers.

@@ -78,7 +78,8 @@ class Report:
         self.families: Dict[str, Amount] = {}
         for name, amount in self.rows:
             of_family = class_names.family(name)
-            self.families[of_family] = self.families.get(of_family, Amount()).plus(amount)
+            known = self.families.get(of_family)
+            self.families[of_family] = known.plus(amount) if known else amount
 
     def amount(self, family: str) -> Amount:
         """Returns the objects and bytes of a class, and of all hidden classes of its name."""
