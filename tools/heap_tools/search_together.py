@@ -170,7 +170,8 @@ class SearchTogether:
         """Returns a small part of `group` that together with `others` holds `least` percent, as all of it does: those
         of which none can be left out. Without `group`, `others` hold `base` percent. The last one of the shortest
         beginning of the group that is enough is needed; then the same is asked of those before it, beside those that
-        are needed. Returns nothing if many hold a little each, or if that exceeds `budget`."""
+        are needed; but what holds alone most of what it adds is left out. Returns nothing if many hold a little each,
+        or if that exceeds `budget`."""
         before = self.percent_before(others), self.percent_before([*group, *others])
         found: List[Candidate] = []
         rest, held = list(group), base
@@ -191,13 +192,19 @@ class SearchTogether:
             found, rest = [rest[low], *found], rest[:low]
             held = self.share_or_bound([*found, *others], least, before)
             if held >= least:
-                return found if len(found) == 1 or self._are_joint(found, others, base, least) else []
+                return found if len(found) == 1 else self._joint(found, others, base)
         return []
 
-    def _are_joint(self, found: Sequence[Candidate], others: Sequence[Candidate], base: float, least: float) -> bool:
-        """Tests whether those of `found` hold little alone, beside `others`: else each holds a part of its own, and
-        their sum is no answer."""
-        return sum(self.probe.share([each, *others]) - base for each in found) <= (least - base) / 2
+    def _joint(self, found: Sequence[Candidate], others: Sequence[Candidate], base: float) -> List[Candidate]:
+        """Returns those of `found` that add more than twice what they hold alone, beside `others`. What the rest hold
+        has nothing to do with it, and the sum of both is no answer."""
+        whole = self.probe.share([*found, *others])
+        return [
+            each
+            for each in found
+            if self.probe.share([each, *others]) - base
+            < MOST * (whole - self.share_or_bound([*(it for it in found if it != each), *others], 0.0))
+        ]
 
     def percent_before(self, group: Sequence[Candidate]) -> float:
         """Returns what a group held before, in percent of the growth."""
