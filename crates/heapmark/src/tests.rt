@@ -63,8 +63,32 @@ fn usual_options() -> [Options; 3] {
     [usual(1), usual(2), usual(64)]
 }
 
-/// The result of a run, and how many bytes of the wanted report it has written: `None` if it has written anything else.
-type Answered = (Result<(), Refusal>, Option<usize>);
+/// What a run did.
+#[derive(Clone, Copy, Debug, PartialEq)]
+struct Answered {
+    /// Its result.
+    outcome: Result<(), Refusal>,
+    /// How many bytes of the wanted report it has written: `None` if it has written anything else.
+    length: Option<usize>,
+}
+
+impl Answered {
+    /// Returns what a run does that reports just `report`.
+    fn whole(report: &str) -> Self {
+        Answered {
+            outcome: Ok(()),
+            length: Some(report.len()),
+        }
+    }
+
+    /// Returns what a run does that is refused with `code`, without a place, after it has written `length` bytes.
+    fn refused(code: u8, length: usize) -> Self {
+        Answered {
+            outcome: refused(code, None),
+            length: Some(length),
+        }
+    }
+}
 
 /// Calls `run` with `options`, `skip` and `gate`. Returns the result and the writer.
 fn run_with<T, A, R, W, B, G>(
@@ -115,7 +139,8 @@ where
 {
     let written = Vec::new(alloc);
     let (outcome, written) = run_with(rt, alloc, options, skip, &NoGate, reader, written);
-    (outcome, length_of(written.as_slice(), report))
+    let length = length_of(written.as_slice(), report);
+    Answered { outcome, length }
 }
 
 /// Tests whether a run with `options` that skips no field has the result `want` and writes just `report`.
@@ -132,7 +157,7 @@ where
     R: Read + Drop,
 {
     let told = answer(rt, alloc, options, &Skip::none(alloc), reader, report);
-    told == (want, Some(report.len()))
+    told.outcome == want && told.length == Some(report.len())
 }
 
 /// Tests whether the run with each of `options` that skips the fields of `skip` has the result `want` and writes just
@@ -147,7 +172,8 @@ fn runs_are_answered<T: Causes + Threads + Wait + Sync>(
     report: &str,
 ) -> bool {
     for options in options {
-        if answer(rt, alloc, options, skip, dump, report) != (want, Some(report.len())) {
+        let told = answer(rt, alloc, options, skip, dump, report);
+        if told.outcome != want || told.length != Some(report.len()) {
             return false;
         }
     }

@@ -4,7 +4,7 @@ use super::dumps::{
     NINE_ROOTS_REPORT, NOTHING_REPORT, SEVEN_ROOTS_REPORT, Sample, TWO_OBJECTS_REPORT,
     WIDE_ARRAY_REPORT,
 };
-use super::program::{Asked, Broken, answered, answered_on, answered_unheard};
+use super::program::{Asked, Broken, Outcome, answered, answered_on, answered_unheard};
 use super::texts::{
     ALMOST_AN_OPTION, ANOTHER_WORD, BUFFER_1, BUFFER_4097, BUFFERS_3, BUFFERS_65535, HELP,
     HEXADECIMAL_TAG, NO_FILE, NO_FILE_BUT_WORKERS, NO_VALUE, SKIP_TWICE, TAG_AFTER_THE_LAST,
@@ -12,6 +12,7 @@ use super::texts::{
 };
 use crate::{Causes, Counted, Dumps, program};
 use std::env::Env;
+use std::process::Abort;
 use std::rt::Files;
 use std::sync::Wait;
 use std::thread::Threads;
@@ -121,7 +122,9 @@ const BUFFERS_OF_AN_ARRAY: &[Line] = &[
 ];
 
 /// The name of a file, the dump in it, the dump's report, and the command lines that are tried on the file.
-static LINES: [(&str, Sample, &str, &[Line]); 6] = [
+type Tried = (&'static str, Sample, &'static str, &'static [Line]);
+
+static LINES: [Tried; 6] = [
     (
         "heapmark_nothing.hprof",
         Sample::Nothing,
@@ -167,25 +170,40 @@ fn line_is_answered<
 >(rt: &T, name: &str, sample: Sample, report: &str, line: &Line) -> bool {
     let (words, want, told) = *line;
     let report = if want == 0 { report } else { "" };
-    let right = Some((want, true, true));
+    let right = Some(Outcome::right(want));
     answered_on(rt, name, sample, words, Asked::Both(report, told)) == right
         && answered_on(rt, name, sample, words, Asked::Unheard) == right
 }
 
+/// Checks the command lines of a file by [`line_is_answered`].
+fn file_is_answered<
+    T: Abort + AllocGlobal + Causes + Dumps<Dump = T::File> + Env + Files + Threads + Wait + Sync,
+>(rt: &T, tried: &Tried) {
+    let (name, sample, report, lines) = *tried;
+    for line in lines {
+        let right = line_is_answered(rt, name, sample, report, line);
+        assert!(rt; right, "{}: {}", line.0, line.2);
+    }
+}
+
+/// Checks the command lines of all `files`.
+fn files_are_answered<
+    T: Abort + AllocGlobal + Causes + Dumps<Dump = T::File> + Env + Files + Threads + Wait + Sync,
+>(rt: &T, files: &[Tried]) {
+    for tried in files {
+        file_is_answered(rt, tried);
+    }
+}
+
 #[test]
 fn lines_are_answered(rt: HostRuntime) {
-    for (name, sample, report, lines) in LINES {
-        for line in lines {
-            let right = line_is_answered(&rt, name, sample, report, line);
-            assert!(rt; right, "{}: {}", line.0, line.2);
-        }
-    }
+    files_are_answered(&rt, &LINES);
 }
 
 /// A command line without any word, even without the program's own name.
 #[test]
 fn no_words_are_told(rt: HostRuntime) {
-    assert_eq!(rt; answered(&rt, &[], "", NO_FILE), (2, true, true));
+    assert_eq!(rt; answered(&rt, &[], "", NO_FILE), Outcome::right(2));
     assert_eq!(rt; answered_unheard(&rt, &[]), 2);
 }
 
@@ -213,7 +231,7 @@ fn is_printed<T: AllocGlobal + Causes + Dumps + Threads + Wait + Sync>(
     word: &str,
     text: &str,
 ) -> bool {
-    answered(rt, &["heapmark", word], text, "") == (0, true, true)
+    answered(rt, &["heapmark", word], text, "") == Outcome::right(0)
         && asked_in_vain(rt, word) == (0, 1)
 }
 

@@ -1,7 +1,7 @@
 //! Files as the program opens them: how much memory it reserves, and which files it does not open a second time.
 
 use super::hints::advice;
-use super::program::{answered_to_people, file_of};
+use super::program::{Outcome, file_of, refused_with_reason};
 use crate::pipeline::read_bytes;
 use crate::{Dumps, Refusal};
 use std::alloc::{AllocError, Global};
@@ -63,8 +63,8 @@ fn only_a_plain_file_is_opened_again(rt: HostRuntime) {
     let refusal = "heapmark: refused 1 BadHeader at 0\n";
     let hint = "heapmark: /dev/null: \
         no HPROF binary dump of version 1.0.2, as `jcmd PID GC.heap_dump FILE` writes it\n";
-    let told = answered_to_people(&rt, &["heapmark", "/dev/null"], refusal, hint);
-    assert_eq!(rt; told, (1, true, Some(refusal.len() + hint.len())));
+    let told = refused_with_reason(&rt, &["heapmark", "/dev/null"], refusal, hint);
+    assert_eq!(rt; told, Outcome::right(1));
 }
 
 /// Makes a file with a hole of `size` bytes, which takes no room on the disk.

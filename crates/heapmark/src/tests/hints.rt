@@ -4,7 +4,7 @@ use super::cuts::front;
 use super::dumps::Record::{Heap, Text};
 use super::dumps::Sub::{Raw, Root};
 use super::dumps::{Bytes, Record, two_objects};
-use super::program::{Asked, answered_to_people, told_on};
+use super::program::{Asked, Outcome, refused_with_reason, told_on};
 use crate::hint::advise;
 use crate::{Arguments, Causes, Dumps, Refusal};
 use std::alloc::{AllocError, Global};
@@ -136,7 +136,7 @@ fn is_told<T: AllocGlobal + Causes + Dumps<Dump = T::File> + Env + Files + Threa
     let line = told_on(rt, name, bytes, "FILE", Asked::Both("", refusal));
     let ends = if want.is_empty() { refusal } else { want };
     let lines = told_on(rt, name, bytes, "FILE", Asked::People(refusal, ends));
-    line == Some((1, true, true)) && lines == Some((1, true, true))
+    line == Some(Outcome::right(1)) && lines == Some(Outcome::right(1))
 }
 
 const EMPTY: &str = "heapmark_hints.hprof: empty: still being written, or on a full disk\n";
@@ -271,9 +271,8 @@ fn a_name_is_shown_without_control_characters(rt: HostRuntime) {
     let reason = "heapmark: /nowhere/\\x1b[31m\\xc2\\x9b\u{e4}\\x0a: \
         No such file or directory (os error 2)\n";
     let refusal = "heapmark: refused 19 ReadFault\n";
-    let told = answered_to_people(&rt, &["heapmark", name], refusal, reason);
-    let length = refusal.len() + reason.len();
-    assert_eq!(rt; told, (1, true, Some(length)));
+    let told = refused_with_reason(&rt, &["heapmark", name], refusal, reason);
+    assert_eq!(rt; told, Outcome::right(1));
 }
 
 /// A name's control characters are shown as four bytes each. The system takes names of 4,095 bytes.
@@ -296,8 +295,7 @@ fn a_long_name_is_shown_whole(rt: HostRuntime) -> Result<(), AllocError> {
     let reason = long_text(rt.alloc(), "heapmark: /nowhere/", "\\x1b", end)?;
     let refusal = "heapmark: refused 19 ReadFault\n";
     let words = ["heapmark", name.as_str()];
-    let told = answered_to_people(&rt, &words, refusal, reason.as_str());
-    let length = refusal.len().saturating_add(reason.as_str().len());
-    assert_eq!(rt; told, (1, true, Some(length)));
+    let told = refused_with_reason(&rt, &words, refusal, reason.as_str());
+    assert_eq!(rt; told, Outcome::right(1));
     Ok(())
 }

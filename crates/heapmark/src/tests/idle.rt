@@ -135,7 +135,7 @@ fn run_late_on<T: Causes + Clock + Threads + Wait + Sync>(
     let length = length_of(written.as_slice(), WIDE_ARRAY_REPORT);
     let is_quick = gate.quick.load(Ordering::SeqCst) == 1;
     let has_met = gate.met.load(Ordering::SeqCst) == 1;
-    Some(((outcome, length), is_quick.then_some(has_met)))
+    Some((Answered { outcome, length }, is_quick.then_some(has_met)))
 }
 
 /// Like [`run_late_on`], for a run on the array with [`ROOTS_OF_A_WORKER`] objects in a buffer.
@@ -161,7 +161,7 @@ fn meetings<T: Causes + Clock + Threads + Wait + Sync>(
     let (mut quick, mut met) = (0u32, 0u32);
     for _ in 0..MOST_RUNS {
         let (told, has_met) = run_late(rt, alloc)?;
-        if told != (Ok(()), Some(WIDE_ARRAY_REPORT.len())) {
+        if told != Answered::whole(WIDE_ARRAY_REPORT) {
             return None;
         }
         quick = quick.saturating_add(u32::from(has_met.is_some()));

@@ -7,7 +7,7 @@ ghost use Rattle.histogram.specs.Counting.{failures_of};
 
 use super::dumps::{Sample, TWO_OBJECTS_REPORT};
 use super::memory::SUPERCLASS_SKIPPED_REPORT;
-use super::program::{BAD_TAG, answered};
+use super::program::{BAD_TAG, Outcome, answered};
 use super::skips::REFERENCES;
 use crate::{Causes, CommandWords, Counted, Dumps, process};
 use buffer_pool::SpentTag;
@@ -243,7 +243,7 @@ fn line_is_printed<T: AllocGlobal + Threads + Wait + Sync>(
         words: line,
         readable: line.len(),
     };
-    answered(&InMemory { rt, bytes: dump }, line, report, told) == (status, true, true)
+    answered(&InMemory { rt, bytes: dump }, line, report, told) == Outcome::right(status)
         && is_processed(rt, dump, &words, false, status, report, told, "")
         && is_processed(rt, dump, &words, true, status, report, told, after)
 }

@@ -5,9 +5,10 @@ use super::dumps::{
     LONG_ARRAY_REPORT, NINE_ROOTS_REPORT, NOTHING_REPORT, SEVEN_ROOTS_REPORT, Sample,
     WIDE_ARRAY_REPORT,
 };
-use super::{Answered, answer, refused};
+use super::{Answered, answer};
 use crate::{Causes, Options, Skip};
 use std::alloc::Global;
+use std::process::Abort;
 use std::sync::Wait;
 use std::thread::Threads;
 
@@ -60,15 +61,24 @@ fn answer_of<T: Causes + Threads + Wait + Sync>(
 /// Returns the result that `row` wants.
 fn wanted(row: &Row) -> Answered {
     match row.2 {
-        Ok(report) => (Ok(()), Some(report.len())),
-        Err(code) => (refused(code, None), Some(0)),
+        Ok(report) => Answered::whole(report),
+        Err(code) => Answered::refused(code, 0),
+    }
+}
+
+/// Checks the runs on `rows`.
+fn all_are_answered<T: Abort + Causes + Threads + Wait + Sync>(
+    rt: &T,
+    alloc: Global,
+    rows: &[Row],
+) {
+    for (number, row) in rows.iter().enumerate() {
+        let told = answer_of(rt, alloc, row);
+        assert_eq!(rt; told, Some(wanted(row)), "row {number}");
     }
 }
 
 #[test]
 fn last_tags_and_least_buffers(rt: HostRuntime) {
-    for (number, row) in ROWS.iter().enumerate() {
-        let told = answer_of(&rt, rt.alloc(), row);
-        assert_eq!(rt; told, Some(wanted(row)), "row {number}");
-    }
+    all_are_answered(&rt, rt.alloc(), &ROWS);
 }

@@ -4,8 +4,8 @@ use super::dumps::Sample::{Records, TwoObjects, WideArray};
 use super::dumps::Sub::{Class, Objects, Root, Values};
 use super::dumps::{Record, Sample, TWO_OBJECTS_REPORT, WIDE_ARRAY_REPORT};
 use super::skips::REFERENCES;
-use super::{length_of, refused, run_with};
-use crate::{Causes, NoGate, Options, Refusal, Skip, SkipRefusal};
+use super::{Answered, length_of, run_with};
+use crate::{Causes, NoGate, Options, Skip, SkipRefusal};
 use limited_heap::LimitedHeap;
 use std::alloc::Global;
 use std::process::Abort;
@@ -94,7 +94,7 @@ static WITH_A_LIST: [Row; 1] = [(
 )];
 
 /// Runs on `dump` while the allocation `request` (counted from 0) fails, and all later ones too unless `alone`. Returns
-/// the result, how many bytes of `report` were written (`None` if anything else was), and how many allocations failed.
+/// what the run did, with the bytes of `report` that it has written, and how many allocations failed.
 fn run_refusing<T: Causes + Threads + Wait + Sync>(
     rt: &T,
     alloc: Global,
@@ -104,7 +104,7 @@ fn run_refusing<T: Causes + Threads + Wait + Sync>(
     report: &str,
     request: u64,
     alone: bool,
-) -> (Result<(), Refusal>, Option<usize>, u64) {
+) -> (Answered, u64) {
     let heap = if alone {
         LimitedHeap::refusing(alloc, request)
     } else {
@@ -112,11 +112,8 @@ fn run_refusing<T: Causes + Threads + Wait + Sync>(
     };
     let written = Vec::new(alloc);
     let (outcome, written) = run_with(rt, &heap, options, skip, &NoGate, dump, written);
-    (
-        outcome,
-        length_of(written.as_slice(), report),
-        heap.refusals(),
-    )
+    let length = length_of(written.as_slice(), report);
+    (Answered { outcome, length }, heap.refusals())
 }
 
 /// Fails each allocation in turn, in a run of its own, until none fails in a run. Returns the number of the first
@@ -132,16 +129,14 @@ fn first_other<T: Causes + Threads + Wait + Sync>(
     alone: bool,
 ) -> Option<u64> {
     for request in 0..4096u64 {
-        let (outcome, written, refusals) = run_refusing(
-            rt, alloc, dump, options, skip, report, request, alone,
-        );
+        let (told, refusals) = run_refusing(rt, alloc, dump, options, skip, report, request, alone);
         // if only this allocation failed, a list may have tried again with less, and the run may succeed
-        let want = if refusals == 0 || alone && outcome.is_ok() {
-            (Ok(()), Some(report.len()))
+        let want = if refusals == 0 || alone && told.outcome.is_ok() {
+            Answered::whole(report)
         } else {
-            (refused(15, None), Some(0))
+            Answered::refused(15, 0)
         };
-        if (outcome, written) != want || refusals == 0 && request <= 8 {
+        if told != want || refusals == 0 && request <= 8 {
             return Some(request);
         }
         if refusals == 0 {

@@ -1,7 +1,7 @@
 //! The process: its exit status and what it prints for the words of a command line, which need not be text.
 
 use super::dumps::{Sample, TWO_OBJECTS_REPORT};
-use super::program::{Asked, answered_on};
+use super::program::{Asked, Outcome, answered_on};
 use crate::{Causes, Counted, Dumps, process};
 use std::alloc::{AllocError, Global};
 use std::env::{Env, FillError};
@@ -50,7 +50,7 @@ const NOT_THERE: &str = "heapmark: refused 19 ReadFault
 heapmark: /nowhere/heapmark.hprof: No such file or directory (os error 2)
 ";
 
-/// Returns the status of the process for `words`, and whether it prints just `report` on the output and just `told` on
+/// Returns what the process does for `words`, and whether it prints just `report` on the output and just `told` on
 /// standard error.
 fn answered<T: AllocGlobal + Causes + Dumps + Threads + Wait + Sync>(
     rt: &T,
@@ -58,12 +58,15 @@ fn answered<T: AllocGlobal + Causes + Dumps + Threads + Wait + Sync>(
     is_terminal: bool,
     report: &str,
     told: &str,
-) -> (u8, bool, bool) {
+) -> Outcome {
     let mut out = Counted::new(Vec::new(rt.alloc()));
     let mut err = Vec::new(rt.alloc());
     let status = process(rt, &Words { words }, &mut out, &mut err, is_terminal);
-    let is_reported = out.into_inner().as_slice() == report.as_bytes();
-    (status, is_reported, err.as_slice() == told.as_bytes())
+    Outcome {
+        status,
+        is_printed: out.into_inner().as_slice() == report.as_bytes(),
+        is_told: err.as_slice() == told.as_bytes(),
+    }
 }
 
 #[test]
@@ -87,7 +90,7 @@ fn each_line_has_its_status(rt: HostRuntime) {
     ];
     for (words, is_terminal, want, told) in cases {
         let answer = answered(&rt, words, is_terminal, "", told);
-        assert_eq!(rt; answer, (want, true, true), "{told}");
+        assert_eq!(rt; answer, Outcome::right(want), "{told}");
     }
 }
 
@@ -103,10 +106,14 @@ pub fn processed<T: AllocGlobal + Causes + Dumps + Threads + Wait + Sync>(
     is_terminal: bool,
     report: &str,
     told: &str,
-) -> (u8, bool, bool) {
+) -> Outcome {
     match bytes_of(rt.alloc(), words) {
         Ok(words) => answered(rt, words.as_slice(), is_terminal, report, told),
-        Err(_) => (u8::MAX, false, false),
+        Err(_) => Outcome {
+            status: u8::MAX,
+            is_printed: false,
+            is_told: false,
+        },
     }
 }
 
@@ -134,7 +141,7 @@ fn a_line_is_answered_to_its_end(rt: HostRuntime) {
         for is_terminal in [false, true] {
             let asked = Asked::Process(is_terminal, report);
             let told = answered_on(&rt, name, sample, line, asked);
-            assert_eq!(rt; told, Some((want, true, true)), "{line}, {is_terminal}");
+            assert_eq!(rt; told, Some(Outcome::right(want)), "{line}, {is_terminal}");
         }
     }
 }

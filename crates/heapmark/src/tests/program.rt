@@ -77,28 +77,44 @@ pub enum Asked<'a> {
     Whole(bool, &'a str, &'a str),
 }
 
-/// Returns the status of the program for `words`, and whether output and standard error are as `asked` says. What
-/// `asked` does not test counts as right.
+/// What the program or the process did.
+#[derive(Clone, Copy, Debug, PartialEq)]
+pub struct Outcome {
+    /// The exit status.
+    pub status: u8,
+    /// Whether the output is what it should be.
+    pub is_printed: bool,
+    /// Whether standard error is what it should be.
+    pub is_told: bool,
+}
+
+impl Outcome {
+    /// Returns that the status is `status`, and both streams are what they should be.
+    pub fn right(status: u8) -> Self {
+        Outcome {
+            status,
+            is_printed: true,
+            is_told: true,
+        }
+    }
+}
+
+/// Returns what the program does for `words`, and whether output and standard error are as `asked` says. What `asked`
+/// does not test counts as right.
 fn told<T: AllocGlobal + Causes + Dumps<Dump = T::File> + Files + Threads + Wait + Sync>(
     rt: &T,
     words: &[&str],
     asked: Asked<'_>,
-) -> (u8, bool, bool) {
+) -> Outcome {
     match asked {
         Asked::Both(report, refusal) => answered(rt, words, report, refusal),
-        Asked::People(begins, ends) => {
-            let (status, is_empty, length) = answered_to_people(rt, words, begins, ends);
-            (status, is_empty, length.is_some())
-        }
-        Asked::Unwritten(refusal) => {
-            let (status, is_told) = answered_unwritten(rt, words, refusal);
-            (status, true, is_told)
-        }
-        Asked::Unheard => (answered_unheard(rt, words), true, true),
-        Asked::Process(is_terminal, report) => {
-            let (status, is_reported, _) = processed(rt, words, is_terminal, report, "");
-            (status, is_reported, true)
-        }
+        Asked::People(begins, ends) => answered_to_people(rt, words, begins, ends),
+        Asked::Unwritten(refusal) => answered_unwritten(rt, words, refusal),
+        Asked::Unheard => Outcome::right(answered_unheard(rt, words)),
+        Asked::Process(is_terminal, report) => Outcome {
+            is_told: true,
+            ..processed(rt, words, is_terminal, report, "")
+        },
         Asked::Whole(is_terminal, report, lines) => processed(
             rt,
             words,
@@ -115,7 +131,7 @@ fn told_at<T: AllocGlobal + Causes + Dumps<Dump = T::File> + Files + Threads + W
     path: Path<'_>,
     line: &str,
     asked: Asked<'_>,
-) -> Option<(u8, bool, bool)> {
+) -> Option<Outcome> {
     let file = path.to_str()?;
     match words_of(rt.alloc(), line, file) {
         Ok(words) => Some(told(rt, words.as_slice(), asked)),
@@ -126,7 +142,7 @@ fn told_at<T: AllocGlobal + Causes + Dumps<Dump = T::File> + Files + Threads + W
 /// Like [`told`], for the words of `line`, with a file of `bytes` in place of FILE.
 pub fn told_on<
     T: AllocGlobal + Causes + Dumps<Dump = T::File> + Env + Files + Threads + Wait + Sync,
->(rt: &T, name: &str, bytes: &[u8], line: &str, asked: Asked<'_>) -> Option<(u8, bool, bool)> {
+>(rt: &T, name: &str, bytes: &[u8], line: &str, asked: Asked<'_>) -> Option<Outcome> {
     let Ok(path) = file_of(rt, name, bytes) else {
         return None;
     };
@@ -140,43 +156,79 @@ pub fn told_on<
 /// Like [`told`], for the words of `line`, with a file of `sample` in place of FILE.
 pub fn answered_on<
     T: AllocGlobal + Causes + Dumps<Dump = T::File> + Env + Files + Threads + Wait + Sync,
->(rt: &T, name: &str, sample: Sample, line: &str, asked: Asked<'_>) -> Option<(u8, bool, bool)> {
+>(rt: &T, name: &str, sample: Sample, line: &str, asked: Asked<'_>) -> Option<Outcome> {
     match sample.dump(rt.alloc()) {
         Ok(dump) => told_on(rt, name, dump.bytes.as_slice(), line, asked),
         Err(_) => None,
     }
 }
 
-/// Returns the status of the program for `words`, and whether it prints just `report` on the output and just `refusal`
-/// on standard error.
+/// Returns what the program does for `words`, and whether it prints just `report` on the output and just `refusal` on
+/// standard error.
 pub fn answered<T: AllocGlobal + Causes + Dumps + Threads + Wait + Sync>(
     rt: &T,
     words: &[&str],
     report: &str,
     refusal: &str,
-) -> (u8, bool, bool) {
+) -> Outcome {
     let mut out = Counted::new(Vec::new(rt.alloc()));
     let mut err = Vec::new(rt.alloc());
     let status = program(rt, words, &mut out, &mut err);
-    let is_reported = out.into_inner().as_slice() == report.as_bytes();
-    (status, is_reported, err.as_slice() == refusal.as_bytes())
+    Outcome {
+        status,
+        is_printed: out.into_inner().as_slice() == report.as_bytes(),
+        is_told: err.as_slice() == refusal.as_bytes(),
+    }
 }
 
-/// Returns the status of the program for `words` at a terminal, whether it prints nothing on the output, and the length
-/// of what it prints on standard error: `None` unless that begins with `begins` and ends with `ends`.
-pub fn answered_to_people<T: AllocGlobal + Causes + Dumps + Threads + Wait + Sync>(
+/// Returns the status of the program for `words` at a terminal, whether it prints nothing on the output, and what it
+/// prints on standard error.
+fn printed_for_people<T: AllocGlobal + Causes + Dumps + Threads + Wait + Sync>(
+    rt: &T,
+    words: &[&str],
+) -> (u8, bool, Vec<u8>) {
+    let mut out = Counted::new(Vec::new(rt.alloc()));
+    let mut err = Vec::new(rt.alloc());
+    let status = program_at_terminal(rt, words, &mut out, &mut err);
+    (status, out.into_inner().is_empty(), err)
+}
+
+/// Returns what the program does for `words` at a terminal, whether it prints nothing on the output, and whether what
+/// it prints on standard error begins with `begins` and ends with `ends`.
+fn answered_to_people<T: AllocGlobal + Causes + Dumps + Threads + Wait + Sync>(
     rt: &T,
     words: &[&str],
     begins: &str,
     ends: &str,
-) -> (u8, bool, Option<usize>) {
-    let mut out = Counted::new(Vec::new(rt.alloc()));
-    let mut err = Vec::new(rt.alloc());
-    let status = program_at_terminal(rt, words, &mut out, &mut err);
+) -> Outcome {
+    let (status, is_printed, err) = printed_for_people(rt, words);
     let told = err.as_slice();
-    let is_so = told.starts_with(begins.as_bytes()) && told.ends_with(ends.as_bytes());
-    let length = if is_so { Some(told.len()) } else { None };
-    (status, out.into_inner().is_empty(), length)
+    Outcome {
+        status,
+        is_printed,
+        is_told: told.starts_with(begins.as_bytes()) && told.ends_with(ends.as_bytes()),
+    }
+}
+
+/// Returns what the program does for `words` at a terminal, whether it prints nothing on the output, and whether it
+/// prints just the lines `refusal` and `reason` on standard error.
+pub fn refused_with_reason<T: AllocGlobal + Causes + Dumps + Threads + Wait + Sync>(
+    rt: &T,
+    words: &[&str],
+    refusal: &str,
+    reason: &str,
+) -> Outcome {
+    let (status, is_printed, err) = printed_for_people(rt, words);
+    let told = err.as_slice();
+    let is_told = match told.get(refusal.len()..) {
+        Some(rest) => told.starts_with(refusal.as_bytes()) && rest == reason.as_bytes(),
+        None => false,
+    };
+    Outcome {
+        status,
+        is_printed,
+        is_told,
+    }
 }
 
 #[test]
@@ -189,20 +241,24 @@ fn a_file_is_reported_or_refused(rt: HostRuntime) {
     for (sample, status, report, refusal) in files {
         let asked = Asked::Both(report, refusal);
         let told = answered_on(&rt, "heapmark_one_file.hprof", sample, "FILE", asked);
-        assert_eq!(rt; told, Some((status, true, true)), "{report}{refusal}");
+        assert_eq!(rt; told, Some(Outcome::right(status)), "{report}{refusal}");
     }
 }
 
-/// Returns the status for `words` if the output fails, and whether just `refusal` is printed on standard error.
+/// Returns what the program does for `words` if the output fails, and whether it prints just `refusal` on standard error.
 fn answered_unwritten<T: AllocGlobal + Causes + Dumps + Threads + Wait + Sync>(
     rt: &T,
     words: &[&str],
     refusal: &str,
-) -> (u8, bool) {
+) -> Outcome {
     let mut out = Counted::new(Broken);
     let mut err = Vec::new(rt.alloc());
     let status = program(rt, words, &mut out, &mut err);
-    (status, err.as_slice() == refusal.as_bytes())
+    Outcome {
+        status,
+        is_printed: true,
+        is_told: err.as_slice() == refusal.as_bytes(),
+    }
 }
 
 /// Returns the status for `words` if standard error fails.
@@ -219,7 +275,7 @@ fn a_report_that_is_not_written_is_refused(rt: HostRuntime) {
     let (name, sample) = ("heapmark_not_written.hprof", Sample::TwoObjects);
     let asked = Asked::Unwritten("heapmark: refused 20 WriteFault\n");
     let told = answered_on(&rt, name, sample, "FILE", asked);
-    assert_eq!(rt; told, Some((1, true, true)));
+    assert_eq!(rt; told, Some(Outcome::right(1)));
 }
 
 #[test]
@@ -237,10 +293,9 @@ fn is_not_opened<
     let words = ["heapmark", file];
     assert_eq!(rt;
         answered(rt, &words, "", refusal),
-        (1, true, true),
+        Outcome::right(1),
         "{file}"
     );
-    let told = answered_to_people(rt, &words, refusal, reason);
-    let length = refusal.len() + reason.len();
-    assert_eq!(rt; told, (1, true, Some(length)), "{file}");
+    let told = refused_with_reason(rt, &words, refusal, reason);
+    assert_eq!(rt; told, Outcome::right(1), "{file}");
 }

@@ -193,15 +193,25 @@ pub fn reports_are_written<T: Abort + Causes + Threads + Wait + Sync>(
     samples_are_reported(rt, alloc, reading);
 }
 
+/// Checks that the runs on the dump of each of `rows` are refused as the row says.
+fn all_are_refused<T: Abort + Causes + Threads + Wait + Sync>(
+    rt: &T,
+    alloc: Global,
+    reading: Reading,
+    rows: &[Refused],
+) {
+    for row in rows {
+        assert!(rt; is_refused(rt, alloc, reading, row), "{}", row.0);
+    }
+}
+
 /// Checks that the runs on each dump with a fault are refused as its row says.
 pub fn faults_are_found<T: Abort + Causes + Threads + Wait + Sync>(
     rt: &T,
     alloc: Global,
     reading: Reading,
 ) {
-    for row in &REFUSED {
-        assert!(rt; is_refused(rt, alloc, reading, row), "{}", row.0);
-    }
+    all_are_refused(rt, alloc, reading, &REFUSED);
 }
 
 #[test]

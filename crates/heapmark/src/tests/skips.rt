@@ -6,7 +6,7 @@ mod unmet;
 use super::dumps::Record::{Heap, Load, Text};
 use super::dumps::Sub::{Class, Instance, Root};
 use super::dumps::{Bytes, Record, Sample};
-use super::program::{Asked, answered, answered_on};
+use super::program::{Asked, Outcome, answered, answered_on};
 use super::rows::{Line, report_of};
 use super::{runs_are_answered, usual_options};
 use crate::{Causes, Dumps, Skip, SkipRefusal};
@@ -178,7 +178,7 @@ fn is_reported<
     match report_of(rt.alloc(), lines) {
         Ok(report) => {
             let asked = Asked::Both(report.as_str(), "");
-            answered_on(rt, name, sample, line, asked) == Some((0, true, true))
+            answered_on(rt, name, sample, line, asked) == Some(Outcome::right(0))
         }
         Err(_) => false,
     }
@@ -210,7 +210,7 @@ fn is_refused<
     T: Abort + AllocGlobal + Causes + Dumps<Dump = T::File> + Files + Threads + Wait + Sync,
 >(rt: &T, words: &[&str], refusal: &str) {
     let told = answered(rt, words, "", refusal);
-    assert_eq!(rt; told, (1, true, true), "{refusal}");
+    assert_eq!(rt; told, Outcome::right(1), "{refusal}");
 }
 
 /// Texts that are no list of fields.

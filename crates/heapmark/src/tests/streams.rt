@@ -2,7 +2,7 @@
 
 use super::dumps::Sample::{Nothing, TwoObjects};
 use super::dumps::{NOTHING_REPORT, Sample, TWO_OBJECTS_REPORT, two_objects};
-use super::{Answered, answer, least, length_of, refused, run_with, usual};
+use super::{Answered, answer, least, length_of, run_with, usual};
 use crate::{Causes, NoGate, Options, Skip};
 use std::alloc::Global;
 use std::io;
@@ -141,9 +141,9 @@ fn a_read_fault_is_told_and_not_tried_again(rt: HostRuntime) {
             let told = read_failing(&rt, rt.alloc(), calls_left, kind);
             // 174 reads return a byte each, and one more finds the end
             let want = if calls_left < 175 {
-                (refused(19, None), Some(0))
+                Answered::refused(19, 0)
             } else {
-                (Ok(()), Some(TWO_OBJECTS_REPORT.len()))
+                Answered::whole(TWO_OBJECTS_REPORT)
             };
             assert_eq!(rt; told, Some(want), "{calls_left} reads");
         }
@@ -161,7 +161,8 @@ fn written_of<T: Causes + Threads + Wait + Sync>(
 ) -> Answered {
     let skip = Skip::none(alloc);
     let (outcome, tray) = run_with(rt, alloc, options, &skip, &NoGate, bytes, tray);
-    (outcome, length_of(tray.taken.as_slice(), report))
+    let length = length_of(tray.taken.as_slice(), report);
+    Answered { outcome, length }
 }
 
 /// Returns the result of a run on `sample` whose report goes to `tray`.
@@ -192,9 +193,9 @@ fn a_write_fault_leaves_a_beginning(rt: HostRuntime) {
             let told = written_to(&rt, rt.alloc(), &least(2), TwoObjects, report, tray);
             let taken = writes_left * 10;
             let want = if taken < report.len() {
-                (refused(20, None), Some(taken))
+                Answered::refused(20, taken)
             } else {
-                (Ok(()), Some(report.len()))
+                Answered::whole(report)
             };
             assert_eq!(rt; told, Some(want), "{writes_left} writes");
         }
@@ -212,10 +213,7 @@ fn a_fault_of_the_flush_is_told(rt: HostRuntime) {
         TWO_OBJECTS_REPORT,
         tray,
     );
-    assert_eq!(rt;
-        told,
-        Some((refused(20, None), Some(TWO_OBJECTS_REPORT.len())))
-    );
+    assert_eq!(rt; told, Some(Answered::refused(20, TWO_OBJECTS_REPORT.len())));
 }
 
 /// The report of `Nothing` has no rows. The first of its three lines is cut after the count.
@@ -224,6 +222,6 @@ fn a_write_fault_leaves_a_beginning_of_the_last_lines(rt: HostRuntime) {
     for options in [least(2), usual(1), usual(2), usual(64)] {
         let tray = Tray::new(rt.alloc(), 10, 1, Failure::Fault(ErrorKind::Other));
         let told = written_to(&rt, rt.alloc(), &options, Nothing, NOTHING_REPORT, tray);
-        assert_eq!(rt; told, Some((refused(20, None), Some(10))), "{options:?}");
+        assert_eq!(rt; told, Some(Answered::refused(20, 10)), "{options:?}");
     }
 }

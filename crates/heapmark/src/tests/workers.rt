@@ -95,7 +95,8 @@ fn run_meeting_on<T: Causes + Clock + Threads + Wait + Sync>(
         gate.objects.load(Ordering::SeqCst),
         gate.by_others.load(Ordering::SeqCst),
     ];
-    ((outcome, length_of(written.as_slice(), report)), counts)
+    let length = length_of(written.as_slice(), report);
+    (Answered { outcome, length }, counts)
 }
 
 /// Like [`run_meeting_on`], for a run on `roots` roots.
@@ -132,8 +133,11 @@ fn workers_meet_at_the_gate(rt: HostRuntime) {
     for (workers, roots, report) in cases {
         let told = run_meeting(&rt, rt.alloc(), workers, roots, report);
         let all = 2u64.wrapping_shl(roots).wrapping_sub(1);
-        let answer = (Ok(()), Some(report.len()));
         let counts = [0, u64::from(roots) + 1, all, 0];
-        assert_eq!(rt; told, Some((answer, counts)), "{workers} workers");
+        assert_eq!(rt;
+            told,
+            Some((Answered::whole(report), counts)),
+            "{workers} workers"
+        );
     }
 }

@@ -4,7 +4,7 @@ use super::{ALL, REFERENCES, SUPERCLASS_SKIPPED};
 use crate::tests::dumps::Record::{Heap, Load, Text};
 use crate::tests::dumps::Sub::{Root, Static};
 use crate::tests::dumps::{Record, Sample};
-use crate::tests::program::{Asked, answered_on};
+use crate::tests::program::{Asked, Outcome, answered_on};
 use crate::tests::rows::{Line, report_of};
 use crate::tests::texts::VERSION;
 use crate::{Causes, Dumps};
@@ -119,7 +119,7 @@ fn is_printed<
     };
     let (name, sample) = ("heapmark_unmet.hprof", Sample::Records(4, records));
     let asked = Asked::Whole(is_terminal, report.as_str(), told);
-    answered_on(rt, name, sample, line.as_str(), asked) == Some((0, true, true))
+    answered_on(rt, name, sample, line.as_str(), asked) == Some(Outcome::right(0))
 }
 
 /// Tests whether the process writes the report of `case` and just the lines about `entries` on standard error.
@@ -168,7 +168,7 @@ fn long_line_is_read<
     };
     let (name, sample) = ("heapmark_long_line.hprof", Sample::Records(4, REFERENCES));
     let asked = Asked::Process(is_terminal, report.as_str());
-    answered_on(rt, name, sample, line.as_str(), asked) == Some((0, true, true))
+    answered_on(rt, name, sample, line.as_str(), asked) == Some(Outcome::right(0))
 }
 
 #[test]
@@ -191,6 +191,6 @@ heapmark: --skip: give 1 to 64 entries with commas between, as java/lang/ref/Ref
     for (line, status, report, told) in cases {
         let asked = Asked::Whole(true, report, told);
         let answer = answered_on(&rt, name, sample, line, asked);
-        assert_eq!(rt; answer, Some((status, true, true)), "{line}");
+        assert_eq!(rt; answer, Some(Outcome::right(status)), "{line}");
     }
 }
