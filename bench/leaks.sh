@@ -15,9 +15,9 @@
 #   seen   new ones again, with leaks of other kinds
 #   judge  new ones, by other libraries and other parts of the JDK
 #
-# The order of tools/leaks is tuned on all of these but those of judge, on which it is judged: their holders were written
-# down before tools/leaks ran on them. A program of judge whose line is read to change the order is one to tune on from
-# then on: those of beside, tried and seen were judging groups until their lines were read.
+# The order of tools/leaks is tuned on all of these but those of judge, on which it is judged: their holders were
+# written down before tools/leaks ran on them. A program of judge whose line is read to change the order is one to tune
+# on from then on: those of beside, tried and seen were judging groups until their lines were read.
 #
 # Java is that of JAVA_HOME, else that of PATH. A program is left out if it needs a later version, or a library that
 # /usr/share/java does not have; the row then says the Debian package.
