@@ -39,7 +39,8 @@ class SearchTogether:
     def find_statics(self) -> None:
         """Finds static fields that hold enough only together: those of own classes if these are enough, and those that
         hold much, but gained hardly anything alone, only if the others are not."""
-        whole = self.share_or_bound(self.statics, self.at_least)
+        steady = self.percent_before([each for each in self.search.aside if not each.is_of_machine])
+        whole = self.share_or_bound(self.statics, self.at_least, (steady, math.inf))
         roots = [held for held in self.search.found if all(each.kind == STATIC for each in held.candidates)]
         alone = [each for held in roots for each in held.candidates]
         best = max((self.probe.share(held.candidates) for held in roots), default=0.0)

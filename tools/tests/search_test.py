@@ -233,6 +233,19 @@ class KinTest(unittest.TestCase):
             self.assertEqual(len(search.found), is_found)
             self.assertLessEqual(search.probe.questions, MOST_GROUPS + 8)
 
+    def test_steady_statics(self) -> None:
+        """If all static fields hold little more than those did that hold as much as before, the earlier dump is not
+        asked what all held."""
+        statics = [Candidate(STATIC, f"app/{name}", 1, {}) for name in ("Catalog.ALL", "A.a", "B.b")]
+        catalog: Things = [([["app/Catalog.ALL"]], 900)]
+        for together, is_asked in ((29, False), (30, True)):
+            probe = ToldGains(catalog, [*catalog, ([["app/A.a", "app/B.b"]], together)])
+            search = searched(probe, statics, [])
+            probe.earlier.asked.clear()
+            SearchTogether(search).find_statics()
+            self.assertEqual((len(search.aside), len(search.found)), (1, int(is_asked)))
+            self.assertEqual(bool(probe.earlier.asked), is_asked)
+
     def test_names(self) -> None:
         """Of many names only the first ones are in a line: those that hold most alone. What the virtual machine keeps
         with a class is none of them."""
