@@ -8,6 +8,8 @@ from heap_tools.class_names import printable
 
 #: The fields of a text that names an object, the likeliest first. An object with one text only is named by that.
 NAMING = ("name", "id", "key", "destination", "topic", "queue", "title", "label", "path", "url", "host")
+#: How many names of an object are shown.
+NAMES_SHOWN = 2
 #: How many characters of a text are shown.
 LONGEST_TEXT = 60
 
@@ -39,13 +41,18 @@ def likeliest_first(name: Tuple[str, str]) -> Tuple[bool, Tuple[str, str]]:
 
 
 def best_of(named: Mapping[str, str]) -> Optional[str]:
-    """Returns which of the fields with these texts names their object, or None. A text of several lines, such as the
-    stack where an object was made, is no name, and neither is what is called a trace."""
+    """Returns which of the fields with these texts names their object best, or None."""
+    return next(iter(likely_names(named)), None)
+
+
+def likely_names(named: Mapping[str, str]) -> List[str]:
+    """Returns which of the fields with these texts name their object, the likeliest first. A text of several lines, such
+    as the stack where an object was made, is no name, and neither is what is called a trace."""
     named = {
         field: text for field, text in named.items() if text and "\n" not in text and field[-5:].lower() != "trace"
     }
     likely = [field for field in NAMING if field in named] or [field for field in named if is_naming(field)]
-    return next(iter(likely or (named if len(named) == 1 else ())), None)
+    return likely or (list(named) if len(named) == 1 else [])
 
 
 def alone_in(names: Mapping[int, Sequence[Name]]) -> Dict[int, List[Name]]:

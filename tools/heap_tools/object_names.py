@@ -6,7 +6,7 @@ from typing import Dict, Iterable, List, Mapping, Sequence, Tuple
 from heap_tools import hprof_format as hprof
 from heap_tools.heap_dump import HeapDump
 from heap_tools.heap_objects import HeapObjects
-from heap_tools.naming import Name, alone_in, best_of, joined, shown_text
+from heap_tools.naming import NAMES_SHOWN, Name, alone_in, joined, likely_names, shown_text
 from heap_tools.outer_names import MAP_NODES, OTHERS, OuterNames
 
 #: The entries of a thread's map of thread-locals: the field of the value. The thread-local itself is the referent.
@@ -30,14 +30,14 @@ class ObjectNames:
         self.dump, self.objects = dump, HeapObjects(dump)
 
     def names_of(self, places: Sequence[int], others: Sequence[int] = ()) -> Dict[int, List[Name]]:
-        """Returns the names of the objects at these places, at most a few of each, and each text once: texts and keys
+        """Returns the names of the objects at these places, at most `NAMES_SHOWN`, and each text once: texts and keys
         that neither another of them nor one at `others` has, and thread-locals. If an object has none, those of what
         it is made of count, then those of its owners, which the first of `others` do not have, too. Walks over all
         objects some times."""
         own = self.own_names([*places, *others])
         alone = alone_in(own)
         telling = {at: [name for name in own[at] if name in alone[at] or name.how == BY_THREAD_LOCAL] for at in places}
-        found = {at: joined(names) for at, names in telling.items()}
+        found = {at: joined(names)[:NAMES_SHOWN] for at, names in telling.items()}
         nameless = [at for at in places if not found[at]]
         if nameless:
             found.update(OuterNames(self.objects).of(nameless, others[:OTHERS]))
@@ -76,12 +76,11 @@ class ObjectNames:
         return self.dump.names.get(self.objects.class_of(at)) == ENTRY
 
     def _by_text(self, fields: Mapping[int, Mapping[str, int]], texts: Mapping[int, str]) -> Iterable[Tuple[int, Name]]:
-        """Yields the objects that have one of these texts in a field which names them."""
+        """Yields the objects that have some of these texts in fields which name them, the likeliest first."""
         for at, of_object in fields.items():
             named = {field: texts[target] for field, target in of_object.items() if texts.get(target)}
-            best = best_of(named)
-            if best is not None:
-                yield at, Name(f"its field {best}", shown_text(named[best]))
+            for field in likely_names(named):
+                yield at, Name(f"its field {field}", shown_text(named[field]))
 
     def _by_key(
         self, keys: Sequence[Tuple[int, int]], known: Mapping[int, int], texts: Mapping[int, str]

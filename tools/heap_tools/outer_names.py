@@ -4,7 +4,16 @@ from typing import Dict, Iterable, List, Mapping, Sequence, Set, Tuple
 
 from heap_tools import hprof_format as hprof
 from heap_tools.heap_objects import HeapObjects, Referrer
-from heap_tools.naming import Name, alone_in, best_of, first_of_texts, is_naming, likeliest_first, shown_text
+from heap_tools.naming import (
+    NAMES_SHOWN,
+    Name,
+    alone_in,
+    best_of,
+    first_of_texts,
+    is_naming,
+    likeliest_first,
+    shown_text,
+)
 from heap_tools.object_owners import Owners
 
 #: The fields of the nodes of maps: the object, and its key.
@@ -20,9 +29,7 @@ NODE_CLASSES = frozenset(node for _, node, key in MAP_NODES if key == "key")
 #: Fields that are called like names, but say nothing of what leads there: the name of a thread or of a constant, and
 #: the key of a map's node, such as the first one, which is that of its value.
 OTHER_NAMES = (("java/lang/Thread", "name"), ("java/lang/Enum", "name"), *((node, "key") for node in NODE_CLASSES))
-#: How many of these names are shown.
-OUTER_NAMES = 2
-#: With how many other objects they are compared: each is looked for in the whole dump.
+#: With how many other objects these names are compared: each is looked for in the whole dump.
 OTHERS = 3
 
 
@@ -36,7 +43,7 @@ class OuterNames:
         """Returns the name of what each of the objects at `places` is made of, and those of its nearest owners that
         have any. A name that another object has too names nothing. Walks over all objects some times."""
         parts, owners = self._by_part(places, others), self._by_owner(places, others)
-        return {at: first_of_texts([*parts[at][:1], *owners[at]])[:OUTER_NAMES] for at in places}
+        return {at: first_of_texts([*parts[at][:1], *owners[at]])[:NAMES_SHOWN] for at in places}
 
     def _by_part(self, places: Sequence[int], others: Sequence[int]) -> Dict[int, List[Name]]:
         """Returns the names of what objects are made of: texts in fields that are called like names."""

@@ -207,6 +207,18 @@ class NamesTest(unittest.TestCase):
         dump.string(60_001, "message")
         self.assertEqual(self.names(dump, 300), [['its field registry.name "eu"']])
 
+    def test_several(self) -> None:
+        """If the likeliest text of an object is that of others, too, the next one names it."""
+        dump = Queues([])
+        dump.of_class(20, "shop/Session", fields=["url", "host", "name", "id"])
+        for number, text in enumerate(("session", "eu", "us", "7", "8", "/a", "/b")):
+            dump.string(60_000 + number, text)
+        dump.instance(300, 20, 60_005, 60_001, 60_000, 60_003)
+        dump.instance(301, 20, 60_006, 60_002, 60_000, 60_003)
+        dump.instance(302, 20, 60_006, 60_002, 60_000, 60_004)
+        wanted = [['its field url "/a"', 'its field host "eu"'], [], ['its field id "8"']]
+        self.assertEqual(self.names(dump, 300, 301, 302), wanted)
+
     def test_alike(self) -> None:
         """A text that several of the objects have, or one of the others, names none of them."""
         dump = Queues([1, 1, 1, 1], names=["Etc/UTC", "Etc/UTC", "Etc/GMT", "Etc/CET"])
@@ -294,7 +306,7 @@ class NamesTest(unittest.TestCase):
         self.assertEqual(sorted(found), [(21, "LAST"), (310, "second"), (312, ""), (312, "")])
 
     def test_one_text(self) -> None:
-        """The only text of an object names it, whatever its field is called; of several, a likely one."""
+        """The only text of an object names it, whatever its field is called; of several, the likely ones, two at most."""
         dump = Queues([])
         dump.of_class(20, "shop/Order", fields=["code", "next"])
         dump.of_class(21, "shop/Customer", fields=["code", "id", "note"])
@@ -308,7 +320,8 @@ class NamesTest(unittest.TestCase):
         dump.instance(302, 22, 60_000, 60_001)
         dump.instance(303, 23, 60_000, 60_001)
         dump.instance(304, 24, 60_000, 60_001)
-        wanted = [['its field code "a"'], ['its field id "b"'], [], ['its field name "b"'], ['its field host "b"']]
+        names = ['its field name "b"', 'its field id "a"']
+        wanted = [['its field code "a"'], ['its field id "b"'], [], names, ['its field host "b"']]
         self.assertEqual(self.names(dump, 300, 301, 302, 303, 304), wanted)
 
     def test_shown(self) -> None:
