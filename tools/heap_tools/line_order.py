@@ -82,8 +82,8 @@ class Features:
 
     @property
     def says(self) -> int:
-        """How much its name says of what it is for: `OF_PROGRAM`, or of the JDK if one object gained most; 2 of the JDK,
-        `TOGETHER`, 0 of a collection, several of the JDK together, a variable of a lambda or a thread."""
+        """How much its name says of what it is for: `OF_PROGRAM`, or of the JDK if one object gained most; 2 of the
+        JDK, `TOGETHER`, 0 of a collection, several of the JDK together, a variable of a lambda or a thread."""
         if len(self.kinds) > 1:
             return TOGETHER if self.is_own else 0
         if self.is_collection or self.is_thread or "$$Lambda" in self.name:

@@ -46,8 +46,8 @@ def best_of(named: Mapping[str, str]) -> Optional[str]:
 
 
 def likely_names(named: Mapping[str, str]) -> List[str]:
-    """Returns which of the fields with these texts name their object, the likeliest first. A text of several lines, such
-    as the stack where an object was made, is no name, and neither is what is called a trace."""
+    """Returns which of the fields with these texts name their object, the likeliest first. A text of several lines,
+    such as the stack where an object was made, is no name, and neither is what is called a trace."""
     named = {
         field: text for field, text in named.items() if text and "\n" not in text and field[-5:].lower() != "trace"
     }
@@ -61,7 +61,7 @@ def alone_in(names: Mapping[int, Sequence[Name]]) -> Dict[int, List[Name]]:
     return {at: [name for name in of_object if count[name] == 1] for at, of_object in names.items()}
 
 
-def joined(names: Iterable[Name]) -> List[Name]:
+def names_joined(names: Iterable[Name]) -> List[Name]:
     """Returns names of an object with each text once: what has the same text is joined, as in `its field id and the
     map's key`."""
     found: Dict[str, List[str]] = {}

@@ -6,7 +6,7 @@ from typing import Dict, Iterable, List, Mapping, Sequence, Tuple
 from heap_tools import hprof_format as hprof
 from heap_tools.heap_dump import HeapDump
 from heap_tools.heap_objects import HeapObjects
-from heap_tools.naming import NAMES_SHOWN, Name, alone_in, joined, likely_names, shown_text
+from heap_tools.naming import NAMES_SHOWN, Name, alone_in, likely_names, names_joined, shown_text
 from heap_tools.outer_names import MAP_NODES, OTHERS, OuterNames
 
 #: The entries of a thread's map of thread-locals: the field of the value. The thread-local itself is the referent.
@@ -37,7 +37,7 @@ class ObjectNames:
         own = self.own_names([*places, *others])
         alone = alone_in(own)
         telling = {at: [name for name in own[at] if name in alone[at] or name.how == BY_THREAD_LOCAL] for at in places}
-        found = {at: joined(names)[:NAMES_SHOWN] for at, names in telling.items()}
+        found = {at: names_joined(names)[:NAMES_SHOWN] for at, names in telling.items()}
         nameless = [at for at in places if not found[at]]
         if nameless:
             found.update(OuterNames(self.objects).of(nameless, others[:OTHERS]))

@@ -21,7 +21,7 @@ NODES = [
     ("java/util/HashMap$Node", "key", "value", "next"),
 ]
 #: The most nodes of a chain that are followed. Each is a walk over all objects, and a table has few long chains.
-LONGEST_CHAIN = 6
+MOST_NODES = 6
 COMMAND, MACHINE, JAVA_VERSION = "sun.java.command", "java.vm.name", "java.version"
 
 
@@ -109,7 +109,7 @@ def array_elements(dump: HeapDump, at: int) -> List[int]:
 def pairs_in(objects: HeapObjects, nodes: Iterable[int]) -> List[Tuple[int, int]]:
     """Returns the identifiers of the keys and values in the chains that begin with `nodes`."""
     pairs: List[Tuple[int, int]] = []
-    for _ in range(LONGEST_CHAIN):
+    for _ in range(MOST_NODES):
         places = objects.places_of(nodes).values()
         following = []
         for class_name, key, value, after in NODES:

@@ -35,7 +35,8 @@ class SpanOrder:
         chosen: Dict[int, List[int]] = {}
         for each in wanted:
             place = bisect_right(self._firsts, each)
-            # Mostly one part; not where the addresses of a part go on from those of the last space to those of the first.
+            # Mostly one part; not where the addresses of a part go on from those of the last space to those of the
+            # first.
             numbers = {begins[place - 1][1]} if place else set()
             numbers |= {max(0, begins[place][1] - 1)} if place < len(begins) else set()
             for number in numbers:

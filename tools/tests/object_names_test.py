@@ -306,7 +306,8 @@ class NamesTest(unittest.TestCase):
         self.assertEqual(sorted(found), [(21, "LAST"), (310, "second"), (312, ""), (312, "")])
 
     def test_one_text(self) -> None:
-        """The only text of an object names it, whatever its field is called; of several, the likely ones, two at most."""
+        """The only text of an object names it, whatever its field is called; of several, the likely ones, at most
+        two."""
         dump = Queues([])
         dump.of_class(20, "shop/Order", fields=["code", "next"])
         dump.of_class(21, "shop/Customer", fields=["code", "id", "note"])

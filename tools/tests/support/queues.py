@@ -68,10 +68,10 @@ class Folders(DumpWriter):
 
 
 class Chains(DumpWriter):
-    """A static field names a shop, whose field `rooms` leads to a map with an array of `chains` chains of entries of the
-    class `entry`, or with `linked` of one that inherits from it, which the map's first entry leads to, too. The entry
-    `n` has the key "room n" and `sizes[n]` bytes. `is_set`: the key is a room of that name with these bytes, and the
-    value is the same object for all. `alone`: how many more chains with an entry without bytes there are."""
+    """A static field names a shop, whose field `rooms` leads to a map with an array of `chains` chains of entries of
+    the class `entry`, or with `linked` of one that inherits from it, which the map's first entry leads to, too. The
+    entry `n` has the key "room n" and `sizes[n]` bytes. `is_set`: the key is a room of that name with these bytes, and
+    the value is the same object for all. `alone`: how many more chains with an entry without bytes there are."""
 
     def __init__(
         self,
