@@ -111,9 +111,9 @@ class PlacesTest(unittest.TestCase):
     def test_cost(self) -> None:
         """If identifiers ascend, at most two segments are read for an object, and none for a class; for one that is
         missing all are, each once."""
-        identifiers = two_spaces(200)
+        identifiers = two_spaces(100)  # in so few segments that this process reads them
         dump = dump_of(identifiers)
-        for some in (identifiers[:1], identifiers[70:71], [identifiers[3], identifiers[90], identifiers[180]]):
+        for some in (identifiers[:1], identifiers[70:71], [identifiers[3], identifiers[50], identifiers[80]]):
             self.assertLessEqual(len(self.read_for(dump, some)), 2 * len(some))
         self.assertEqual(self.read_for(dump, [0, ORDER, ORDERS]), [])
         self.assertEqual(sorted(self.read_for(dump, [*identifiers[:1], 1004])), dump.segments)
