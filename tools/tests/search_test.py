@@ -184,6 +184,14 @@ class KinTest(unittest.TestCase):
         found, _ = self.found([([["app/A.a"]], 28), ([["app/A.b"]], 3)], fields)
         self.assertEqual(found, ["together app/A.a, app/A.b"])
 
+    def test_beside(self) -> None:
+        """What holds a part of its own is not named with those that hold the rest only together."""
+        fields = [field(f"app/{package}/A.a") for package in "abc"]
+        probe = ToldGains([], [([["app/b/A.a", "app/c/A.a"]], 60), ([["app/a/A.a"]], 28)])
+        probe.candidates = candidates_of([])
+        together = SearchTogether(Search(probe, 30, mock.Mock()))
+        self.assertEqual(together.needed(fields, [], 0, 80, together.budget()), fields[1:])
+
     def test_more_than_growth(self) -> None:
         """What hold the growth together are found, too, if a field that did not gain makes all of them gain more."""
         names = [f"app/{package}/A.a" for package in "abcdefgh"]
