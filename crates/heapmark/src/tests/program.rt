@@ -245,7 +245,8 @@ fn a_file_is_reported_or_refused(rt: HostRuntime) {
     }
 }
 
-/// Returns what the program does for `words` if the output fails, and whether it prints just `refusal` on standard error.
+/// Returns what the program does for `words` if the output fails, and whether it prints just `refusal` on standard
+/// error.
 fn answered_unwritten<T: AllocGlobal + Causes + Dumps + Threads + Wait + Sync>(
     rt: &T,
     words: &[&str],
