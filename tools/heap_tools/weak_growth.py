@@ -8,7 +8,8 @@ from heap_tools.reports import Amount, Unit
 from heap_tools.running_calls import DumpSide, prepared
 from heap_tools.weak_kinds import WeakKind, WeakReferences
 
-#: The share of the growth, in percent, from which on it is said what is held by weak references alone.
+#: The share of the growth, in percent, from which on it is said what is held by weak references alone. It is not asked
+#: how much more that is if all that they hold is less than half of it.
 MUCH_WEAKLY_HELD = 5
 
 
@@ -36,8 +37,12 @@ def followed_of(
     if wants_all:
         return Followed(True), Followed(True).sides(runs)
     cut = prepared(runs, follows_weak=False)
-    whole = weak_growth(cut, prepared(runs, follows_weak=True), families)
     growth = grown(cut, families, unit)
+    last = prepared(runs[-1:], follows_weak=True)
+    # What they hold in the last dump is at least what they hold more than in the first.
+    if 200 * unit.of(weak_growth(cut[-1:], last, families)) < MUCH_WEAKLY_HELD * growth:
+        return Followed(False), cut
+    whole = weak_growth(cut, [*prepared(runs[:-1], follows_weak=True), *last], families)
     if not is_most(unit.of(whole), growth):
         return Followed(False, amount=whole), cut
     best, sides = Followed(False, amount=whole), cut

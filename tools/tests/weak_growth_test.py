@@ -94,13 +94,13 @@ class FollowedTest(unittest.TestCase):
         )
 
     def test_asked_once(self) -> None:
-        """Each dump is asked once without weak references, once with all, and if that is much, once with each of three
-        kinds. What is followed then is not asked again."""
-        for counts, runs in (({"soft": 2}, 2), ({"final": 30}, 2 + 3)):
-            both = referring(1000, {}), referring(1500, counts)
+        """Each dump is asked once without weak references, and with all: the first one only if they hold much in the
+        last one. If that is most, each is asked once with each of three kinds. What is followed is not asked again."""
+        for kept, counts, runs in ((20_000, {"soft": 2}, 3), (1500, {"soft": 2}, 4), (1500, {"final": 30}, 4 + 6)):
+            both = referring(1000, {}), referring(kept, counts)
             with mock.patch.object(MarkedRuns, "without", autospec=True, side_effect=MarkedRuns.without) as asked:
                 followed_of(both, None, Unit.BYTES)
-            self.assertEqual(asked.call_count, 2 * runs, counts)
+            self.assertEqual(asked.call_count, runs, counts)
 
     def test_side(self) -> None:
         """Only the references of the kind lead somewhere, in any dump."""
