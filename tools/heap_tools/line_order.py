@@ -5,9 +5,9 @@ above it, below it or in a field of its class before, and nothing if it did not 
 score is a quarter of the growth, nothing that lasts holds what grew: the answer is the topmost line, a thread before
 others. Else the answer is the deepest line on the path of the best score (of those with nine tenths of it, of the line
 whose name says most), above or below it, that has half of that score: the accumulation point. A collection, several of
-the JDK together, a variable of a lambda or a thread is the answer only if no other line on that path has nine tenths of
-that score, or half of it below; of fields, own ones, and those of which one object gained most, come before the JDK's
-in the same way. The other lines follow by their scores.
+the JDK or with a thread together, a variable of a lambda or a thread is the answer only if no other line on that path
+has nine tenths of that score, or half of it below; of fields, own ones, and those of which one object gained most, come
+before the JDK's in the same way. The other lines follow by their scores.
 """
 
 import enum
@@ -83,9 +83,9 @@ class Features:
     @property
     def says(self) -> int:
         """How much its name says of what it is for: `OF_PROGRAM`, or of the JDK if one object gained most; 2 of the
-        JDK, `TOGETHER`, 0 of a collection, several of the JDK together, a variable of a lambda or a thread."""
+        JDK, `TOGETHER`, 0 of a collection, several of the JDK or with a thread, a variable of a lambda or a thread."""
         if len(self.kinds) > 1:
-            return TOGETHER if self.is_own else 0
+            return TOGETHER if self.is_own and not {THREAD, THREADS} & set(self.kinds) else 0
         if self.is_collection or self.is_thread or "$$Lambda" in self.name:
             return 0
         return OF_PROGRAM if self.is_own or self.of_one else 2
@@ -118,7 +118,7 @@ class LineOrder:
 
     def __init__(self, lines: Sequence[Features], holds: Holds, growth: int, scoring: Scoring = Scoring.GAIN) -> None:
         self.lines, self.holds, self.growth, self.scoring = lines, holds, growth, scoring
-        self.numbers = [number for number, line in enumerate(lines) if line.is_line]
+        self.numbers = sorted((it for it, line in enumerate(lines) if line.is_line), key=lambda it: lines[it].heap)
         self.some_are_steady = any(lines[number].grew_at_each_step for number in self.numbers)
         self.scores = {number: self.score(number) for number in self.numbers}
 

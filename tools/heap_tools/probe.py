@@ -141,13 +141,22 @@ class Probe:
             waiting += more
         return found
 
+    def _largest_between(self, upper: Retained, lower: Retained) -> Optional[Retained]:
+        """Returns the largest of what is known to hold all that `lower` does, and may be held by `upper`, None if there
+        is nothing. What holds that, holds all that `lower` does, too, and it is asked for paths anyway."""
+        keys = (key for key in self._inside if key_of(lower) in self._below(key) and key in self._known)
+        known = [self._known[key] for key in keys if key not in (key_of(upper), key_of(lower))]
+        above = [held for held in known if held.heap.objects <= upper.heap.objects]
+        return max(above, key=lambda held: held.heap.objects) if above else None
+
     def holds_part(self, upper: Retained, lower: Retained, part: float) -> bool:
         """Tests whether `upper` holds at least this part of the objects that `lower` does."""
         least = part * lower.heap.objects
         common = ((amount.objects, upper.lost.get(name, Amount()).objects) for name, amount in lower.lost.items())
         if sum(min(pair) for pair in common) < least:
             return False
-        if key_of(lower) in self._below(key_of(upper)):
+        middle = self._largest_between(upper, lower)
+        if key_of(lower) in self._below(key_of(upper)) or middle and self.holds_all(upper, middle):
             return True
         both = self.retained([*upper.candidates, *lower.candidates])
         self._noted(upper, lower, both)

@@ -3,7 +3,7 @@
 import math
 from typing import Callable, Dict, Iterable, List, NamedTuple, Sequence, Tuple
 
-from heap_tools.candidates import STATIC, THREAD, THREADS, Candidate
+from heap_tools.candidates import FIELD, STATIC, THREAD, THREADS, Candidate
 from heap_tools.class_names import package
 from heap_tools.line_order import FEW, MOST
 from heap_tools.probe import Retained
@@ -17,11 +17,17 @@ PART_NEEDED, MOST_NEEDED = 0.9, 6
 MOST_GROUPS, MOST_GROUPS_OF_ROOTS = 60, 30
 
 
+#: How many of the fields that lead to the largest containers are tried by themselves first.
+LIKELY = 16
+
+
 class Budget(NamedTuple):
-    """How many may be needed, and up to how many questions of the probe it is asked which."""
+    """How many may be needed, up to how many questions of the probe it is asked which, and how many of the first are
+    tried by themselves first."""
 
     needed: float
     questions: int
+    likely: int = 0
 
 
 class SearchTogether:
@@ -73,20 +79,25 @@ class SearchTogether:
         few = self.likeliest(few)
         if self.find_of_class(few):
             return
-        if single or not self.find_any(few, MOST, self.budget(MOST_NEEDED)):
+        if single or not self.find_any(few, MOST, self.budget(MOST_NEEDED, likely=LIKELY)):
             self.find_of_package(few)
 
     def find_roots(self, fields: Sequence[Candidate]) -> None:
-        """If no root is found, finds roots that hold enough only together, whatever is found below; if nothing with few
-        instances is found either, and `fields` with few instances do not hold enough, roots and such fields."""
+        """If no root is found, finds roots that hold enough only together, threads and static fields of own classes
+        first, whatever is found below; if nothing with few instances is found either, and `fields` with few instances
+        do not hold enough, roots and such fields."""
         single, every = self.single(), self.search.found
         if any(len(held.candidates) > 1 and not is_root(held) for held in every) or single and any(map(is_root, every)):
             return
         few = self.unknown([each for each in fields if each.count <= FEW])
         rest = [*self.unknown(self.statics), *([] if single or self.has_share(few) else few)]
         if self.has_share([*rest, self.probe.candidates.all_threads()]):
-            budget = self.budget(MOST_NEEDED, MOST_GROUPS_OF_ROOTS)
-            self.find_any([*rest, *self.unknown(self.threads())], PART_NEEDED, budget)
+            group = sorted(
+                [*self.unknown(self.threads()), *rest], key=lambda each: each.kind == FIELD or not each.is_own
+            )
+            likely = sum(each.kind != FIELD and each.is_own for each in group)
+            questions = MOST_GROUPS_OF_ROOTS if single else MOST_GROUPS
+            self.find_any(group, PART_NEEDED, self.budget(MOST_NEEDED, questions, likely))
 
     def single(self) -> List[Retained]:
         """Returns what is found of single candidates with few instances. Threads do not count: what they lead to may be
@@ -104,9 +115,9 @@ class SearchTogether:
             self.add(needed)
         return bool(needed)
 
-    def budget(self, needed: float = math.inf, questions: int = MOST_GROUPS) -> Budget:
+    def budget(self, needed: float = math.inf, questions: int = MOST_GROUPS, likely: int = 0) -> Budget:
         """Returns a budget of so many more questions."""
-        return Budget(needed, self.probe.questions + questions)
+        return Budget(needed, self.probe.questions + questions, likely)
 
     def add(self, together: Sequence[Candidate]) -> None:
         """Adds what several hold together, those first that hold most alone; that is not asked of very many."""
@@ -177,11 +188,11 @@ class SearchTogether:
         found: List[Candidate] = []
         rest, held = list(group), base
         while rest and len(found) < budget.needed:
-            low, high = 0, len(rest)
+            low, high, middle = 0, len(rest), budget.likely
             while high - low > 1:
                 if self.probe.questions >= budget.questions:
                     return []
-                middle = (low + high) // 2
+                middle = middle if low < middle < high else (low + high) // 2
                 together = [*rest[:middle], *found, *others]
                 share = self.share_or_bound(together, least, before)
                 if share >= least:

@@ -23,6 +23,7 @@ SPOKEN: Dict[str, Dict[str, Any]] = {
     "unsteady": {"grew_at_each_step": False},
     "chain": {"is_chain": True},
     "together": {"kinds": (STATIC, STATIC)},
+    "roots": {"kinds": (STATIC, THREAD)},
     "moved": {"is_line": False, "gain": 0},
     "few": {"gains": {"byte[]": 9}},
     "other": {"is_line": False, "gain": 0, "gains": {"shop/Order": 900}},
@@ -88,6 +89,7 @@ rules 3 and 4, one of the JDK below several together: two (together) > *java/lan
 rules 3 and 4, several together above a collection: *two (together) > java/util/HashMap.table
 rules 3 and 4, several together below several half: two (together) > *fields (500 together)
 rules 3 and 4, several together below several less: *two (together) > fields (499 together)
+rules 3 and 4, a thread and others together above a collection: all (roots) > *java/util/HashMap.table
 rules 3 and 4, below a field of the JDK half: java/lang/Queue.list > *shop/A.a (500)
 rules 3 and 4, below a collection half: static shop/A.STORE > java/util/HashMap.table > *shop/Tenant.inbox (500)
 """

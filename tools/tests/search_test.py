@@ -13,6 +13,7 @@ from heap_tools.dump_runs import DumpRuns
 from heap_tools.heap_dump import HeapDump
 from heap_tools.heapmark import Heapmark
 from heap_tools.leak_lines import Line, answer_of
+from heap_tools.line_order import NEARLY
 from heap_tools.probe import EarlierProbe, GrowthProbe, Probe, Retained
 from heap_tools.reference_paths import ReferencePaths
 from heap_tools.reports import Amount, Unit
@@ -210,14 +211,16 @@ class KinTest(unittest.TestCase):
         self.assertEqual(self.found([(ways, 100)], fields, [roots, fields[80:81]]), ([], 0))
 
     def test_likeliest(self) -> None:
-        """Of several ways to hold it only together, that of the likeliest fields is found."""
-        fields = [field(f"lib/{number}/A.list") for number in range(99)]
+        """Of several ways to hold it only together, that of the likeliest fields is found, and in fewer questions."""
+        fields = [field(f"lib/{number}/A.list") for number in range(999)]
         ways = [["lib/20/A.list", "lib/40/A.list"], ["lib/30/A.list", "lib/70/A.list"]]
         for likely in (ways[1], ways[0]):
             search = Search(ToldGains([], [(ways, 100)]), 30, mock.Mock())
             search.probe.candidates = candidates_of([])
             SearchTogether(search, lambda few: sorted(few, key=lambda it: it.name not in likely)).find_fields(fields)
             self.assertEqual([joint_name(it.candidates) for it in search.found], [f"together {', '.join(likely)}"])
+            assert isinstance(search.probe, ToldGains)
+            self.assertLessEqual(len(search.probe.asked), 14)
 
     def test_most_needed(self) -> None:
         """If more than a few are needed, it is not asked which, and they are no line."""
@@ -225,7 +228,7 @@ class KinTest(unittest.TestCase):
         for count in 6, 7, 30:
             found, asked = self.found([([[each.name for each in fields[: 3 * count : 3]]], 100)], fields)
             self.assertEqual(len(found), count <= 6)
-            self.assertLessEqual(asked, 50)
+            self.assertLessEqual(asked, 52)
 
     def test_most_asked(self) -> None:
         """It is not asked for ever which of many fields, or static fields, are needed."""
@@ -326,6 +329,18 @@ class PathsTest(unittest.TestCase):
             probe.asked.clear()
             self.assertEqual(paths.above(found[lower]), found[:lower])
             self.assertEqual(len(probe.asked), asked, lower)
+
+    def test_asked_for_order(self) -> None:
+        """What the order of lines has asked, from the lowest line up, is not asked again for their paths."""
+        names = [f"app/A{number}.it" for number in range(6)]
+        probe = ToldGains([], [([[name] for name in names[: number + 1]], 10) for number in range(6)])
+        found = [probe.retained([field(name)]) for name in names]
+        probe.asked.clear()
+        for upper in found[4::-1]:
+            self.assertTrue(probe.holds_part(upper, found[5], NEARLY))
+        self.assertEqual(len(probe.asked), 5)
+        self.assertEqual(ReferencePaths(probe, found).above(found[5]), found[:5])
+        self.assertEqual(len(probe.asked), 5)
 
     def test_what_follows(self) -> None:
         """What holds all of one thing, but not of another one, has nothing that holds all of the other."""
