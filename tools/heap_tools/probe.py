@@ -1,10 +1,10 @@
 """What candidates retain: the difference that they make to the report of a dump, and to the growth between two."""
 
-from typing import Callable, Dict, FrozenSet, List, NamedTuple, Optional, Sequence, Set
+from typing import Callable, Dict, FrozenSet, List, NamedTuple, Optional, Sequence, Set, Tuple
 
 from heap_tools.candidates import Candidate, Candidates, Key
 from heap_tools.changed_copy import Changes
-from heap_tools.dump_runs import DumpRuns
+from heap_tools.dump_runs import DumpRuns, Question, reports_of
 from heap_tools.reports import Amount, Report, Unit
 
 
@@ -30,7 +30,7 @@ class Retained(NamedTuple):
 
 def key_of(held: Retained) -> FrozenSet[Key]:
     """Returns the keys of what holds something, which do not depend on their order."""
-    return frozenset(each.key for each in held.candidates)
+    return _key(held.candidates)
 
 
 class Probe:
@@ -60,29 +60,54 @@ class Probe:
         self._outside: Dict[FrozenSet[Key], Set[FrozenSet[Key]]] = {}
 
     def retained(self, group: Sequence[Candidate]) -> Retained:
-        """Returns what a group holds: the difference that it makes to the report. Each group is asked for once."""
-        key = frozenset(each.key for each in group)
-        if key not in self._known:
-            self._known[key] = self._difference(group)
-        return self._known[key]
+        """Returns what a group holds: the difference that it makes to the report."""
+        return self.retained_all([group])[0]
+
+    def retained_all(self, groups: Sequence[Sequence[Candidate]]) -> List[Retained]:
+        """Returns what each of `groups` holds. Each group is asked for once."""
+        self.ask(groups)
+        return [self._known[_key(group)] for group in groups]
+
+    def ask(self, groups: Sequence[Sequence[Candidate]], before: Sequence[Sequence[Candidate]] = ()) -> None:
+        """Asks at once what `groups` hold, and what those of `before` held before: of one dump nothing."""
+        ask_all((self, groups))
+
+    def gains(self) -> Dict[str, Amount]:
+        """Returns how much of each class came: of one dump all."""
+        return self.base.families
+
+    def classes_with(self, part: float) -> List[str]:
+        """Returns the classes of which this part of all came that did, in objects or in bytes."""
+        gains = self.gains()
+        whole = [part * sum(max(0, unit.of(gain)) for gain in gains.values()) for unit in Unit]
+        return [
+            name
+            for name, gain in gains.items()
+            if any(unit.of(gain) > 0 and unit.of(gain) >= least for unit, least in zip(Unit, whole))
+        ]
 
     @property
     def questions(self) -> int:
         """How many groups were asked for."""
         return len(self._known)
 
-    def _difference(self, group: Sequence[Candidate]) -> Retained:
+    def unknown(self, groups: Sequence[Sequence[Candidate]]) -> List[Sequence[Candidate]]:
+        """Returns those of `groups` that were not asked for yet, each once."""
+        return list({_key(group): group for group in groups if _key(group) not in self._known}.values())
+
+    def question(self, group: Sequence[Candidate]) -> Optional[Question]:
+        """Returns the question what a group holds, None if all of it is cut already, and it holds nothing."""
         changes: Changes = {}
         for each in group:
             changes.update(self.changes(each))
-        if changes.keys() <= self.runs.cut.keys():
-            return Retained(group, Amount(), Amount(), {})
-        self.before_run()
-        report = self.runs.without(changes)
+        return None if changes.keys() <= self.runs.cut.keys() else Question(self.runs, changes)
+
+    def learn(self, group: Sequence[Candidate], report: Report) -> None:
+        """Notes what a group holds without which `report` is that of the dump."""
         lost = {name: amount.minus(report.amount(name)) for name, amount in self.base.families.items()}
         lost = {name: amount for name, amount in lost.items() if amount.objects > 0}
         amount = self.whole.minus(report.total(self.families))
-        return Retained(group, amount, self.base.reachable.minus(report.reachable), lost)
+        self._known[_key(group)] = Retained(group, amount, self.base.reachable.minus(report.reachable), lost)
 
     def before(self, group: Sequence[Candidate]) -> Retained:
         """Returns what a group held before: of one dump nothing."""
@@ -103,6 +128,11 @@ class Probe:
     def share(self, group: Sequence[Candidate]) -> float:
         """Returns the share of `whole` that a group holds, in percent."""
         return self.bound(group)
+
+    def shares(self, groups: Sequence[Sequence[Candidate]]) -> List[float]:
+        """Returns the shares of several groups, which are asked for at once."""
+        self.ask(groups, groups)
+        return [self.share(group) for group in groups]
 
     def holds_all(self, upper: Retained, lower: Retained) -> bool:
         """Tests whether `upper` holds all that `lower` does: without both, no more is unreachable than without it. It
@@ -194,6 +224,10 @@ class GrowthProbe(Probe):
         self.earlier = earlier
         self.growth = self.whole.minus(earlier.whole)
 
+    def ask(self, groups: Sequence[Sequence[Candidate]], before: Sequence[Sequence[Candidate]] = ()) -> None:
+        """Asks both dumps at once what `groups` hold, and what those of `before` held before."""
+        ask_all((self, groups), (self.earlier, before))
+
     def before(self, group: Sequence[Candidate]) -> Retained:
         """Returns what a group held before."""
         return self.earlier.retained(group)
@@ -205,6 +239,10 @@ class GrowthProbe(Probe):
     def bound(self, group: Sequence[Candidate]) -> float:
         """Returns a share of the growth in percent that no part of `group` exceeds: that of what the group holds."""
         return self.unit.percent(self.retained(group).amount, self.growth)
+
+    def gains(self) -> Dict[str, Amount]:
+        """Returns how much more there is of each class than before."""
+        return {name: amount.minus(self.earlier.base.amount(name)) for name, amount in self.base.families.items()}
 
     @property
     def questions(self) -> int:
@@ -218,3 +256,18 @@ class GrowthProbe(Probe):
     def share(self, group: Sequence[Candidate]) -> float:
         """Returns the share of the growth that a group gained, in percent."""
         return self.unit.percent(self.gain(group), self.growth)
+
+
+def ask_all(*asked: Tuple[Probe, Sequence[Sequence[Candidate]]]) -> None:
+    """Asks probes at once what groups hold, but for what is known."""
+    unknown = [(probe, group) for probe, groups in asked for group in probe.unknown(groups)]
+    questions = [probe.question(group) for probe, group in unknown]
+    if any(questions):
+        asked[0][0].before_run()
+    reports = iter(reports_of(*filter(None, questions)))
+    for (probe, group), question in zip(unknown, questions):
+        probe.learn(group, next(reports) if question else probe.base)
+
+
+def _key(group: Sequence[Candidate]) -> FrozenSet[Key]:
+    return frozenset(each.key for each in group)

@@ -1,32 +1,51 @@
-"""The search for what holds many objects: by halves of a group.
+"""The search for what holds many objects: by parts of a group.
 
 What a part of a group holds is never more than what the group holds. So a group that holds too little now is left, and
 each part of any other group is looked into: what holds enough alone is found. What a group *gained* between two dumps
 bounds nothing, since a part that shrank cancels one that grew; it is asked only of what is found to hold enough.
 
-Fields of what the static fields, local variables and threads hold that were found are likely to hold it, too: they are
-asked for first, and the others together mostly hold little.
+Those that are likely to hold much are asked for first, and by themselves (`likelihood.py`); many of the others together
+mostly hold little. Several groups are asked for at once.
 
 Static fields that hold much, and of no class more or less than before, are cut while fields are searched: what fields
 gained below them only moved there. So the fields of a large steady catalog hold nothing, and are not looked into.
 """
 
-from typing import Iterator, List, Sequence, Tuple
+from typing import List, NamedTuple, Sequence, Tuple
 
 from heap_tools.candidates import STATIC, Candidate
+from heap_tools.likelihood import Likelihood, spans
 from heap_tools.probe import Probe, Retained
 from heap_tools.reports import Amount
 from heap_tools.search_progress import SearchProgress
 
-#: Up to how many questions, to all dumps, fields are looked into; those with the fewest instances come first. Of a heap
-#: that is many times as large as its growth, hundreds of fields hold as much as the growth, and did not gain it.
+#: Up to how many questions, to all dumps, fields are looked into; those that are likeliest come first. Of a heap that
+#: is many times as large as its growth, hundreds of fields hold as much as the growth, and did not gain it.
 MOST_QUESTIONS = 300
+
+#: How many groups are looked into at once: as many runs of heapmark go on at the same time.
+AT_ONCE = 4
 
 #: The part of the least share up to which what static fields hold may differ from before, in all classes together.
 UNCHANGED = 0.1
 
 #: What is tried as one: a candidate, or several that may hold something together.
 Tried = Sequence[Candidate]
+
+
+class Group(NamedTuple):
+    """Units, and how likely it is that each holds much. `share`: what they hold together by estimate, in percent. If
+    that is enough it is not asked, since parts of the group will be."""
+
+    units: Sequence[Tried]
+    weights: Sequence[float]
+    share: float = 0.0
+
+    def pieces(self, count: int) -> List["Group"]:
+        """Returns the units, of which none is likelier than the one before it, in at most `count` groups that are about
+        as likely as each other."""
+        found = spans(self.weights, sum(self.weights) / count)
+        return [Group(self.units[begin:end], self.weights[begin:end]) for begin, end in found]
 
 
 class Search:
@@ -72,54 +91,59 @@ class Search:
         return 100 * changed < UNCHANGED * self.at_least * unit.of(self.probe.growth)
 
     def look_in(self, group: Sequence[Candidate]) -> None:
-        """Finds those of `group` that hold enough, likely ones and own ones first, and notes whether they have the
-        share."""
+        """Finds those of `group` that hold enough, and notes whether they have the share."""
         self.all, self.left = self.all + len(group), self.left + len(group)
-        for some, share in self.by_likelihood(group):
-            for (each,) in self.heavy([[it] for it in some], MOST_QUESTIONS, share):
-                held = self.probe.retained([each])
-                (self.found if self.probe.share([each]) >= self.at_least else self.steady).append(held)
+        chances = Likelihood(self.probe, self.found).groups(group)
+        groups = [Group([[each] for each in some], weights) for some, weights in chances]
+        heavy = sorted(self.heavy(groups, MOST_QUESTIONS), key=lambda unit: group.index(unit[0]))
+        for share, held in zip(self.probe.shares(heavy), self.probe.retained_all(heavy)):
+            (self.found if share >= self.at_least else self.steady).append(held)
 
-    def by_likelihood(self, group: Sequence[Candidate]) -> List[Tuple[List[Candidate], float]]:
-        """Returns the likely ones of `group`, then the others, each with the share that they hold by estimate."""
-        likely = frozenset().union(*(held.lost for held in self.found))
-        first, others = (
-            [
-                [it for it in group if it.is_own == is_own and it.classes.isdisjoint(likely) != is_likely]
-                for is_own in (True, False)
-            ]
-            for is_likely in (True, False)
-        )
-        rest = [[*others[0], *others[1]]] if any(first) else others
-        return [*((some, self.at_least) for some in first), *((some, 0.0) for some in rest)]
+    def heavy(self, groups: Sequence[Group], questions: int) -> List[Tried]:
+        """Returns those units of `groups` that hold enough each, until the probe has been asked so many `questions`."""
+        found: List[Tried] = []
+        waiting = [each for each in groups if each.units]
+        while waiting and self.probe.questions < questions:
+            now, waiting = waiting[:AT_ONCE], waiting[AT_ONCE:]
+            waiting = [*self.parts(now, found), *waiting]
+        self.omitted += sum(len(each.units) for each in waiting)
+        return found
 
-    def heavy(self, units: Sequence[Tried], questions: int, likely: float = 0.0) -> Iterator[Tried]:
-        """Yields those of `units` that hold enough each, until the probe has been asked so many `questions`. `likely`
-        is what they hold together by estimate: if that is enough it is not asked, since their parts will be."""
-        if units and self.probe.questions >= questions:
-            self.omitted += len(units)
-            return
-        share = likely if likely >= self.at_least and len(units) > 1 else self.bound(units)
-        if share < self.at_least or len(units) == 1:
-            self.left -= len(units)
-            yield from units if share >= self.at_least else ()
-            return
-        left, right = units[: len(units) // 2], units[len(units) // 2 :]
-        of_left = self.bound(left)
-        yield from self.heavy(left, questions, of_left)
-        yield from self.heavy(right, questions, share - of_left)
+    def parts(self, groups: Sequence[Group], found: List[Tried]) -> List[Group]:
+        """Returns the parts of `groups` that may hold enough, and adds single units that do to `found`. Groups that are
+        known to hold enough are cut into pieces, of which the last one is asked for only after the others."""
+        count = 1 + max(1, AT_ONCE // len(groups))
+        cut = [each.pieces(count if self.is_known(each) else 1) for each in groups]
+        last = [pieces.pop() if self.is_known(each) else None for each, pieces in zip(groups, cut)]
+        shares = iter(self.bounds([piece.units for pieces in cut for piece in pieces], found))
+        parts: List[Group] = []
+        for group, pieces, rest in zip(groups, cut, last):
+            asked = [piece._replace(share=next(shares)) for piece in pieces]
+            enough = [piece for piece in asked if piece.share >= self.at_least]
+            single = [piece.units[0] for piece in enough if len(piece.units) == 1]
+            found += single
+            self.left -= sum(len(piece.units) for piece in asked if piece not in enough) + len(single)
+            parts += [piece for piece in enough if len(piece.units) > 1]
+            if rest:
+                parts.append(rest._replace(share=group.share - sum(piece.share for piece in asked)))
+        return parts
+
+    def is_known(self, group: Group) -> bool:
+        """Tests whether a group of several units holds enough, so that its parts are asked for."""
+        return group.share >= self.at_least and len(group.units) > 1
 
     def is_enough(self, group: Sequence[Candidate]) -> bool:
         """Tests whether a group holds so much now that a part of it may have the share."""
-        return self.bound([group]) >= self.at_least
+        return self.bounds([[group]])[0] >= self.at_least
 
-    def bound(self, units: Sequence[Tried]) -> float:
-        """Returns the share that no part of `units` exceeds, beside what is cut."""
+    def bounds(self, groups: Sequence[Sequence[Tried]], found: Sequence[Tried] = ()) -> List[float]:
+        """Returns for each of `groups` the share that no part of it exceeds, beside what is cut. Of `found` it will be
+        asked what they held before: that is asked at the same time."""
         self.note()
-        every = [candidate for unit in units for candidate in unit]
-        if not every:
-            return 0.0
-        return self.probe.bound([*every, *self.aside]) - (self.probe.bound(self.aside) if self.aside else 0.0)
+        every = [[*(candidate for unit in units for candidate in unit), *self.aside] for units in groups]
+        aside = self.probe.bound(self.aside) if self.aside else 0.0
+        self.probe.ask(every, found)
+        return [self.probe.bound(each) - aside for each in every]
 
     def note(self) -> None:
         """Notes how many candidates are still to be tried, and what was found last."""

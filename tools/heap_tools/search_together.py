@@ -8,7 +8,7 @@ from heap_tools.class_names import package
 from heap_tools.line_order import FEW, MOST
 from heap_tools.probe import Retained
 from heap_tools.reference_paths import is_root
-from heap_tools.search import Search, Tried
+from heap_tools.search import Group, Search, Tried
 
 #: The part of what several hold together that those of them that are needed must hold, and how many these may be.
 PART_NEEDED, MOST_NEEDED = 0.9, 6
@@ -123,6 +123,7 @@ class SearchTogether:
         """Adds what several hold together, those first that hold most alone; that is not asked of very many."""
         probe, ordered = self.probe, list(together)
         if len(ordered) <= MOST_NEEDED:
+            probe.retained_all([[each] for each in ordered])
             ordered.sort(key=lambda each: (-probe.unit.of(probe.retained([each]).amount), str(each)))
         self.search.found.append(probe.retained(ordered)._replace(candidates=ordered))
 
@@ -167,7 +168,8 @@ class SearchTogether:
     def _find_of(self, kin: Sequence[Tried], budget: Budget, may_be_all: bool) -> bool:
         """Finds those of each unit of `kin` that hold enough only together."""
         known = len(self.search.found)
-        for unit in self.search.heavy([each for each in kin if len(each) > 1], budget.questions):
+        several = [each for each in kin if len(each) > 1]
+        for unit in self.search.heavy([Group(several, [1.0] * len(several))], budget.questions):
             if self.has_share(unit):
                 least = max(PART_NEEDED * self.probe.share(unit), self.at_least)
                 needed = self.needed(unit, [], 0, least, budget)
@@ -210,12 +212,14 @@ class SearchTogether:
     def _joint(self, found: Sequence[Candidate], others: Sequence[Candidate], base: float) -> List[Candidate]:
         """Returns those of `found` that add more than twice what they hold alone, beside `others`. What the rest hold
         has nothing to do with it, and the sum of both is no answer."""
-        whole = self.probe.share([*found, *others])
+        alone = [[each, *others] for each in found]
+        beside = [[*(it for it in found if it != each), *others] for each in found]
+        self.probe.retained_all(beside)
+        whole, *shares = self.probe.shares([[*found, *others], *alone])
         return [
             each
-            for each in found
-            if self.probe.share([each, *others]) - base
-            < MOST * (whole - self.share_or_bound([*(it for it in found if it != each), *others], 0.0))
+            for each, share, rest in zip(found, shares, beside)
+            if share - base < MOST * (whole - self.share_or_bound(rest, 0.0))
         ]
 
     def percent_before(self, group: Sequence[Candidate]) -> float:

@@ -1,10 +1,10 @@
 """Probes that are told what holds which things, and note what they are asked for."""
 
-from typing import List, Sequence, Tuple
+from typing import Dict, List, Sequence, Tuple
 
 from heap_tools.candidates import FIELD, Candidate
 from heap_tools.probe import EarlierProbe, GrowthProbe, Probe, Retained
-from heap_tools.reports import Amount, Unit
+from heap_tools.reports import Amount, Report, Unit
 
 #: For each thing the ways to hold it, and its bytes. A way is a list of names that hold it together.
 Things = List[Tuple[List[List[str]], int]]
@@ -16,13 +16,24 @@ class Told(Probe):
     def __init__(self, things: Things) -> None:
         self.things, self._known, self._inside, self._outside = things, {}, {}, {}
         self.asked: List[List[str]] = []
+        self.base = Report([], Amount(), Amount())
         self.unit, self.whole, self.growth = Unit.BYTES, Amount(1000, 1000), Amount(1000, 1000)
 
-    def _difference(self, holders: Sequence[Candidate]) -> Retained:
-        names = {holder.name for holder in holders}
-        self.asked.append(sorted(names))
+    def question(self, group: Sequence[Candidate]) -> None:
+        """Notes that it is asked for: no dump is."""
+        self.asked.append(sorted({holder.name for holder in group}))
+
+    def learn(self, group: Sequence[Candidate], report: Report) -> None:
+        """Notes what it is told that a group holds."""
+        names = {holder.name for holder in group}
         size = sum(size for ways, size in self.things if any(names.issuperset(way) for way in ways))
-        return Retained(holders, Amount(size, size), Amount(size, size), {"shop/Thing": Amount(size, size)})
+        key = frozenset(holder.key for holder in group)
+        amount = Amount(size, size)
+        self._known[key] = Retained(group, amount, amount, {"shop/Thing": amount})
+
+    def gains(self) -> Dict[str, Amount]:
+        """Returns nothing: it is not told of classes."""
+        return {}
 
 
 class ToldEarlier(Told, EarlierProbe):
