@@ -172,8 +172,9 @@ def answer_of(
 def searched(probe: Probe, at_least: int, progress: SearchProgress) -> Search:
     """Searches for what holds `at_least` percent of what the probe asks for, alone or together."""
     search, fields = Search(probe, at_least, progress), probe.candidates.fields(probe.base)
-    search.find(fields)
     together = SearchTogether(search, ContainerSizes(HeapObjects(probe.runs.dump)).largest_first)
+    probe.expect([together.statics])
+    search.find(fields)
     together.find_fields(fields)
     together.find_statics()
     together.find_roots(fields)

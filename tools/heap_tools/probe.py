@@ -55,6 +55,7 @@ class Probe:
         #: What shares are of: of one dump all that is asked for, as if the heap had been empty before.
         self.growth = self.whole if of is None else of
         self._known: Dict[FrozenSet[Key], Retained] = {}
+        self._expected: List[Sequence[Candidate]] = []
         #: What a group holds all of, and what it does not, for each group of which that was asked.
         self._inside: Dict[FrozenSet[Key], Set[FrozenSet[Key]]] = {}
         self._outside: Dict[FrozenSet[Key], Set[FrozenSet[Key]]] = {}
@@ -71,6 +72,10 @@ class Probe:
     def ask(self, groups: Sequence[Sequence[Candidate]], before: Sequence[Sequence[Candidate]] = ()) -> None:
         """Asks at once what `groups` hold, and what those of `before` held before: of one dump nothing."""
         ask_all((self, groups))
+
+    def expect(self, groups: Sequence[Sequence[Candidate]], before: Sequence[Sequence[Candidate]] = ()) -> None:
+        """Notes groups that will be asked for anyway: they are when something is asked the next time."""
+        self._expected += groups
 
     def gains(self) -> Dict[str, Amount]:
         """Returns how much of each class came: of one dump all."""
@@ -94,6 +99,11 @@ class Probe:
     def unknown(self, groups: Sequence[Sequence[Candidate]]) -> List[Sequence[Candidate]]:
         """Returns those of `groups` that were not asked for yet, each once."""
         return list({_key(group): group for group in groups if _key(group) not in self._known}.values())
+
+    def expected(self) -> List[Sequence[Candidate]]:
+        """Returns the groups that were noted, which now are asked for."""
+        expected, self._expected = self._expected, []
+        return expected
 
     def question(self, group: Sequence[Candidate]) -> Optional[Question]:
         """Returns the question what a group holds, None if all of it is cut already, and it holds nothing."""
@@ -228,6 +238,11 @@ class GrowthProbe(Probe):
         """Asks both dumps at once what `groups` hold, and what those of `before` held before."""
         ask_all((self, groups), (self.earlier, before))
 
+    def expect(self, groups: Sequence[Sequence[Candidate]], before: Sequence[Sequence[Candidate]] = ()) -> None:
+        """Notes groups that will be asked for anyway: they are when something is asked the next time."""
+        super().expect(groups)
+        self.earlier.expect(before)
+
     def before(self, group: Sequence[Candidate]) -> Retained:
         """Returns what a group held before."""
         return self.earlier.retained(group)
@@ -259,8 +274,10 @@ class GrowthProbe(Probe):
 
 
 def ask_all(*asked: Tuple[Probe, Sequence[Sequence[Candidate]]]) -> None:
-    """Asks probes at once what groups hold, but for what is known."""
-    unknown = [(probe, group) for probe, groups in asked for group in probe.unknown(groups)]
+    """Asks probes at once what groups hold, but for what is known, and what they expect, if anything is not known."""
+    if not any(probe.unknown(groups) for probe, groups in asked):
+        return
+    unknown = [(probe, group) for probe, groups in asked for group in probe.unknown([*groups, *probe.expected()])]
     questions = [probe.question(group) for probe, group in unknown]
     if any(questions):
         asked[0][0].before_run()

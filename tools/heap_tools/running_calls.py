@@ -1,6 +1,7 @@
 """Calls that run while a dump is made: their local variables lead into what fields hold, and do not count."""
 
 import enum
+import itertools
 from typing import List, NamedTuple, Optional, Sequence, Tuple
 
 from heap_tools.candidates import Candidates
@@ -20,33 +21,68 @@ class Calls(enum.Enum):
 
 
 class DumpSide(NamedTuple):
-    """A dump that is asked: its runs, what can hold objects in it, and the report of its runs without changes."""
+    """A dump that is asked: its runs, what can hold objects in it, the report of its runs without changes, and that
+    without the local variables of running calls, too, if it is known."""
 
     runs: DumpRuns
     candidates: Candidates
     base: Report
+    quiet: Optional[Report] = None
+
+
+class Side(NamedTuple):
+    """A dump that is to be asked, and with `asks_calls` without the local variables of running calls, too."""
+
+    runs: DumpRuns
+    candidates: Candidates
+    asks_calls: bool = False
+
+    def questions(self) -> List[Question]:
+        """Returns what is asked."""
+        calls = self.candidates.running(Calls.ALL.value) if self.asks_calls else {}
+        return [Question(self.runs), *([Question(self.runs, calls)] if calls else [])]
 
 
 def prepared(dumps: Sequence[DumpRuns], follows_weak: bool, cuts: Sequence[Changes] = ()) -> List[DumpSide]:
     """Returns dumps with weak references cut, unless they are followed, and with the changes `cuts`, one for each dump
     if there are any. They are asked at once."""
+    return asked(sides_of(dumps, follows_weak, cuts))
+
+
+def sides_of(
+    dumps: Sequence[DumpRuns], follows_weak: bool, cuts: Sequence[Changes] = (), asks_calls: bool = True
+) -> List[Side]:
+    """Returns dumps with weak references cut, unless they are followed, and with the changes `cuts`."""
     candidates = [Candidates(runs.dump, follows_weak) for runs in dumps]
     runs = [each.prepared(of_dump) for of_dump, each in zip(dumps, candidates)]
-    return _asked([each.with_cut(cut) for each, cut in zip(runs, cuts)] if cuts else runs, candidates)
+    runs = [each.with_cut(cut) for each, cut in zip(runs, cuts)] if cuts else runs
+    return [Side(*each, asks_calls) for each in zip(runs, candidates)]
 
 
-def without(sides: Sequence[DumpSide], calls: Calls) -> List[DumpSide]:
-    """Returns dumps without the local variables of these calls. Those that have such variables are asked at once."""
-    changes = [side.candidates.running(calls.value) for side in sides]
-    busy = [(side, cut) for side, cut in zip(sides, changes) if cut]
-    asked = iter(_asked([side.runs.with_cut(cut) for side, cut in busy], [side.candidates for side, _ in busy]))
-    return [next(asked) if cut else side for side, cut in zip(sides, changes)]
+def asked(every: Sequence[Side]) -> List[DumpSide]:
+    """Returns dumps with their reports, asked at once."""
+    questions = [side.questions() for side in every]
+    reports = iter(reports_of(*itertools.chain(*questions)))
+    return [
+        DumpSide(side.runs, side.candidates, *itertools.islice(reports, len(of_side)))
+        for side, of_side in zip(every, questions)
+    ]
 
 
-def _asked(dumps: Sequence[DumpRuns], candidates: Sequence[Candidates]) -> List[DumpSide]:
-    """Returns dumps with their candidates and with the reports of their runs without changes, asked at once."""
-    bases = reports_of(*map(Question, dumps))
-    return [DumpSide(*each) for each in zip(dumps, candidates, bases)]
+def without(every: Sequence[DumpSide], calls: Calls) -> List[DumpSide]:
+    """Returns dumps without the local variables of these calls. Those of which that is not known are asked at once."""
+    known = [_known_without(side, calls) for side in every]
+    cut = [Side(side.runs.with_cut(side.candidates.running(calls.value)), side.candidates) for side in every]
+    found = iter(asked([side for side, is_known in zip(cut, known) if not is_known]))
+    return [side or next(found) for side in known]
+
+
+def _known_without(side: DumpSide, calls: Calls) -> Optional[DumpSide]:
+    """Returns a dump without the local variables of these calls, if it has none or was asked, else None."""
+    changes = side.candidates.running(calls.value)
+    if changes and (calls is not Calls.ALL or not side.quiet):
+        return None
+    return DumpSide(side.runs.with_cut(changes), side.candidates, side.quiet) if changes and side.quiet else side
 
 
 def without_running_calls(

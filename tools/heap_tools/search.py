@@ -65,6 +65,7 @@ class Search:
         """Finds static fields, local variables, threads, and `fields`, which are sorted by their instances. Threads of
         names that are alike are found if no other thread is."""
         candidates = self.probe.candidates
+        self.probe.expect([[candidates.all_threads()]])
         self.look_in(candidates.statics())
         if self.is_enough([candidates.all_threads()]):
             known = len(self.found)
@@ -115,13 +116,14 @@ class Search:
         count = 1 + max(1, AT_ONCE // len(groups))
         cut = [each.pieces(count if self.is_known(each) else 1) for each in groups]
         last = [pieces.pop() if self.is_known(each) else None for each, pieces in zip(groups, cut)]
-        shares = iter(self.bounds([piece.units for pieces in cut for piece in pieces], found))
+        shares = iter(self.bounds([piece.units for pieces in cut for piece in pieces]))
         parts: List[Group] = []
         for group, pieces, rest in zip(groups, cut, last):
             asked = [piece._replace(share=next(shares)) for piece in pieces]
             enough = [piece for piece in asked if piece.share >= self.at_least]
             single = [piece.units[0] for piece in enough if len(piece.units) == 1]
             found += single
+            self.probe.expect([], single)
             self.left -= sum(len(piece.units) for piece in asked if piece not in enough) + len(single)
             parts += [piece for piece in enough if len(piece.units) > 1]
             if rest:
@@ -136,13 +138,12 @@ class Search:
         """Tests whether a group holds so much now that a part of it may have the share."""
         return self.bounds([[group]])[0] >= self.at_least
 
-    def bounds(self, groups: Sequence[Sequence[Tried]], found: Sequence[Tried] = ()) -> List[float]:
-        """Returns for each of `groups` the share that no part of it exceeds, beside what is cut. Of `found` it will be
-        asked what they held before: that is asked at the same time."""
+    def bounds(self, groups: Sequence[Sequence[Tried]]) -> List[float]:
+        """Returns for each of `groups` the share that no part of it exceeds, beside what is cut."""
         self.note()
         every = [[*(candidate for unit in units for candidate in unit), *self.aside] for units in groups]
         aside = self.probe.bound(self.aside) if self.aside else 0.0
-        self.probe.ask(every, found)
+        self.probe.ask(every)
         return [self.probe.bound(each) - aside for each in every]
 
     def note(self) -> None:

@@ -5,7 +5,7 @@ from typing import List, NamedTuple, Optional, Sequence, Tuple
 from heap_tools.dump_runs import DumpRuns
 from heap_tools.humanize import counted, more_are, size
 from heap_tools.reports import Amount, Unit
-from heap_tools.running_calls import DumpSide, prepared
+from heap_tools.running_calls import DumpSide, asked, prepared, sides_of
 from heap_tools.weak_kinds import WeakKind, WeakReferences
 
 #: The share of the growth, in percent, from which on it is said what is held by weak references alone. It is not asked
@@ -36,13 +36,12 @@ def followed_of(
     what is reachable in one dump. Soft ones never are by themselves: what they hold is a cache."""
     if wants_all:
         return Followed(True), Followed(True).sides(runs)
-    cut = prepared(runs, follows_weak=False)
+    *cut, last = asked([*sides_of(runs, False), *sides_of(runs[-1:], True, asks_calls=False)])
     growth = grown(cut, families, unit)
-    last = prepared(runs[-1:], follows_weak=True)
     # What they hold in the last dump is at least what they hold more than in the first.
-    if 200 * unit.of(weak_growth(cut[-1:], last, families)) < MUCH_WEAKLY_HELD * growth:
+    if 200 * unit.of(weak_growth(cut[-1:], [last], families)) < MUCH_WEAKLY_HELD * growth:
         return Followed(False), cut
-    whole = weak_growth(cut, [*prepared(runs[:-1], follows_weak=True), *last], families)
+    whole = weak_growth(cut, [*prepared(runs[:-1], follows_weak=True), last], families)
     if not is_most(unit.of(whole), growth):
         return Followed(False, amount=whole), cut
     best, sides = Followed(False, amount=whole), cut

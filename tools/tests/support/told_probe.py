@@ -14,7 +14,7 @@ class Told(Probe):
     """A probe that is told which `things` are held. Notes what it is asked for."""
 
     def __init__(self, things: Things) -> None:
-        self.things, self._known, self._inside, self._outside = things, {}, {}, {}
+        self.things, self._known, self._inside, self._outside, self._expected = things, {}, {}, {}, []
         self.asked: List[List[str]] = []
         self.base = Report([], Amount(), Amount())
         self.unit, self.whole, self.growth = Unit.BYTES, Amount(1000, 1000), Amount(1000, 1000)
