@@ -10,6 +10,7 @@ from collections import Counter
 from typing import FrozenSet, List, NamedTuple, Sequence, Set, Tuple
 
 from heap_tools.candidates import FIELD, Candidate
+from heap_tools.class_names import element
 from heap_tools.probe import Probe, Retained
 
 #: A class has many of the objects that came if they are this part of all that came, or have this part of their bytes.
@@ -65,7 +66,7 @@ class Likelihood:
 
     def groups(self, candidates: Sequence[Candidate]) -> List[Tuple[List[Candidate], List[float]]]:
         """Returns the candidates in groups, the likeliest first, and how likely each is."""
-        signs = [self._sign(each) for each in candidates]
+        signs = [self.sign(each) for each in candidates]
         sizes = Counter(signs)
         chances = {sign: min(CHANCES[sign].at_most, CHANCES[sign].hold_much / size) for sign, size in sizes.items()}
         weights = [chances[sign] for sign in signs]
@@ -76,7 +77,8 @@ class Likelihood:
             for begin, end in spans(ordered, OF_GROUP)
         ]
 
-    def _sign(self, each: Candidate) -> Sign:
+    def sign(self, each: Candidate) -> Sign:
+        """Returns the sign of a candidate."""
         if each.is_of_machine:
             return Sign.OTHER
         if each.kind != FIELD:
@@ -91,7 +93,7 @@ class Likelihood:
 
 def outermost(name: str) -> str:
     """Returns the outermost class in which a class is declared, or that of the elements of an array."""
-    return name.lstrip("[").rstrip(";[]").partition("$")[0]
+    return element(name).partition("$")[0]
 
 
 def spans(weights: Sequence[float], each: float) -> List[Tuple[int, int]]:
@@ -99,7 +101,7 @@ def spans(weights: Sequence[float], each: float) -> List[Tuple[int, int]]:
     found, begin, total = [], 0, 0.0
     for number, weight in enumerate(weights, 1):
         total += weight
-        if total >= each or number == len(weights):
+        if total > each or math.isclose(total, each) or number == len(weights):
             found.append((begin, number))
             begin, total = number, 0.0
     return found

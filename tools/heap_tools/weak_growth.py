@@ -5,7 +5,7 @@ from typing import List, NamedTuple, Optional, Sequence, Tuple
 from heap_tools.dump_runs import DumpRuns
 from heap_tools.humanize import counted, more_are, size
 from heap_tools.reports import Amount, Unit
-from heap_tools.running_calls import DumpSide, asked, prepared, sides_of
+from heap_tools.running_calls import DumpSide, asked, sides_of
 from heap_tools.weak_kinds import WeakKind, WeakReferences
 
 #: The share of the growth, in percent, from which on it is said what is held by weak references alone. It is not asked
@@ -25,7 +25,7 @@ class Followed(NamedTuple):
     def sides(self, dumps: Sequence[DumpRuns]) -> List[DumpSide]:
         """Returns dumps in which only these references lead somewhere."""
         cuts = [WeakReferences(each.dump).without_others(self.kind) for each in dumps] if self.kind else []
-        return prepared(dumps, self.is_any, cuts)
+        return asked(sides_of(dumps, self.is_any, cuts, asks_calls=self.kind is None))
 
 
 def followed_of(
@@ -41,7 +41,7 @@ def followed_of(
     # What they hold in the last dump is at least what they hold more than in the first.
     if 200 * unit.of(weak_growth(cut[-1:], [last], families)) < MUCH_WEAKLY_HELD * growth:
         return Followed(False), cut
-    whole = weak_growth(cut, [*prepared(runs[:-1], follows_weak=True), last], families)
+    whole = weak_growth(cut, [*asked(sides_of(runs[:-1], True, asks_calls=False)), last], families)
     if not is_most(unit.of(whole), growth):
         return Followed(False, amount=whole), cut
     best, sides = Followed(False, amount=whole), cut

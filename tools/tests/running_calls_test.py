@@ -2,11 +2,12 @@
 
 import unittest
 from typing import Any, Dict, List, Optional, Sequence, Tuple
+from unittest import mock
 
 from heap_tools.changed_copy import Changes
 from heap_tools.dump_runs import DumpRuns
 from heap_tools.reports import Amount, Report, Row, Unit
-from heap_tools.running_calls import Calls, DumpSide, without_running_calls
+from heap_tools.running_calls import Calls, DumpSide, Side, asked, without, without_running_calls
 
 #: Places of the local variables of methods of the JDK, and of others.
 OF_JDK, OF_OTHERS = 1, 2
@@ -70,6 +71,18 @@ class RunningCallsTest(unittest.TestCase):
             for side, (of_jdk, of_others) in zip(cut, dumps):
                 lost = {Calls.ALL: of_jdk + of_others, Calls.OF_JDK: of_jdk, None: 0}[wanted]
                 self.assertEqual(side.base.amount("Order").objects, 1_000 - lost)
+
+    def test_asked_before(self) -> None:
+        """A dump may be asked with and without running calls at once. Then it is not asked again without all of them."""
+        runs: Any = Runs({OF_JDK: 25, OF_OTHERS: 26})
+        candidates: Any = Locals()
+        for asks_calls, questions in ((True, 1), (False, 2)):
+            (side,) = asked([Side(runs, candidates, asks_calls)])
+            with mock.patch.object(Runs, "without", autospec=True, side_effect=Runs.without) as later:
+                _, calls = without_running_calls([side], ["Order"], Unit.OBJECTS, 1_000)
+            self.assertEqual((calls, later.call_count), (Calls.OF_JDK, questions))
+        (side,) = without([DumpSide(runs, candidates, runs.base(), report_of(51))], Calls.ALL)
+        self.assertEqual((side.runs.cut.keys(), side.base.amount("Order").objects), ({OF_JDK, OF_OTHERS}, 949))
 
     def test_percent(self) -> None:
         """Another part may be given, and the whole may be that of bytes or of all classes."""

@@ -87,6 +87,31 @@ class SearchTest(unittest.TestCase):
             self.assertLessEqual(len(probe.asked), most)
             self.assertGreater(len(probe.asked), most // 2)
 
+    def test_rounds(self) -> None:
+        """Several groups are asked for at once, in both dumps: so there are half as many rounds as questions, or
+        less."""
+        fields = [field(f"java/A.{number:03}", number) for number in range(500)]
+        for heavy, rounds in (fields[299:300], 7), (fields[::50], 36):
+            probe = ToldGains([], [([[each.name]], 100) for each in heavy])
+            with mock.patch("heap_tools.probe.reports_of", return_value=[]) as asked:
+                self.assertEqual(self.search(probe, fields), [each.name for each in heavy])
+            self.assertLessEqual(asked.call_count, rounds, len(heavy))
+            self.assertGreater(len(probe.asked), 2 * asked.call_count)
+
+    def test_expected(self) -> None:
+        """What is expected is asked for with what is asked next, if that is not known, and once."""
+        one, other, third = ([field(f"app/A.{name}")] for name in "abc")
+        probe = ToldGains([], [])
+        probe.retained(one)
+        probe.expect([other], before=[third])
+        probe.retained(one)
+        self.assertEqual((len(probe.asked), probe.earlier.asked), (1, []))
+        probe.retained(third)
+        self.assertEqual(probe.asked, [["app/A.a"], ["app/A.c"], ["app/A.b"]])
+        self.assertEqual(probe.earlier.asked, [["app/A.c"]])
+        self.assertEqual((probe.retained(other), probe.before(third)) and len(probe.asked), 3)
+        self.assertEqual(len(probe.earlier.asked), 1)
+
     def test_most_questions(self) -> None:
         """Where hundreds of fields hold as much as the growth, only the first ones are tried, and the rest is
         counted."""
