@@ -7,7 +7,7 @@ import selectors
 import signal
 import subprocess
 from subprocess import PIPE
-from typing import IO, Any, BinaryIO, Callable, Dict, Iterator, List, NamedTuple, Optional, Sequence, Tuple
+from typing import IO, Any, BinaryIO, Callable, Dict, List, NamedTuple, Optional, Sequence, Tuple
 
 from heap_tools.command_line import ENDING
 
@@ -48,54 +48,104 @@ class Call(NamedTuple):
     to_terminal: bool = False
 
 
-class Child(NamedTuple):
-    """A process that was started for `call`, and the stream that its messages come from."""
+class Child:
+    """A process that was started for `call`, and what it has printed so far. Its messages come from `messages`."""
 
-    call: Call
-    process: "subprocess.Popen[bytes]"
-    messages: BinaryIO
+    def __init__(self, call: Call, process: "subprocess.Popen[bytes]", messages: BinaryIO) -> None:
+        assert process.stdout
+        self._call, self._process, self._messages = call, process, messages
+        self._bounds: Dict[IO[bytes], Wanted] = {process.stdout: call.wanted, messages: _are_few}
+        self._found = {stream: bytearray() for stream in self._bounds}
+        self._was_stopped = False
+        #: The streams that have not ended.
+        self.streams = list(self._bounds)
 
-    def ended(self) -> Ran:
-        """Feeds the process, reads what it prints, and waits for its end."""
-        if self.call.feed and self.process.stdin:
-            with self.process.stdin as pipe, contextlib.suppress(BrokenPipeError):  # then its status says why
+    @property
+    def is_done(self) -> bool:
+        """Tests whether nothing more is to be read: all streams have ended, or one has what is not wanted of it."""
+        return self._was_stopped or not self.streams
+
+    def feed(self) -> None:
+        """Writes what the process reads, if that is a pipe."""
+        if self._call.feed and self._process.stdin:
+            with self._process.stdin as pipe, contextlib.suppress(BrokenPipeError):  # then its status says why
                 _widen(pipe)
-                self.call.feed(pipe.fileno())
-        assert self.process.stdout
-        bounds: Dict[IO[bytes], Wanted] = {self.process.stdout: self.call.wanted, self.messages: _are_few}
-        out, said = contents = _contents(bounds)
-        was_stopped = not all(wanted(each) for wanted, each in zip(bounds.values(), contents))
-        if was_stopped:
-            self.process.kill()
-        status = self.process.wait()
-        return Ran(status, out, said.decode(errors="surrogateescape").splitlines(), was_stopped)
+                self._call.feed(pipe.fileno())
+
+    def read(self, stream: IO[bytes]) -> None:
+        """Reads what has come from one of `streams`, or notes its end."""
+        try:
+            part = os.read(stream.fileno(), 1 << 16)
+        except OSError:  # how Linux says that nobody has the other end of a terminal
+            part = b""
+        if not part:
+            self.streams.remove(stream)
+        self._found[stream] += part
+        self._was_stopped = not self._bounds[stream](self._found[stream])
+
+    def ran(self) -> Ran:
+        """Waits for the end of the process, which is done. Returns how it ended."""
+        if self._was_stopped:
+            self._process.kill()
+        status, (out, said) = self._process.wait(), map(bytes, self._found.values())
+        return Ran(status, out, said.decode(errors="surrogateescape").splitlines(), self._was_stopped)
 
     def end(self) -> None:
         """Ends the process, if it has not ended, and closes what was opened for it."""
-        self.process.kill()
-        self.process.wait()
-        for stream in (self.process.stdin, self.process.stdout, self.messages):
+        self._process.kill()
+        self._process.wait()
+        for stream in (self._process.stdin, self._process.stdout, self._messages):
             if stream:
                 with contextlib.suppress(BrokenPipeError):
                     stream.close()
 
 
-def run_all(program: str, calls: Sequence[Call], environment: Dict[str, str]) -> List[Ran]:
-    """Runs a program for each of `calls`, all at once. Returns how they ended. If this is interrupted or fails, it ends
-    all of them. Raises `NotStarted` if there is no such program."""
-    children: List[Child] = []
-    try:
-        for call in calls:
-            _start(program, call, environment, children)
-        return [child.ended() for child in children]
-    finally:
-        for child in children:
+class Children:
+    """Processes that run at the same time. When the block ends, also by a fault or an interrupt, all of them end."""
+
+    def __init__(self) -> None:
+        self._children: List[Child] = []
+
+    def __enter__(self) -> "Children":
+        return self
+
+    def __exit__(self, *_: object) -> None:
+        for child in self._children:
             child.end()
 
+    def start(self, program: str, call: Call, environment: Dict[str, str]) -> Child:
+        """Runs a program for `call`, and feeds it. Raises `NotStarted` if there is no such program."""
+        child = _start(program, call, environment, self._children)
+        child.feed()
+        return child
 
-def _start(program: str, call: Call, environment: Dict[str, str], children: List[Child]) -> None:
+    def next_ended(self) -> Tuple[Child, Ran]:
+        """Reads what all of them print until one is done. Returns that one, and how it ended."""
+        child = self._next_done()
+        ran = child.ran()
+        child.end()
+        self._children.remove(child)
+        return child, ran
+
+    def _next_done(self) -> Child:
+        """Reads from all streams as something comes, so that no process waits at a full pipe, until one is done."""
+        with selectors.DefaultSelector() as waiting:
+            for child in self._children:
+                for stream in child.streams:
+                    waiting.register(stream, selectors.EVENT_READ, (child, stream))
+            while True:
+                for key, _ in waiting.select():
+                    child, stream = key.data
+                    child.read(stream)
+                    if child.is_done:
+                        return child
+                    if stream not in child.streams:
+                        waiting.unregister(stream)
+
+
+def _start(program: str, call: Call, environment: Dict[str, str], children: List[Child]) -> Child:
     """Starts a process and adds it to `children`. A signal that ends this tool is held back until it is there, so that
-    `run_all` can then end it. It inherits the files that the shell opened for this tool, such as /dev/fd/63."""
+    `Children` can then end it. It inherits the files that the shell opened for this tool, such as /dev/fd/63."""
     read, written = _terminal() if call.to_terminal else os.pipe()
     messages = open(read, "rb", 0)
     streams: Dict[str, Any] = {"stdin": PIPE if call.feed else call.stdin, "stdout": PIPE, "stderr": written}
@@ -103,6 +153,7 @@ def _start(program: str, call: Call, environment: Dict[str, str], children: List
     signal.pthread_sigmask(signal.SIG_BLOCK, ENDING)
     try:
         children.append(Child(call, subprocess.Popen([program, *call.words], **how, **streams), messages))
+        return children[-1]
     except OSError as fault:
         messages.close()
         raise NotStarted(fault.strerror) from None
@@ -122,34 +173,6 @@ def _terminal() -> Tuple[int, int]:
 def _are_few(said: bytes) -> bool:
     """Tests whether messages have a length that heapmark's may have."""
     return len(said) <= MOST_SAID
-
-
-def _contents(bounds: Dict[IO[bytes], Wanted]) -> List[bytes]:
-    """Reads several streams at once, to their ends, or until one has what is not wanted of it. Returns what came from
-    each."""
-    found = {stream: bytearray() for stream in bounds}
-    for stream, part in _parts(list(bounds)):
-        found[stream] += part
-        if not bounds[stream](found[stream]):
-            break
-    return [bytes(each) for each in found.values()]
-
-
-def _parts(streams: Sequence[IO[bytes]]) -> Iterator[Tuple[IO[bytes], bytes]]:
-    """Yields what comes from several streams, until all have ended."""
-    with selectors.DefaultSelector() as waiting:
-        for stream in streams:
-            waiting.register(stream, selectors.EVENT_READ, stream)
-        while waiting.get_map():
-            for key, _ in waiting.select():
-                try:
-                    part = os.read(key.fd, 1 << 16)
-                except OSError:  # how Linux says that nobody has the other end of a terminal
-                    part = b""
-                if part:
-                    yield key.data, part
-                else:
-                    waiting.unregister(key.fileobj)
 
 
 def _widen(pipe: IO[bytes]) -> None:

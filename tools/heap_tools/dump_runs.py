@@ -1,18 +1,18 @@
 """A dump in a plain file, and runs of heapmark on it as it is and on copies with changes."""
 
-import contextlib
 import os
 import struct
-from typing import ContextManager, Dict, List, NamedTuple, Optional, Sequence
+from typing import Dict, List, NamedTuple, Optional, Sequence
 
-from heap_tools.changed_copy import Changes, write_copy
+from heap_tools.changed_copy import Changes
 from heap_tools.faults import UNREADABLE, Fault
 from heap_tools.heap_dump import HeapDump, UnknownTag
-from heap_tools.heapmark import Copy, Heapmark, opened
+from heap_tools.heapmark import Heapmark, opened
 from heap_tools.hprof_format import MAGIC
-from heap_tools.memory_copy import CopyInMemory, have_room
+from heap_tools.memory_copy import CopiesInMemory
 from heap_tools.object_sizes import RowSizes
 from heap_tools.reports import Report, read_text
+from heap_tools.runs_at_once import ChangedDump, RunsAtOnce
 
 
 def is_dump(path: str) -> bool:
@@ -51,8 +51,8 @@ def read_dump(path: str, length: int, report: Report) -> HeapDump:
 
 class DumpRuns:
     """A dump in a plain file, and the runs of heapmark on it. `report` is that of the dump as it is. Later runs are on
-    copies in which `cut` is changed, too, and the objects `roots` are roots: on the copy in `memory`, if it is there
-    and free, else on one that a pipe brings. With `sizes`, all reports are in bytes of the heap."""
+    copies in which `cut` is changed, too, and the objects `roots` are roots: on those in `memory`, if there is one with
+    these roots, else on one that a pipe brings. With `sizes`, all reports are in bytes of the heap."""
 
     def __init__(
         self,
@@ -62,7 +62,7 @@ class DumpRuns:
         dump: HeapDump,
         cut: Changes,
         roots: Sequence[int],
-        memory: Optional[CopyInMemory] = None,
+        memory: Optional[CopiesInMemory] = None,
         sizes: Optional[RowSizes] = None,
     ) -> None:
         self.heapmark, self.path, self.report, self.dump = heapmark, path, report, dump
@@ -75,7 +75,7 @@ class DumpRuns:
         length = os.path.getsize(path) if os.path.exists(path) else 0
         report = heapmark.first_report(path)
         dump = read_dump(path, length, report)
-        return cls(heapmark, path, report, dump, {}, (), CopyInMemory(dump))
+        return cls(heapmark, path, report, dump, {}, (), CopiesInMemory(dump))
 
     def with_cut(self, changes: Changes, roots: Sequence[int] = ()) -> "DumpRuns":
         """Returns the same dump, in whose copies `changes` are made and `roots` are roots, too."""
@@ -98,21 +98,12 @@ class DumpRuns:
 
     def without(self, changes: Changes) -> Report:
         """Returns the report of the dump with these changes."""
-        with self.in_memory(changes) as file:
-            (report,) = self.heapmark.later_reports(self._copy(changes, file))
-        return self.counted(report)
+        return _reports_at_once([Question(self, changes)])[0]
 
-    def _copy(self, changes: Changes, file: Optional[int]) -> Copy:
-        """Returns the copy in memory, which `file` is, or one by a pipe if that is None."""
-        if file is not None:
-            return Copy(self.path, file)
+    def changed(self, changes: Changes) -> ChangedDump:
+        """Returns what heapmark has to read for the report of the dump with these changes."""
         every = {**self.cut, **changes}
-        return Copy(self.path, feed=lambda pipe: write_copy(self.dump, pipe, every, self.roots))
-
-    def in_memory(self, changes: Changes) -> ContextManager[Optional[int]]:
-        """Returns the copy in memory with these changes, to be entered for a run, or None for one by a pipe."""
-        memory = self.memory.with_roots(self.roots) if self.memory else None
-        return memory.changed({**self.cut, **changes}) if memory else contextlib.nullcontext()
+        return ChangedDump(self.heapmark, self.path, self.dump, every, self.roots, self.memory)
 
 
 class Question(NamedTuple):
@@ -128,20 +119,12 @@ class Question(NamedTuple):
 
 
 def reports_of(*questions: Question) -> List[Report]:
-    """Returns the reports that are asked for. heapmark runs for all at once if each has a copy in memory of its own."""
+    """Returns the reports that are asked for, in this order. heapmark runs for as many at a time as it can."""
     found = iter(_reports_at_once([each for each in questions if each.is_open]))
     return [next(found) if each.is_open else each.runs.report for each in questions]
 
 
 def _reports_at_once(questions: Sequence[Question]) -> List[Report]:
-    """Returns the reports of runs of heapmark: at once if there is room for that, else one after another."""
-    with contextlib.ExitStack() as stack:
-        copies = []
-        for runs, changes in questions:
-            file = stack.enter_context(runs.in_memory(changes))
-            if file is not None:
-                copies.append(Copy(runs.path, file))
-        if 1 < len(copies) == len(questions) and have_room([runs.dump for runs, _ in questions]):
-            reports = questions[0].runs.heapmark.later_reports(*copies)
-            return [runs.counted(report) for (runs, _), report in zip(questions, reports)]
-    return [runs.without(changes) for runs, changes in questions]
+    """Returns the reports of runs of heapmark, one for each question."""
+    reports = RunsAtOnce([runs.changed(changes) for runs, changes in questions]).reports()
+    return [runs.counted(report) for (runs, _), report in zip(questions, reports)]

@@ -4,15 +4,17 @@ import contextlib
 import os
 import re
 import sys
-from typing import BinaryIO, Iterable, List, NamedTuple, Optional, Sequence
+from typing import BinaryIO, Iterable, NamedTuple, Optional, Sequence
 
-from heap_tools.child_process import Call, Feed, NotStarted, Ran, run_all
+from heap_tools.child_process import Call, Child, Children, Feed, NotStarted, Ran
 from heap_tools.console import as_heapmark_spells, is_terminal, say
 from heap_tools.faults import NO_HEAPMARK, UNREADABLE, WRONG_USE, Fault
 from heap_tools.reports import Report, may_be_report, read_report
 
 #: The most bytes that heapmark prints at --version.
 LONGEST_VERSION = 1 << 12
+#: The words with which heapmark reads a copy of a dump.
+ON_COPY = ("--", "/dev/stdin")
 
 
 class LaterFault(Fault):
@@ -42,10 +44,16 @@ class Heapmark:
         self.environment = {"GLIBC_TUNABLES": "glibc.malloc.hugetlb=1", **os.environ}
         self.runs = 0
 
-    def _run(self, *calls: Call) -> List[Ran]:
-        """Runs heapmark for each of `calls`, all at once. Returns how the runs ended."""
+    def _run(self, call: Call) -> Ran:
+        """Runs heapmark for `call`. Returns how the run ended."""
+        with Children() as children:
+            self._started(call, children)
+            return children.next_ended()[1]
+
+    def _started(self, call: Call, children: Children) -> Child:
+        """Starts a run of heapmark for `call` among `children`."""
         try:
-            return run_all(self.program, calls, self.environment)
+            return children.start(self.program, call, self.environment)
         except NotStarted as why:
             text = f"{self.program} cannot be run: {why}: {self._advice()}"
             raise Fault(NO_HEAPMARK, text) from None
@@ -58,14 +66,14 @@ class Heapmark:
 
     def version(self) -> str:
         """Returns the version that heapmark prints, or nothing if it prints none."""
-        (ran,) = self._run(Call(["--version"], lambda out: len(out) <= LONGEST_VERSION))
+        ran = self._run(Call(["--version"], lambda out: len(out) <= LONGEST_VERSION))
         line = ran.out.split(b"\n")[0].decode(errors="replace")
         return line.partition(" ")[2] if ran.status == 0 else ""
 
     def check_fields(self, fields: str) -> None:
         """Raises `Fault` if `fields` is no list. heapmark refuses such a text before it opens a file: with refusal 21,
         or with status 2 if the text is not UTF-8."""
-        (ran,) = self._run(Call(["--skip=" + fields, "--", "/dev/null"], may_be_report))
+        ran = self._run(Call(["--skip=" + fields, "--", "/dev/null"], may_be_report))
         if ran.status == 2 or any("refused 21 " in line for line in ran.said):
             raise Fault(WRONG_USE, f"{fields}: no list of 1 to 64 fields Class.field with commas between")
 
@@ -81,19 +89,21 @@ class Heapmark:
                 path.encode()
             except UnicodeEncodeError:  # heapmark takes no such name
                 name, stdin = "/dev/stdin", stack.enter_context(opened(path)).fileno()
-            (ran,) = self._run(Call([*options, "--", name], may_be_report, stdin, to_terminal=to_terminal))
+            ran = self._run(Call([*options, "--", name], may_be_report, stdin, to_terminal=to_terminal))
         if ran.status > 0 and any("refused " in line for line in ran.said):
             raise Fault(UNREADABLE, f"{path}: {_reason(ran.said, name)}{why}")
-        return self._judged(path, ran)
-
-    def later_reports(self, *copies: Copy) -> List[Report]:
-        """Returns the reports of copies of dumps, made at once."""
-        calls = [Call(["--", "/dev/stdin"], may_be_report, copy.file, copy.feed) for copy in copies]
-        return [self._judged(copy.path, ran) for copy, ran in zip(copies, self._run(*calls))]
-
-    def _judged(self, path: str, ran: Ran) -> Report:
-        """Returns the report that heapmark printed, if it ended well. Then its messages are passed on."""
         self.runs += 1
+        return self.judged(path, ran, self.runs)
+
+    def later_run(self, copy: Copy, children: Children) -> "LaterRun":
+        """Starts a run on a copy of a dump among `children`."""
+        child = self._started(Call(ON_COPY, may_be_report, copy.file, copy.feed), children)
+        self.runs += 1
+        return LaterRun(self, child, self.runs, copy.path)
+
+    def judged(self, path: str, ran: Ran, number: int) -> Report:
+        """Returns the report that run `number` of heapmark printed, if it ended well. Then its messages are passed
+        on."""
         if ran.was_stopped:
             ended = "no report"
         elif ran.status < 0:
@@ -107,9 +117,22 @@ class Heapmark:
                     say(line)
                 return report
             ended = "no report"
-        if self.runs == 1 and (ran.status >= 0 or ran.was_stopped):
+        if number == 1 and (ran.status >= 0 or ran.was_stopped):
             ended += ": is it heapmark?"
-        raise LaterFault(NO_HEAPMARK, f"{self.program}: run {self.runs} on {path} failed: {ended}")
+        raise LaterFault(NO_HEAPMARK, f"{self.program}: run {number} on {path} failed: {ended}")
+
+
+class LaterRun(NamedTuple):
+    """A run of `heapmark` on a copy of the dump `path`, the process `child`."""
+
+    heapmark: Heapmark
+    child: Child
+    number: int
+    path: str
+
+    def report(self, ran: Ran) -> Report:
+        """Returns the report that it printed, if it ended well. Raises `LaterFault` if not."""
+        return self.heapmark.judged(self.path, ran, self.number)
 
 
 def _reason(said: Iterable[str], path: str) -> str:

@@ -1,11 +1,11 @@
-"""A copy of a heap dump in memory, of which a few bytes are changed while heapmark reads it."""
+"""Copies of a heap dump in memory, of which a few bytes are changed while heapmark reads them."""
 
 import contextlib
 import mmap
 import os
 import threading
 import weakref
-from typing import Iterator, Optional, Sequence
+from typing import Iterator, List, Optional, Sequence
 
 from heap_tools.changed_copy import Changes, require_whole, write_copy
 from heap_tools.free_memory import free_memory
@@ -23,12 +23,17 @@ class MemoryCopy:
 
     def __init__(self, dump: HeapDump, roots: Sequence[int]) -> None:
         self.roots = tuple(roots)
-        self.file: int = getattr(os, "memfd_create")("dump")  # Python 3.7 has none: see CopyInMemory
+        self.file: int = getattr(os, "memfd_create")("dump")  # Python 3.7 has none: see CopiesInMemory
         weakref.finalize(self, os.close, self.file)
         write_copy(dump, self.file, {}, roots)
         self._bytes = mmap.mmap(self.file, 0)
         self._added_at, self._added = dump.segments[0][0] if roots else 0, len(self._bytes) - dump.size
         self._in_use = threading.Lock()
+
+    @property
+    def is_free(self) -> bool:
+        """Tests whether no run reads it."""
+        return not self._in_use.locked()
 
     @contextlib.contextmanager
     def changed(self, changes: Changes) -> Iterator[Optional[int]]:
@@ -56,26 +61,39 @@ class MemoryCopy:
             self._bytes[at : at + len(new)] = new
 
 
-def have_room(dumps: Sequence[HeapDump], copies: int = 0) -> bool:
-    """Tests whether there is memory for a run of heapmark on each of `dumps` at once, and for `copies` of each."""
-    return free_memory() >= sum(each.size for each in dumps) * (copies + TAKEN_BY_HEAPMARK)
+def have_room(dumps: Sequence[HeapDump], copies: Sequence[HeapDump] = ()) -> bool:
+    """Tests whether there is memory for a run of heapmark on each of `dumps` at once, and for a copy of each of
+    `copies`. What runs that go on have taken already counts twice: as taken, and as what they may take."""
+    return free_memory() >= sum(each.size for each in dumps) * TAKEN_BY_HEAPMARK + sum(each.size for each in copies)
 
 
-class CopyInMemory:
-    """The copy of `dump` in memory, made when it is asked for the first time if there is room for it."""
+class CopiesInMemory:
+    """The copies of `dump` in memory, all with the same further roots. Each is made when one is asked for while all
+    others are in use, if there is room for it."""
 
     def __init__(self, dump: HeapDump) -> None:
         self._dump = dump
-        self._copy: Optional[MemoryCopy] = None
-        self._is_tried = False
+        self._copies: List[MemoryCopy] = []
+        self._can_be_made = hasattr(os, "memfd_create")
 
-    def with_roots(self, roots: Sequence[int]) -> Optional[MemoryCopy]:
-        """Returns the copy in which the objects `roots` are roots. Returns None if there is no room for it, or if it
-        was made with other roots. Raises `Fault` if the file of the dump became shorter."""
+    def free(self, roots: Sequence[int], beside: Sequence[HeapDump] = ()) -> Optional[MemoryCopy]:
+        """Returns a copy in which the objects `roots` are roots and that no run reads, if there is room for a run on it
+        while others go on, on the dumps `beside`. Returns None if there is none: also if the copies have other roots.
+        Raises `Fault` if the file of the dump became shorter."""
         require_whole(self._dump)
-        if not self._is_tried:
-            self._is_tried = True
-            if hasattr(os, "memfd_create") and have_room([self._dump], copies=1):
-                with contextlib.suppress(OSError):
-                    self._copy = MemoryCopy(self._dump, roots)
-        return self._copy if self._copy and self._copy.roots == tuple(roots) else None
+        if any(each.roots != tuple(roots) for each in self._copies):
+            return None
+        dumps = [*beside, self._dump]
+        found = next((each for each in self._copies if each.is_free), None)
+        if found:
+            return found if not beside or have_room(dumps) else None
+        return self._made(roots) if self._can_be_made and have_room(dumps, copies=[self._dump]) else None
+
+    def _made(self, roots: Sequence[int]) -> Optional[MemoryCopy]:
+        """Makes one more copy. Returns None if the system has no such memory: then it is not asked again."""
+        try:
+            self._copies.append(MemoryCopy(self._dump, roots))
+        except OSError:
+            self._can_be_made = False
+            return None
+        return self._copies[-1]

@@ -11,10 +11,15 @@ Item = TypeVar("Item")
 Result = TypeVar("Result")
 
 
+def processors() -> int:
+    """Returns how many processors this tool may use."""
+    return len(os.sched_getaffinity(0))
+
+
 def shared(function: Callable[[List[Item]], Result], items: List[Item], least: int) -> List[Result]:
     """Calls `function` with parts of the list `items`, each in a process of its own, and returns the results. There are
     as many parts as processors, but each has at least `least` items."""
-    count = max(1, min(len(os.sched_getaffinity(0)), len(items) // least))
+    count = max(1, min(processors(), len(items) // least))
     if count == 1:
         return [function(items)]
     bounds = [len(items) * number // count for number in range(count + 1)]

@@ -1,4 +1,4 @@
-"""Tests runs of heapmark on dumps with changes: by a copy in memory, by a pipe, and on two dumps at once."""
+"""Tests runs of heapmark on dumps with changes: by a copy in memory, by a pipe, and two at once."""
 
 import os
 import pathlib
@@ -20,15 +20,17 @@ from tests.support.tool_test import ENDING, TOOLS, ToolTest, heed_signals, repor
 WAITS = """touch began.$$
 for _ in $(seq 600); do [ "$(ls began.* | wc -l)" -lt 2 ] || break; sleep 0.1; done
 ls began.* | wc -l >> together"""
-#: A tool that asks two dumps at once.
+#: A tool that asks two dumps at once, each with as many questions as the first word says.
 TOOL = """
-from heap_tools import command_line
+from heap_tools import command_line, runs_at_once
 from heap_tools.dump_runs import DumpRuns, Question, reports_of
 from heap_tools.heapmark import Heapmark
 
 def main(words):
-    heapmark = Heapmark()
-    reports_of(*[Question(DumpRuns.of(heapmark, word, "tool"), {24: b"a"}) for word in words])
+    heapmark, times = Heapmark(), int(words[0])
+    runs_at_once.processors = lambda: 2 * times
+    dumps = [DumpRuns.of(heapmark, word, "tool") for word in words[1:]]
+    reports_of(*[Question(runs, {24: b"a"}) for runs in dumps for _ in range(times)])
     return 0
 
 command_line.run("tool", main)
@@ -85,33 +87,38 @@ class DumpRunsTest(ToolTest):
         self.assertEqual(pathlib.Path("kinds").read_text().split(), ["file", "file", "pipe", "pipe"] * 3)
 
     def test_at_once(self) -> None:
-        """Two dumps are asked at once. Their reports come in the order in which they were asked for, and both runs are
-        counted. Both copies are then as they were."""
+        """Two questions, on two dumps or on one, are asked at once. Their reports come in the order in which they were
+        asked for, and both runs are counted. All copies are then as they were."""
         first, last = self.both(WAITS)
-        asked = [Question(last.with_cut({25: b"c"}), {24: b"a"}), Question(first.with_cut({25: b"c"}))]
-        for wanted in (2, 4):
-            found = [each.amount("A").objects for each in reports_of(*asked)]
-            self.assertEqual(found, [last.dump.size, first.dump.size])
+        on_two = [Question(last.with_cut({25: b"c"}), {24: b"a"}), Question(first.with_cut({25: b"c"}))]
+        on_one = [Question(last.with_cut({25: b"c"}), {24: b"a"}), Question(last.with_cut({25: b"c"}))]
+        for wanted, asked in ((2, on_two), (4, on_two), (6, on_one), (8, on_one)):
+            with mock.patch("heap_tools.runs_at_once.processors", return_value=2):
+                found = [each.amount("A").objects for each in reports_of(*asked)]
+            self.assertEqual(found, [question.runs.dump.size for question in asked])
             self.assertEqual(first.heapmark.runs, 2 + wanted)
             self.assertEqual(pathlib.Path("together").read_text().split(), ["2"] * wanted)
             for path in pathlib.Path().glob("began.*"):
                 path.unlink()
 
     def test_one_after_another(self) -> None:
-        """Two questions about one dump, or about dumps without room for copies or for two runs, take turns."""
+        """Questions about dumps without room for copies or for two runs take turns, and so do all with one
+        processor."""
         alone = "touch runs.$$; ls runs.* | wc -l >> together; sleep 0.1; rm runs.$$"
         first, last = self.both(alone)
-        small = mock.patch("heap_tools.dump_runs.have_room", return_value=False)
-        with small:
-            self.assertEqual(len(reports_of(Question(first, {24: b"a"}), Question(last, {24: b"a"}))), 2)
-        self.assertEqual(len(reports_of(Question(last, {24: b"a"}), Question(last, {24: b"b"}))), 2)
+        for room in (lambda *_, copies=(): False, lambda dumps, copies=(): len(dumps) < 2):
+            with mock.patch("heap_tools.memory_copy.have_room", room):
+                self.assertEqual(len(reports_of(Question(first, {24: b"a"}), Question(last, {24: b"a"}))), 2)
+        with mock.patch("heap_tools.runs_at_once.processors", return_value=1):
+            self.assertEqual(len(reports_of(Question(last, {24: b"a"}), Question(last, {24: b"b"}))), 2)
+            self.assertEqual(len(reports_of(Question(first, {24: b"a"}), Question(last, {24: b"b"}))), 2)
         other = self.both(alone)[0]
-        first.memory = None
+        first.memory = other.memory = None
         found = reports_of(*[Question(runs, {24: b"a"}) for runs in (first, last, other)])
         self.assertEqual([each.amount("A").objects for each in found], [it.dump.size for it in (first, last, other)])
         self.assertEqual(len(reports_of(Question(first, {24: b"a"}))), 1)
-        self.assertEqual(pathlib.Path("together").read_text().split(), ["1"] * 8)
-        self.assertEqual(first.heapmark.runs + other.heapmark.runs, 4 + 8)
+        self.assertEqual(pathlib.Path("together").read_text().split(), ["1"] * 12)
+        self.assertEqual((first.heapmark.runs, other.heapmark.runs), (2 + 11, 2 + 1))
 
     def test_known(self) -> None:
         """The report of a dump without any change is not asked for again, also beside one that is."""
@@ -148,26 +155,31 @@ class DumpRunsTest(ToolTest):
                 file.write(b"a")
 
     def test_interrupt(self) -> None:
-        """A signal ends the tool and both runs."""
-        environment = {**os.environ, "HEAPMARK": self.stand_in("echo $$ > pid.$(wc -c < $$)\nexec sleep 50")}
+        """A signal ends the tool and all runs, on two dumps or several on each."""
+        one_pid = "mkdir $size.1 2> /dev/null && n=1 || n=2\necho $$ > pid.$size.$n\nexec sleep 50"
+        environment = {**os.environ, "HEAPMARK": self.stand_in(f"size=$(wc -c < $$)\n{one_pid}")}
         sizes = [os.path.getsize(name) for name in ("monday", "friday")]
         for number in ENDING:
-            words = [sys.executable, "-c", TOOL, "monday", "friday"]
-            with subprocess.Popen(
-                words,
-                cwd=os.getcwd(),
-                env={**environment, "PYTHONPATH": str(TOOLS)},
-                preexec_fn=heed_signals,
-                stderr=subprocess.PIPE,
-            ) as child:
-                pids = [when_written(f"pid.{size}") for size in sizes]
-                time.sleep(0.2)  # until it waits for what they print
-                child.send_signal(number)
-                _, said = child.communicate(timeout=10)
-            self.assertEqual((child.returncode, said), (130, b"tool: interrupted\n"), number.name)
-            for size, pid in zip(sizes, pids):
-                self.assertFalse(os.path.exists(f"/proc/{pid}"), number.name)
-                os.remove(f"pid.{size}")
+            for times in (1, 2):
+                words = [sys.executable, "-c", TOOL, str(times), "monday", "friday"]
+                files = [f"pid.{size}.{each}" for size in sizes for each in range(1, 1 + times)]
+                with subprocess.Popen(
+                    words,
+                    cwd=os.getcwd(),
+                    env={**environment, "PYTHONPATH": str(TOOLS)},
+                    preexec_fn=heed_signals,
+                    stderr=subprocess.PIPE,
+                ) as child:
+                    pids = [when_written(file) for file in files]
+                    time.sleep(0.2)  # until it waits for what they print
+                    child.send_signal(number)
+                    _, said = child.communicate(timeout=10)
+                self.assertEqual((child.returncode, said), (130, b"tool: interrupted\n"), number.name)
+                for pid, file in zip(pids, files):
+                    self.assertFalse(os.path.exists(f"/proc/{pid}"), number.name)
+                    os.remove(file)
+                for size in sizes:
+                    os.rmdir(f"{size}.1")
 
 
 if __name__ == "__main__":

@@ -5,10 +5,13 @@ import pathlib
 import signal
 import sys
 import unittest
+from typing import List, Tuple
 from unittest import mock
 
+from heap_tools.child_process import Children
 from heap_tools.faults import NO_HEAPMARK, UNREADABLE, Fault
 from heap_tools.heapmark import Copy, Heapmark, LaterFault
+from heap_tools.reports import Report
 from tests.support.tool_test import ToolTest, report
 
 
@@ -19,6 +22,13 @@ class HeapmarkTest(ToolTest):
         """Returns a heapmark that is a shell script."""
         with mock.patch.dict(os.environ, HEAPMARK=self.program(text)):
             return Heapmark()
+
+    def later(self, heapmark: Heapmark, *copies: Copy) -> List[Tuple[int, Report]]:
+        """Returns the numbers and the reports of runs on copies, all at once, in the order in which they end."""
+        with Children() as children:
+            runs = {run.child: run for run in (heapmark.later_run(copy, children) for copy in copies)}
+            ended = [children.next_ended() for _ in copies]
+        return [(runs[child].number, runs[child].report(ran)) for child, ran in ended]
 
     def test_report(self) -> None:
         """A report is read, and its run is counted; the environment asks for huge pages."""
@@ -40,7 +50,7 @@ class HeapmarkTest(ToolTest):
                 self.heapmark(text).first_report("dump")
             self.assertEqual(raised.exception.status, status, text)
         with self.assertRaises(LaterFault):
-            self.heapmark("cat > all; exit 1").later_reports(Copy("dump", feed=lambda pipe: None))
+            self.later(self.heapmark("cat > all; exit 1"), Copy("dump", feed=lambda pipe: None))
         with mock.patch.dict(os.environ, HEAPMARK="/no/where"), self.assertRaises(Fault) as raised:
             Heapmark().first_report("dump")
         self.assertEqual(raised.exception.status, NO_HEAPMARK)
@@ -87,10 +97,10 @@ class HeapmarkTest(ToolTest):
             while rest:
                 rest = rest[os.write(pipe, rest) :]
 
-        heapmark.later_reports(Copy("dump", feed=feed))
+        self.later(heapmark, Copy("dump", feed=feed))
         self.assertEqual(pathlib.Path("all").read_bytes(), content)
         with self.assertRaisesRegex(LaterFault, "run 1 on dump failed: status 3"):
-            self.heapmark("exit 3").later_reports(Copy("dump", feed=feed))
+            self.later(self.heapmark("exit 3"), Copy("dump", feed=feed))
 
     def test_signals(self) -> None:
         """heapmark heeds the signals that end a tool, and none that ends it for the size of a file."""

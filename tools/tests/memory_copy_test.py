@@ -1,6 +1,7 @@
-"""Tests the copy of a dump in memory: what it has during a run, and that it has the dump's bytes again after each
-end."""
+"""Tests the copies of a dump in memory: what one has during a run, that it has the dump's bytes again after each end,
+and how many are made."""
 
+import contextlib
 import os
 import pathlib
 import tempfile
@@ -11,7 +12,7 @@ from unittest import mock
 from heap_tools.changed_copy import Changes, write_copy
 from heap_tools.faults import Fault
 from heap_tools.heap_dump import HeapDump
-from heap_tools.memory_copy import CopyInMemory, MemoryCopy, have_room
+from heap_tools.memory_copy import CopiesInMemory, MemoryCopy, have_room
 from tests.support.dump_writer import DumpWriter
 
 #: Further roots.
@@ -113,42 +114,91 @@ class MemoryCopyTest(unittest.TestCase):
 
     def test_made_once(self) -> None:
         """It is made for the first roots that are asked for; for others there is none."""
-        memory = CopyInMemory(self.dump)
-        copy = memory.with_roots([300])
+        memory = CopiesInMemory(self.dump)
+        copy = memory.free([300])
         self.assertIsNotNone(copy)
-        self.assertIs(memory.with_roots((300,)), copy)
-        self.assertIsNone(memory.with_roots([]))
-        self.assertIs(memory.with_roots([300]), copy)
+        self.assertIs(memory.free((300,)), copy)
+        self.assertIsNone(memory.free([]))
+        self.assertIs(memory.free([300]), copy)
+
+    def test_several(self) -> None:
+        """One more is made, with the same roots, only when all others are in use. Each has its own changes, and is free
+        again when they are put back."""
+        for roots in ROOTS:
+            memory, wanted = CopiesInMemory(self.dump), self.by_pipe({}, roots)
+            with contextlib.ExitStack() as in_use:
+                made = [in_use.enter_context(next_of(memory, roots).changed({100: bytes([each])})) for each in range(3)]
+                self.assertEqual(len(set(made)), 3)
+                self.assertIsNone(memory.free([1]))
+                for number, file in enumerate(made):
+                    self.assertEqual(content(file), self.by_pipe({100: bytes([number])}, roots))
+            with next_of(memory, roots).changed({}) as first, next_of(memory, roots).changed({}) as second:
+                self.assertEqual([first, second], made[:2])
+            self.assertEqual([content(file) for file in made], [wanted] * 3)
 
     def test_no_room(self) -> None:
         """There is none if it and heapmark beside it have no room, if the system makes none, or if it is full."""
         for much, is_made in ((2 * self.dump.size, False), (4 * self.dump.size, True)):
             with mock.patch("heap_tools.memory_copy.free_memory", return_value=much):
-                self.assertEqual(CopyInMemory(self.dump).with_roots([]) is not None, is_made, much)
+                self.assertEqual(CopiesInMemory(self.dump).free([]) is not None, is_made, much)
                 self.assertTrue(have_room([self.dump]) or not is_made)
                 self.assertFalse(have_room([self.dump] * 2), much)
         with mock.patch("os.memfd_create", side_effect=OSError):
-            self.assertIsNone(CopyInMemory(self.dump).with_roots([]))
+            self.assertIsNone(CopiesInMemory(self.dump).free([]))
         with mock.patch("heap_tools.memory_copy.write_copy", side_effect=OSError):
-            self.assertIsNone(CopyInMemory(self.dump).with_roots([]))
+            self.assertIsNone(CopiesInMemory(self.dump).free([]))
         create = os.memfd_create
         del os.memfd_create  # as before Python 3.8
         try:
-            self.assertIsNone(CopyInMemory(self.dump).with_roots([]))
+            self.assertIsNone(CopiesInMemory(self.dump).free([]))
         finally:
             os.memfd_create = create
 
+    def test_room_beside_others(self) -> None:
+        """While others run, there is one only if there is room for all runs, and for a further copy if it has to be
+        made: a run of heapmark takes 2.2 times the dump."""
+        memory = CopiesInMemory(self.dump)
+        first = next_of(memory, [])
+        for is_used, beside, least in ((0, 0, 0.0), (0, 1, 4.4), (0, 3, 8.8), (1, 1, 5.4), (1, 2, 7.6)):
+            for more, is_there in ((-0.01, least == 0), (0.01, True)):
+                memory._copies = [first]
+                with first.changed({}) if is_used else contextlib.nullcontext():
+                    room = mock.patch(
+                        "heap_tools.memory_copy.free_memory", return_value=(least + more) * self.dump.size
+                    )
+                    with room:
+                        found = memory.free([], [self.dump] * beside)
+                self.assertEqual(found is not None, is_there, (is_used, beside, more))
+                self.assertEqual(len(memory._copies), 2 if is_used and is_there else 1)
+
+    def test_full(self) -> None:
+        """If the system makes no further one, it is not asked again, and those that there are stay in use."""
+        memory = CopiesInMemory(self.dump)
+        first = next_of(memory, [])
+        with mock.patch("os.memfd_create", side_effect=OSError) as create:
+            with first.changed({}):
+                self.assertEqual([memory.free([]), memory.free([])], [None, None])
+            self.assertEqual(create.call_count, 1)
+        self.assertIs(memory.free([]), first)
+
     def test_shorter(self) -> None:
         """That the file of the dump became shorter is said before a copy is made, while it is, and later."""
-        memory = CopyInMemory(self.dump)
+        memory = CopiesInMemory(self.dump)
         os.truncate(self.path, 200)
         why = f"^{self.path}: it became shorter while it was read$"
-        for fails in lambda: memory.with_roots([]), lambda: MemoryCopy(self.dump, []):
+        for fails in lambda: memory.free([]), lambda: MemoryCopy(self.dump, []):
             self.assertRaisesRegex(Fault, why, fails)
         shop().write(self.path)
-        self.assertIsNotNone(memory.with_roots([]))
+        self.assertIsNotNone(memory.free([]))
         os.truncate(self.path, 200)
-        self.assertRaisesRegex(Fault, why, memory.with_roots, [])
+        self.assertRaisesRegex(Fault, why, memory.free, [])
+
+
+def next_of(memory: CopiesInMemory, roots: Sequence[int]) -> MemoryCopy:
+    """Returns a copy that is free."""
+    found = memory.free(roots)
+    assert found
+    return found
 
 
 def content(file: object) -> bytes:

@@ -1,0 +1,103 @@
+"""Runs of heapmark on changed dumps: as many at a time as processors, copies in memory, and memory allow."""
+
+import contextlib
+from typing import ContextManager, Dict, Iterator, List, NamedTuple, Optional, Sequence
+
+from heap_tools.changed_copy import Changes, write_copy
+from heap_tools.child_process import Child, Children
+from heap_tools.heap_dump import HeapDump
+from heap_tools.heapmark import Copy, Heapmark, LaterRun
+from heap_tools.memory_copy import CopiesInMemory, MemoryCopy
+from heap_tools.parallel import processors
+from heap_tools.reports import Report
+
+#: The most runs at a time, however many processors there are: a dump has at most so many copies in memory.
+MOST_AT_A_TIME = 4
+
+
+def at_a_time() -> int:
+    """Returns how many runs go on at a time at most. heapmark uses more than one processor for half of its time only, so
+    that each processor has a run."""
+    return min(MOST_AT_A_TIME, processors())
+
+
+class ChangedDump(NamedTuple):
+    """A dump in the file `path` that `heapmark` is to read with `changes`, and with the objects `roots` as roots: from
+    one of the copies in `memory`, if there are any, or from a pipe."""
+
+    heapmark: Heapmark
+    path: str
+    dump: HeapDump
+    changes: Changes
+    roots: Sequence[int] = ()
+    memory: Optional[CopiesInMemory] = None
+
+    def free_copy(self, beside: Sequence[HeapDump]) -> Optional[MemoryCopy]:
+        """Returns a copy in memory for a run while others go on, on the dumps `beside`. Returns None if there is none
+        now."""
+        return self.memory.free(self.roots, beside) if self.memory else None
+
+    @contextlib.contextmanager
+    def copy(self, memory: Optional[MemoryCopy]) -> Iterator[Copy]:
+        """Yields `memory` with the changes, for one run, or one that a pipe brings if that is None."""
+        with memory.changed(self.changes) if memory else contextlib.nullcontext() as file:
+            if file is not None:
+                yield Copy(self.path, file)
+            else:
+                yield Copy(self.path, feed=lambda pipe: write_copy(self.dump, pipe, self.changes, self.roots))
+
+
+class _Running(NamedTuple):
+    """A run for the dump of this number. Its copy is given back when `in_use` is closed."""
+
+    number: int
+    dump: HeapDump
+    run: LaterRun
+    in_use: contextlib.ExitStack
+
+
+class RunsAtOnce:
+    """Runs of heapmark for changed dumps, which are numbered in their order. Each begins when one before it has ended,
+    or at once if there is room for it. One that a pipe feeds goes alone."""
+
+    def __init__(self, dumps: Sequence[ChangedDump]) -> None:
+        self._waiting = dict(enumerate(dumps))
+        self._running: Dict[Child, _Running] = {}
+        self._reports: Dict[int, Report] = {}
+        self._in_use, self._children = contextlib.ExitStack(), Children()
+
+    def reports(self) -> List[Report]:
+        """Returns the reports, in the order of the dumps. If a run fails, or if this is interrupted, it ends all others
+        before it gives back their copies. Raises `LaterFault` if a run fails."""
+        with self._in_use, self._children:
+            while self._waiting or self._running:
+                self._start_some()
+                self._end_one()
+        return [self._reports[number] for number in sorted(self._reports)]
+
+    def _start_some(self) -> None:
+        """Starts runs on copies in memory, in the order of the dumps, as long as there is room for one more. If there
+        is none for any, a pipe feeds the first."""
+        for number, changed in list(self._waiting.items()):
+            if len(self._running) >= at_a_time():
+                return
+            memory = changed.free_copy([each.dump for each in self._running.values()])
+            if memory:
+                self._start(number, changed.copy(memory))
+        if not self._running:
+            number, changed = next(iter(self._waiting.items()))
+            self._start(number, changed.copy(None))
+
+    def _start(self, number: int, of_run: ContextManager[Copy]) -> None:
+        """Starts the run for the dump of this number on a copy, which is in use until the run has ended."""
+        changed = self._waiting.pop(number)
+        in_use = self._in_use.enter_context(contextlib.ExitStack())
+        run = changed.heapmark.later_run(in_use.enter_context(of_run), self._children)
+        self._running[run.child] = _Running(number, changed.dump, run, in_use)
+
+    def _end_one(self) -> None:
+        """Waits until a run has ended, gives back its copy, and keeps its report."""
+        child, ran = self._children.next_ended()
+        ended = self._running.pop(child)
+        ended.in_use.close()
+        self._reports[ended.number] = ended.run.report(ran)
