@@ -1,7 +1,9 @@
 """Tests how the tools find and run heapmark, with stand-ins for it."""
 
+import contextlib
 import os
 import pathlib
+import re
 import signal
 import sys
 import unittest
@@ -101,6 +103,41 @@ class HeapmarkTest(ToolTest):
         self.assertEqual(pathlib.Path("all").read_bytes(), content)
         with self.assertRaisesRegex(LaterFault, "run 1 on dump failed: status 3"):
             self.later(self.heapmark("exit 3"), Copy("dump", feed=feed))
+
+    def test_at_once(self) -> None:
+        """Runs that go on at the same time are numbered as they begin. All that they print is read as it comes: none
+        waits at a full pipe while another goes on."""
+        long = "".join(f"1 8  {number:08}A\n" for number in range(20_000))
+        pathlib.Path("long").write_text(long + report((1, 8, "A")))
+        waits = "for _ in $(seq 300); do [ $(ls printed.* | wc -l) -lt 3 ] || exit 0; sleep 0.1; done; exit 3"
+        heapmark = self.heapmark(f"cat long; head -c 200000 /dev/zero | tr '\\0' x >&2; touch printed.$$\n{waits}")
+        with open("long", "rb") as file, mock.patch("heap_tools.heapmark.say") as say:
+            found = self.later(heapmark, *[Copy("dump", file.fileno())] * 3)
+        self.assertEqual(sorted(number for number, _ in found), [1, 2, 3])
+        self.assertEqual([len(each.rows) for _, each in found], [20_001] * 3)
+        self.assertEqual((heapmark.runs, say.call_count), (3, 3))
+        self.assertEqual(len(list(pathlib.Path().glob("printed.*"))), 3)
+
+    def test_failed_at_once(self) -> None:
+        """What failed is said with the number of its run and the path of its dump, whatever ends first. The others are
+        ended."""
+        both = "until [ $(wc -l < pids) = 2 ]; do sleep 0.1; done"
+        pathlib.Path("sleeps").write_text("exec sleep 50")
+        pathlib.Path("fails").write_text(f"{both}; exit 3")
+        for number, names in ((1, ("fails", "sleeps")), (2, ("sleeps", "fails"))):
+            heapmark = self.heapmark("echo $$ >> pids; . /dev/stdin")
+            with contextlib.ExitStack() as stack:
+                copies = [Copy(name, stack.enter_context(open(name, "rb")).fileno()) for name in names]
+                runs = stack.enter_context(Children())
+                begun = [heapmark.later_run(copy, runs) for copy in copies]
+                child, ran = runs.next_ended()
+                self.assertIs(child, begun[number - 1].child)
+            ended = "status 3" + ": is it heapmark?" * (number == 1)
+            with self.assertRaisesRegex(LaterFault, f": run {number} on fails failed: {re.escape(ended)}$"):
+                begun[number - 1].report(ran)
+            for pid in pathlib.Path("pids").read_text().split():
+                self.assertFalse(os.path.exists(f"/proc/{pid}"))
+            os.remove("pids")
 
     def test_signals(self) -> None:
         """heapmark heeds the signals that end a tool, and none that ends it for the size of a file."""
