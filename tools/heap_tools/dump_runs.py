@@ -98,7 +98,8 @@ class DumpRuns:
 
     def without(self, changes: Changes) -> Report:
         """Returns the report of the dump with these changes."""
-        return _reports_at_once([Question(self, changes)])[0]
+        (report,) = RunsAtOnce([self.changed(changes)]).reports()
+        return self.counted(report)
 
     def changed(self, changes: Changes) -> ChangedDump:
         """Returns what heapmark has to read for the report of the dump with these changes."""
@@ -125,6 +126,7 @@ def reports_of(*questions: Question) -> List[Report]:
 
 
 def _reports_at_once(questions: Sequence[Question]) -> List[Report]:
-    """Returns the reports of runs of heapmark, one for each question."""
-    reports = RunsAtOnce([runs.changed(changes) for runs, changes in questions]).reports()
-    return [runs.counted(report) for (runs, _), report in zip(questions, reports)]
+    """Returns the reports of runs of heapmark, one for each question: at once for the dumps that may have copies in
+    memory, one after another for others."""
+    found = iter(RunsAtOnce([runs.changed(changes) for runs, changes in questions if runs.memory]).reports())
+    return [runs.counted(next(found)) if runs.memory else runs.without(changes) for runs, changes in questions]

@@ -16,8 +16,8 @@ MOST_AT_A_TIME = 4
 
 
 def at_a_time() -> int:
-    """Returns how many runs go on at a time at most. heapmark uses more than one processor for half of its time only, so
-    that each processor has a run."""
+    """Returns how many runs go on at a time at most: one for each processor, since heapmark uses more than one for half
+    of its time only."""
     return min(MOST_AT_A_TIME, processors())
 
 
