@@ -13,8 +13,8 @@ from heap_tools.reports import Report, may_be_report, read_report
 
 #: The most bytes that heapmark prints at --version.
 LONGEST_VERSION = 1 << 12
-#: The words with which heapmark reads a copy of a dump.
-ON_COPY = ("--", "/dev/stdin")
+#: With how many workers heapmark marks if nothing else is said.
+WORKERS = 4
 
 
 class LaterFault(Fault):
@@ -95,9 +95,10 @@ class Heapmark:
         self.runs += 1
         return self.judged(path, ran, self.runs)
 
-    def later_run(self, copy: Copy, children: Children) -> "LaterRun":
-        """Starts a run on a copy of a dump among `children`."""
-        child = self._started(Call(ON_COPY, may_be_report, copy.file, copy.feed), children)
+    def later_run(self, copy: Copy, children: Children, workers: int) -> "LaterRun":
+        """Starts a run with so many workers on a copy of a dump among `children`."""
+        words = [f"--workers={workers}", "--", "/dev/stdin"]
+        child = self._started(Call(words, may_be_report, copy.file, copy.feed), children)
         self.runs += 1
         return LaterRun(self, child, self.runs, copy.path)
 

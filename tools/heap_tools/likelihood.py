@@ -11,6 +11,7 @@ from typing import FrozenSet, List, NamedTuple, Sequence, Set, Tuple
 
 from heap_tools.candidates import FIELD, Candidate
 from heap_tools.class_names import element
+from heap_tools.line_order import FEW
 from heap_tools.probe import Probe, Retained
 
 #: A class has many of the objects that came if they are this part of all that came, or have this part of their bytes.
@@ -22,7 +23,8 @@ OF_GROUP = 0.5
 class Sign(enum.Enum):
     """What tells candidates from others; the first one counts that a candidate has."""
 
-    #: A field of a class of which many objects came, or of one in the same file: of a map, if entries came.
+    #: A field of a class of which many objects came, or of one in the same file: of a map, if entries came. Of others
+    #: than own ones only if it has more than a few instances: not the sets of a map's keys.
     OWN_OF_MANY = enum.auto()
     OTHER_OF_MANY = enum.auto()
     #: A field of a class of which what was found holds objects.
@@ -45,12 +47,12 @@ class Chance(NamedTuple):
 
 
 CHANCES = {
-    Sign.OWN_OF_MANY: Chance(math.inf, 0.4),
-    Sign.OTHER_OF_MANY: Chance(math.inf, 0.2),
+    Sign.OWN_OF_MANY: Chance(math.inf, 0.5),
+    Sign.OTHER_OF_MANY: Chance(math.inf, 0.5),
     Sign.OWN_BELOW: Chance(0.5, 0.1),
     Sign.COLLECTION_BELOW: Chance(0.5, 0.1),
     Sign.OTHER_BELOW: Chance(0.1, 0.1),
-    Sign.OWN_ROOT: Chance(1.5, 0.2),
+    Sign.OWN_ROOT: Chance(1.5, 0.5),
     Sign.OWN: Chance(0.5, 0.1),
     Sign.COLLECTION: Chance(0.3, 0.1),
     Sign.OTHER: Chance(0.1, 0.1),
@@ -83,7 +85,7 @@ class Likelihood:
             return Sign.OTHER
         if each.kind != FIELD:
             return Sign.OWN_ROOT if each.is_own else Sign.OTHER
-        if outermost(each.name.rpartition(".")[0]) in self._many:
+        if outermost(each.name.rpartition(".")[0]) in self._many and (each.is_own or each.count > FEW):
             return Sign.OWN_OF_MANY if each.is_own else Sign.OTHER_OF_MANY
         if not each.classes.isdisjoint(self._held):
             is_collection = Sign.COLLECTION_BELOW if each.is_collection else Sign.OTHER_BELOW

@@ -6,7 +6,7 @@ from typing import ContextManager, Dict, Iterator, List, NamedTuple, Optional, S
 from heap_tools.changed_copy import Changes, write_copy
 from heap_tools.child_process import Child, Children
 from heap_tools.heap_dump import HeapDump
-from heap_tools.heapmark import Copy, Heapmark, LaterRun
+from heap_tools.heapmark import WORKERS, Copy, Heapmark, LaterRun
 from heap_tools.memory_copy import CopiesInMemory, MemoryCopy
 from heap_tools.parallel import processors
 from heap_tools.reports import Report
@@ -19,6 +19,12 @@ def at_a_time() -> int:
     """Returns how many runs go on at a time at most: one for each processor, since heapmark uses more than one for half
     of its time only."""
     return min(MOST_AT_A_TIME, processors())
+
+
+def workers_of(runs: int) -> int:
+    """Returns with how many workers each of so many runs marks that have not ended yet: as many as there are processors
+    for it. With more, four runs at once took 1.25 seconds in place of 1.05 on four processors."""
+    return max(1, min(WORKERS, -(-processors() // min(runs, at_a_time()))))
 
 
 class ChangedDump(NamedTuple):
@@ -90,9 +96,10 @@ class RunsAtOnce:
 
     def _start(self, number: int, of_run: ContextManager[Copy]) -> None:
         """Starts the run for the dump of this number on a copy, which is in use until the run has ended."""
+        workers = workers_of(len(self._waiting) + len(self._running))
         changed = self._waiting.pop(number)
         in_use = self._in_use.enter_context(contextlib.ExitStack())
-        run = changed.heapmark.later_run(in_use.enter_context(of_run), self._children)
+        run = changed.heapmark.later_run(in_use.enter_context(of_run), self._children, workers)
         self._running[run.child] = _Running(number, changed.dump, run, in_use)
 
     def _end_one(self) -> None:

@@ -9,7 +9,7 @@ from heap_tools.running_calls import DumpSide, asked, sides_of
 from heap_tools.weak_kinds import WeakKind, WeakReferences
 
 #: The share of the growth, in percent, from which on it is said what is held by weak references alone. It is not asked
-#: how much more that is if all that they hold is less than half of it.
+#: how much that is if all that is not reachable without them is less than half of it.
 MUCH_WEAKLY_HELD = 5
 
 
@@ -36,12 +36,13 @@ def followed_of(
     what is reachable in one dump. Soft ones never are by themselves: what they hold is a cache."""
     if wants_all:
         return Followed(True), Followed(True).sides(runs)
-    *cut, last = asked([*sides_of(runs, False), *sides_of(runs[-1:], True, asks_calls=False)])
+    cut = asked(sides_of(runs, False))
     growth = grown(cut, families, unit)
-    # What they hold in the last dump is at least what they hold more than in the first.
-    if 200 * unit.of(weak_growth(cut[-1:], [last], families)) < MUCH_WEAKLY_HELD * growth:
+    # What they hold more than in the first dump is at most what is not reachable in the last one without them.
+    lost = runs[-1].report.total(families).minus(cut[-1].base.total(families))
+    if 200 * unit.of(lost) < MUCH_WEAKLY_HELD * growth:
         return Followed(False), cut
-    whole = weak_growth(cut, [*asked(sides_of(runs[:-1], True, asks_calls=False)), last], families)
+    whole = weak_growth(cut, asked(sides_of(runs, True, asks_calls=False)), families)
     if not is_most(unit.of(whole), growth):
         return Followed(False, amount=whole), cut
     best, sides = Followed(False, amount=whole), cut

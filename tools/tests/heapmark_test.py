@@ -28,7 +28,7 @@ class HeapmarkTest(ToolTest):
     def later(self, heapmark: Heapmark, *copies: Copy) -> List[Tuple[int, Report]]:
         """Returns the numbers and the reports of runs on copies, all at once, in the order in which they end."""
         with Children() as children:
-            runs = {run.child: run for run in (heapmark.later_run(copy, children) for copy in copies)}
+            runs = {run.child: run for run in (heapmark.later_run(copy, children, 1) for copy in copies)}
             ended = [children.next_ended() for _ in copies]
         return [(runs[child].number, runs[child].report(ran)) for child, ran in ended]
 
@@ -129,7 +129,7 @@ class HeapmarkTest(ToolTest):
             with contextlib.ExitStack() as stack:
                 copies = [Copy(name, stack.enter_context(open(name, "rb")).fileno()) for name in names]
                 runs = stack.enter_context(Children())
-                begun = [heapmark.later_run(copy, runs) for copy in copies]
+                begun = [heapmark.later_run(copy, runs, 2) for copy in copies]
                 child, ran = runs.next_ended()
                 self.assertIs(child, begun[number - 1].child)
             ended = "status 3" + ": is it heapmark?" * (number == 1)

@@ -6,6 +6,7 @@ from unittest import mock
 
 from heap_tools.candidates import FIELD, STATIC, THREAD, Candidate
 from heap_tools.likelihood import CHANCES, OF_GROUP, Likelihood, Sign, outermost, spans
+from heap_tools.line_order import FEW
 from heap_tools.probe import Retained
 from heap_tools.reports import Amount
 
@@ -19,9 +20,9 @@ def likelihood() -> Likelihood:
     return Likelihood(mock.Mock(**{"classes_with.return_value": MANY}), [HELD])
 
 
-def field(name: str, is_collection: bool = False) -> Candidate:
-    """Returns a field of the class that declares it."""
-    return Candidate(FIELD, name, 1, {}, frozenset([name.rpartition(".")[0]]), is_collection)
+def field(name: str, is_collection: bool = False, count: int = 1) -> Candidate:
+    """Returns a field that `count` instances of the class have that declares it."""
+    return Candidate(FIELD, name, count, {}, frozenset([name.rpartition(".")[0]]), is_collection)
 
 
 class LikelihoodTest(unittest.TestCase):
@@ -32,7 +33,8 @@ class LikelihoodTest(unittest.TestCase):
         cases: List[Tuple[Candidate, Sign]] = [
             (field("shop/Order.text"), Sign.OWN_OF_MANY),
             (field("shop/Order$Key.text"), Sign.OWN_OF_MANY),
-            (field("java/util/HashMap.table", True), Sign.OTHER_OF_MANY),
+            (field("java/util/HashMap.table", True, FEW + 1), Sign.OTHER_OF_MANY),
+            (field("java/util/HashMap.table", True, FEW), Sign.COLLECTION),
             (field("shop/Line.order"), Sign.OWN_BELOW),
             (field("java/util/ArrayList.elementData", True), Sign.COLLECTION_BELOW),
             (Candidate(FIELD, "java/lang/ref/Reference.queue", 9, {}, frozenset(["shop/Line"])), Sign.OTHER_BELOW),
@@ -59,11 +61,11 @@ class LikelihoodTest(unittest.TestCase):
             field("shop/Order.b"),
         ]
         groups = likelihood().groups([*fields, *(field(f"java/lang/A{number}.a") for number in range(300))])
-        self.assertEqual([len(some) for some, _ in groups], [2, 300, 300])
-        self.assertEqual([*groups[0][0], *groups[1][0]], [*fields[300:], *fields[:300]])
+        self.assertEqual([len(some) for some, _ in groups], [1, 1, 300, 300])
+        self.assertEqual([it for some, _ in groups[:3] for it in some], [*fields[300:], *fields[:300]])
         for some, weights in groups:
             self.assertEqual((len(some), weights), (len(weights), sorted(weights, reverse=True)))
-        self.assertAlmostEqual(sum(groups[1][1]), OF_GROUP, delta=0.01)
+        self.assertAlmostEqual(sum(groups[2][1]), OF_GROUP, delta=0.01)
         self.assertEqual(likelihood().groups([]), [])
 
     def test_outermost(self) -> None:

@@ -20,6 +20,7 @@ cat /dev/stdin > got.$$
 byte=$(od -An -tu1 -j24 -N1 got.$$ | tr -d ' ')
 mkdir running.$copy || touch shared
 ls -d running.* 2> /dev/null | wc -l >> together
+echo "$1" >> workers
 MEANWHILE
 sleep 0.05
 cmp -s got.$$ /dev/stdin || [ -p /dev/stdin ] || touch shared
@@ -82,6 +83,14 @@ class RunsAtOnceTest(ToolTest):
         """Tests how many copies in memory a dump has, and that all have its bytes."""
         whole = pathlib.Path(runs.path).read_bytes()
         self.assertEqual([pathlib.Path(f"/proc/self/fd/{each}").read_bytes() for each in files(runs)], [whole] * count)
+
+    def test_workers(self) -> None:
+        """Runs that go on together share the processors; each has four workers at most, as without the option."""
+        first, last = self.both()
+        for runs, processors, wanted in ((1, 4, 4), (1, 2, 2), (2, 4, 2), (2, 1, 1), (3, 4, 2), (3, 16, 4), (6, 8, 2)):
+            pathlib.Path("workers").unlink(missing_ok=True)
+            self.answers([(first, 1)] * (runs // 2) + [(last, 2)] * (runs - runs // 2), processors)
+            self.assertEqual(pathlib.Path("workers").read_text().split(), [f"--workers={wanted}"] * runs)
 
     def test_processors(self) -> None:
         """There is a run for each processor, but not for more than four."""

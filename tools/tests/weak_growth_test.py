@@ -94,9 +94,9 @@ class FollowedTest(unittest.TestCase):
         )
 
     def test_asked_once(self) -> None:
-        """Each dump is asked once without weak references, and with all: the first one only if they hold much in the
-        last one. If that is most, each is asked once with each of three kinds. What is followed is not asked again."""
-        for kept, counts, runs in ((20_000, {"soft": 2}, 3), (1500, {"soft": 2}, 4), (1500, {"final": 30}, 4 + 6)):
+        """Each dump is asked once without weak references, and once with all if much is lost without them. If that is
+        most, each is asked once with each of three kinds. What is followed is not asked again."""
+        for kept, counts, runs in ((20_000, {"soft": 2}, 2), (1500, {"soft": 2}, 4), (1500, {"final": 30}, 4 + 6)):
             both = referring(1000, {}), referring(kept, counts)
             with mock.patch.object(MarkedRuns, "without", autospec=True, side_effect=MarkedRuns.without) as asked:
                 followed_of(both, None, Unit.BYTES)
