@@ -1,7 +1,6 @@
 """Calls that run while a dump is made: their local variables lead into what fields hold, and do not count."""
 
 import enum
-import itertools
 from typing import List, NamedTuple, Optional, Sequence, Tuple
 
 from heap_tools.candidates import Candidates
@@ -20,27 +19,25 @@ class Calls(enum.Enum):
     OF_JDK = True
 
 
+class Side(NamedTuple):
+    """A dump that is to be asked, and what can hold objects in it."""
+
+    runs: DumpRuns
+    candidates: Candidates
+
+    def without(self, calls: Calls) -> "Side":
+        """Returns the dump without the local variables of these calls."""
+        return Side(self.runs.with_cut(self.candidates.running(calls.value)), self.candidates)
+
+
 class DumpSide(NamedTuple):
     """A dump that is asked: its runs, what can hold objects in it, the report of its runs without changes, and that
-    without the local variables of running calls, too, if it is known."""
+    without the local variables of all calls, too, if it is known."""
 
     runs: DumpRuns
     candidates: Candidates
     base: Report
     quiet: Optional[Report] = None
-
-
-class Side(NamedTuple):
-    """A dump that is to be asked, and with `asks_calls` without the local variables of running calls, too."""
-
-    runs: DumpRuns
-    candidates: Candidates
-    asks_calls: bool = False
-
-    def questions(self) -> List[Question]:
-        """Returns what is asked."""
-        calls = self.candidates.running(Calls.ALL.value) if self.asks_calls else {}
-        return [Question(self.runs), *([Question(self.runs, calls)] if calls else [])]
 
 
 def prepared(dumps: Sequence[DumpRuns], follows_weak: bool, cuts: Sequence[Changes] = ()) -> List[DumpSide]:
@@ -49,40 +46,43 @@ def prepared(dumps: Sequence[DumpRuns], follows_weak: bool, cuts: Sequence[Chang
     return asked(sides_of(dumps, follows_weak, cuts))
 
 
-def sides_of(
-    dumps: Sequence[DumpRuns], follows_weak: bool, cuts: Sequence[Changes] = (), asks_calls: bool = True
-) -> List[Side]:
+def sides_of(dumps: Sequence[DumpRuns], follows_weak: bool, cuts: Sequence[Changes] = ()) -> List[Side]:
     """Returns dumps with weak references cut, unless they are followed, and with the changes `cuts`."""
     candidates = [Candidates(runs.dump, follows_weak) for runs in dumps]
     runs = [each.prepared(of_dump) for of_dump, each in zip(dumps, candidates)]
-    runs = [each.with_cut(cut) for each, cut in zip(runs, cuts)] if cuts else runs
-    return [Side(*each, asks_calls) for each in zip(runs, candidates)]
+    return list(map(Side, [each.with_cut(cut) for each, cut in zip(runs, cuts)] if cuts else runs, candidates))
 
 
 def asked(every: Sequence[Side]) -> List[DumpSide]:
-    """Returns dumps with their reports, asked at once."""
-    questions = [side.questions() for side in every]
-    reports = iter(reports_of(*itertools.chain(*questions)))
+    """Returns dumps with the reports of their runs without changes, asked at once."""
+    return [DumpSide(*side, report) for side, report in zip(every, reports_of(*(Question(it.runs) for it in every)))]
+
+
+def with_calls(every: Sequence[Side], quiet: Sequence[DumpSide]) -> List[DumpSide]:
+    """Returns dumps that are known without the local variables of all calls, which is `quiet`. Those that have such
+    variables are asked at once."""
+    found = iter(asked([side for side, it in zip(every, quiet) if side.runs.cut != it.runs.cut]))
     return [
-        DumpSide(side.runs, side.candidates, *itertools.islice(reports, len(of_side)))
-        for side, of_side in zip(every, questions)
+        it if side.runs.cut == it.runs.cut else next(found)._replace(quiet=it.base) for side, it in zip(every, quiet)
     ]
 
 
 def without(every: Sequence[DumpSide], calls: Calls) -> List[DumpSide]:
     """Returns dumps without the local variables of these calls. Those of which that is not known are asked at once."""
     known = [_known_without(side, calls) for side in every]
-    cut = [Side(side.runs.with_cut(side.candidates.running(calls.value)), side.candidates) for side in every]
+    cut = [Side(*side[:2]).without(calls) for side in every]
     found = iter(asked([side for side, is_known in zip(cut, known) if not is_known]))
     return [side or next(found) for side in known]
 
 
 def _known_without(side: DumpSide, calls: Calls) -> Optional[DumpSide]:
-    """Returns a dump without the local variables of these calls, if it has none or was asked, else None."""
+    """Returns a dump without the local variables of these calls if it leads nowhere by them, or if its report is known,
+    else None."""
     changes = side.candidates.running(calls.value)
-    if changes and (calls is not Calls.ALL or not side.quiet):
-        return None
-    return DumpSide(side.runs.with_cut(changes), side.candidates, side.quiet) if changes and side.quiet else side
+    if changes.keys() <= side.runs.cut.keys():
+        return side
+    quiet = side.quiet if calls is Calls.ALL else None
+    return DumpSide(side.runs.with_cut(changes), side.candidates, quiet) if quiet else None
 
 
 def without_running_calls(

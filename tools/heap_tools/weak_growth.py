@@ -5,11 +5,10 @@ from typing import List, NamedTuple, Optional, Sequence, Tuple
 from heap_tools.dump_runs import DumpRuns
 from heap_tools.humanize import counted, more_are, size
 from heap_tools.reports import Amount, Unit
-from heap_tools.running_calls import DumpSide, asked, sides_of
+from heap_tools.running_calls import Calls, DumpSide, asked, prepared, sides_of, with_calls
 from heap_tools.weak_kinds import WeakKind, WeakReferences
 
-#: The share of the growth, in percent, from which on it is said what is held by weak references alone. It is not asked
-#: how much that is if all that is not reachable without them is less than half of it.
+#: The share of the growth, in percent, from which on it is said what is held by weak references alone.
 MUCH_WEAKLY_HELD = 5
 
 
@@ -25,7 +24,7 @@ class Followed(NamedTuple):
     def sides(self, dumps: Sequence[DumpRuns]) -> List[DumpSide]:
         """Returns dumps in which only these references lead somewhere."""
         cuts = [WeakReferences(each.dump).without_others(self.kind) for each in dumps] if self.kind else []
-        return asked(sides_of(dumps, self.is_any, cuts, asks_calls=self.kind is None))
+        return prepared(dumps, self.is_any, cuts)
 
 
 def followed_of(
@@ -33,16 +32,19 @@ def followed_of(
 ) -> Tuple[Followed, List[DumpSide]]:
     """Returns which weak references are to be followed in the first and the last of some dumps, or in one, and the
     dumps with these: all if the user wants that, else those of a kind that alone hold most of what grew then, or of
-    what is reachable in one dump. Soft ones never are by themselves: what they hold is a cache."""
+    what is reachable in one dump. Soft ones never are by themselves: what they hold is a cache. If they hold little,
+    and running calls do, the dumps are without these, too."""
     if wants_all:
         return Followed(True), Followed(True).sides(runs)
-    cut = asked(sides_of(runs, False))
+    every = sides_of(runs, False)
+    quiet = asked([side.without(Calls.ALL) for side in every])
+    if is_little_lost(runs, quiet, families, unit, grown(quiet, families, unit)):
+        return Followed(False), quiet
+    cut = with_calls(every, quiet)
     growth = grown(cut, families, unit)
-    # What they hold more than in the first dump is at most what is not reachable in the last one without them.
-    lost = runs[-1].report.total(families).minus(cut[-1].base.total(families))
-    if 200 * unit.of(lost) < MUCH_WEAKLY_HELD * growth:
+    if is_little_lost(runs[-1:], cut[-1:], families, unit, growth):
         return Followed(False), cut
-    whole = weak_growth(cut, asked(sides_of(runs, True, asks_calls=False)), families)
+    whole = weak_growth(cut, prepared(runs, follows_weak=True), families)
     if not is_most(unit.of(whole), growth):
         return Followed(False, amount=whole), cut
     best, sides = Followed(False, amount=whole), cut
@@ -56,6 +58,16 @@ def followed_of(
     if best.kind:
         best = best._replace(amount=Amount(), why=why_followed(best.kind, best.amount, runs))
     return best, sides
+
+
+def is_little_lost(
+    dumps: Sequence[DumpRuns], cut: Sequence[DumpSide], families: Optional[List[str]], unit: Unit, growth: int
+) -> bool:
+    """Tests whether so little is not reachable in any of the dumps without what is cut that it does not matter: less
+    than half of what would be said, of the growth with it or without."""
+    both = [(runs.report.total(families), side.base.total(families)) for runs, side in zip(dumps, cut)]
+    lost = max(unit.of(whole) - unit.of(left) for whole, left in both)
+    return 200 * lost < MUCH_WEAKLY_HELD * (growth - lost)
 
 
 def is_most(part: int, rest: int) -> bool:

@@ -7,7 +7,7 @@ from unittest import mock
 from heap_tools.changed_copy import Changes
 from heap_tools.dump_runs import DumpRuns
 from heap_tools.reports import Amount, Report, Row, Unit
-from heap_tools.running_calls import Calls, DumpSide, Side, asked, without, without_running_calls
+from heap_tools.running_calls import Calls, DumpSide, Side, asked, with_calls, without, without_running_calls
 
 #: Places of the local variables of methods of the JDK, and of others.
 OF_JDK, OF_OTHERS = 1, 2
@@ -50,8 +50,11 @@ class RunningCallsTest(unittest.TestCase):
     def side(self, of_jdk: int, of_others: int) -> DumpSide:
         """Returns a dump in which local variables hold so many orders."""
         runs: Any = Runs({OF_JDK: of_jdk, OF_OTHERS: of_others})
-        candidates: Any = Locals()
-        return DumpSide(runs, candidates, runs.base())
+        return DumpSide(runs, self.candidates(), runs.base())
+
+    def candidates(self) -> Any:
+        """Returns what can hold objects in such a dump."""
+        return Locals()
 
     def test_bound(self) -> None:
         """All are cut, or those of the JDK, if that loses at most the given part in each dump."""
@@ -72,17 +75,21 @@ class RunningCallsTest(unittest.TestCase):
                 lost = {Calls.ALL: of_jdk + of_others, Calls.OF_JDK: of_jdk, None: 0}[wanted]
                 self.assertEqual(side.base.amount("Order").objects, 1_000 - lost)
 
-    def test_asked_before(self) -> None:
-        """A dump may be asked with and without running calls at once. Then it is not asked again without all of them."""
+    def test_known_without(self) -> None:
+        """A dump that is known without running calls is not asked for that again, and none that has no such calls."""
         runs: Any = Runs({OF_JDK: 25, OF_OTHERS: 26})
-        candidates: Any = Locals()
-        for asks_calls, questions in ((True, 1), (False, 2)):
-            (side,) = asked([Side(runs, candidates, asks_calls)])
-            with mock.patch.object(Runs, "without", autospec=True, side_effect=Runs.without) as later:
-                _, calls = without_running_calls([side], ["Order"], Unit.OBJECTS, 1_000)
-            self.assertEqual((calls, later.call_count), (Calls.OF_JDK, questions))
-        (side,) = without([DumpSide(runs, candidates, runs.base(), report_of(51))], Calls.ALL)
-        self.assertEqual((side.runs.cut.keys(), side.base.amount("Order").objects), ({OF_JDK, OF_OTHERS}, 949))
+        every = [Side(runs, self.candidates())]
+        quiet = asked([side.without(Calls.ALL) for side in every])
+        self.assertEqual(quiet[0].base.amount("Order").objects, 949)
+        (side,) = with_calls(every, quiet)
+        self.assertEqual((side.base.amount("Order").objects, side.quiet), (1_000, quiet[0].base))
+        self.assertEqual(with_calls([Side(*it[:2]) for it in quiet], quiet), quiet)
+        with mock.patch.object(Runs, "without", autospec=True, side_effect=Runs.without) as later:
+            self.assertEqual([it.base for it in without([side], Calls.ALL)], [it.base for it in quiet])
+            self.assertEqual(without(quiet, Calls.OF_JDK), quiet)
+            self.assertEqual(later.call_count, 0)
+            _, calls = without_running_calls([side], ["Order"], Unit.OBJECTS, 1_000)
+        self.assertEqual((calls, later.call_count), (Calls.OF_JDK, 1))
 
     def test_percent(self) -> None:
         """Another part may be given, and the whole may be that of bytes or of all classes."""
