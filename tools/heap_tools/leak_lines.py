@@ -6,7 +6,7 @@ from typing import Callable, List, NamedTuple, Optional, Sequence, Tuple
 from heap_tools.candidates import FIELD, Candidate, joint_name
 from heap_tools.container_sizes import ContainerSizes
 from heap_tools.heap_objects import HeapObjects
-from heap_tools.line_order import CHAIN, FEW, HARDLY_ANY, MOST, NEARLY, Features, LineOrder, Scoring
+from heap_tools.line_order import CHAIN, HARDLY_ANY, MOST, NEARLY, Features, LineOrder, Scoring
 from heap_tools.object_parts import FieldUses
 from heap_tools.probe import EarlierProbe, GrowthProbe, Probe, Retained
 from heap_tools.reference_paths import ReferencePaths
@@ -72,15 +72,6 @@ class Lines:
         """Returns what was found, the answer first."""
         return [self.every[number] for number in self._order().sorted()]
 
-    def ask_for_steps(self) -> None:
-        """Asks at once whether each line holds the next smaller one: mostly the lines are one path, and which of them
-        holds which follows from its steps."""
-        ordered = sorted(self.found, key=lambda held: -held.heap.objects)
-        steps = [both for both in zip(ordered, ordered[1:]) if self.probe.may_hold(*both, NEARLY)]
-        self.probe.ask([[*upper.candidates, *lower.candidates] for upper, lower in steps])
-        for upper, lower in steps:
-            self.probe.holds_part(upper, lower, NEARLY)
-
     def ask_for_objects(self) -> Optional[LineObjects]:
         """Asks of some lines which objects gained most, and notes if it is one. Returns them, without a number."""
         several = None
@@ -130,11 +121,9 @@ class Lines:
         )
 
     def _with_value(self, held: Retained) -> int:
-        """Returns how many instances have a value in a line's field, all if more than a few do: of several some may
-        have none."""
+        """Returns how many instances have a value in a line's field: of several some may have none."""
         may_be_null = self._is_field(held) and held.instances > 1
-        count = self.uses.count(held.candidates[0]) if may_be_null else held.instances
-        return count if count <= FEW else held.instances
+        return self.uses.count(held.candidates[0]) if may_be_null else held.instances
 
     def _is_field(self, held: Retained) -> bool:
         """Tests whether a line is one field of instances."""
@@ -198,7 +187,6 @@ def lines_found(
     """Returns the `top` first lines of what a search has found, the objects that gained most of one, and how many more
     lines there are."""
     found = Lines(search, probe, between)
-    found.ask_for_steps()
     objects = found.ask_for_objects()
     ranked = found.sorted()
     paths, lines = ReferencePaths(probe, [*ranked, *search.steady]), []

@@ -169,7 +169,10 @@ class SearchTogether:
         """Finds those of each unit of `kin` that hold enough only together."""
         known = len(self.search.found)
         several = [each for each in kin if len(each) > 1]
-        for unit in self.search.heavy([Group(several, [1.0] * len(several))], budget.questions):
+        one = Group(several, [1.0] * len(several))
+        for unit in self.search.heavy([one], budget.questions) if len(several) > 1 else several:
+            # All this is asked for to tell which of them are needed.
+            self.probe.expect([], [[each] for each in unit] if len(unit) <= MOST_NEEDED else [])
             if self.has_share(unit):
                 least = max(PART_NEEDED * self.probe.share(unit), self.at_least)
                 needed = self.needed(unit, [], 0, least, budget)
