@@ -1,6 +1,6 @@
 """How many elements the containers have that fields lead to: what piles up is in large ones."""
 
-from typing import Dict, Iterable, List, Sequence
+from typing import Dict, Iterable, List, Sequence, Set
 
 from heap_tools import hprof_format as hprof
 from heap_tools.candidates import Candidate
@@ -23,13 +23,17 @@ class ContainerSizes:
         objects three times."""
         id_at, values = self.objects.dump.id, values_by_field(self.objects, [each.name for each in fields], FEW, 0)
         targets = {name: {id_at(each.value) for each in found.values} for name, found in values.items()}
-        places = self.objects.places_of(key for keys in targets.values() for key in keys)
+        sizes = self.of({key for keys in targets.values() for key in keys})
+        return sorted(fields, key=lambda each: -max((sizes.get(key, 0) for key in targets[each.name]), default=0))
+
+    def of(self, containers: Set[int]) -> Dict[int, int]:
+        """Returns how many elements each of the objects with these identifiers has. Walks over all objects twice."""
+        places = self.objects.places_of(containers)
         parts = {key: self.objects.references_of(at).values() for key, at in places.items()}
         known = self.objects.places_of(key for keys in parts.values() for key in keys)
-        sizes = {
+        return {
             key: self._size(at, [known[part] for part in parts[key] if part in known]) for key, at in places.items()
         }
-        return sorted(fields, key=lambda each: -max((sizes.get(key, 0) for key in targets[each.name]), default=0))
 
     def _size(self, at: int, parts: Iterable[int]) -> int:
         """Returns how many elements the object at `at` has: an array, or an object with these parts."""

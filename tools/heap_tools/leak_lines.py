@@ -6,6 +6,7 @@ from typing import Callable, List, NamedTuple, Optional, Sequence, Tuple
 from heap_tools.candidates import FIELD, Candidate, joint_name
 from heap_tools.container_sizes import ContainerSizes
 from heap_tools.heap_objects import HeapObjects
+from heap_tools.lasting_elements import LastingElements
 from heap_tools.line_order import CHAIN, HARDLY_ANY, MOST, NEARLY, Features, LineOrder, Scoring
 from heap_tools.object_parts import FieldUses
 from heap_tools.probe import EarlierProbe, GrowthProbe, Probe, Retained
@@ -84,6 +85,19 @@ class Lines:
             if several is None and tell_apart(objects):
                 several = LineObjects(0, self.every[number], objects)
         return several
+
+    def ask_for_elements(self) -> None:
+        """Asks what elements of the answer's container that were there before gained by fields below it, and notes it:
+        what leaks may have these fields, too, such as nodes of a tree."""
+        order, probe = self._order(), self.probe
+        answer, asked = order.answer(), order.to_ask_of_elements()
+        if answer is None or not asked or not isinstance(probe, GrowthProbe):
+            return
+        elements = LastingElements(probe, self.every[answer], self.uses)
+        for number in asked:
+            line = self.features[number]
+            of_elements = elements.gain(self.every[number].candidates[0]) / line.gain
+            self.features[number] = dataclasses.replace(line, of_elements=of_elements)
 
     def _objects_of(self, held: Retained) -> List[HoldingObject]:
         """Returns which objects gained most of what `held` did, or of one dump hold most."""
@@ -188,6 +202,7 @@ def lines_found(
     lines there are."""
     found = Lines(search, probe, between)
     objects = found.ask_for_objects()
+    found.ask_for_elements()
     ranked = found.sorted()
     paths, lines = ReferencePaths(probe, [*ranked, *search.steady]), []
     for held in ranked[:top]:

@@ -1,20 +1,21 @@
 """The order of the lines of `leaks`, the answer first.
 
-A line's score is what it gained without what came with new instances (unless one object gained most), without what was
-above it, below it or in a field of its class before, and nothing if it did not grow at each step between dumps. If no
-score is a quarter of the growth, nothing that lasts holds what grew: the answer is the topmost line, a thread before
-others. Else the answer is the deepest line on the path of the best score (of those with nine tenths of it, of the line
-whose name says most), above or below it, that has half of that score: the accumulation point. A collection, several of
-the JDK or with a thread together, a variable of a lambda or a thread is the answer only if no other line on that path
-has nine tenths of that score, or half of it below; of fields, own ones, and those of which one object gained most, come
-before the JDK's in the same way. The other lines follow by their scores.
+A line's score is what it gained without what came with new instances (unless one object gained most, or elements that
+the answer had before), without what was above it, below it or in a field of its class before, and nothing if it did not
+grow at each step between dumps. If no score is a quarter of the growth, nothing that lasts holds what grew: the answer
+is the topmost line, a thread before others. Else the answer is the deepest line on the path of the best score (of those
+with nine tenths of it, of the line whose name says most), above or below it, that has half of that score: the
+accumulation point. A collection, several of the JDK or with a thread together, a variable of a lambda or a thread is
+the answer only if no other line on that path has nine tenths of that score, or half of it below; of fields, own ones,
+and those of which one object gained most, come before the JDK's in the same way. The other lines follow by their
+scores.
 """
 
 import enum
 from dataclasses import dataclass, field
 from typing import Callable, Iterable, List, Mapping, Optional, Sequence, Tuple
 
-from heap_tools.candidates import FIELD, THREAD, THREADS, Candidate
+from heap_tools.candidates import FIELD, STATIC, THREAD, THREADS, Candidate
 from heap_tools.probe import Retained
 
 #: The part of the best score that a line must have to be on its path. 0.4 to 0.6 gave the same answers.
@@ -52,7 +53,8 @@ class Features:
     `instances` have the field, `with_value` of them with a value in it, and `instances_before` had it in the first
     dump. `amount` and `before` are what they hold and held, in the unit of the question. `heap` is the number of all
     objects that they hold, `gains` of how many objects they gained by class. `of_one` is the part of its gain that one
-    object has, if that is most. `is_line`: it gained enough; else it only shows what was held before."""
+    object has, if that is most, `of_elements` that of elements of the answer's container that were there before.
+    `is_line`: it gained enough; else it only shows what was held before."""
 
     name: str
     kinds: Tuple[str, ...]
@@ -67,6 +69,7 @@ class Features:
     gains: Mapping[str, int] = field(default_factory=dict)
     grew_at_each_step: bool = True
     of_one: float = 0.0
+    of_elements: float = 0.0
     is_chain: bool = False
     is_line: bool = True
 
@@ -154,7 +157,7 @@ class LineOrder:
             return line.amount if line.with_value <= FEW else line.amount * line.of_one
         if not self._is_steady(number):
             return 0.0
-        score = max(line.lasting_gain, line.of_one * line.gain)
+        score = max(line.lasting_gain, max(line.of_one, line.of_elements) * line.gain)
         for it, other in enumerate(self.lines):
             both = line.gain * line.part_of(other)
             if it != number and other.gain < MOST * line.gain and self.holds(it, number):
@@ -221,6 +224,19 @@ class LineOrder:
         found = [it for it in found if it == answer or self._is_below(it, answer)]
         found.sort(key=lambda it: (-max(lines[it].says, 1), lines[it].with_value))
         return [*found[:MOST_ASKED], *([] if answer in found else [answer])]
+
+    def to_ask_of_elements(self) -> List[int]:
+        """Returns the lines of which it is to be asked what the elements of the answer's container gained: fields below
+        it that gained most of what it did, by new instances, those first whose names say most."""
+        answer = self.answer()
+        if answer is None or self.lines[answer].kinds not in ((FIELD,), (STATIC,)):
+            return []
+        lines, least = self.lines, MOST * self.lines[answer].gain
+        found = [
+            it for it in self.numbers if lines[it].kinds == (FIELD,) and lines[it].says and lines[it].gain >= least
+        ]
+        found = [it for it in found if self.scores[it] < MOST * self.scores[answer] and self._is_below(it, answer)]
+        return sorted(found, key=lambda it: (-lines[it].says, -lines[it].heap))[:MOST_ASKED]
 
     def _has_objects(self, number: int) -> bool:
         """Tests whether a line is about several instances, of which one may hold most. Of many collections one that

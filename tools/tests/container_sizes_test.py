@@ -54,6 +54,11 @@ class LargestFirstTest(unittest.TestCase):
             found = self.sorted(dump, *names, "shop/Room.guests")
             self.assertEqual(found, ["guests", "map", "array", "list", "nothing", "bytes"])
 
+    def test_sizes(self) -> None:
+        """The size of each container is known, none of what is no object."""
+        found = ContainerSizes(HeapObjects(marked(self.dump(8)).dump)).of({200, 201, 202, 203, 211, 999, 0})
+        self.assertEqual(found, {200: 3, 201: 64, 202: 8, 203: 0, 211: 70})
+
     def test_none(self) -> None:
         """There may be no field."""
         found = ContainerSizes(HeapObjects(marked(self.dump(8)).dump)).largest_first([])

@@ -76,6 +76,17 @@ class LinesTest(unittest.TestCase):
         self.assertEqual((str(found.held.candidates[0]), names[0], count), ("shop/Mail.text", "static shop/A.ALL", 3))
         self.assertEqual(self.asked([[], [], []])[::2], (None, 3))
 
+    def test_elements(self) -> None:
+        """A field that came with new instances is the answer if elements of what was the answer gained most by it."""
+        for part, wanted in ((0.8, "shop/Tenant.inbox"), (0.4, "static shop/A.ALL")):
+            lines = self.lines([ROOT, INBOX], [], MAILS, before=0)
+            with mock.patch("heap_tools.leak_lines.LastingElements") as elements:
+                elements.return_value.gain.side_effect = lambda asked: part * 105
+                lines.ask_for_elements()
+            self.assertEqual(elements.return_value.gain.call_args_list, [mock.call(INBOX)])
+            self.assertEqual(elements.call_args[0][1].candidates, [ROOT])
+            self.assertEqual(str(lines.sorted()[0].candidates[0]), wanted)
+
     def test_kin(self) -> None:
         """What a field of the same class held before did not grow."""
         _, green, other = FIELDS

@@ -20,6 +20,7 @@ SPOKEN: Dict[str, Dict[str, Any]] = {
     "had": {"before": 400},
     "one": {"of_one": 0.9},
     "half": {"of_one": 0.6},
+    "elements": {"of_elements": 0.9},
     "unsteady": {"grew_at_each_step": False},
     "chain": {"is_chain": True},
     "together": {"kinds": (STATIC, STATIC)},
@@ -79,6 +80,9 @@ rules 1 and 2, one object refutes that nothing lasts: threads "job" (900 9..99),
 rules 1 and 2, what moved does not last: shop/Swap.s (moved) > shop/B.b (900), *shop/Order.text (10..110)
 rules 1 and 3, the payload is deeper: *static shop/A.STORE > shop/Order.text (10..110)
 rules 1 and 3, one object is deeper: static shop/A.STORE > *shop/Tenant.inbox (9..99 one)
+rules 1 and 3, elements of the answer are deeper: static shop/A.NET > *shop/Node.edges (9..99 elements)
+rules 1 and 3, of elements and payload the former: shop/A.net > *shop/Node.edges (9..99 elements) > shop/E.to (9..99)
+rules 1 and 4, elements of the JDK are not: *static shop/A.NET > java/awt/Container.component (9..99 elements)
 rules 1 and 3, one object has less than half: *static shop/A.STORE > shop/Tenant.inbox (800 9..99 half)
 rules 1 and 4, a field of the JDK of which one object gained most: static shop/A.a > *java/lang/Queue.list (9..9 one)
 rules 1 and 4, a collection of which one object did: *static shop/A.a > java/util/HashMap.table (9..9 one)
@@ -250,6 +254,29 @@ class LineOrderTest(unittest.TestCase):
             [names[number] for number in order.to_ask()], ["shop/D.d", "shop/C.c", "java/lang/L.l", "static shop/A.a"]
         )
         self.assertEqual(LineOrder([], lambda upper, lower: False, GROWTH).to_ask(), [])
+
+    def test_to_ask_of_elements(self) -> None:
+        """What elements of the answer's container gained is asked of fields below it that gained most of what it did,
+        by new instances: of those first whose names say most, then of those that hold most, at most three. It is not
+        asked if nothing has one container."""
+        for asked, is_asked in (
+            ("shop/Node.edges (9..99 chain)", True),
+            ("shop/Node.edges (500 9..99)", True),
+            ("shop/Node.edges (499 9..99)", False),
+            ("java/lang/Queue.list (600)", False),
+            ("static shop/Node.edges (9..99)", False),
+            ("java/util/Node.value (9..99)", False),
+            ("java/awt/Container.component (9..99)", True),
+        ):
+            order, _ = Row.of(f"one: *static shop/A.net > {asked}, shop/Beside.b (9..99)").order()
+            self.assertEqual(order.to_ask_of_elements(), [1] if is_asked else [], asked)
+        fields = ["java/lang/L.l (9..99)", "shop/B.b (9..99)", "shop/C.c (9..99)", "shop/D.d (9..99)"]
+        order, names = Row.of(f"all: *static shop/A.a > {' > '.join(fields)}").order()
+        self.assertEqual([names[number] for number in order.to_ask_of_elements()], ["shop/B.b", "shop/C.c", "shop/D.d"])
+        for above in ("two (together)", 'thread "main"', "local shop/Main.run"):
+            order, _ = Row.of(f"none: *{above} > shop/Node.edges (9..99)").order()
+            self.assertEqual(order.to_ask_of_elements(), [], above)
+        self.assertEqual(LineOrder([], lambda upper, lower: False, GROWTH).to_ask_of_elements(), [])
 
     def test_help(self) -> None:
         """The help of leaks quotes the order."""

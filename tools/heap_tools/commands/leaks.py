@@ -45,17 +45,18 @@ threads in its method. Fields above a field, from a static field, a local
 variable or a thread down, stand before it: in `A > B`, A holds all that B does.
 
 A line's score is what it gained without what came with new instances (unless
-one object gained most), without what was above it, below it or in a field of
-its class before, and nothing if it did not grow at each step between dumps. If
-no score is a quarter of the growth, nothing that lasts holds what grew: the
-answer is the topmost line, a thread before others. Else the answer is the
-deepest line on the path of the best score (of those with nine tenths of it, of
-the line whose name says most), above or below it, that has half of that score:
-the accumulation point. A collection, several of the JDK or with a thread
-together, a variable of a lambda or a thread is the answer only if no other line
-on that path has nine tenths of that score, or half of it below; of fields, own
-ones, and those of which one object gained most, come before the JDK's in the
-same way. The other lines follow by their scores.
+one object gained most, or elements that the answer had before), without what
+was above it, below it or in a field of its class before, and nothing if it did
+not grow at each step between dumps. If no score is a quarter of the growth,
+nothing that lasts holds what grew: the answer is the topmost line, a thread
+before others. Else the answer is the deepest line on the path of the best score
+(of those with nine tenths of it, of the line whose name says most), above or
+below it, that has half of that score: the accumulation point. A collection,
+several of the JDK or with a thread together, a variable of a lambda or a thread
+is the answer only if no other line on that path has nine tenths of that score,
+or half of it below; of fields, own ones, and those of which one object gained
+most, come before the JDK's in the same way. The other lines follow by their
+scores.
 
 Collections are classes that inherit from those of the JDK, classes whose names
 end with Map, List, Set, Queue or Deque, and classes within these. An object of
