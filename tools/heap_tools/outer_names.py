@@ -29,6 +29,8 @@ NODE_CLASSES = frozenset(node for _, node, key in MAP_NODES if key == "key")
 #: Fields that are called like names, but say nothing of what leads there: the name of a thread or of a constant, and
 #: the key of a map's node, such as the first one, which is that of its value.
 OTHER_NAMES = (("java/lang/Thread", "name"), ("java/lang/Enum", "name"), *((node, "key") for node in NODE_CLASSES))
+#: How many elements an array has at most whose texts are labels: in a longer one is what an object is for.
+MOST_LABELS = 16
 #: With how many other objects these names are compared: each is looked for in the whole dump.
 OTHERS = 3
 
@@ -41,9 +43,13 @@ class OuterNames:
 
     def of(self, places: Sequence[int], others: Sequence[int]) -> Dict[int, List[Name]]:
         """Returns the name of what each of the objects at `places` is made of, and those of its nearest owners that
-        have any. A name that another object has too names nothing. Walks over all objects some times."""
+        have any; if there are none, its labels. A name that another object has too names nothing. Walks over all
+        objects some times."""
         parts, owners = self._by_part(places, others), self._by_owner(places, others)
-        return {at: first_of_texts([*parts[at][:1], *owners[at]])[:NAMES_SHOWN] for at in places}
+        found = {at: first_of_texts([*parts[at][:1], *owners[at]])[:NAMES_SHOWN] for at in places}
+        nameless = [at for at in places if not found[at]]
+        labels = self._by_label(nameless, [*others, *(at for at in places if found[at])]) if nameless else {}
+        return {at: found[at] or first_of_texts(labels[at])[:NAMES_SHOWN] for at in places}
 
     def _by_part(self, places: Sequence[int], others: Sequence[int]) -> Dict[int, List[Name]]:
         """Returns the names of what objects are made of: texts in fields that are called like names."""
@@ -56,6 +62,42 @@ class OuterNames:
             for at, paths in parts.items()
         }
         return alone_in(names)
+
+    def _by_label(self, places: Sequence[int], others: Sequence[int]) -> Dict[int, List[Name]]:
+        """Returns the labels of objects: texts in small arrays that are parts of them, or that parts of them have, as
+        lists and small maps do."""
+        fields = {at: self.objects.references_of(at) for at in [*places, *others]}
+        known = self.objects.places_of({target for of_object in fields.values() for target in of_object.values()})
+        arrays = {at: self._arrays_of_parts(at, of_object, known) for at, of_object in fields.items()}
+        inner = self.objects.places_of({target for paths in arrays.values() for target in paths.values()})
+        elements = {target: self._few_elements(at) for target, at in inner.items()}
+        texts = self.objects.texts({each for of_array in elements.values() for each in of_array})
+        names = {
+            at: [
+                Name(f"its field {path}", shown_text(texts[each]))
+                for path, target in paths.items()
+                for each in elements.get(target, ())
+                if texts.get(each)
+            ]
+            for at, paths in arrays.items()
+        }
+        return alone_in(names)
+
+    def _arrays_of_parts(self, at: int, fields: Mapping[str, int], known: Mapping[int, int]) -> Dict[str, int]:
+        """Returns what may be arrays of the object at `at`: what its `fields` lead to, and what the fields of that do,
+        by the path to it. What an object of its own class has is that of a neighbour."""
+        own, found = self.objects.class_name(at), {}
+        for field, target in fields.items():
+            if target in known and self.objects.class_name(known[target]) != own:
+                found[field] = target
+                inner = self.objects.references_of(known[target]).items()
+                found.update({f"{field}.{name}": each for name, each in inner})
+        return found
+
+    def _few_elements(self, at: int) -> List[int]:
+        """Returns the identifiers of the elements of an array of references that has few, else nothing."""
+        is_array = self.dump.bytes[at] == hprof.OBJECT_ARRAY
+        return list(self.objects.elements_of(at)) if is_array and self.objects.length_of(at) <= MOST_LABELS else []
 
     def _by_owner(self, places: Sequence[int], others: Sequence[int]) -> Dict[int, List[Name]]:
         """Returns the names of the nearest owners that have any."""

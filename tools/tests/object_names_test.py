@@ -251,6 +251,28 @@ class NamesTest(unittest.TestCase):
         self.assertEqual(self.names(dump, 300, others=[301]), [wanted])
         self.assertEqual(self.names(dump, 301, others=[300]), [[]])
 
+    def test_labels(self) -> None:
+        """An object that nothing else names has the texts in small arrays of its own, and in those of its parts, but
+        not of another object of its class. Texts that others have, too, and those in a longer array name nothing."""
+        for length, wanted in ((16, ['its field meta.array "printer"']), (17, [])):
+            dump = Queues([])
+            dump.of_class(20, "shop/Map", fields=["array"])
+            dump.of_class(21, "shop/Agent", fields=["meta", "next", "labels"])
+            dump.of_class(22, "[Ljava/lang/Object;")
+            for number, text in enumerate(("clerk", "printer", "clerk-7", "GET", "eu"), 60_000):
+                dump.string(number, text)
+            for number, labels in enumerate(((60_000, 60_001), (60_000, 60_002))):
+                dump.instance(300 + number, 21, 310 + number, 301 if number == 0 else 0, 330 + number)
+                dump.instance(310 + number, 20, 320 + number)
+                dump.array(320 + number, 22, *labels, *[0] * (length - 2))
+                dump.array(330 + number, 22, 60_003, 0 if number == 0 else 60_004)
+            dump.root(300, 301)
+            self.assertEqual(self.names(dump, 300, others=[301]), [wanted])
+            others = ['its field meta.array "clerk-7"'][: len(wanted)]
+            self.assertEqual(self.names(dump, 301, others=[300]), [[*others, 'its field labels "eu"']])
+            dump.instance(340, 5, 60_001, 301)
+            self.assertEqual(self.names(dump, 301, others=[300]), [['the map\'s key "printer"']])
+
     def test_neighbour(self) -> None:
         """The name of a neighbour, an object of the same class, names no object that it leads to, be it by one of the
         class or not, and neither does the stack where an object was made; what an owner is made of does."""
