@@ -15,7 +15,13 @@ from heap_tools.reports import Amount
 from heap_tools.search import Search
 from heap_tools.search_progress import SearchProgress
 from heap_tools.search_together import SearchTogether
-from heap_tools.which_object import HoldingObject, objects_that_grew, objects_that_hold, tell_apart
+from heap_tools.which_object import (
+    HoldingObject,
+    object_leading_to,
+    objects_that_grew,
+    objects_that_hold,
+    tell_apart,
+)
 
 
 class Line(NamedTuple):
@@ -74,7 +80,8 @@ class Lines:
         return [self.every[number] for number in self._order().sorted()]
 
     def ask_for_objects(self) -> Optional[LineObjects]:
-        """Asks of some lines which objects gained most, and notes if it is one. Returns them, without a number."""
+        """Asks of some lines which objects gained most, and notes if it is one. Returns them, without a number; if
+        there are none, what leads to the answer if that is one object."""
         several = None
         for number in self._order().to_ask():
             objects = self._objects_of(self.every[number])
@@ -84,7 +91,22 @@ class Lines:
                 return LineObjects(0, self.every[number], objects)
             if several is None and tell_apart(objects):
                 several = LineObjects(0, self.every[number], objects)
-        return several
+        return several or self._leading_to_answer()
+
+    def _leading_to_answer(self) -> Optional[LineObjects]:
+        """Returns which of several objects leads to the answer, if only one object has that field, and what names it:
+        it has the field of the nearest line above of which that is known."""
+        answer = self._order().answer()
+        if answer is None or self.every[answer].instances > 1 or not self._is_field(self.every[answer]):
+            return None
+        held, least = self.every[answer], self.every[answer].heap.objects
+        above = [it for it in self.found if self._is_field(it) and it.instances > 1 and it.heap.objects >= least]
+        for upper in sorted(above, key=lambda it: it.heap.objects):
+            for only in self.uses.of(held.candidates[0]).values:
+                found = object_leading_to(self.probe, upper, only.instance, held.amount, self.uses)
+                if found and found.names:
+                    return LineObjects(0, upper, [found])
+        return None
 
     def ask_for_elements(self) -> None:
         """Asks what elements of the answer's container that were there before gained by fields below it, and notes it:

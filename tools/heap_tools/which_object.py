@@ -166,6 +166,17 @@ def objects_that_hold(probe: Probe, held: Retained, uses: Optional[FieldUses] = 
     return []
 
 
+def object_leading_to(
+    probe: Probe, held: Retained, at: int, amount: Amount, uses: Optional[FieldUses] = None
+) -> Optional[HoldingObject]:
+    """Returns the one of the objects by which `held` holds what it does that leads straight to the object at `at`,
+    which holds `amount`, None if it is no question. `uses` may know the values of the field."""
+    parts = PartsOfField(probe, held, uses=uses)
+    target, id_at = probe.runs.dump.id(at + 1), probe.runs.dump.id
+    found = [each for each in parts.parts.values if id_at(each.value) == target] if parts.is_question else []
+    return parts.described([Holding(found[0], amount)], held.amount)[0] if len(found) == 1 else None
+
+
 def objects_that_grew(probe: GrowthProbe, held: Retained, uses: Optional[FieldUses] = None) -> List[HoldingObject]:
     """Returns the objects that gained most of what the field `held` gained, the heaviest first: with what they gained
     if that was measured in both dumps, else with what they hold now. Returns nothing if many gained a little each, if

@@ -5,9 +5,11 @@ from typing import List, Optional, Sequence, Tuple
 from unittest import mock
 
 from heap_tools.candidates import FIELD, STATIC, Candidate
+from heap_tools.heap_objects import FieldValue
 from heap_tools.leak_lines import LineObjects, Lines
 from heap_tools.line_order import NEARLY
 from heap_tools.naming import Name
+from heap_tools.object_parts import Parts
 from heap_tools.probe import Retained
 from heap_tools.reports import Amount
 from heap_tools.which_object import HoldingObject
@@ -75,6 +77,31 @@ class LinesTest(unittest.TestCase):
         assert found
         self.assertEqual((str(found.held.candidates[0]), names[0], count), ("shop/Mail.text", "static shop/A.ALL", 3))
         self.assertEqual(self.asked([[], [], []])[::2], (None, 3))
+
+    def leading(self, answer: Candidate, named: bool) -> Tuple[Optional[LineObjects], List[int]]:
+        """Returns what leads to the answer `answer`, the object 77, below fields of 24 and of 9 instances, and how many
+        instances have the fields that are asked which of them does: it has a name if `named`."""
+        above = [field("shop/Topic.feed", 24), field("shop/Feed.store", 9), Candidate(STATIC, "shop/A.ALL", 1, {})]
+        things: Things = [([[each.name] for each in [answer, *above]], 100), ([["shop/A.ALL"], [above[0].name]], 5)]
+        lines = self.lines([*above, answer], [], things, before=1)
+        lines.uses = mock.Mock(**{"of.return_value": Parts([FieldValue(77, 78)])})
+        (found,) = holding(100)
+        found = found if named else found._replace(names=[])
+        with mock.patch("heap_tools.leak_lines.objects_that_grew", return_value=[]):
+            with mock.patch("heap_tools.leak_lines.object_leading_to", return_value=found) as asked:
+                leading = lines.ask_for_objects()
+        self.assertEqual({call[0][2] for call in asked.call_args_list} - {77}, set())
+        return leading, [call[0][1].instances for call in asked.call_args_list]
+
+    def test_leading(self) -> None:
+        """If the answer is the field of one object, that is named by what leads there of the nearest line above; by the
+        next one if that has no name. It is not asked for if it is a static field, or if several have the field."""
+        found, asked = self.leading(field("shop/Store.events"), True)
+        assert found
+        self.assertEqual((str(found.held.candidates[0]), asked), ("shop/Feed.store", [9]))
+        self.assertEqual(self.leading(field("shop/Store.events"), False), (None, [9, 24]))
+        self.assertEqual(self.leading(field("shop/Store.events", 2), True), (None, []))
+        self.assertEqual(self.leading(Candidate(STATIC, "shop/Store.EVENTS", 1, {}), True), (None, []))
 
     def test_elements(self) -> None:
         """A field that came with new instances is the answer if elements of what was the answer gained most by it."""

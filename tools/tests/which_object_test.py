@@ -15,6 +15,7 @@ from heap_tools.which_object import (
     HoldingObject,
     PartsOfField,
     hidden,
+    object_leading_to,
     objects_that_grew,
     objects_that_hold,
     sentence,
@@ -237,6 +238,23 @@ class HoldsTest(unittest.TestCase):
             self.assertEqual((found.named_by, found.percent > 97), ('its field name "folder 3"', True))
             chain = Folders(list(range(1, 40)), [50] * 40, id_size)
             self.assertEqual(self.holding(chain, "disk/Folder.folders"), [])
+
+    def test_leading(self) -> None:
+        """The one of several objects that leads straight to an object is named without a run; it is no question if
+        several do, none, or if there is only one."""
+        dump = Queues([7, 9_000, 8], sharing=[0, 2])
+        probe = probe_of(dump)
+        held = held_by(probe, CONTENT)
+        places, runs = HeapObjects(probe.runs.dump).places_of([200, 30_000, 30_001]), probe.runs.heapmark.runs
+        found = object_leading_to(probe, held, places[30_001], Amount(1, 9_000))
+        assert found
+        self.assertEqual(str(found), 'shop/Queue (its field name "queue 1"): 100%')
+        self.assertEqual((found.amount, found.of, probe.runs.heapmark.runs), (Amount(1, 9_000), 3, runs))
+        for number in (200, 30_000):
+            self.assertIsNone(object_leading_to(probe, held, places[number], Amount(1, 9_000)))
+        only = probe_of(Queues([9_000]))
+        at = HeapObjects(only.runs.dump).places_of([30_000])[30_000]
+        self.assertIsNone(object_leading_to(only, held_by(only, CONTENT), at, Amount(1, 9_000)))
 
 
 class GrewTest(unittest.TestCase):
