@@ -339,6 +339,8 @@ seen/PreferenceService 17 2
     java/util/prefs/AbstractPreferences.kidCache | seen/PreferenceService.visitors
 seen/ConvertService 17 2
     seen/ConvertService$JobStore.jobs
+seen/TripService 17 2
+    seen/TripService$Node.edges
 seen/UsageService 17 2 libguava-java guava
     com/google/common/collect/StandardTable.backingMap | seen/UsageService.uses
     says acme-trial
@@ -377,6 +379,10 @@ seen/SiftService 17 2 liblogback-java,libslf4j-java logback-classic,logback-core
         | ch/qos/logback/core/sift/SiftingAppenderBase.appenderTracker
 seen/RealmService 17 2 libplexus-classworlds-java plexus-classworlds
     org/codehaus/plexus/classworlds/ClassWorld.realms | seen/RealmService.world
+seen/FerryService 17 2 librx-java,libreactive-streams-java rxjava,reactive-streams
+    io/reactivex/rxjava3/subjects/ReplaySubject$UnboundedReplayBuffer.buffer
+        | io/reactivex/rxjava3/subjects/ReplaySubject.buffer
+    says north-pier
 judge/ReplicaService 17 2
     java/io/ObjectOutputStream$HandleTable.objs | java/io/ObjectOutputStream.handles | judge/ReplicaService$Replica.out
     says lisbon-2
@@ -406,8 +412,6 @@ judge/BoardService 17 3
     java/util/concurrent/SubmissionPublisher.clients | judge/BoardService.departures
 judge/VisitService 17 2
     judge/VisitService$Visitors.bySilence
-judge/TripService 17 2
-    judge/TripService$Node.edges
 judge/OutlineService 17 3
     static judge/OutlineService.OUTLINES
 judge/TellerService 17 2 libhsqldb-java hsqldb
@@ -428,10 +432,6 @@ judge/DelayService 17 3 libcommons-math3-java commons-math3
     org/apache/commons/math3/util/ResizableDoubleArray.internalArray
         | org/apache/commons/math3/stat/descriptive/DescriptiveStatistics.eDA | judge/DelayService$Line.delays
     says airport
-judge/FerryService 17 2 librx-java,libreactive-streams-java rxjava,reactive-streams
-    io/reactivex/rxjava3/subjects/ReplaySubject$UnboundedReplayBuffer.buffer
-        | io/reactivex/rxjava3/subjects/ReplaySubject.buffer
-    says north-pier
 judge/SeatService 17 3 libfastutil-java fastutil
     it/unimi/dsi/fastutil/longs/Long2ObjectOpenHashMap.value | judge/SeatService$Hall.holds
     says open-air

@@ -1,4 +1,4 @@
-package judge;
+package seen;
 
 import hard.Course;
 import io.reactivex.rxjava3.subjects.ReplaySubject;

@@ -1,4 +1,4 @@
-package judge;
+package seen;
 
 import hard.Course;
 import java.util.ArrayList;
