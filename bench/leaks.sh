@@ -78,6 +78,7 @@ shop/ScopeService 25 2
     shop/ScopeService$Context.answered
 load/LogbackService 17 2 liblogback-java,libslf4j-java logback-classic,logback-core,slf4j-api
     ch/qos/logback/classic/LoggerContext.loggerCache | ch/qos/logback/classic/Logger.childrenList
+        | together ch/qos/logback/classic/LoggerContext.loggerCache, ch/qos/logback/classic/LoggerContext.root
 load/Log4jService 17 2 liblog4j2-java log4j-api,log4j-core
     org/apache/logging/log4j/core/config/LoggerConfig.appenders
         | org/apache/logging/log4j/core/config/AppenderControlArraySet.appenderArray
