@@ -415,6 +415,8 @@ judge/VisitService 17 2
     judge/VisitService$Visitors.bySilence
 judge/OutlineService 17 3
     static judge/OutlineService.OUTLINES
+judge/FundService 17 2
+    judge/FundService$Fund.pages
 judge/TellerService 17 2 libhsqldb-java hsqldb
     org/hsqldb/StatementManager.csidMap | org/hsqldb/StatementManager.statementSet
         | org/hsqldb/Session.statementManager
@@ -452,6 +454,9 @@ judge/ScanService 17 2 libcommons-vfs-java commons-vfs2,commons-logging
         | org/apache/commons/vfs2/provider/ram/RamFileData.children
 judge/SenderService 17 2 libdnsjava-java dnsjava
     org/xbill/DNS/Cache.data | judge/SenderService.found
+judge/ReadingService 17 2 libguava-java guava
+    com/google/common/collect/TreeRangeSet.rangesByLowerBound | judge/ReadingService$Station.received
+    says summit
 PROGRAMS
 }
 
