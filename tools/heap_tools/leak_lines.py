@@ -7,7 +7,8 @@ from heap_tools.candidates import FIELD, Candidate, joint_name
 from heap_tools.container_sizes import ContainerSizes
 from heap_tools.heap_objects import HeapObjects
 from heap_tools.lasting_elements import LastingElements
-from heap_tools.line_order import CHAIN, HARDLY_ANY, MOST, NEARLY, Features, LineOrder, Scoring
+from heap_tools.line_features import Features
+from heap_tools.line_order import CHAIN, HARDLY_ANY, MOST, NEARLY, LineOrder, Scoring
 from heap_tools.object_parts import FieldUses
 from heap_tools.probe import EarlierProbe, GrowthProbe, Probe, Retained
 from heap_tools.reference_paths import ReferencePaths
@@ -128,7 +129,12 @@ class Lines:
         return objects_that_hold(self.probe, held, self.uses)
 
     def _order(self) -> LineOrder:
-        return LineOrder(self.features, self._holds, self.probe.unit.of(self.probe.growth), self.scoring)
+        return LineOrder(self.features, self._holds, self.probe.unit.of(self.probe.growth), self.scoring, self._ahead)
+
+    def _ahead(self, pairs: Sequence[Tuple[int, int]]) -> None:
+        """Asks at once of all pairs of lines of which it will be asked whether the first holds the second."""
+        both = [(self.every[upper], self.every[lower]) for upper, lower in pairs]
+        self.probe.ask([[*it.candidates, *of.candidates] for it, of in both if self.probe.is_open(it, of, NEARLY)])
 
     def _holds(self, upper: int, lower: int) -> bool:
         """Tests whether a line holds nearly all that another one does: a field of a general class, such as a list of a

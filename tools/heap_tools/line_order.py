@@ -12,10 +12,10 @@ scores.
 """
 
 import enum
-from dataclasses import dataclass, field
-from typing import Callable, Iterable, List, Mapping, Optional, Sequence, Tuple
+from typing import Callable, Iterable, List, Optional, Sequence, Tuple
 
 from heap_tools.candidates import FIELD, STATIC, THREAD, THREADS, Candidate
+from heap_tools.line_features import Features
 from heap_tools.probe import Retained
 
 #: The part of the best score that a line must have to be on its path. 0.4 to 0.6 gave the same answers.
@@ -34,7 +34,7 @@ HARDLY_ANY = 0.1
 CHAIN = 0.5
 #: Of how many lines below the answer it is asked at most whether one object gained most: each takes some 10 runs.
 MOST_ASKED = 3
-#: What `Features.says` is of a single line of the program, and of several that hold something only together.
+#: What `says` is of a single line of the program, and of several that hold something only together.
 OF_PROGRAM, TOGETHER = 3, 1
 
 
@@ -47,68 +47,33 @@ class Scoring(enum.Enum):
     SHARE = enum.auto()
 
 
-@dataclass(frozen=True)
-class Features:
-    """What the order knows of a line. `kinds` are those of its candidates, of which several hold something together.
-    `instances` have the field, `with_value` of them with a value in it, and `instances_before` had it in the first
-    dump. `amount` and `before` are what they hold and held, in the unit of the question. `heap` is the number of all
-    objects that they hold, `gains` of how many objects they gained by class. `of_one` is the part of its gain that one
-    object has, if that is most, `of_elements` that of elements of the answer's container that were there before.
-    `is_line`: it gained enough; else it only shows what was held before."""
+def says(line: Features) -> int:
+    """Returns how much a line's name says of what it is for: `OF_PROGRAM`, or of the JDK if one object gained most; 2
+    of the JDK, `TOGETHER`, 0 of a collection, several of the JDK or with a thread, a variable of a lambda or a
+    thread."""
+    if len(line.kinds) > 1:
+        return TOGETHER if line.is_own and not {THREAD, THREADS} & set(line.kinds) else 0
+    if line.is_collection or line.is_thread or "$$Lambda" in line.name:
+        return 0
+    return OF_PROGRAM if line.is_own or line.of_one else 2
 
-    name: str
-    kinds: Tuple[str, ...]
-    is_own: bool
-    is_collection: bool
-    instances: int
-    with_value: int
-    instances_before: int
-    amount: int
-    before: int
-    heap: int
-    gains: Mapping[str, int] = field(default_factory=dict)
-    grew_at_each_step: bool = True
-    of_one: float = 0.0
-    of_elements: float = 0.0
-    is_chain: bool = False
-    is_line: bool = True
 
-    @property
-    def gain(self) -> int:
-        """How much more is held than before."""
-        return self.amount - self.before
+def lasting_gain(line: Features) -> float:
+    """Returns what the instances gained that a line had before, too, on average, at least what one has; or what all
+    gained, without what the new ones would have held before, if they are few."""
+    came, was, each = line.instances - line.instances_before, line.instances_before, line.amount / line.instances
+    if came <= 0:
+        return line.gain
+    lasting = max(each, was * each - line.before)
+    return max(lasting, line.gain - came * line.before / was) if was and line.with_value <= FEW else lasting
 
-    @property
-    def is_thread(self) -> bool:
-        """Tests whether it is threads."""
-        return all(kind in (THREAD, THREADS) for kind in self.kinds)
 
-    @property
-    def says(self) -> int:
-        """How much its name says of what it is for: `OF_PROGRAM`, or of the JDK if one object gained most; 2 of the
-        JDK, `TOGETHER`, 0 of a collection, several of the JDK or with a thread, a variable of a lambda or a thread."""
-        if len(self.kinds) > 1:
-            return TOGETHER if self.is_own and not {THREAD, THREADS} & set(self.kinds) else 0
-        if self.is_collection or self.is_thread or "$$Lambda" in self.name:
-            return 0
-        return OF_PROGRAM if self.is_own or self.of_one else 2
-
-    @property
-    def lasting_gain(self) -> float:
-        """What the instances gained that it had before, too, on average, at least what one has; or what all gained,
-        without what the new ones would have held before, if they are few."""
-        came, was, each = self.instances - self.instances_before, self.instances_before, self.amount / self.instances
-        if came <= 0:
-            return self.gain
-        lasting = max(each, was * each - self.before)
-        return max(lasting, self.gain - came * self.before / was) if was and self.with_value <= FEW else lasting
-
-    def part_of(self, upper: "Features") -> float:
-        """Returns the part of the gain that `upper`, which holds all of it, gained, too: of the class of which that is
-        most, among those of which much was gained. What moved takes all its classes along."""
-        large = LARGE_CLASS * sum(gain for gain in self.gains.values() if gain > 0)
-        parts = [upper.gains.get(name, 0) / gain for name, gain in self.gains.items() if gain > 0 and gain >= large]
-        return min(1.0, max(0.0, *parts)) if parts else 1.0
+def part_of(line: Features, upper: Features) -> float:
+    """Returns the part of a line's gain that `upper`, which holds all of it, gained, too: of the class of which that is
+    most, among those of which much was gained. What moved takes all its classes along."""
+    large = LARGE_CLASS * sum(gain for gain in line.gains.values() if gain > 0)
+    parts = [upper.gains.get(name, 0) / gain for name, gain in line.gains.items() if gain > 0 and gain >= large]
+    return min(1.0, max(0.0, *parts)) if parts else 1.0
 
 
 #: Tests whether the first of two lines, by their numbers, holds all that the second does, or nearly: `NEARLY` of it.
@@ -117,10 +82,17 @@ Holds = Callable[[int, int], bool]
 
 class LineOrder:
     """The order of `lines`, of which some are `Features.is_line`: numbers of these, by what `holds` what. `growth` is
-    what shares are of."""
+    what shares are of. `ahead` gets pairs of which that will be asked, to ask it of all at once."""
 
-    def __init__(self, lines: Sequence[Features], holds: Holds, growth: int, scoring: Scoring = Scoring.GAIN) -> None:
-        self.lines, self.holds, self.growth, self.scoring = lines, holds, growth, scoring
+    def __init__(
+        self,
+        lines: Sequence[Features],
+        holds: Holds,
+        growth: int,
+        scoring: Scoring = Scoring.GAIN,
+        ahead: Callable[[List[Tuple[int, int]]], None] = lambda pairs: None,
+    ) -> None:
+        self.lines, self.holds, self.growth, self.scoring, self.ahead = lines, holds, growth, scoring, ahead
         self.numbers = sorted((it for it, line in enumerate(lines) if line.is_line), key=lambda it: lines[it].heap)
         self.some_are_steady = any(lines[number].grew_at_each_step for number in self.numbers)
         self.scores = {number: self.score(number) for number in self.numbers}
@@ -140,7 +112,7 @@ class LineOrder:
         if answer is None:
             return None
         others = [it for it in self.numbers if not self._is_on_path(it, answer)]
-        found = [it for it in others if self.lines[it].says == OF_PROGRAM]
+        found = [it for it in others if says(self.lines[it]) == OF_PROGRAM]
         return self.deepest_with(self._largest(found), others) if found else None
 
     def answer(self) -> Optional[int]:
@@ -157,9 +129,9 @@ class LineOrder:
             return line.amount if line.with_value <= FEW else line.amount * line.of_one
         if not self._is_steady(number):
             return 0.0
-        score = max(line.lasting_gain, max(line.of_one, line.of_elements) * line.gain)
+        score = max(lasting_gain(line), max(line.of_one, line.of_elements) * line.gain)
         for it, other in enumerate(self.lines):
-            both = line.gain * line.part_of(other)
+            both = line.gain * part_of(line, other)
             if it != number and other.gain < MOST * line.gain and self.holds(it, number):
                 score = min(score, both)
             below = max(both, other.gain) + line.amount - other.amount
@@ -175,8 +147,8 @@ class LineOrder:
         others = [it for it in self.numbers if not self.lines[it].is_collection]
         if others and self.scores[self._largest(others)] >= MOST * self.scores[chosen]:
             chosen = self._largest(others)
-        single = [it for it in self.numbers if self.lines[it].says > TOGETHER]
-        if single and self.lines[chosen].says == TOGETHER and self._lasts(self._largest(single)):
+        single = [it for it in self.numbers if says(self.lines[it]) > TOGETHER]
+        if single and says(self.lines[chosen]) == TOGETHER and self._lasts(self._largest(single)):
             chosen = self._largest(single)
         return chosen
 
@@ -188,8 +160,8 @@ class LineOrder:
 
     def _say_most(self, numbers: Sequence[int]) -> List[int]:
         """Returns those lines of `numbers` whose names say most."""
-        most = max(self.lines[it].says for it in numbers)
-        return [it for it in numbers if self.lines[it].says == most]
+        most = max(says(self.lines[it]) for it in numbers)
+        return [it for it in numbers if says(self.lines[it]) == most]
 
     def _lasts(self, number: int) -> bool:
         """Tests whether the score of a line is enough of the growth, or of what lines gained if that is less."""
@@ -205,9 +177,11 @@ class LineOrder:
     def deepest_with(self, best: int, numbers: Sequence[int]) -> int:
         """Returns the deepest line of `numbers` above or below `best` that has most of its score, of those whose names
         say most."""
-        path = [it for it in numbers if self.scores[it] >= MOST * self.scores[best] and self._is_on_path(it, best)]
+        near = [it for it in numbers if self.scores[it] >= MOST * self.scores[best]]
+        self.ahead([self._by_size(it, best) for it in near if it != best])
+        path = [it for it in near if self._is_on_path(it, best)]
         for least in NEARLY, MOST:
-            near = [it for it in path if self.scores[it] >= least * self.scores[best] and self.lines[it].says]
+            near = [it for it in path if self.scores[it] >= least * self.scores[best] and says(self.lines[it])]
             if near:
                 return self._own_below(min(self._say_most(near), key=self._depth), path)
         return min(path, key=self._depth)
@@ -222,7 +196,7 @@ class LineOrder:
         lines, least = self.lines, MOST * self.lines[answer].gain
         found = [it for it in self.numbers if self._has_objects(it) and lines[it].gain >= least]
         found = [it for it in found if it == answer or self._is_below(it, answer)]
-        found.sort(key=lambda it: (-max(lines[it].says, 1), lines[it].with_value))
+        found.sort(key=lambda it: (-max(says(lines[it]), 1), lines[it].with_value))
         return [*found[:MOST_ASKED], *([] if answer in found else [answer])]
 
     def to_ask_of_elements(self) -> List[int]:
@@ -233,22 +207,22 @@ class LineOrder:
             return []
         lines, least = self.lines, MOST * self.lines[answer].gain
         found = [
-            it for it in self.numbers if lines[it].kinds == (FIELD,) and lines[it].says and lines[it].gain >= least
+            it for it in self.numbers if lines[it].kinds == (FIELD,) and says(lines[it]) and lines[it].gain >= least
         ]
         found = [it for it in found if self.scores[it] < MOST * self.scores[answer] and self._is_below(it, answer)]
-        return sorted(found, key=lambda it: (-lines[it].says, -lines[it].heap))[:MOST_ASKED]
+        return sorted(found, key=lambda it: (-says(lines[it]), -lines[it].heap))[:MOST_ASKED]
 
     def _has_objects(self, number: int) -> bool:
         """Tests whether a line is about several instances, of which one may hold most. Of many collections one that
         does says little, and the first of a chain always does."""
         line = self.lines[number]
         is_one = line.kinds == (FIELD,) and line.instances > 1
-        return is_one and not line.is_chain and (line.says > TOGETHER or line.with_value <= FEW)
+        return is_one and not line.is_chain and (says(line) > TOGETHER or line.with_value <= FEW)
 
     def _own_below(self, number: int, path: Sequence[int]) -> int:
         """Returns the deepest own line of `path` below a line, of several together below several, else that line."""
-        says = {OF_PROGRAM, TOGETHER} if self.lines[number].says == TOGETHER else {OF_PROGRAM}
-        own = (it for it in path if self.lines[it].says in says and self._is_below(it, number))
+        wanted = {OF_PROGRAM, TOGETHER} if says(self.lines[number]) == TOGETHER else {OF_PROGRAM}
+        own = (it for it in path if says(self.lines[it]) in wanted and self._is_below(it, number))
         return min(own, key=self._depth, default=number)
 
     def _is_steady(self, number: int) -> bool:
@@ -260,13 +234,17 @@ class LineOrder:
         return lower != upper and self.lines[lower].heap <= self.lines[upper].heap and self.holds(upper, lower)
 
     def _is_on_path(self, number: int, best: int) -> bool:
-        upper, lower = sorted((number, best), key=lambda it: -self.lines[it].heap)
+        upper, lower = self._by_size(number, best)
         return number == best or self.holds(upper, lower) or self.holds(lower, upper)
+
+    def _by_size(self, one: int, other: int) -> Tuple[int, int]:
+        """Returns two lines, first that which holds more."""
+        return (other, one) if self.lines[other].heap > self.lines[one].heap else (one, other)
 
     def _depth(self, number: int) -> Tuple[bool, bool, int, str]:
         """Returns what the deepest line is the smallest by, among those with one score: a thread, if none says more."""
         line = self.lines[number]
-        return line.says <= TOGETHER, line.says == 0 and not line.is_thread, line.heap, line.name
+        return says(line) <= TOGETHER, says(line) == 0 and not line.is_thread, line.heap, line.name
 
 
 def by_share(found: Iterable[Retained], share: Callable[[Sequence[Candidate]], float]) -> List[Retained]:

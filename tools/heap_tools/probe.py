@@ -191,16 +191,24 @@ class Probe:
 
     def holds_part(self, upper: Retained, lower: Retained, part: float) -> bool:
         """Tests whether `upper` holds at least this part of the objects that `lower` does."""
-        least = part * lower.heap.objects
-        common = ((amount.objects, upper.lost.get(name, Amount()).objects) for name, amount in lower.lost.items())
-        if sum(min(pair) for pair in common) < least:
+        if not self._may_hold(upper, lower, part):
             return False
         middle = self._largest_between(upper, lower)
         if key_of(lower) in self._below(key_of(upper)) or middle and self.holds_all(upper, middle):
             return True
         both = self.retained([*upper.candidates, *lower.candidates])
         self._noted(upper, lower, both)
-        return upper.heap.objects + lower.heap.objects - both.heap.objects >= least
+        return upper.heap.objects + lower.heap.objects - both.heap.objects >= part * lower.heap.objects
+
+    def is_open(self, upper: Retained, lower: Retained, part: float) -> bool:
+        """Tests whether it has to be asked what both hold to know whether `upper` holds this part of `lower`."""
+        is_known = key_of(lower) in self._below(key_of(upper)) or self._largest_between(upper, lower)
+        return self._may_hold(upper, lower, part) and not is_known
+
+    def _may_hold(self, upper: Retained, lower: Retained, part: float) -> bool:
+        """Tests whether `upper` holds enough objects of each class to hold this part of what `lower` does."""
+        common = ((amount.objects, upper.lost.get(name, Amount()).objects) for name, amount in lower.lost.items())
+        return sum(min(pair) for pair in common) >= part * lower.heap.objects
 
 
 class EarlierProbe(Probe):

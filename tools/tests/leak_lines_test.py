@@ -59,6 +59,16 @@ class LinesTest(unittest.TestCase):
             with mock.patch("heap_tools.leak_lines.FieldUses", return_value=uses):
                 return Lines(search, probe, [])
 
+    def test_asked_at_once(self) -> None:
+        """Whether the lines that may be on the path of the best one are on it is asked of all at once, and once. Then it
+        is asked whether one of the two others is below the other."""
+        things: Things = [([[each.name] for each in FIELDS], 100), *(([[each.name]], 5) for each in FIELDS)]
+        lines = self.lines(FIELDS, [], things)
+        with mock.patch("heap_tools.probe.reports_of", return_value=[]) as asked:
+            found = lines.sorted()
+            self.assertEqual((len(found), asked.call_count), (3, 2))
+            self.assertEqual((lines.sorted(), asked.call_count), (found, 2))
+
     def asked(self, objects: Sequence[List[HoldingObject]]) -> Tuple[Optional[LineObjects], List[str], int]:
         """Asks of the mails which objects gained most: `objects` are what is found, of one line after another. Returns
         what is noted, the line that is the answer then, and how often it was asked."""

@@ -10,7 +10,8 @@ from typing import Any, Dict, List, NamedTuple, Sequence, Set, Tuple
 from heap_tools import line_order
 from heap_tools.candidates import FIELD, LOCAL, STATIC, THREAD, THREADS
 from heap_tools.commands import leaks
-from heap_tools.line_order import FEW, LASTS, MOST, MOST_ASKED, NEARLY, Features, LineOrder, Scoring
+from heap_tools.line_features import Features
+from heap_tools.line_order import FEW, LASTS, MOST, MOST_ASKED, NEARLY, LineOrder, Scoring
 
 GROWTH = 1000
 #: What words in parentheses mean. `moved`: what gained nothing, and is no line; `other`: it gained what others lost.
