@@ -15,7 +15,7 @@ from heap_tools.line_order import FEW
 from heap_tools.probe import Probe, Retained
 
 #: A class has many of the objects that came if they are this part of all that came, or have this part of their bytes.
-MANY = 0.05
+MANY_CAME = 0.05
 #: How likely it is that one of a group that is asked for together holds much: then either answer says as much.
 OF_GROUP = 0.5
 
@@ -64,7 +64,7 @@ class Likelihood:
 
     def __init__(self, probe: Probe, found: Sequence[Retained]) -> None:
         self._held: FrozenSet[str] = frozenset().union(*(held.lost for held in found))
-        self._many: Set[str] = {outermost(name) for name in probe.classes_with(MANY)}
+        self._many: Set[str] = {outermost(name) for name in probe.classes_with(MANY_CAME)}
 
     def groups(self, candidates: Sequence[Candidate]) -> List[Tuple[List[Candidate], List[float]]]:
         """Returns the candidates in groups, the likeliest first, and how likely each is."""

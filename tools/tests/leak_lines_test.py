@@ -60,8 +60,8 @@ class LinesTest(unittest.TestCase):
                 return Lines(search, probe, [])
 
     def test_asked_at_once(self) -> None:
-        """Whether the lines that may be on the path of the best one are on it is asked of all at once, and once. Then it
-        is asked whether one of the two others is below the other."""
+        """Whether the lines that may be on the path of the best one are on it is asked of all at once, and once. Then
+        it is asked whether one of the two others is below the other."""
         things: Things = [([[each.name] for each in FIELDS], 100), *(([[each.name]], 5) for each in FIELDS)]
         lines = self.lines(FIELDS, [], things)
         with mock.patch("heap_tools.probe.reports_of", return_value=[]) as asked:
