@@ -68,7 +68,7 @@ def lasting_gain(line: Features) -> float:
     return max(lasting, line.gain - came * line.before / was) if was and line.with_value <= FEW else lasting
 
 
-def part_of(line: Features, upper: Features) -> float:
+def part_gained(line: Features, upper: Features) -> float:
     """Returns the part of a line's gain that `upper`, which holds all of it, gained, too: of the class of which that is
     most, among those of which much was gained. What moved takes all its classes along."""
     large = LARGE_CLASS * sum(gain for gain in line.gains.values() if gain > 0)
@@ -131,7 +131,7 @@ class LineOrder:
             return 0.0
         score = max(lasting_gain(line), max(line.of_one, line.of_elements) * line.gain)
         for it, other in enumerate(self.lines):
-            both = line.gain * part_of(line, other)
+            both = line.gain * part_gained(line, other)
             if it != number and other.gain < MOST * line.gain and self.holds(it, number):
                 score = min(score, both)
             below = max(both, other.gain) + line.amount - other.amount

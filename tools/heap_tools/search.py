@@ -11,7 +11,7 @@ Static fields that hold much, and of no class more or less than before, are cut 
 gained below them only moved there. So the fields of a large steady catalog hold nothing, and are not looked into.
 """
 
-from typing import List, NamedTuple, Sequence, Tuple
+from typing import List, NamedTuple, Sequence
 
 from heap_tools.candidates import STATIC, Candidate
 from heap_tools.likelihood import Likelihood, spans
@@ -33,7 +33,7 @@ UNCHANGED = 0.1
 Tried = Sequence[Candidate]
 
 
-class Group(NamedTuple):
+class UnitGroup(NamedTuple):
     """Units, and how likely it is that each holds much. `share`: what they hold together by estimate, in percent. If
     that is enough it is not asked, since parts of the group will be."""
 
@@ -41,11 +41,11 @@ class Group(NamedTuple):
     weights: Sequence[float]
     share: float = 0.0
 
-    def pieces(self, count: int) -> List["Group"]:
+    def pieces(self, count: int) -> List["UnitGroup"]:
         """Returns the units, of which none is likelier than the one before it, in at most `count` groups that are about
         as likely as each other."""
         found = spans(self.weights, sum(self.weights) / count)
-        return [Group(self.units[begin:end], self.weights[begin:end]) for begin, end in found]
+        return [UnitGroup(self.units[begin:end], self.weights[begin:end]) for begin, end in found]
 
 
 class Search:
@@ -95,12 +95,12 @@ class Search:
         """Finds those of `group` that hold enough, and notes whether they have the share."""
         self.all, self.left = self.all + len(group), self.left + len(group)
         chances = Likelihood(self.probe, self.found).groups(group)
-        groups = [Group([[each] for each in some], weights) for some, weights in chances]
+        groups = [UnitGroup([[each] for each in some], weights) for some, weights in chances]
         heavy = sorted(self.heavy(groups, MOST_QUESTIONS), key=lambda unit: group.index(unit[0]))
         for share, held in zip(self.probe.shares(heavy), self.probe.retained_all(heavy)):
             (self.found if share >= self.at_least else self.steady).append(held)
 
-    def heavy(self, groups: Sequence[Group], questions: int) -> List[Tried]:
+    def heavy(self, groups: Sequence[UnitGroup], questions: int) -> List[Tried]:
         """Returns those units of `groups` that hold enough each, until the probe has been asked so many `questions`."""
         found: List[Tried] = []
         waiting = [each for each in groups if each.units]
@@ -110,14 +110,14 @@ class Search:
         self.omitted += sum(len(each.units) for each in waiting)
         return found
 
-    def parts(self, groups: Sequence[Group], found: List[Tried]) -> List[Group]:
+    def parts(self, groups: Sequence[UnitGroup], found: List[Tried]) -> List[UnitGroup]:
         """Returns the parts of `groups` that may hold enough, and adds single units that do to `found`. Groups that are
         known to hold enough are cut into pieces, of which the last one is asked for only after the others."""
         count = 1 + max(1, AT_ONCE // len(groups))
         cut = [each.pieces(count if self.is_known(each) else 1) for each in groups]
         last = [pieces.pop() if self.is_known(each) else None for each, pieces in zip(groups, cut)]
         shares = iter(self.bounds([piece.units for pieces in cut for piece in pieces]))
-        parts: List[Group] = []
+        parts: List[UnitGroup] = []
         for group, pieces, rest in zip(groups, cut, last):
             asked = [piece._replace(share=next(shares)) for piece in pieces]
             enough = [piece for piece in asked if piece.share >= self.at_least]
@@ -130,7 +130,7 @@ class Search:
                 parts.append(rest._replace(share=group.share - sum(piece.share for piece in asked)))
         return parts
 
-    def is_known(self, group: Group) -> bool:
+    def is_known(self, group: UnitGroup) -> bool:
         """Tests whether a group of several units holds enough, so that its parts are asked for."""
         return group.share >= self.at_least and len(group.units) > 1
 

@@ -8,7 +8,7 @@ from heap_tools.class_names import package
 from heap_tools.line_order import FEW, MOST
 from heap_tools.probe import Retained
 from heap_tools.reference_paths import is_root
-from heap_tools.search import Group, Search, Tried
+from heap_tools.search import UnitGroup, Search, Tried
 
 #: The part of what several hold together that those of them that are needed must hold, and how many these may be.
 PART_NEEDED, MOST_NEEDED = 0.9, 6
@@ -169,7 +169,7 @@ class SearchTogether:
         """Finds those of each unit of `kin` that hold enough only together."""
         known = len(self.search.found)
         several = [each for each in kin if len(each) > 1]
-        one = Group(several, [1.0] * len(several))
+        one = UnitGroup(several, [1.0] * len(several))
         for unit in self.search.heavy([one], budget.questions) if len(several) > 1 else several:
             # All this is asked for to tell which of them are needed.
             self.probe.expect([], [[each] for each in unit] if len(unit) <= MOST_NEEDED else [])

@@ -6,15 +6,15 @@ import subprocess
 import sys
 import time
 import unittest
-from typing import Dict, List, Tuple
+from typing import List, Tuple
 from unittest import mock
 
 from heap_tools.changed_copy import Changes
 from heap_tools.dump_runs import DumpRuns, Question, reports_of
 from heap_tools.faults import Fault
 from heap_tools.heapmark import Heapmark, LaterFault
-from tests.support.dump_writer import DumpWriter
-from tests.support.tool_test import ENDING, TOOLS, ToolTest, heed_signals, report, when_written
+from tests.support.tool_test import ENDING, TOOLS, heed_signals, report, when_written
+from tests.support.two_dumps import TwoDumpsTest
 
 #: Waits until two runs have begun, and notes how many that are.
 WAITS = """touch began.$$
@@ -37,33 +37,18 @@ command_line.run("tool", main)
 """
 
 
-class DumpRunsTest(ToolTest):
+class DumpRunsTest(TwoDumpsTest):
     """Runs of a stand-in on two dumps"""
-
-    def setUp(self) -> None:
-        super().setUp()
-        for name, numbers in (("monday", [300]), ("friday", [300, 301])):
-            dump = DumpWriter()
-            dump.of_class(3, "Order", fields=["next"])
-            for number in numbers:
-                dump.instance(number, 3, 0)
-            dump.root(300)
-            dump.write(name)
 
     def stand_in(self, on_copy: str) -> str:
         """Returns the path of a stand-in for heapmark. Of a copy, which it opens by its name as heapmark does, it makes
         the file `got`, does what `on_copy` says, and reports a class A with an object for each byte."""
         read = f'cat /dev/stdin > $$\n{on_copy}\necho "$(wc -c < $$) 8  A"\nmv $$ got'
-        return self.program(f"case $* in *stdin)\n{read} ;;\nesac\ncat << END\n{report((1, 8, 'Order'))}END")
+        return self.program_on_copies(read)
 
     def both(self, on_copy: str = "") -> List[DumpRuns]:
         """Returns the runs of such a stand-in on both dumps."""
-        with mock.patch.dict(os.environ, HEAPMARK=self.stand_in(on_copy)):
-            heapmark = Heapmark()
-        found = [DumpRuns.of(heapmark, name, "tool") for name in ("monday", "friday")]
-        for each in found:
-            self.addCleanup(each.dump.file.close)
-        return found
+        return self.runs_of(self.stand_in(on_copy))
 
     def test_same_bytes(self) -> None:
         """heapmark gets the same by a copy in memory and by a pipe: the dump with what is cut, roots, and changes."""

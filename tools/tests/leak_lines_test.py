@@ -4,13 +4,12 @@ import unittest
 from typing import List, Optional, Sequence, Tuple
 from unittest import mock
 
-from heap_tools.candidates import FIELD, STATIC, Candidate
+from heap_tools.candidates import STATIC, Candidate
 from heap_tools.heap_objects import FieldValue
 from heap_tools.leak_lines import LineObjects, Lines
 from heap_tools.line_order import NEARLY
 from heap_tools.naming import Name
 from heap_tools.object_parts import Parts
-from heap_tools.probe import Retained
 from heap_tools.reports import Amount
 from heap_tools.which_object import HoldingObject
 from tests.support.told_probe import Things, ToldGains, field

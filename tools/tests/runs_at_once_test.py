@@ -7,11 +7,11 @@ from typing import List, Sequence, Tuple
 from unittest import mock
 
 from heap_tools.dump_runs import DumpRuns, Question, reports_of
-from heap_tools.heapmark import Heapmark, LaterFault
+from heap_tools.heapmark import LaterFault
 from heap_tools.memory_copy import CopiesInMemory, have_room
 from heap_tools.runs_at_once import MOST_AT_A_TIME, at_a_time
-from tests.support.dump_writer import DumpWriter
-from tests.support.tool_test import ToolTest, report
+from tests.support.tool_test import report
+from tests.support.two_dumps import TwoDumpsTest
 
 #: What the stand-in does with a copy: it notes in `shared` if another run has it, and in `together` how many go on. It
 #: reports the byte at the offset 24 and the length. A pipe it reads first.
@@ -38,29 +38,12 @@ def when(files: str, count: int) -> str:
     return WHEN.replace("FILES", files).replace("COUNT", str(count))
 
 
-class RunsAtOnceTest(ToolTest):
+class RunsAtOnceTest(TwoDumpsTest):
     """Many questions on two dumps, and on one"""
-
-    def setUp(self) -> None:
-        super().setUp()
-        for name, numbers in (("monday", [300]), ("friday", [300, 301])):
-            dump = DumpWriter()
-            dump.of_class(3, "Order", fields=["next"])
-            for number in numbers:
-                dump.instance(number, 3, 0)
-            dump.root(300)
-            dump.write(name)
 
     def both(self, meanwhile: str = "") -> List[DumpRuns]:
         """Returns the runs of such a stand-in on both dumps."""
-        on_copy = READS.replace("MEANWHILE", meanwhile)
-        text = f"case $* in *stdin)\n{on_copy};;\nesac\ncat << END\n{report((1, 8, 'Order'))}END"
-        with mock.patch.dict(os.environ, HEAPMARK=self.program(text)):
-            heapmark = Heapmark()
-        found = [DumpRuns.of(heapmark, name, "tool") for name in ("monday", "friday")]
-        for each in found:
-            self.addCleanup(each.dump.file.close)
-        return found
+        return self.runs_of(self.program_on_copies(READS.replace("MEANWHILE", meanwhile)))
 
     def answers(self, asked: Sequence[Tuple[DumpRuns, int]], processors: int = 4) -> List[Tuple[int, int]]:
         """Asks each of these dumps with such a byte, and returns the bytes and lengths of their reports."""

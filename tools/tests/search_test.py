@@ -23,7 +23,7 @@ from heap_tools.search_progress import SILENCE, SearchProgress
 from heap_tools.search_together import MOST_GROUPS, SearchTogether
 from tests.support.marker import MarkedRuns
 from tests.support.random_heaps import random_pair
-from tests.support.told_probe import Things, Told, ToldGains, field
+from tests.support.told_probe import Things, ToldGains, field
 from tests.support.tool_test import HEAPMARK
 
 

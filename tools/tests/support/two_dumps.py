@@ -1,0 +1,38 @@
+"""Tests of runs of heapmark on copies of two dumps."""
+
+import os
+from typing import List
+from unittest import mock
+
+from heap_tools.dump_runs import DumpRuns
+from heap_tools.heapmark import Heapmark
+from tests.support.dump_writer import DumpWriter
+from tests.support.tool_test import ToolTest, report
+
+
+class TwoDumpsTest(ToolTest):
+    """A test with the dumps `monday` and `friday`."""
+
+    def setUp(self) -> None:
+        super().setUp()
+        for name, numbers in (("monday", [300]), ("friday", [300, 301])):
+            dump = DumpWriter()
+            dump.of_class(3, "Order", fields=["next"])
+            for number in numbers:
+                dump.instance(number, 3, 0)
+            dump.root(300)
+            dump.write(name)
+
+    def program_on_copies(self, text: str) -> str:
+        """Returns the path of a stand-in for heapmark that does what `text` says with a copy, and else reports an
+        Order."""
+        return self.program(f"case $* in *stdin)\n{text} ;;\nesac\ncat << END\n{report((1, 8, 'Order'))}END")
+
+    def runs_of(self, program: str) -> List[DumpRuns]:
+        """Returns the runs of a stand-in on both dumps."""
+        with mock.patch.dict(os.environ, HEAPMARK=program):
+            heapmark = Heapmark()
+        found = [DumpRuns.of(heapmark, name, "tool") for name in ("monday", "friday")]
+        for each in found:
+            self.addCleanup(each.dump.file.close)
+        return found
