@@ -10,7 +10,6 @@ from heap_tools.dump_runs import DumpRuns, Question, reports_of
 from heap_tools.heapmark import LaterFault
 from heap_tools.memory_copy import CopiesInMemory, have_room
 from heap_tools.runs_at_once import MOST_AT_A_TIME, at_a_time
-from tests.support.tool_test import report
 from tests.support.two_dumps import TwoDumpsTest
 
 #: What the stand-in does with a copy: it notes in `shared` if another run has it, and in `together` how many go on. It
@@ -20,6 +19,7 @@ cat /dev/stdin > got.$$
 byte=$(od -An -tu1 -j24 -N1 got.$$ | tr -d ' ')
 mkdir running.$copy || touch shared
 ls -d running.* 2> /dev/null | wc -l >> together
+touch counted.$$
 echo "$1" >> workers
 MEANWHILE
 sleep 0.05
@@ -29,7 +29,7 @@ echo "$byte 8  A"
 echo "$(wc -c < got.$$) 8  B"
 touch ended.$$
 """
-#: Waits until so many runs have begun, or ended.
+#: Waits until so many runs have counted those that go on, or have ended.
 WHEN = "for _ in $(seq 600); do [ $(ls FILES 2> /dev/null | wc -l) -lt COUNT ] || break; sleep 0.1; done"
 
 
@@ -58,7 +58,7 @@ class RunsAtOnceTest(TwoDumpsTest):
         self.assertFalse(os.path.exists("shared"))
         together = [int(each) for each in pathlib.Path("together").read_text().split()]
         os.remove("together")
-        for path in [*pathlib.Path().glob("got.*"), *pathlib.Path().glob("ended.*")]:
+        for path in [each for name in ("got", "counted", "ended") for each in pathlib.Path().glob(f"{name}.*")]:
             path.unlink()
         return together
 
@@ -86,7 +86,7 @@ class RunsAtOnceTest(TwoDumpsTest):
         """Many questions on one dump, and on two, are answered in their order, as many at a time as there are
         processors, and each copy is then as the dump."""
         for processors in (2, 3, 4):
-            first, last = self.both(when("got.*", processors))
+            first, last = self.both(when("counted.*", processors))
             together = self.check([(last, 100 + number) for number in range(9)], processors)
             self.assertEqual((len(together), max(together)), (9, processors))
             self.check_copies(last, processors)
@@ -108,7 +108,7 @@ class RunsAtOnceTest(TwoDumpsTest):
 
     def test_copies_when_they_are_needed(self) -> None:
         """A copy is made only if as many runs go on at the same time."""
-        first, last = self.both(when("got.*", 1))
+        first, last = self.both(when("counted.*", 1))
         for number in range(3):
             self.check([(last, number)])
             self.check_copies(last, 1)
@@ -126,7 +126,7 @@ class RunsAtOnceTest(TwoDumpsTest):
     def test_room(self) -> None:
         """There are only as many runs and copies as have room at the same time."""
         for most in (1, 2, 3):
-            last = self.both(when("got.*", most))[1]
+            last = self.both(when("counted.*", most))[1]
             much = int(last.dump.size * (2.2 * most + 1.1))
             with mock.patch("heap_tools.memory_copy.free_memory", return_value=much):
                 self.assertTrue(have_room([last.dump] * most, copies=[last.dump]))
