@@ -46,19 +46,24 @@ class LastingElements:
     field in the later one."""
 
     def __init__(self, probe: GrowthProbe, held: Retained, uses: Optional[FieldUses] = None) -> None:
+        self._probe, self._held = probe, held
         self._now = Elements(probe, held, uses)
-        self._was = Elements(probe.earlier, probe.before(held.candidates))
+        self._was: Optional[Elements] = None
 
     def gain(self, field: Candidate) -> float:
         """Returns how much those of them that were there before gained by `field`, on average. Returns nothing if it
         leads to no containers, or if these gained a smaller part of their elements than of what is in them: then it
         piles up below, as in a tree whose first nodes are always the same."""
-        now, was = self._now.values(field), self._was.values(field)
-        size = self._now.size(now)
-        came = size - self._was.size(was)
+        now = self._now.values(field)
+        size = self._now.size(now) if now else 0
+        if not size:
+            return 0.0
+        earlier = self._was = self._was or Elements(self._probe.earlier, self._probe.before(self._held.candidates))
+        was = earlier.values(field)
+        came = size - earlier.size(was)
         if came <= 0:
             return 0.0
-        amount, before = self._now.amount(now), self._was.amount(was)
+        amount, before = self._now.amount(now), earlier.amount(was)
         if came * amount < MOST * size * (amount - before):
             return 0.0
         return max(0.0, len(was) * amount / max(len(now), len(was)) - before)

@@ -253,6 +253,7 @@ class GrowthProbe(Probe):
 
     def before(self, group: Sequence[Candidate]) -> Retained:
         """Returns what a group held before."""
+        self.ask([], [group])
         return self.earlier.retained(group)
 
     def instances_before(self, group: Sequence[Candidate]) -> int:

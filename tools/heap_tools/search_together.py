@@ -46,17 +46,21 @@ class SearchTogether:
         """Finds static fields that hold enough only together: those of own classes if these are enough, and those that
         hold much, but gained hardly anything alone, only if the others are not."""
         steady = self.percent_before([each for each in self.search.aside if not each.is_of_machine])
-        whole = self.share_or_bound(self.statics, self.at_least, (steady, math.inf))
         roots = [held for held in self.search.found if all(each.kind == STATIC for each in held.candidates)]
         alone = [each for held in roots for each in held.candidates]
+        rest = [each for each in self.statics if each.key not in {known.key for known in alone}]
+        changed = self.unknown(rest)
+        own = [each for each in changed if each.is_own]
+        if not alone and self.probe.bound(self.statics) - steady >= self.at_least:
+            self.probe.expect([own])
+        whole = self.share_or_bound(self.statics, self.at_least, (steady, math.inf))
         best = max((self.probe.share(held.candidates) for held in roots), default=0.0)
         base = self.share_or_bound(alone, 0.0) if whole - best >= self.at_least else whole
         if whole - base < self.at_least:
             return
         least = max((base + whole) / 2, self.at_least)
-        rest = [each for each in self.statics if each.key not in {known.key for known in alone}]
-        changed = self.unknown(rest)
-        for some in ([each for each in changed if each.is_own], changed):
+        self.expect_each(own)
+        for some in own, changed:
             if some and self.share_or_bound([*some, *alone], least) >= least:
                 rest = some
                 break
@@ -171,8 +175,7 @@ class SearchTogether:
         several = [each for each in kin if len(each) > 1]
         one = UnitGroup(several, [1.0] * len(several))
         for unit in self.search.heavy([one], budget.questions) if len(several) > 1 else several:
-            # All this is asked for to tell which of them are needed.
-            self.probe.expect([], [[each] for each in unit] if len(unit) <= MOST_NEEDED else [])
+            self.expect_each(unit)
             if self.has_share(unit):
                 least = max(PART_NEEDED * self.probe.share(unit), self.at_least)
                 needed = self.needed(unit, [], 0, least, budget)
@@ -224,6 +227,11 @@ class SearchTogether:
             for each, share, rest in zip(found, shares, beside)
             if share - base < MOST * (whole - self.share_or_bound(rest, 0.0))
         ]
+
+    def expect_each(self, unit: Sequence[Candidate]) -> None:
+        """Expects that it will be asked what each of a few held before, to tell which of them are needed."""
+        if len(unit) <= MOST_NEEDED:
+            self.probe.expect([], [[each] for each in unit])
 
     def percent_before(self, group: Sequence[Candidate]) -> float:
         """Returns what a group held before, in percent of the growth."""
