@@ -4,7 +4,7 @@ thread."""
 from typing import List, Sequence
 
 from heap_tools.candidates import FIELD, LOCAL, STATIC
-from heap_tools.probe import Probe, Retained
+from heap_tools.probe import Probe, Retained, key_of
 
 
 def is_root(held: Retained) -> bool:
@@ -25,6 +25,11 @@ def depth_of(held: Retained) -> int:
     return 1 if any(each.kind == LOCAL for each in held.candidates) else 0
 
 
+def share_candidates(upper: Retained, lower: Retained) -> bool:
+    """Tests whether one of several that hold something together is one of the others, too: then neither is above."""
+    return not key_of(upper).isdisjoint(key_of(lower))
+
+
 class ReferencePaths:
     """The paths to what a search has `found`: each step of a path holds all that the next one does."""
 
@@ -41,7 +46,7 @@ class ReferencePaths:
         for each in self._all_above(held):
             if is_static(each) or is_root(each) and path and not is_root(path[-1]):
                 path = []
-            if not path or self.probe.holds_all(path[-1], each):
+            if not path or not share_candidates(path[-1], each) and self.probe.holds_all(path[-1], each):
                 path.append(each)
         return [each for each in path if is_root(each)] if is_root(held) else path
 
@@ -58,6 +63,6 @@ class ReferencePaths:
 
     def _is_above(self, upper: Retained, lower: Retained) -> bool:
         """Tests whether `upper` holds all that `lower` does, and more."""
-        if {each.key for each in upper.candidates} & {each.key for each in lower.candidates}:
+        if share_candidates(upper, lower):
             return False
         return upper.heap.objects > lower.heap.objects and self.probe.holds_all(upper, lower)

@@ -344,6 +344,14 @@ class PathsTest(unittest.TestCase):
         found = [probe.retained(group) for group in ([one, other], [one], [upper], [lower])]
         self.assertEqual([ReferencePaths(probe, found).above(each) for each in found[1:]], [[], [], []])
 
+    def test_alone_and_together(self) -> None:
+        """What holds something together is not above one of these, though both are above a third one."""
+        one, other, lower = field("app/A.a"), field("app/A.b"), field("app/C.c")
+        ways = [["app/A.a"], ["app/C.c"]]
+        probe = ToldGains([], [([["app/A.a", "app/A.b"]], 50), (ways[:1], 20), (ways, 10)])
+        found = [probe.retained(group) for group in ([one, other], [one], [lower])]
+        self.assertEqual(ReferencePaths(probe, found).above(found[2]), found[:1])
+
     def test_few_questions(self) -> None:
         """Of a path it is asked of each step once: what a step holds all of, what is above it does, too."""
         names = [f"app/A{number}.it" for number in range(9)]
