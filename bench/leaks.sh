@@ -74,6 +74,7 @@ shop/JournalService 17 2
     together static shop/JournalService$Journal.events, static shop/JournalService$Screen.shown
 shop/AckService 21 2
     static shop/AckService.DELIVERIES | local shop/AckService.deliver
+        | together static shop/AckService.DELIVERIES, thread
 shop/ScopeService 25 2
     shop/ScopeService$Context.answered
 load/LogbackService 17 2 liblogback-java,libslf4j-java logback-classic,logback-core,slf4j-api

@@ -291,7 +291,8 @@ class HoldersTest(ToolTest):
         other, said = self.program("exec HEAPMARK $@"), "* without any static field; *"
         for value in ("glibc.malloc.hugetlb=1", ""):
             self.expect(["shop.hprof"], self.WHOLE, said, heapmark=other, variables={"GLIBC_TUNABLES": value})
-            self.assertEqual(pathlib.Path("runs").read_text().split("\n")[-2], f"{value} -- /dev/stdin")
+            asked = f"^{value} --workers=[1-4] -- /dev/stdin$"
+            self.assertRegex(pathlib.Path("runs").read_text().split("\n")[-2], asked)
         self.expect(["shop.hprof"], self.WHOLE, said, variables={"TMPDIR": "/nowhere"})
 
     def test_interrupt(self) -> None:
