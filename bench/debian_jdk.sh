@@ -18,7 +18,7 @@ require_number VERSION "$1"
 version=$1 suite=${2:-trixie} architecture=${3:-$(dpkg --print-architecture)}
 kept=${XDG_CACHE_HOME:-$HOME/.cache}/heapmark-bench/$suite${3:+-$3}
 root=$kept/root-$version home=$kept/jdk-$version
-packages=(openjdk-"$version"-{jdk,jre}-headless libc6 libstdc++6 libgcc-s1 zlib1g libjpeg62-turbo liblcms2-2)
+packages=(openjdk-"$version"-{jdk,jre}-headless libc6 libc-bin libstdc++6 libgcc-s1 zlib1g libjpeg62-turbo liblcms2-2)
 
 # fetched: downloads the packages into the folder `debs`, by lists of the suite in the folder `apt`.
 fetched() {
