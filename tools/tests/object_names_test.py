@@ -2,7 +2,7 @@
 
 import tempfile
 import unittest
-from typing import List, Sequence
+from typing import List, Sequence, Tuple
 
 from heap_tools import hprof_format as hprof
 from heap_tools.heap_dump import HeapDump
@@ -254,7 +254,8 @@ class NamesTest(unittest.TestCase):
     def test_labels(self) -> None:
         """An object that nothing else names has the texts in small arrays of its own, and in those of its parts, but
         not of another object of its class. Texts that others have, too, and those in a longer array name nothing."""
-        for length, wanted in ((16, ['its field meta.array "printer"']), (17, [])):
+        cases: List[Tuple[int, List[str]]] = [(16, ['its field meta.array "printer"']), (17, [])]
+        for length, wanted in cases:
             dump = Queues([])
             dump.of_class(20, "shop/Map", fields=["array"])
             dump.of_class(21, "shop/Agent", fields=["meta", "next", "labels"])
