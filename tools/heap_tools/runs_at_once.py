@@ -89,14 +89,13 @@ class RunsAtOnce:
                 return
             memory = changed.free_copy([each.dump for each in self._running.values()])
             if memory:
-                self._start(number, changed.copy(memory))
+                self._start(number, changed.copy(memory), workers_of(len(self._waiting) + len(self._running)))
         if not self._running:
             number, changed = next(iter(self._waiting.items()))
-            self._start(number, changed.copy(None))
+            self._start(number, changed.copy(None), workers_of(1))
 
-    def _start(self, number: int, of_run: ContextManager[Copy]) -> None:
+    def _start(self, number: int, of_run: ContextManager[Copy], workers: int) -> None:
         """Starts the run for the dump of this number on a copy, which is in use until the run has ended."""
-        workers = workers_of(len(self._waiting) + len(self._running))
         changed = self._waiting.pop(number)
         in_use = self._in_use.enter_context(contextlib.ExitStack())
         run = changed.heapmark.later_run(in_use.enter_context(of_run), self._children, workers)

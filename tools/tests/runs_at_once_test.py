@@ -135,14 +135,17 @@ class RunsAtOnceTest(TwoDumpsTest):
             self.check_copies(last, most)
 
     def test_pipes(self) -> None:
-        """What a pipe has to bring goes alone, one after another: a dump without copies, or with other roots."""
+        """What a pipe has to bring goes alone, one after another, with all workers: a dump without copies, or with
+        other roots."""
         first, last = self.both()
         first.memory = None
         self.check([(last, 1)])
         rooted = last.with_cut({}, [300])
         self.assertEqual(self.check([(first, number) for number in range(3)]), [1] * 3)
+        os.remove("workers")
         with mock.patch("heap_tools.runs_at_once.processors", return_value=4):
             both = reports_of(Question(rooted, {24: b"a"}), Question(rooted, {24: b"b"}))
+        self.assertEqual(pathlib.Path("workers").read_text().split(), ["--workers=4"] * 2)
         self.assertEqual(
             [(each.amount("A").objects, each.amount("B").objects - last.dump.size) for each in both], [(97, 9), (98, 9)]
         )
