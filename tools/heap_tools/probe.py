@@ -135,6 +135,14 @@ class Probe:
         """Returns a share in percent that the share of no part of `group` exceeds: that of what the group holds."""
         return self.unit.percent(self.retained(group).amount, self.growth)
 
+    def least_beside(self, group: Sequence[Candidate], others: Sequence[Candidate]) -> float:
+        """Returns a share in percent that a group holds at least if `others` are cut, by what each holds alone: of what
+        the group holds, `others` hold no more of each class than of that class both do."""
+        held, cut = self.retained(group), self.retained(others)
+        unit, of = self.unit, self.families or held.lost
+        both = sum(min(unit.of(each.lost.get(name, Amount())) for each in (held, cut)) for name in of)
+        return 100 * (unit.of(held.amount) - both) / unit.of(self.growth)
+
     def share(self, group: Sequence[Candidate]) -> float:
         """Returns the share of `whole` that a group holds, in percent."""
         return self.bound(group)

@@ -11,7 +11,7 @@ Static fields that hold much, and of no class more or less than before, are cut 
 gained below them only moved there. So the fields of a large steady catalog hold nothing, and are not looked into.
 """
 
-from typing import List, NamedTuple, Sequence
+from typing import List, NamedTuple, Optional, Sequence
 
 from heap_tools.candidates import STATIC, Candidate
 from heap_tools.likelihood import Likelihood, spans
@@ -28,6 +28,10 @@ AT_ONCE = 4
 
 #: The part of the least share up to which what static fields hold may differ from before, in all classes together.
 UNCHANGED = 0.1
+
+#: The share of the growth in percent up to which what is cut mostly leaves no doubt whether one candidate holds enough
+#: beside it, if it is known what each holds alone. That is asked of what is found anyway.
+MOST_ASIDE = 100
 
 #: What is tried as one: a candidate, or several that may hold something together.
 Tried = Sequence[Candidate]
@@ -62,8 +66,13 @@ class Search:
         self.all = self.left = self.omitted = 0
 
     def find(self, fields: Sequence[Candidate]) -> None:
-        """Finds static fields, local variables, threads, and `fields`, which are sorted by their instances. Threads of
-        names that are alike are found if no other thread is."""
+        """Finds static fields, local variables, threads, and `fields`, which are sorted by their instances."""
+        self.find_roots()
+        self.look_in(fields)
+
+    def find_roots(self) -> None:
+        """Finds static fields, local variables and threads; threads of names that are alike if no other thread is. Then
+        static fields that hold as much as before are cut."""
         candidates = self.probe.candidates
         self.probe.expect([[candidates.all_threads()]])
         self.look_in(candidates.statics())
@@ -74,7 +83,6 @@ class Search:
             if len(self.found) == known:
                 self.look_in(candidates.threads_alike())
         self.aside = self.unchanged()
-        self.look_in(fields)
 
     def unchanged(self) -> List[Candidate]:
         """Returns the static fields that hold as much as before, if they do so together, too: else what grew is held by
@@ -119,12 +127,14 @@ class Search:
         shares = iter(self.bounds([piece.units for pieces in cut for piece in pieces]))
         parts: List[UnitGroup] = []
         for group, pieces, rest in zip(groups, cut, last):
-            asked = [piece._replace(share=next(shares)) for piece in pieces]
+            told = [(piece, next(shares)) for piece in pieces]
+            asked = [piece._replace(share=share) for piece, share in told if share is not None]
             enough = [piece for piece in asked if piece.share >= self.at_least]
             single = [piece.units[0] for piece in enough if len(piece.units) == 1]
             found += single
             self.probe.expect([], single)
             self.left -= sum(len(piece.units) for piece in asked if piece not in enough) + len(single)
+            parts += [piece for piece, share in told if share is None]
             parts += [piece for piece in enough if len(piece.units) > 1]
             if rest:
                 parts.append(rest._replace(share=group.share - sum(piece.share for piece in asked)))
@@ -136,15 +146,33 @@ class Search:
 
     def is_enough(self, group: Sequence[Candidate]) -> bool:
         """Tests whether a group holds so much now that a part of it may have the share."""
-        return self.bounds([[group]])[0] >= self.at_least
-
-    def bounds(self, groups: Sequence[Sequence[Tried]]) -> List[float]:
-        """Returns for each of `groups` the share that no part of it exceeds, beside what is cut."""
         self.note()
-        every = [[*(candidate for unit in units for candidate in unit), *self.aside] for units in groups]
-        aside = self.probe.bound(self.aside) if self.aside else 0.0
-        self.probe.ask(every)
-        return [self.probe.bound(each) - aside for each in every]
+        return self.bound_beside(group) >= self.at_least
+
+    def bounds(self, groups: Sequence[Sequence[Tried]]) -> List[Optional[float]]:
+        """Returns for each of `groups` the share that no part of it exceeds, beside what is cut: of a single unit one
+        that shows whether it holds enough. Returns None for one of which that is still to be asked."""
+        self.note()
+        every = [[candidate for unit in units for candidate in unit] for units in groups]
+        alone = [len(units) == 1 and self.may_show(each) for each, units in zip(every, groups)]
+        self.probe.ask([each if shows else [*each, *self.aside] for each, shows in zip(every, alone)])
+        return [self.shown_alone(each) if shows else self.bound_beside(each) for each, shows in zip(every, alone)]
+
+    def bound_beside(self, group: Sequence[Candidate]) -> float:
+        """Returns the share that no part of a group exceeds, beside what is cut."""
+        return self.probe.bound([*group, *self.aside]) - (self.probe.bound(self.aside) if self.aside else 0.0)
+
+    def may_show(self, unit: Tried) -> bool:
+        """Tests whether what a unit holds alone may show whether it holds enough beside what is cut, or does."""
+        if not self.aside or self.probe.bound(self.aside) > MOST_ASIDE:
+            return False
+        return bool(self.probe.unknown([unit])) or self.shown_alone(unit) is not None
+
+    def shown_alone(self, unit: Tried) -> Optional[float]:
+        """Returns what a unit holds at most beside what is cut, or what it holds at least, if that shows whether it
+        holds enough, else None."""
+        most, least = self.probe.bound(unit), self.probe.least_beside(unit, self.aside)
+        return most if most < self.at_least else least if least >= self.at_least else None
 
     def note(self) -> None:
         """Notes how many candidates are still to be tried, and what was found last."""

@@ -42,23 +42,31 @@ class SearchTogether:
         #: What the virtual machine keeps with a class is no place where a program puts something.
         self.statics = [each for each in self.probe.candidates.statics() if not each.is_of_machine]
 
+    def expect_statics(self) -> None:
+        """Expects the question what static fields held before, which `find_statics` asks if they hold enough."""
+        if self.probe.bound(self.statics) - self.steady() >= self.at_least:
+            self.probe.expect([], [self.statics])
+
+    def steady(self) -> float:
+        """Returns what the static fields that are cut held before, in percent of the growth."""
+        return self.percent_before([each for each in self.search.aside if not each.is_of_machine])
+
     def find_statics(self) -> None:
         """Finds static fields that hold enough only together: those of own classes if these are enough, and those that
         hold much, but gained hardly anything alone, only if the others are not."""
-        steady = self.percent_before([each for each in self.search.aside if not each.is_of_machine])
+        steady = self.steady()
         roots = [held for held in self.search.found if all(each.kind == STATIC for each in held.candidates)]
         alone = [each for held in roots for each in held.candidates]
         rest = [each for each in self.statics if each.key not in {known.key for known in alone}]
         changed = self.unknown(rest)
         own = [each for each in changed if each.is_own]
-        if not alone and self.probe.bound(self.statics) - steady >= self.at_least:
-            self.probe.expect([own])
         whole = self.share_or_bound(self.statics, self.at_least, (steady, math.inf))
         best = max((self.probe.share(held.candidates) for held in roots), default=0.0)
         base = self.share_or_bound(alone, 0.0) if whole - best >= self.at_least else whole
         if whole - base < self.at_least:
             return
         least = max((base + whole) / 2, self.at_least)
+        self.probe.expect([], [[*own, *alone]])
         self.expect_each(own)
         for some in own, changed:
             if some and self.share_or_bound([*some, *alone], least) >= least:

@@ -141,6 +141,22 @@ class SearchTest(unittest.TestCase):
             self.assertEqual(names, found or sorted([*below, "app/A.33"]), was)
             self.assertEqual(probe.questions < 20, aside, was)
 
+    def test_shown_alone(self) -> None:
+        """Of one field it is asked what it holds alone, if what is cut holds less than what grew. That may show whether
+        it holds enough; else it is asked what it holds beside that."""
+        catalog = Candidate(STATIC, "app/Catalog.ALL", 1, {})
+        fields = [field(f"app/A.{name}") for name in "abc"]
+        alone = [[each.name] for each in fields]
+        beside = [[each.name, catalog.name] for each in fields]
+        for size, asked in (60, [*alone, beside[1]]), (101, [alone[0], *beside]):
+            kept: Things = [([["app/Catalog.ALL"], ["app/A.b"]], size)]
+            grown: Things = [([["app/A.a"]], 100), ([["app/A.b"]], 10), ([["app/A.c"]], 20)]
+            probe = ToldGains(kept, [*kept, *grown])
+            search = searched(probe, [catalog], fields)
+            self.assertEqual(search.aside, [catalog])
+            self.assertEqual([joint_name(held.candidates) for held in search.found], ["app/A.a"])
+            self.assertEqual([it for it in [*alone, *beside] if it in probe.asked], asked, size)
+
     def test_unchanged_together(self) -> None:
         """Of static fields that hold as much as before each, but more together, none is cut: both lead to what grew."""
         statics = [Candidate(STATIC, f"app/Catalog.{name}", 1, {}) for name in "ab"]
@@ -281,6 +297,23 @@ class KinTest(unittest.TestCase):
             SearchTogether(search).find_statics()
             self.assertEqual((len(search.aside), len(search.found)), (1, int(is_asked)))
             self.assertEqual(bool(probe.earlier.asked), is_asked)
+
+    def test_expected_statics(self) -> None:
+        """What static fields held before is asked with what is asked before that: so it takes a round less to find
+        those that hold enough only together."""
+        statics = [Candidate(STATIC, f"app/A.{name}", 1, {}) for name in "abc"]
+        probe = ToldGains([], [([[each.name for each in statics[:2]]], 100)])
+        probe.candidates = candidates_of(statics)
+        search = Search(probe, 30, mock.Mock())
+        together = SearchTogether(search)
+        probe.expect([together.statics])
+        search.find_roots()
+        together.expect_statics()
+        search.look_in([field("app/B.b")])
+        with mock.patch("heap_tools.probe.reports_of", return_value=[]) as asked:
+            together.find_statics()
+        found = [joint_name(held.candidates) for held in search.found]
+        self.assertEqual((found, asked.call_count), (["together static app/A.a, static app/A.b"], 4))
 
     def test_names(self) -> None:
         """Of many names only the first ones are in a line: those that hold most alone. What the virtual machine keeps

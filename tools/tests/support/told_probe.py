@@ -16,6 +16,7 @@ class Told(Probe):
     def __init__(self, things: Things) -> None:
         self.things, self._known, self._inside, self._outside, self._expected = things, {}, {}, {}, []
         self.asked: List[List[str]] = []
+        self.families = None
         self.base = Report([], Amount(), Amount())
         self.unit, self.whole, self.growth = Unit.BYTES, Amount(1000, 1000), Amount(1000, 1000)
 
