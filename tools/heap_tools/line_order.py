@@ -120,7 +120,7 @@ class LineOrder:
         if not self.numbers:
             return None
         best = self.best()
-        return self.deepest_with(best, self.numbers) if self._lasts(best) else self.topmost()
+        return self.deepest_with(best, self.numbers, self._with_objects(best)) if self._lasts(best) else self.topmost()
 
     def score(self, number: int) -> float:
         """Returns the score of a line."""
@@ -174,11 +174,11 @@ class LineOrder:
         top = [it for it in steady if not any(self._is_below(it, upper) for upper in steady)]
         return max(top or steady, key=lambda it: (lines[it].is_thread, not lines[it].is_collection, lines[it].gain))
 
-    def deepest_with(self, best: int, numbers: Sequence[int]) -> int:
+    def deepest_with(self, best: int, numbers: Sequence[int], others: Sequence[int] = ()) -> int:
         """Returns the deepest line of `numbers` above or below `best` that has most of its score, of those whose names
-        say most."""
+        say most. It will be asked whether `others` are below it, too."""
         near = [it for it in numbers if self.scores[it] >= MOST * self.scores[best]]
-        self.ahead([self._by_size(it, best) for it in near if it != best])
+        self.ahead([self._by_size(it, best) for it in sorted({*near, *others} - {best})])
         path = [it for it in near if self._is_on_path(it, best)]
         for least in NEARLY, MOST:
             near = [it for it in path if self.scores[it] >= least * self.scores[best] and says(self.lines[it])]
@@ -193,9 +193,7 @@ class LineOrder:
         answer = self.answer()
         if answer is None:
             return []
-        lines, least = self.lines, MOST * self.lines[answer].gain
-        found = [it for it in self.numbers if self._has_objects(it) and lines[it].gain >= least]
-        found = [it for it in found if it == answer or self._is_below(it, answer)]
+        lines, found = self.lines, [it for it in self._with_objects(answer) if it == answer or self._is_below(it, answer)]
         found.sort(key=lambda it: (-max(says(lines[it]), 1), lines[it].with_value))
         return [*found[:MOST_ASKED], *([] if answer in found else [answer])]
 
@@ -211,6 +209,12 @@ class LineOrder:
         ]
         found = [it for it in found if self.scores[it] < MOST * self.scores[answer] and self._is_below(it, answer)]
         return sorted(found, key=lambda it: (-says(lines[it]), -lines[it].heap))[:MOST_ASKED]
+
+    def _with_objects(self, of: int) -> List[int]:
+        """Returns the lines about several instances that gained most of what a line did and hold no more than it."""
+        gain, heap = self.lines[of].gain, self.lines[of].heap
+        lines = ((it, self.lines[it]) for it in self.numbers if self._has_objects(it))
+        return [it for it, line in lines if line.gain >= MOST * gain and line.heap <= heap]
 
     def _has_objects(self, number: int) -> bool:
         """Tests whether a line is about several instances, of which one may hold most. Of many collections one that

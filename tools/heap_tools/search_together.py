@@ -67,7 +67,6 @@ class SearchTogether:
             return
         least = max((base + whole) / 2, self.at_least)
         self.probe.expect([], [[*own, *alone]])
-        self.expect_each(own)
         for some in own, changed:
             if some and self.share_or_bound([*some, *alone], least) >= least:
                 rest = some
@@ -183,7 +182,6 @@ class SearchTogether:
         several = [each for each in kin if len(each) > 1]
         one = UnitGroup(several, [1.0] * len(several))
         for unit in self.search.heavy([one], budget.questions) if len(several) > 1 else several:
-            self.expect_each(unit)
             if self.has_share(unit):
                 least = max(PART_NEEDED * self.probe.share(unit), self.at_least)
                 needed = self.needed(unit, [], 0, least, budget)
@@ -226,20 +224,17 @@ class SearchTogether:
     def _joint(self, found: Sequence[Candidate], others: Sequence[Candidate], base: float) -> List[Candidate]:
         """Returns those of `found` that add more than twice what they hold alone, beside `others`. What the rest hold
         has nothing to do with it, and the sum of both is no answer."""
-        alone = [[each, *others] for each in found]
-        beside = [[*(it for it in found if it != each), *others] for each in found]
-        self.probe.retained_all(beside)
-        whole, *shares = self.probe.shares([[*found, *others], *alone])
-        return [
-            each
-            for each, share, rest in zip(found, shares, beside)
-            if share - base < MOST * (whole - self.share_or_bound(rest, 0.0))
-        ]
+        probe, whole = self.probe, self.probe.share([*found, *others])
+        pairs = [([each, *others], [*(it for it in found if it != each), *others]) for each in found]
+        probe.ask([group for pair in pairs for group in pair])
 
-    def expect_each(self, unit: Sequence[Candidate]) -> None:
-        """Expects that it will be asked what each of a few held before, to tell which of them are needed."""
-        if len(unit) <= MOST_NEEDED:
-            self.probe.expect([], [[each] for each in unit])
+        def is_joint(share: Callable[[Sequence[Candidate]], float], one: Tried, rest: Tried) -> bool:
+            return share(one) - base < MOST * (whole - share(rest))
+
+        # What they hold now bounds what they gained. If that shows nothing, what they held before is asked.
+        unclear = [pair for pair in pairs if not is_joint(probe.bound, *pair)]
+        probe.shares([group for pair in unclear for group in pair])
+        return [each for each, pair in zip(found, pairs) if pair not in unclear or is_joint(probe.share, *pair)]
 
     def percent_before(self, group: Sequence[Candidate]) -> float:
         """Returns what a group held before, in percent of the growth."""
