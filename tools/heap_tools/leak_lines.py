@@ -5,6 +5,7 @@ from typing import Callable, List, NamedTuple, Optional, Sequence, Tuple
 
 from heap_tools.candidates import FIELD, Candidate, joint_name
 from heap_tools.container_sizes import ContainerSizes
+from heap_tools.fields_of_object import find_below, part_of_one
 from heap_tools.heap_objects import HeapObjects
 from heap_tools.lasting_elements import LastingElements
 from heap_tools.line_features import Features
@@ -65,7 +66,7 @@ class Lines:
     the first and the last."""
 
     def __init__(self, search: Search, probe: Probe, between: Sequence[EarlierProbe] = ()) -> None:
-        self.probe, self.between, self.found = probe, between, search.found
+        self.search, self.probe, self.between, self.found = search, probe, between, search.found
         self.scoring = Scoring.GAIN if isinstance(probe, GrowthProbe) else Scoring.SHARE
         #: What is not found, but may have held before what a line holds now.
         self.others: List[Retained] = []
@@ -121,6 +122,18 @@ class Lines:
             line = self.features[number]
             of_elements = elements.gain(self.every[number].candidates[0]) / line.gain
             self.features[number] = dataclasses.replace(line, of_elements=of_elements)
+
+    def ask_below(self) -> bool:
+        """If the answer leads to no container, searches below it for what one object holds by several fields. Returns
+        whether that is the answer now."""
+        answer = self._order().answer()
+        if answer is None:
+            return False
+        for held in find_below(self.search, self.every[answer], self.uses):
+            of_one = part_of_one(self.probe, held)
+            self.every.append(held)
+            self.features.append(dataclasses.replace(self._features(held, True), of_one=of_one * (of_one >= MOST)))
+        return self._order().answer() != answer
 
     def _objects_of(self, held: Retained) -> List[HoldingObject]:
         """Returns which objects gained most of what `held` did, or of one dump hold most."""
@@ -233,6 +246,7 @@ def lines_found(
     found = Lines(search, probe, between)
     objects = found.ask_for_objects()
     found.ask_for_elements()
+    objects = None if found.ask_below() else objects
     ranked = found.sorted()
     paths, lines = ReferencePaths(probe, [*ranked, *search.steady]), []
     for held in ranked[:top]:

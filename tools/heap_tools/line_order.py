@@ -48,11 +48,12 @@ class Scoring(enum.Enum):
 
 
 def says(line: Features) -> int:
-    """Returns how much a line's name says of what it is for: `OF_PROGRAM`, or of the JDK if one object gained most; 2
-    of the JDK, `TOGETHER`, 0 of a collection, several of the JDK or with a thread, a variable of a lambda or a
-    thread."""
+    """Returns how much a line's name says of what it is for: `OF_PROGRAM`, or of the JDK or several together if one
+    object gained most; 2 of the JDK, `TOGETHER`, 0 of a collection, several of the JDK or with a thread, a variable of
+    a lambda or a thread."""
     if len(line.kinds) > 1:
-        return TOGETHER if line.is_own and not {THREAD, THREADS} & set(line.kinds) else 0
+        several = OF_PROGRAM if line.of_one else TOGETHER
+        return several if line.is_own and not {THREAD, THREADS} & set(line.kinds) else 0
     if line.is_collection or line.is_thread or "$$Lambda" in line.name:
         return 0
     return OF_PROGRAM if line.is_own or line.of_one else 2
@@ -193,7 +194,8 @@ class LineOrder:
         answer = self.answer()
         if answer is None:
             return []
-        lines, found = self.lines, [it for it in self._with_objects(answer) if it == answer or self._is_below(it, answer)]
+        lines, asked = self.lines, self._with_objects(answer)
+        found = [it for it in asked if it == answer or self._is_below(it, answer)]
         found.sort(key=lambda it: (-max(says(lines[it]), 1), lines[it].with_value))
         return [*found[:MOST_ASKED], *([] if answer in found else [answer])]
 

@@ -159,7 +159,7 @@ class SearchTogether:
         known = {place for each in alike for place in each.changes}
         return [*alike, *(each for each in candidates.threads() if known.isdisjoint(each.changes))]
 
-    def unknown(self, group: Sequence[Candidate]) -> List[Candidate]:
+    def unknown(self, group: Tried) -> List[Candidate]:
         """Returns those of `group` that are not found, without those that hold much, but gained hardly anything."""
         little = (1 - PART_NEEDED) * self.at_least
         steady = [held for held in self.search.steady if self.probe.share(held.candidates) < little]
@@ -176,12 +176,16 @@ class SearchTogether:
         A package that holds enough says too little."""
         return self._find_of(by_package(group), self.budget(MOST_NEEDED), False)
 
+    def find_of_units(self, units: Sequence[Tried]) -> None:
+        """Finds those of each of `units` that hold enough only together."""
+        self._find_of(list(map(self.unknown, units)), self.budget(MOST_NEEDED), False)
+
     def _find_of(self, kin: Sequence[Tried], budget: Budget, may_be_all: bool) -> bool:
         """Finds those of each unit of `kin` that hold enough only together."""
         known = len(self.search.found)
         several = [each for each in kin if len(each) > 1]
         one = UnitGroup(several, [1.0] * len(several))
-        for unit in self.search.heavy([one], budget.questions) if len(several) > 1 else several:
+        for unit in map(self.unknown, self.search.heavy([one], budget.questions) if len(several) > 1 else several):
             if self.has_share(unit):
                 least = max(PART_NEEDED * self.probe.share(unit), self.at_least)
                 needed = self.needed(unit, [], 0, least, budget)

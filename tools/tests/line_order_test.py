@@ -73,6 +73,9 @@ rule 4, one of the JDK rather than a collection: *java/lang/Queue.list > java/ut
 rule 4, several together, if no single one lasts: *two (together), static shop/A.a (249)
 rule 4, else the single one: two (together), *static shop/A.a (250)
 rule 4, several together, and a collection: *two (together), java/util/HashMap.table
+rule 4, several of one object, and a single one: *two (together one), static shop/A.a
+rule 4, several of one object, and one with far more: two (400 together one), *static shop/A.a
+rule 4, several of one object of the JDK: java/lang/Text.value (together one), *static shop/A.a
 rules 1 and 4, nearly as much, and a name that says more: java/lang/Text.value, *static shop/A.a (900)
 rules 1 and 4, a name that says more, but less: *java/lang/Text.value, static shop/A.a (899)
 rules 1 and 4, nearly as much, and no collection: java/util/HashMap.table, *java/lang/Text.value (900)
@@ -91,6 +94,8 @@ rules 1 and 4, a name that says more did not last: shop/A.a (9..99) > *java/lang
 rules 2 and 3, of what does not last the topmost: *shop/Order.text (10..110) > shop/Order.id (900 10..110)
 rules 2 and 4, of what does not last no collection: java/util/HashMap.table (990 9..99), *shop/B.b (900 9..99)
 rules 3 and 4, one of the JDK below several together: two (together) > *java/lang/Thread.threadLocals
+rules 3 and 4, several of one object below a single one: static shop/A.a > *two (9..99 together one)
+rules 3 and 4, several of several objects below a single one: *static shop/A.a > two (together)
 rules 3 and 4, several together above a collection: *two (together) > java/util/HashMap.table
 rules 3 and 4, several together below several half: two (together) > *fields (500 together)
 rules 3 and 4, several together below several less: *two (together) > fields (499 together)

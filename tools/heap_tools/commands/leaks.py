@@ -59,9 +59,11 @@ most, come before the JDK's in the same way. The other lines follow by their
 scores.
 
 Collections are classes that inherit from those of the JDK, classes whose names
-end with Map, List, Set, Queue or Deque, and classes within these. An object of
-many is named by a text in it, its key in a map, or by those of what leads to
-it.
+end with Map, List, Set, Queue or Deque, and classes within these. Below an
+answer that leads to none, the fields of a class with few objects are tried
+together, inherited ones too: several by which one object gained most count as
+one field. An object of many is named by a text in it, its key in a map, or by
+those of what leads to it.
 
 Calls that are running do not count: their local variables lead into containers
 that fields hold. So local variables lead nowhere if less than P percent of the

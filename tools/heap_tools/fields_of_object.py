@@ -1,0 +1,84 @@
+"""What piles up below a field that leads to no container: what one object holds by several of its fields.
+
+A client of HTTP has its connections in a map of its own, and in the list of parts that its class inherits. Each
+connection has such a list, too: so that field has many instances, and no field of few instances holds the connections,
+alone or with others. What leads to the client does, but they pile up in the client.
+"""
+
+from collections import Counter
+from typing import Dict, List, Optional, Sequence, Set
+
+from heap_tools.candidates import FIELD, STATIC, Candidate
+from heap_tools.class_names import is_own
+from heap_tools.container_sizes import ContainerSizes
+from heap_tools.heap_objects import HeapObjects
+from heap_tools.line_order import FEW
+from heap_tools.object_parts import FieldUses
+from heap_tools.part_search import Measure
+from heap_tools.probe import GrowthProbe, Probe, Retained
+from heap_tools.reports import Amount
+from heap_tools.search import Search, Tried
+from heap_tools.search_together import SearchTogether
+
+
+def find_below(search: Search, upper: Retained, uses: FieldUses) -> List[Retained]:
+    """Finds what fields that the instances of one class have, inherited ones too, hold only together, of what `upper`
+    holds, if that leads to no container. `uses` may know the values of fields."""
+    if leads_to_container(search.probe, upper, uses):
+        return []
+    known = len(search.found)
+    SearchTogether(search).find_of_units(units_below(search.probe, upper))
+    return search.found[known:]
+
+
+def leads_to_container(probe: Probe, held: Retained, uses: FieldUses) -> bool:
+    """Tests whether it may be in what `held` leads to that many things pile up: in an object that has more than `FEW`
+    elements, in one of more than `FEW` objects, or behind several fields, a local variable or threads."""
+    targets = _targets(probe, held, uses)
+    if not 1 <= len(targets) <= FEW:
+        return True
+    return max(ContainerSizes(uses.objects).of(targets).values(), default=0) > FEW
+
+
+def _targets(probe: Probe, held: Retained, uses: FieldUses) -> Set[int]:
+    """Returns the identifiers of the objects to which one field leads."""
+    if len(held.candidates) > 1 or held.candidates[0].kind not in (FIELD, STATIC):
+        return set()
+    field, id_at = held.candidates[0], probe.runs.dump.id
+    places = [each.value for each in uses.of(field).values] if field.kind == FIELD else [it + 1 for it in field.changes]
+    return {id_at(place) for place in places}
+
+
+def units_below(probe: Probe, upper: Retained) -> List[Tried]:
+    """Returns for each class with few instances, of which `upper` holds some, the fields that these have, if some of
+    them have many instances elsewhere, too: others are of one class, of which it is asked anyway."""
+    few = {name for name in upper.lost if is_own(name) and probe.base.amount(name).objects <= FEW}
+    found: Dict[str, List[Candidate]] = {}
+    for field in probe.candidates.fields(probe.base):
+        for name in field.classes & few:
+            found.setdefault(name, []).append(field)
+    units = {tuple(each.key for each in unit): unit for unit in found.values()}
+    return [unit for unit in units.values() if len(unit) > 1 and any(each.count > FEW for each in unit)]
+
+
+def part_of_one(probe: Probe, held: Retained) -> float:
+    """Returns the part of what `held` holds by several fields, or of what it gained, that the only object has which has
+    all these fields, 0 if there are several."""
+    now = _of_only_one(probe, held.candidates)
+    was = _of_only_one(probe.earlier, held.candidates) if isinstance(probe, GrowthProbe) else Amount()
+    whole = probe.unit.of(held.amount.minus(probe.before(held.candidates).amount))
+    if now is None or was is None or whole <= 0:
+        return 0.0
+    return probe.unit.of(now.minus(was)) / whole
+
+
+def _of_only_one(probe: Probe, fields: Sequence[Candidate]) -> Optional[Amount]:
+    """Returns what the only object holds by `fields` that has a value in each, nothing if none does, None if several
+    do."""
+    values = HeapObjects(probe.runs.dump).values_of([each.name for each in fields])
+    values = [each for each in values if probe.runs.dump.id(each.value)]
+    count = Counter(each.instance for each in values)
+    every = [at for at, number in count.items() if number == len(fields)]
+    if len(every) > 1:
+        return None
+    return Measure(probe).amount([each for each in values if each.instance in every])

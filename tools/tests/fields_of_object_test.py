@@ -1,0 +1,112 @@
+"""Tests what one object holds by several of its fields, below a field that leads to no container."""
+
+import unittest
+from typing import List, Sequence
+from unittest import mock
+
+from heap_tools.fields_of_object import leads_to_container, part_of_one
+from heap_tools.heap_objects import HeapObjects
+from heap_tools.leak_lines import answer_of
+from heap_tools.line_order import FEW
+from heap_tools.object_parts import FieldUses
+from tests.support.dump_writer import BYTE, DumpWriter, word
+from tests.support.marked import growth_of, held_by, probe_of
+
+
+POOL, LIST = (f"static shop/Service.{name}" for name in ("POOL", "LIST"))
+TOGETHER = "together shop/Part.parts, shop/Client.hosts"
+
+
+class Clients(DumpWriter):
+    """Clients of `hosts[n]` hosts. A client has them in a list of its own, and in that which it inherits from `Part`,
+    as a host does. A host has 100 bytes. Of the static fields, `POOL` leads to the pool, which has the first client and
+    the last one in its fields, or, if `is_listed`, `LIST` to the list of all."""
+
+    def __init__(self, hosts: Sequence[int], id_size: int = 8, is_listed: bool = False) -> None:
+        super().__init__(id_size)
+        every = range(1000, 1000 + len(hosts))
+        self.of_class(1, "shop/Service", {"POOL": 0 if is_listed else 100, "LIST": 101 * is_listed}, fields=[])
+        self.of_class(2, "shop/Part", fields=["parts"])
+        self.of_class(3, "shop/Client", fields=["hosts"], superclass=2)
+        self.of_class(4, "shop/Host", fields=["content"], superclass=2)
+        self.of_class(5, "java/util/ArrayList", fields=["size", "elementData"])
+        self.of_class(6, "[Ljava/lang/Object;")
+        self.of_class(7, "shop/Pool", fields=["first", "second"])
+        self.instance(100, 7, *((every[0], every[-1]) if hosts else (0, 0)))
+        self.list(101, every)
+        for client, count in zip(every, hosts):
+            of_client = range(10_000 * (client - 999), 10_000 * (client - 999) + count)
+            self.instance(client, 3, client + 2_000_000, client + 3_000_000)
+            self.list(client + 2_000_000, of_client)
+            self.list(client + 3_000_000, of_client)
+            for host in of_client:
+                self.instance(host, 4, host + 4_000_000, host + 6_000_000)
+                self.values(host + 4_000_000, BYTE, bytes(100))
+                self.list(host + 6_000_000, ())
+        self.root(1)
+
+    def list(self, number: int, elements: Sequence[int]) -> None:
+        """Writes a list."""
+        self.instance(number, 5, word(len(elements)), number + 10_000_000)
+        self.array(number + 10_000_000, 6, *elements)
+
+
+class BelowTest(unittest.TestCase):
+    """What is found below the answer."""
+
+    def paths(self, before: DumpWriter, after: DumpWriter) -> List[str]:
+        """Returns the paths of the lines about what grew."""
+        answer = answer_of(growth_of(before, after), 30, 8, mock.Mock())
+        self.assertIsNone(answer.objects)
+        return [line.path() for line in answer.lines]
+
+    def test_one_object(self) -> None:
+        """The fields of the one client are the answer, though one of them is that of all hosts, too."""
+        for id_size in (4, 8):
+            paths = self.paths(Clients([70], id_size), Clients([300], id_size))
+            self.assertEqual(paths[:2], [f"{POOL} > {TOGETHER}", POOL])
+
+    def test_several_objects(self) -> None:
+        """The fields of several clients are found, too, but do not say where it piles up."""
+        paths = self.paths(*(Clients([count] * 3, is_listed=True) for count in (30, 90)))
+        self.assertEqual((paths[0], [it for it in paths if it.endswith(f" > {TOGETHER}")]), (LIST, paths[2:3]))
+
+    def test_below_container(self) -> None:
+        """Below a list of many clients nothing is asked for."""
+        paths = self.paths(*(Clients([count] * (FEW + 1), is_listed=True) for count in (1, 9)))
+        self.assertEqual((paths[0], [it for it in paths if "together" in it]), (LIST, []))
+
+    def test_container(self) -> None:
+        """What leads to more than a few elements or objects is a container of many things."""
+        for count, is_large in (FEW, False), (FEW + 1, True):
+            found = self.containers(Clients([1] * count, is_listed=True), "Service.LIST", "Host.content")
+            self.assertEqual(found, [is_large, is_large, True])
+        self.assertEqual(self.containers(Clients([1, 1]), "Service.POOL", "Pool.first"), [False, False, True])
+
+    def containers(self, dump: DumpWriter, *names: str) -> List[bool]:
+        """Tests of fields and of all of them together whether they lead to containers."""
+        probe = probe_of(dump)
+        every = [held_by(probe, f"shop/{name}") for name in names]
+        every.append(probe.retained([each for held in every for each in held.candidates]))
+        return [leads_to_container(probe, held, FieldUses(HeapObjects(probe.runs.dump))) for held in every]
+
+
+class PartTest(unittest.TestCase):
+    """part_of_one"""
+
+    def part(self, before: DumpWriter, after: DumpWriter) -> float:
+        """Returns the part of what clients gained by both fields that one of them has."""
+        probe = growth_of(before, after)
+        both = [each for name in ("Client.hosts", "Part.parts") for each in held_by(probe, f"shop/{name}").candidates]
+        return part_of_one(probe, probe.retained(both))
+
+    def test_part(self) -> None:
+        """It is all of it if there is one client, which may have come, and nothing if there are several."""
+        self.assertEqual(self.part(Clients([70]), Clients([300])), 1.0)
+        self.assertEqual(self.part(Clients([]), Clients([300])), 1.0)
+        self.assertEqual(self.part(Clients([70, 1]), Clients([300, 1])), 0.0)
+        self.assertEqual(self.part(Clients([300]), Clients([70])), 0.0)
+
+
+if __name__ == "__main__":
+    unittest.main()
