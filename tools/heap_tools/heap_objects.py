@@ -17,6 +17,8 @@ from heap_tools.span_order import order_of_segments
 FEWEST_SEGMENTS = 16
 
 
+#: The class of threads, which have their names in its field `name`.
+THREAD_CLASS = "java/lang/Thread"
 #: The names of the threads of those dumps that are still read, by their serial numbers.
 THREAD_NAMES: "WeakKeyDictionary[HeapDump, Dict[int, str]]" = WeakKeyDictionary()
 
@@ -55,7 +57,7 @@ class HeapObjects:
         dump = self.dump
         threads = {root.thread: dump.id(root.place) for root in dump.roots if root.kind == hprof.THREAD_OBJECT}
         objects = self.places_of(threads.values())
-        strings = {key: self.reference(at, "java/lang/Thread", "name") for key, at in objects.items()}
+        strings = {key: self.reference(at, THREAD_CLASS, "name") for key, at in objects.items()}
         texts = self.texts(strings.values())
         return {thread: texts.get(strings.get(key, 0), "") for thread, key in threads.items()}
 

@@ -11,7 +11,7 @@ from heap_tools.direct_buffers import more_direct_memory, worth_saying
 from heap_tools.humanize import counted
 from heap_tools.leak_lines import Answer, Line, LineObjects
 from heap_tools.thread_counts import ThreadCount, grown_thread_counts
-from heap_tools.which_object import sentence
+from heap_tools.which_object import hidden, sentence
 
 #: How many patterns of names of threads are said, and how many kinds of loaders.
 PATTERNS = 3
@@ -48,10 +48,7 @@ def captured_words(lines: Sequence[Line]) -> str:
 
 def shown_objects(found: Optional[LineObjects], shows_values: bool) -> Optional[LineObjects]:
     """Returns the objects of a line, without texts of the dump unless `shows_values`."""
-    if shows_values or not found:
-        return found
-    objects = [each._replace(names=[name._replace(text="") for name in each.names]) for each in found.objects]
-    return found._replace(objects=objects)
+    return found and found._replace(objects=hidden(found.objects, shows_values))
 
 
 def objects_words(found: LineObjects) -> str:

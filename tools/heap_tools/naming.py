@@ -15,13 +15,19 @@ LONGEST_TEXT = 60
 
 
 class Name(NamedTuple):
-    """What names an object: `how` in words, such as `its field name`, and the text, as it is shown."""
+    """What names an object: `how` in words, such as `its field name`, and the text, as it is shown. `is_of_thread`: the
+    text is the name of a thread."""
 
     how: str
     text: str
+    is_of_thread: bool = False
 
     def __str__(self) -> str:
         return f"{self.how} {self.text}".rstrip()
+
+    def hidden(self) -> "Name":
+        """Returns the name without its text, unless that is the name of a thread."""
+        return self if self.is_of_thread else self._replace(text="")
 
 
 def shown_text(text: str) -> str:
@@ -35,9 +41,9 @@ def is_naming(field: str) -> bool:
     return field in NAMING or field.endswith("Name")
 
 
-def likeliest_first(name: Tuple[str, str]) -> Tuple[bool, Tuple[str, str]]:
+def likeliest_first(name: Name) -> Tuple[bool, Name]:
     """Returns what names of owners are sorted by: those come first whose last field is called as what names is."""
-    return not is_naming(re.split("[ .]", name[0])[-1]), name
+    return not is_naming(re.split("[ .]", name.how)[-1]), name
 
 
 def best_of(named: Mapping[str, str]) -> Optional[str]:
@@ -64,11 +70,10 @@ def alone_in(names: Mapping[int, Sequence[Name]]) -> Dict[int, List[Name]]:
 def names_joined(names: Iterable[Name]) -> List[Name]:
     """Returns names of an object with each text once: what has the same text is joined, as in `its field id and the
     map's key`."""
-    found: Dict[str, List[str]] = {}
-    for how, text in names:
-        of_text = found.setdefault(text, [])
-        of_text += [how] * (how not in of_text)
-    return [Name(" and ".join(of_text), text) for text, of_text in found.items()]
+    found: Dict[str, Dict[str, bool]] = {}
+    for how, text, is_of_thread in names:
+        found.setdefault(text, {})[how] = is_of_thread
+    return [Name(" and ".join(of_text), text, all(of_text.values())) for text, of_text in found.items()]
 
 
 def first_of_texts(names: Iterable[Name]) -> List[Name]:

@@ -5,7 +5,7 @@ from typing import Dict, Iterable, List, Mapping, Sequence, Tuple
 
 from heap_tools import hprof_format as hprof
 from heap_tools.heap_dump import HeapDump
-from heap_tools.heap_objects import HeapObjects
+from heap_tools.heap_objects import THREAD_CLASS, HeapObjects
 from heap_tools.naming import NAMES_SHOWN, Name, alone_in, likely_names, names_joined, shown_text
 from heap_tools.outer_names import MAP_NODES, OTHERS, OuterNames
 
@@ -79,8 +79,9 @@ class ObjectNames:
         """Yields the objects that have some of these texts in fields which name them, the likeliest first."""
         for at, of_object in fields.items():
             named = {field: texts[target] for field, target in of_object.items() if texts.get(target)}
+            of_thread = self.objects.reference(at, THREAD_CLASS, "name")
             for field in likely_names(named):
-                yield at, Name(f"its field {field}", shown_text(named[field]))
+                yield at, Name(f"its field {field}", shown_text(named[field]), of_object[field] == of_thread)
 
     def _by_key(
         self, keys: Sequence[Tuple[int, int]], known: Mapping[int, int], texts: Mapping[int, str]

@@ -3,7 +3,7 @@
 from typing import Dict, Iterable, List, Mapping, Sequence, Set, Tuple
 
 from heap_tools import hprof_format as hprof
-from heap_tools.heap_objects import HeapObjects, Referrer
+from heap_tools.heap_objects import THREAD_CLASS, HeapObjects, Referrer
 from heap_tools.naming import (
     NAMES_SHOWN,
     Name,
@@ -28,7 +28,7 @@ MAP_NODES = (
 NODE_CLASSES = frozenset(node for _, node, key in MAP_NODES if key == "key")
 #: Fields that are called like names, but say nothing of what leads there: the name of a thread or of a constant, and
 #: the key of a map's node, such as the first one, which is that of its value.
-OTHER_NAMES = (("java/lang/Thread", "name"), ("java/lang/Enum", "name"), *((node, "key") for node in NODE_CLASSES))
+OTHER_NAMES = ((THREAD_CLASS, "name"), ("java/lang/Enum", "name"), *((node, "key") for node in NODE_CLASSES))
 #: How many elements an array has at most whose texts are labels: in a longer one is what an object is for.
 MOST_LABELS = 16
 #: With how many other objects these names are compared: each is looked for in the whole dump.
@@ -104,15 +104,14 @@ class OuterNames:
         above = Owners(self.objects).above([*places, *others])
         owners = {at: self._without_neighbours(at, steps) for at, steps in above.items()}
         keyed = self._keyed_names({owner for steps in owners.values() for step in steps for owner in step})
-        names: Dict[int, List[Set[Tuple[str, str]]]] = {}
+        names: Dict[int, List[Set[Name]]] = {}
         for at, steps in owners.items():
             names[at] = [{name for owner in step for name in keyed[owner]} for step in steps]
-        found = {}
+        found: Dict[int, List[Name]] = {}
         for at in places:
             of_others = {name for other in names if other != at for step in names[other] for name in step}
             telling = (sorted(step - of_others, key=likeliest_first) for step in names[at])
-            nearest: List[Tuple[str, str]] = next(filter(None, telling), [])
-            found[at] = [Name(how, shown_text(text) if text else "") for how, text in nearest]
+            found[at] = next(filter(None, telling), [])
         return found
 
     def _without_neighbours(self, at: int, steps: Sequence[Sequence[Referrer]]) -> List[List[Referrer]]:
@@ -124,24 +123,25 @@ class OuterNames:
             known = {self.dump.id(each.place + 1): self.objects.class_name(each.place) for each in step}
         return found
 
-    def _keyed_names(self, owners: Iterable[Referrer]) -> Dict[Referrer, Set[Tuple[str, str]]]:
-        """Returns what names each of these owners: in words, and the text. Walks over all objects three times."""
+    def _keyed_names(self, owners: Iterable[Referrer]) -> Dict[Referrer, Set[Name]]:
+        """Returns what names each of these owners. Walks over all objects three times."""
         targets = {each: self._naming_targets(each) for each in owners}
         known = self.objects.places_of({target for found in targets.values() for target in found.values()})
         parts = {owner: self._texts_of_parts(owner.place, found, known) for owner, found in targets.items()}
         texts = self.objects.texts({key for named in (targets, parts) for of in named.values() for key in of.values()})
-        names: Dict[Referrer, Set[Tuple[str, str]]] = {}
+        names: Dict[Referrer, Set[Name]] = {}
         for owner, found in targets.items():
             class_name = self.objects.class_name(owner.place)
             static = self._static_of(owner)
-            names[owner] = {(static, "")} if static else set()
+            names[owner] = {Name(static, "")} if static else set()
             own = {field: texts[target] for field, target in found.items() if texts.get(target)}
             best = best_of(own)
             if best is not None:
                 how = "the map's key" if self._is_node(owner.place) else f"of {class_name}, its field {best}"
-                names[owner].add((how, own[best]))
+                is_of_thread = found[best] == self.objects.reference(owner.place, THREAD_CLASS, "name")
+                names[owner].add(Name(how, shown_text(own[best]), is_of_thread))
             of_parts = ((f"of {class_name}, its field {path}", texts.get(key)) for path, key in parts[owner].items())
-            names[owner].update((how, text) for how, text in of_parts if text)
+            names[owner].update(Name(how, shown_text(text)) for how, text in of_parts if text)
         return names
 
     def _naming_targets(self, owner: Referrer) -> Dict[str, int]:

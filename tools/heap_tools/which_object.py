@@ -269,7 +269,8 @@ def same_objects(now: PartsOfField, places: Sequence[int], earlier: PartsOfField
 
 
 def hidden(found: Sequence[HoldingObject], shows_values: bool) -> List[HoldingObject]:
-    """Returns objects without the texts that name them unless `shows_values`: then only what has the texts is said."""
+    """Returns objects without the texts that name them, but for names of threads, unless `shows_values`: then only what
+    has the texts is said."""
     if shows_values:
         return list(found)
-    return [each._replace(names=[name._replace(text="") for name in each.names]) for each in found]
+    return [each._replace(names=[name.hidden() for name in each.names]) for each in found]

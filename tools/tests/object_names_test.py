@@ -11,6 +11,7 @@ from heap_tools.naming import shown_text
 from heap_tools.object_names import ObjectNames
 from tests.support.dump_writer import BYTE, DumpWriter, word
 from tests.support.queues import Queues
+from tests.support.thread_locals import LOCAL, Threads
 
 
 class NamesTest(unittest.TestCase):
@@ -108,6 +109,25 @@ class NamesTest(unittest.TestCase):
         self.assertEqual(self.names(dump, 1000, 62_000), [['its field name "queue 0"', local], [local]])
         dump.instance(62_001, 7, 0, 210)
         self.assertEqual(self.names(dump, 62_000, others=[62_001]), [[local]])
+
+    def test_hidden(self) -> None:
+        """Of a name without its text, that of a thread stays: what leads from it, and itself; but not a text of a field
+        that is only called so."""
+        dump = Threads()
+        dump.of_class(33, "shop/Worker", fields=["name"], superclass=30)
+        dump.having(2, "refunds", [(0, LOCAL)])
+        dump.instance(311, 33, 60_001, 60_000, 0, 0)
+        dump.string(60_000, "orders")
+        dump.string(60_001, "secret")
+        named = ObjectNames(self.read(dump.bytes()))
+        places = named.objects.places_of([400_210, 400_200, 311])
+        wanted = [
+            ['of java/lang/Thread, its field name "refunds"'],
+            ['its field name "refunds"'],
+            ["its field name"],
+        ]
+        found = [named.names_of([places[number]])[places[number]] for number in (400_210, 400_200, 311)]
+        self.assertEqual([[str(each.hidden()) for each in names] for names in found], wanted)
 
     def test_owners(self) -> None:
         """An object without a name has that of the nearest object that leads to it, unless others have it, too."""
