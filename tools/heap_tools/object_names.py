@@ -1,5 +1,5 @@
-"""What names an object of a dump: a text in it, its key in a map, the static field of a thread-local, what names an
-object that it is made of, or one that leads to it."""
+"""What names an object of a dump: a text in it, its key in a map, its thread-local and the thread, what names an object
+that it is made of, or one that leads to it."""
 
 from typing import Dict, Iterable, List, Mapping, Sequence, Tuple
 
@@ -8,12 +8,8 @@ from heap_tools.heap_dump import HeapDump
 from heap_tools.heap_objects import THREAD_CLASS, HeapObjects
 from heap_tools.naming import NAMES_SHOWN, Name, alone_in, likely_names, names_joined, shown_text
 from heap_tools.outer_names import MAP_NODES, OTHERS, OuterNames
+from heap_tools.thread_locals import VALUE_OF_ENTRY, ThreadLocals, telling
 
-#: The entries of a thread's map of thread-locals: the field of the value. The thread-local itself is the referent.
-ENTRY = "java/lang/ThreadLocal$ThreadLocalMap$Entry"
-THREAD_LOCAL = f"{ENTRY}.value"
-#: How an object is named by the static field of its thread-local. Those of all threads have that name.
-BY_THREAD_LOCAL = "the thread-local"
 #: The classes of boxed numbers, whose value a key may be, and the codes of their types.
 BOXES = {
     "java/lang/Integer": hprof.INT,
@@ -28,16 +24,16 @@ class ObjectNames:
 
     def __init__(self, dump: HeapDump) -> None:
         self.dump, self.objects = dump, HeapObjects(dump)
+        self.thread_locals = ThreadLocals(self.objects)
 
     def names_of(self, places: Sequence[int], others: Sequence[int] = ()) -> Dict[int, List[Name]]:
-        """Returns the names of the objects at these places, at most `NAMES_SHOWN`, and each text once: texts and keys
-        that neither another of them nor one at `others` has, and thread-locals. If an object has none, those of what
-        it is made of count, then those of its owners, which the first of `others` do not have, too. Walks over all
-        objects some times."""
+        """Returns the names of the objects at these places, at most `NAMES_SHOWN`, and each text once: texts, keys and
+        thread-locals of threads that neither another of them nor one at `others` has, and thread-locals. If an object
+        has none, those of what it is made of count, then those of its owners, which the first of `others` do not have,
+        too. Walks over all objects some times."""
         own = self.own_names([*places, *others])
         alone = alone_in(own)
-        telling = {at: [name for name in own[at] if name in alone[at] or name.how == BY_THREAD_LOCAL] for at in places}
-        found = {at: names_joined(names)[:NAMES_SHOWN] for at, names in telling.items()}
+        found = {at: names_joined(telling(own[at], alone[at]))[:NAMES_SHOWN] for at in places}
         nameless = [at for at in places if not found[at]]
         if nameless:
             found.update(OuterNames(self.objects).of(nameless, others[:OTHERS]))
@@ -53,7 +49,7 @@ class ObjectNames:
         known = self.objects.places_of({*named, *(key for _, key in keys)})
         texts = self.objects.texts_at(known)
         by_key = self._by_key(keys, known, texts)
-        for at, name in [*self._by_text(fields, texts), *by_key, *self._by_thread_local(entries)]:
+        for at, name in [*self._by_text(fields, texts), *by_key, *self.thread_locals.names(entries)]:
             found[at].append(name)
         return found
 
@@ -62,18 +58,15 @@ class ObjectNames:
         entries of thread-locals, with the entry. Walks over all objects."""
         wanted = {self.dump.id(at + 1): at for at in places}
         keys: List[Tuple[int, int]] = []
-        entries = [(at, at) for at in places if self._is_entry(at)]
-        for node, place in self.objects.values_of([*(value for value, _, _ in MAP_NODES), THREAD_LOCAL], set(wanted)):
+        entries = [(at, at) for at in places if self.thread_locals.is_entry(at)]
+        for node, place in self.objects.values_of([*(value for value, _, _ in MAP_NODES), VALUE_OF_ENTRY], set(wanted)):
             at = wanted[self.dump.id(place)]
-            if self._is_entry(node):
+            if self.thread_locals.is_entry(node):
                 entries.append((at, node))
             else:
                 of_node = [self.objects.reference(node, owner, key) for _, owner, key in MAP_NODES]
                 keys += [(at, key) for key in of_node if key]
         return keys, entries
-
-    def _is_entry(self, at: int) -> bool:
-        return self.dump.names.get(self.objects.class_of(at)) == ENTRY
 
     def _by_text(self, fields: Mapping[int, Mapping[str, int]], texts: Mapping[int, str]) -> Iterable[Tuple[int, Name]]:
         """Yields the objects that have some of these texts in fields which name them, the likeliest first."""
@@ -102,20 +95,3 @@ class ObjectNames:
 
     def _signed(self, place: int, size: int) -> int:
         return int.from_bytes(self.dump.bytes[place : place + size], "big", signed=True)
-
-    def _by_thread_local(self, entries: Sequence[Tuple[int, int]]) -> Iterable[Tuple[int, Name]]:
-        """Yields the entries and values of thread-locals that a static field names, with the field."""
-        statics = self._static_fields() if entries else {}
-        for at, entry in entries:
-            field = statics.get(self.objects.reference(entry, "java/lang/ref/Reference", "referent"))
-            if field:
-                yield at, Name(BY_THREAD_LOCAL, f"static {field}")
-
-    def _static_fields(self) -> Dict[int, str]:
-        """Returns the names of static fields by the identifiers of the objects that they name."""
-        found: Dict[int, str] = {}
-        for class_id, each in self.dump.classes.items():
-            for field in each.fields:
-                if field.is_static and field.kind == hprof.OBJECT and not field.is_null:
-                    found.setdefault(self.dump.id(field.place + 1), f"{self.dump.names[class_id]}.{field.name}")
-        return found

@@ -3,6 +3,7 @@
 import tempfile
 import unittest
 from typing import List, Sequence, Tuple
+from unittest import mock
 
 from heap_tools import hprof_format as hprof
 from heap_tools.heap_dump import HeapDump
@@ -11,7 +12,7 @@ from heap_tools.naming import shown_text
 from heap_tools.object_names import ObjectNames
 from tests.support.dump_writer import BYTE, DumpWriter, word
 from tests.support.queues import Queues
-from tests.support.thread_locals import LOCAL, Threads
+from tests.support.thread_locals import LOCAL, OTHER_LOCAL, Threads
 
 
 class NamesTest(unittest.TestCase):
@@ -110,23 +111,76 @@ class NamesTest(unittest.TestCase):
         dump.instance(62_001, 7, 0, 210)
         self.assertEqual(self.names(dump, 62_000, others=[62_001]), [[local]])
 
-    def test_hidden(self) -> None:
-        """Of a name without its text, that of a thread stays: what leads from it, and itself; but not a text of a field
-        that is only called so."""
+    def test_thread(self) -> None:
+        """What a thread has by a thread-local has the name of the thread, too, after texts of its own: the value and
+        the entry, by a static field or not, and of a subclass of threads."""
+        dump = Threads([1])
+        dump.of_class(20, "shop/Buffer")
+        dump.of_class(33, "shop/Worker", superclass=30)
+        for number in range(300, 303):
+            dump.instance(number, 20)
+        dump.having(1, "refunds", [(300, LOCAL), (301, OTHER_LOCAL)])
+        dump.having(2, 'a"b' + "x" * 60, [(1000, LOCAL)], [(302, LOCAL)], of=33)
+        local = "the thread-local static shop/Queues.LOCAL of thread"
+        cut = f'"a\\x22b{"x" * 55}.."'
+        wanted = [[f'{local} "refunds"'], ['a thread-local of thread "refunds"'], [f"{local} {cut}"]]
+        self.assertEqual(self.names(dump, 300, 301, 302), wanted)
+        self.assertEqual(self.names(dump, 400_112, 400_113, 400_222), wanted)
+        self.assertEqual(self.names(dump, 1000), [['its field name "queue 0"', f"{local} {cut}"]])
+
+    def test_thread_of_none(self) -> None:
+        """A thread names nothing if it has no name, or that of another one, if another one has the object, too, or it
+        several by thread-locals without names, or if no thread that is a root has an entry of it."""
         dump = Threads()
+        dump.of_class(20, "shop/Buffer")
+        for number in range(300, 308):
+            dump.instance(number, 20)
+        dump.having(1, "", [(300, LOCAL)])
+        for serial, name in ((2, "pool"), (3, "pool"), (4, "refunds"), (5, "orders")):
+            dump.having(serial, name, [(299 + serial, LOCAL)] if name == "pool" else [(303, LOCAL)])
+        dump.having(6, "carts", [(304, OTHER_LOCAL), (305, 212), (307, LOCAL)])
+        dump.instance(212, 9)
+        dump.instance(62_000, 7, 306, LOCAL)
+        dump.instance(62_001, 7, 307, LOCAL)
+        dump.instance(400_700, 30, 400_701, 400_710, 0)
+        dump.thread(7, 400_700)
+        dump.instance(400_710, 31, 400_711)
+        dump.values(400_711, BYTE, bytes(80))
+        local = ["the thread-local static shop/Queues.LOCAL"]
+        self.assertEqual(self.names(dump, *range(300, 308)), [local, local, local, local, [], [], local, local])
+        self.assertEqual(self.names(dump, 301, 302), [local, local])
+        self.assertEqual(self.names(dump, 304), [['a thread-local of thread "carts"']])
+
+    def test_threads_are_not_read(self) -> None:
+        """Threads are looked up only if an entry or a value of a thread-local is to be named."""
+        dump = Threads([1])
+        dump.having(1, "refunds", [(0, LOCAL)])
+        with mock.patch.object(HeapObjects, "thread_names", side_effect=AssertionError):
+            self.assertEqual(self.names(dump, 1000), [['its field name "queue 0"']])
+            with self.assertRaises(AssertionError):
+                self.names(dump, 400_112)
+
+    def test_hidden(self) -> None:
+        """Of a name without its text, that of a thread stays: what a thread has, what leads from it, and itself; but
+        not a text of a field that is only called so, and none that is that of a field, too."""
+        dump = Threads(sizes=[1])
         dump.of_class(33, "shop/Worker", fields=["name"], superclass=30)
+        dump.having(1, "queue 0", [(1000, LOCAL)])
         dump.having(2, "refunds", [(0, LOCAL)])
         dump.instance(311, 33, 60_001, 60_000, 0, 0)
         dump.string(60_000, "orders")
         dump.string(60_001, "secret")
         named = ObjectNames(self.read(dump.bytes()))
-        places = named.objects.places_of([400_210, 400_200, 311])
+        places = named.objects.places_of([1000, 400_212, 400_210, 400_200, 311])
+        local = "the thread-local static shop/Queues.LOCAL of thread"
         wanted = [
+            [f"its field name and {local}"],
+            [f'{local} "refunds"'],
             ['of java/lang/Thread, its field name "refunds"'],
             ['its field name "refunds"'],
             ["its field name"],
         ]
-        found = [named.names_of([places[number]])[places[number]] for number in (400_210, 400_200, 311)]
+        found = [named.names_of([places[number]])[places[number]] for number in (1000, 400_212, 400_210, 400_200, 311)]
         self.assertEqual([[str(each.hidden()) for each in names] for names in found], wanted)
 
     def test_owners(self) -> None:

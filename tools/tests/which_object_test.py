@@ -1,6 +1,8 @@
 """Tests which objects of many are said to hold most of what a field holds, or to have gained most of what it gained."""
 
 import fnmatch
+import json
+import pathlib
 import random
 import unittest
 from typing import Dict, List, Optional, Sequence, Tuple
@@ -25,6 +27,7 @@ from tests.support.dump_writer import BYTE, OBJECT, DumpWriter
 from tests.support.marked import growth_of, held_by, probe_of
 from tests.support.queues import Chains, Folders, Queues
 from tests.support.random_heaps import random_pair
+from tests.support.thread_locals import buffers
 from tests.support.tool_test import ToolTest
 
 CONTENT = "shop/Queue.content"
@@ -449,6 +452,21 @@ class LeaksTest(ToolTest):
         for words, wanted in runs:
             said = self.ran("before", "after", *words).said
             self.assertTrue(any(fnmatch.fnmatchcase(each, wanted) for each in said.splitlines()), said)
+
+    def test_thread(self) -> None:
+        """What a thread has by a thread-local is named by the thread, wherever it was before, also with --no-values: in
+        messages, in the document and on the page."""
+        buffers([9000, 100, 8000, 10]).write("before")
+        buffers([9000, 3100, 8000, 10], first=3000).write("after")
+        local = "the thread-local static shop/Queues.LOCAL of thread"
+        line = f'1 of 4 shop/Buffer.content gained most: shop/Buffer ({local} "worker 1"): 100%\n'
+        runs: List[List[str]] = [[], ["--no-values"]]
+        for words in runs:
+            ended = self.ran("--html", "page.html", "--json", "before", "after", *words)
+            self.assertIn(line, ended.said)
+            (found,) = json.loads(ended.out)["objects"]["objects"]
+            self.assertEqual(found["names"], [{"how": local, "text": '"worker 1"'}])
+            self.assertIn("worker 1", pathlib.Path("page.html").read_text(encoding="utf-8"))
 
 
 if __name__ == "__main__":
