@@ -79,6 +79,12 @@ class Heapmark:
 
     def first_report(self, path: str, options: Sequence[str] = (), why: str = "") -> Report:
         """Returns the report of the dump `path`. If heapmark refuses it, the fault has its reason; `why` is added."""
+        with Children() as children:
+            run = self.first_run(path, children, options)
+            return run.report(children.next_ended()[1], why)
+
+    def first_run(self, path: str, children: Children, options: Sequence[str] = ()) -> "FirstRun":
+        """Starts a run on the dump `path` among `children`. Raises `Fault` if there is no such file."""
         if path and not os.path.lexists(path):
             raise Fault(UNREADABLE, f"{path}: no such file")
         # To a terminal, heapmark says what to do about a refusal. With options, it then reads the file once more.
@@ -89,11 +95,9 @@ class Heapmark:
                 path.encode()
             except UnicodeEncodeError:  # heapmark takes no such name
                 name, stdin = "/dev/stdin", stack.enter_context(opened(path)).fileno()
-            ran = self._run(Call([*options, "--", name], may_be_report, stdin, to_terminal=to_terminal))
-        if ran.status > 0 and any("refused " in line for line in ran.said):
-            raise Fault(UNREADABLE, f"{path}: {_reason(ran.said, name)}{why}")
-        self.runs += 1
-        return self.judged(path, ran, self.runs)
+            call = Call([*options, "--", name], may_be_report, stdin, to_terminal=to_terminal)
+            child = self._started(call, children)
+        return FirstRun(self, child, path, name)
 
     def later_run(self, copy: Copy, children: Children, workers: int) -> "LaterRun":
         """Starts a run with so many workers on a copy of a dump among `children`."""
@@ -121,6 +125,23 @@ class Heapmark:
         if number == 1 and (ran.status >= 0 or ran.was_stopped):
             ended += ": is it heapmark?"
         raise LaterFault(NO_HEAPMARK, f"{self.program}: run {number} on {path} failed: {ended}")
+
+
+class FirstRun(NamedTuple):
+    """A run of `heapmark` on the dump `path`, the process `child`, which has it as `name`."""
+
+    heapmark: Heapmark
+    child: Child
+    path: str
+    name: str
+
+    def report(self, ran: Ran, why: str = "") -> Report:
+        """Returns the report that it printed, if it ended well. If it refused the dump, the fault has its reason, and
+        `why`, and the run does not count; runs are numbered in the order in which their reports are asked for."""
+        if ran.status > 0 and any("refused " in line for line in ran.said):
+            raise Fault(UNREADABLE, f"{self.path}: {_reason(ran.said, self.name)}{why}")
+        self.heapmark.runs += 1
+        return self.heapmark.judged(self.path, ran, self.heapmark.runs)
 
 
 class LaterRun(NamedTuple):

@@ -61,10 +61,10 @@ class MemoryCopy:
             self._bytes[at : at + len(new)] = new
 
 
-def have_room(dumps: Sequence[HeapDump], copies: Sequence[HeapDump] = ()) -> bool:
-    """Tests whether there is memory for a run of heapmark on each of `dumps` at once, and for a copy of each of
-    `copies`. What runs that go on have taken already counts twice: as taken, and as what they may take."""
-    return free_memory() >= sum(each.size for each in dumps) * TAKEN_BY_HEAPMARK + sum(each.size for each in copies)
+def have_room(dumps: Sequence[int], copies: Sequence[int] = ()) -> bool:
+    """Tests whether there is memory for a run of heapmark on a dump of each of these lengths at once, and for `copies`
+    of these lengths. What runs that go on have taken already counts twice: as taken, and as what they may take."""
+    return free_memory() >= sum(dumps) * TAKEN_BY_HEAPMARK + sum(copies)
 
 
 class CopiesInMemory:
@@ -76,18 +76,18 @@ class CopiesInMemory:
         self._copies: List[MemoryCopy] = []
         self._can_be_made = hasattr(os, "memfd_create")
 
-    def free(self, roots: Sequence[int], beside: Sequence[HeapDump] = ()) -> Optional[MemoryCopy]:
+    def free(self, roots: Sequence[int], beside: Sequence[int] = ()) -> Optional[MemoryCopy]:
         """Returns a copy in which the objects `roots` are roots and that no run reads, if there is room for a run on it
-        while others go on, on the dumps `beside`. Returns None if there is none: also if the copies have other roots.
-        Raises `Fault` if the file of the dump became shorter."""
+        while others go on, on dumps of the lengths `beside`. Returns None if there is none: also if the copies have
+        other roots. Raises `Fault` if the file of the dump became shorter."""
         require_whole(self._dump)
         if any(each.roots != tuple(roots) for each in self._copies):
             return None
-        dumps = [*beside, self._dump]
+        dumps = [*beside, self._dump.size]
         found = next((each for each in self._copies if each.is_free), None)
         if found:
             return found if not beside or have_room(dumps) else None
-        return self._made(roots) if self._can_be_made and have_room(dumps, copies=[self._dump]) else None
+        return self._made(roots) if self._can_be_made and have_room(dumps, copies=[self._dump.size]) else None
 
     def _made(self, roots: Sequence[int]) -> Optional[MemoryCopy]:
         """Makes one more copy. Returns None if the system has no such memory: then it is not asked again."""

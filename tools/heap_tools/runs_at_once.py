@@ -38,9 +38,9 @@ class ChangedDump(NamedTuple):
     roots: Sequence[int] = ()
     memory: Optional[CopiesInMemory] = None
 
-    def free_copy(self, beside: Sequence[HeapDump]) -> Optional[MemoryCopy]:
-        """Returns a copy in memory for a run while others go on, on the dumps `beside`. Returns None if there is none
-        now."""
+    def free_copy(self, beside: Sequence[int]) -> Optional[MemoryCopy]:
+        """Returns a copy in memory for a run while others go on, on dumps of the lengths `beside`. Returns None if
+        there is none now."""
         return self.memory.free(self.roots, beside) if self.memory else None
 
     @contextlib.contextmanager
@@ -54,10 +54,10 @@ class ChangedDump(NamedTuple):
 
 
 class _Running(NamedTuple):
-    """A run for the dump of this number. Its copy is given back when `in_use` is closed."""
+    """A run for the dump of this number, which has `length` bytes. Its copy is given back when `in_use` is closed."""
 
     number: int
-    dump: HeapDump
+    length: int
     run: LaterRun
     in_use: contextlib.ExitStack
 
@@ -87,7 +87,7 @@ class RunsAtOnce:
         for number, changed in list(self._waiting.items()):
             if len(self._running) >= at_a_time():
                 return
-            memory = changed.free_copy([each.dump for each in self._running.values()])
+            memory = changed.free_copy([each.length for each in self._running.values()])
             if memory:
                 self._start(number, changed.copy(memory), workers_of(len(self._waiting) + len(self._running)))
         if not self._running:
@@ -99,7 +99,7 @@ class RunsAtOnce:
         changed = self._waiting.pop(number)
         in_use = self._in_use.enter_context(contextlib.ExitStack())
         run = changed.heapmark.later_run(in_use.enter_context(of_run), self._children, workers)
-        self._running[run.child] = _Running(number, changed.dump, run, in_use)
+        self._running[run.child] = _Running(number, changed.dump.size, run, in_use)
 
     def _end_one(self) -> None:
         """Waits until a run has ended, gives back its copy, and keeps its report."""

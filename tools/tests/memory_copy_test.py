@@ -141,8 +141,8 @@ class MemoryCopyTest(unittest.TestCase):
         for much, is_made in ((2 * self.dump.size, False), (4 * self.dump.size, True)):
             with mock.patch("heap_tools.memory_copy.free_memory", return_value=much):
                 self.assertEqual(CopiesInMemory(self.dump).free([]) is not None, is_made, much)
-                self.assertTrue(have_room([self.dump]) or not is_made)
-                self.assertFalse(have_room([self.dump] * 2), much)
+                self.assertTrue(have_room([self.dump.size]) or not is_made)
+                self.assertFalse(have_room([self.dump.size] * 2), much)
         with mock.patch("os.memfd_create", side_effect=OSError):
             self.assertIsNone(CopiesInMemory(self.dump).free([]))
         with mock.patch("heap_tools.memory_copy.write_copy", side_effect=OSError):
@@ -167,7 +167,7 @@ class MemoryCopyTest(unittest.TestCase):
                         "heap_tools.memory_copy.free_memory", return_value=(least + more) * self.dump.size
                     )
                     with room:
-                        found = memory.free([], [self.dump] * beside)
+                        found = memory.free([], [self.dump.size] * beside)
                 self.assertEqual(found is not None, is_there, (is_used, beside, more))
                 self.assertEqual(len(memory._copies), 2 if is_used and is_there else 1)
 

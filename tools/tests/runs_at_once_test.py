@@ -129,8 +129,8 @@ class RunsAtOnceTest(TwoDumpsTest):
             last = self.both(when("counted.*", most))[1]
             much = int(last.dump.size * (2.2 * most + 1.1))
             with mock.patch("heap_tools.memory_copy.free_memory", return_value=much):
-                self.assertTrue(have_room([last.dump] * most, copies=[last.dump]))
-                self.assertFalse(have_room([last.dump] * (most + 1)))
+                self.assertTrue(have_room([last.dump.size] * most, copies=[last.dump.size]))
+                self.assertFalse(have_room([last.dump.size] * (most + 1)))
                 self.assertEqual(max(self.check([(last, number) for number in range(6)])), most)
             self.check_copies(last, most)
 
