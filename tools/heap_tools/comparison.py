@@ -10,6 +10,7 @@ from heap_tools.console import Progress
 from heap_tools.direct_buffers import BUFFER, DirectMemory, direct_memory, more_direct_memory
 from heap_tools.dump_runs import DumpRuns
 from heap_tools.faults import NOTHING, UNREADABLE, Fault
+from heap_tools.first_runs import FirstRuns
 from heap_tools.heapmark import Heapmark
 from heap_tools.humanize import counted
 from heap_tools.leak_options import Options
@@ -90,12 +91,13 @@ class Comparison:
 
 
 def dumps_of(paths: Sequence[str], heapmark: Heapmark, progress: Progress) -> List[DumpRuns]:
-    """Returns the dumps at `paths`. Raises `Fault` if one cannot be read, if they are the same, not in the order of
-    their times, or seem to be of two programs."""
+    """Returns the dumps at `paths`: the records of one are read while heapmark reads others. Raises `Fault` if one
+    cannot be read, if they are the same, not in the order of their times, or seem to be of two programs."""
     dumps: List[DumpRuns] = []
-    for number, path in enumerate(paths, 1):
-        progress.show(f"reading dump {number} of {len(paths)}")
-        dumps.append(DumpRuns.of(heapmark, path, "leaks"))
+    with FirstRuns(heapmark, paths, "leaks") as first:
+        for number in range(1, len(paths) + 1):
+            progress.show(f"reading dump {number} of {len(paths)}")
+            dumps.append(DumpRuns.read(heapmark, first.next()))
     require_one_program(dumps)
     return dumps
 

@@ -1,38 +1,17 @@
 """A dump in a plain file, and runs of heapmark on it as it is and on copies with changes."""
 
-import os
 import struct
 from typing import Dict, List, NamedTuple, Optional, Sequence
 
 from heap_tools.changed_copy import Changes
 from heap_tools.faults import UNREADABLE, Fault
+from heap_tools.first_runs import AcceptedDump, FirstRuns
 from heap_tools.heap_dump import HeapDump, UnknownTag
 from heap_tools.heapmark import Heapmark, opened
-from heap_tools.hprof_format import MAGIC
 from heap_tools.memory_copy import CopiesInMemory
 from heap_tools.object_sizes import RowSizes
-from heap_tools.reports import Report, read_text
+from heap_tools.reports import Report
 from heap_tools.runs_at_once import ChangedDump, RunsAtOnce
-
-
-def is_dump(path: str) -> bool:
-    """Tests whether a plain file begins as a dump does."""
-    if not os.path.isfile(path):
-        return False
-    with opened(path) as file:
-        return file.read(len(MAGIC)) == MAGIC
-
-
-def require_plain_dump(path: str, tool: str) -> None:
-    """Raises `Fault` if `path` is no plain file, which the tool has to read again, or is a report or a histogram."""
-    if os.path.exists(path) and not os.path.isfile(path):
-        raise Fault(UNREADABLE, f"{path}: no plain file, and {tool} reads it more than once")
-    if is_dump(path) or not os.path.exists(path):
-        return
-    with opened(path) as file:
-        found = read_text(file, path)
-    if found:
-        raise Fault(UNREADABLE, f"{path}: a {found[0]}: {tool} needs a dump")
 
 
 def read_dump(path: str, length: int, report: Report) -> HeapDump:
@@ -71,9 +50,13 @@ class DumpRuns:
     @classmethod
     def of(cls, heapmark: Heapmark, path: str, tool: str) -> "DumpRuns":
         """Reads the dump `path` for `tool`. Raises `Fault` if that cannot be done."""
-        require_plain_dump(path, tool)
-        length = os.path.getsize(path) if os.path.exists(path) else 0
-        report = heapmark.first_report(path)
+        with FirstRuns(heapmark, [path], tool) as first:
+            return cls.read(heapmark, first.next())
+
+    @classmethod
+    def read(cls, heapmark: Heapmark, accepted: AcceptedDump) -> "DumpRuns":
+        """Reads the records of a dump that heapmark has accepted. Raises `Fault` if they are not as it read them."""
+        path, length, report = accepted
         dump = read_dump(path, length, report)
         return cls(heapmark, path, report, dump, {}, (), CopiesInMemory(dump))
 

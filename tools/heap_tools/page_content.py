@@ -11,13 +11,14 @@ from heap_tools.candidates import Candidate
 from heap_tools.class_growth import growths
 from heap_tools.class_names import CLASSES, is_own
 from heap_tools.comparison import Comparison
-from heap_tools.dump_runs import DumpRuns, is_dump
+from heap_tools.dump_runs import DumpRuns
 from heap_tools.faults import UNWRITABLE, WRONG_USE, Fault
 from heap_tools.heapmark import Heapmark
 from heap_tools.heap_bytes import layout_words
 from heap_tools.leak_lines import Answer, Line
 from heap_tools.leak_notes import Notes
 from heap_tools.omissions import on_page
+from heap_tools.plain_dumps import is_dump
 from heap_tools.probe import GrowthProbe, Probe
 from heap_tools.program_facts import facts_of
 from heap_tools.reports import Amount, Report, Unit

@@ -437,6 +437,9 @@ class LeaksTest(ToolTest):
             (["monday", "no\nwhere\x1b"], r"leaks: no\x0awhere\x1b: no such file"),
             (["monday", "histogram"], "leaks: histogram: a histogram: leaks needs a dump"),
             (["monday", "pipe"], "leaks: pipe: no plain file, and leaks reads it more than once"),
+            (["nowhere", "histogram"], "leaks: nowhere: no such file"),
+            (["histogram", "nowhere"], "leaks: histogram: a histogram: leaks needs a dump"),
+            (["cut", "nowhere"], self.CUT),
             (["/dev/stdin", "friday"], "leaks: /dev/stdin: no plain file, and leaks reads it more than once"),
         ):
             self.expect(["--html", "page.html", *words], said=said, status=1)

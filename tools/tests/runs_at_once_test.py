@@ -10,7 +10,7 @@ from heap_tools.dump_runs import DumpRuns, Question, reports_of
 from heap_tools.heapmark import LaterFault
 from heap_tools.memory_copy import CopiesInMemory, have_room
 from heap_tools.runs_at_once import MOST_AT_A_TIME, at_a_time
-from tests.support.two_dumps import TwoDumpsTest
+from tests.support.two_dumps import TwoDumpsTest, when
 
 #: What the stand-in does with a copy: it notes in `shared` if another run has it, and in `together` how many go on. It
 #: reports the byte at the offset 24 and the length. A pipe it reads first.
@@ -29,13 +29,6 @@ echo "$byte 8  A"
 echo "$(wc -c < got.$$) 8  B"
 touch ended.$$
 """
-#: Waits until so many runs have counted those that go on, or have ended.
-WHEN = "for _ in $(seq 600); do [ $(ls FILES 2> /dev/null | wc -l) -lt COUNT ] || break; sleep 0.1; done"
-
-
-def when(files: str, count: int) -> str:
-    """Returns what waits until there are `count` such files."""
-    return WHEN.replace("FILES", files).replace("COUNT", str(count))
 
 
 class RunsAtOnceTest(TwoDumpsTest):

@@ -10,11 +10,12 @@ from heap_tools.class_growth import ClassGrowth, growths, lines_to_print
 from heap_tools.command_line import Parser, number
 from heap_tools.console import is_terminal, say, write
 from heap_tools.documents import document, dump_entry, held_fields
-from heap_tools.dump_runs import DumpRuns, is_dump
+from heap_tools.dump_runs import DumpRuns
 from heap_tools.faults import MORE, NO_SUCH_NAME, UNREADABLE, WRONG_USE, Fault
 from heap_tools.field_list import Entry, changes_of, entries_of, field_of, root_of
 from heap_tools.heap_bytes import counted_in_heap
 from heap_tools.heapmark import Heapmark, LaterFault
+from heap_tools.plain_dumps import is_dump
 from heap_tools.reports import Amount, Report, Unit
 
 ABOUT = """

@@ -12,13 +12,14 @@ from heap_tools.class_names import is_array
 from heap_tools.command_line import Parser, number
 from heap_tools.console import Progress, is_terminal, say, write
 from heap_tools.documents import document, holders_fields
-from heap_tools.dump_runs import DumpRuns, is_dump
+from heap_tools.dump_runs import DumpRuns
 from heap_tools.faults import WRONG_USE, Fault
 from heap_tools.heap_bytes import counted_in_heap
 from heap_tools.heapmark import Heapmark
 from heap_tools.humanize import counted
 from heap_tools.line_order import by_share
 from heap_tools.omissions import WHY_UNREACHABLE
+from heap_tools.plain_dumps import is_dump
 from heap_tools.probe import Probe, Retained
 from heap_tools.reports import Unit
 from heap_tools.running_calls import prepared, without_running_calls

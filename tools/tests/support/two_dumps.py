@@ -9,6 +9,14 @@ from heap_tools.heapmark import Heapmark
 from tests.support.dump_writer import DumpWriter
 from tests.support.tool_test import ToolTest, report
 
+#: Waits until so many runs have made such a file: they have begun, counted those that go on, or ended.
+WHEN = "for _ in $(seq 600); do [ $(ls FILES 2> /dev/null | wc -l) -lt COUNT ] || break; sleep 0.1; done"
+
+
+def when(files: str, count: int) -> str:
+    """Returns what waits until there are `count` such files."""
+    return WHEN.replace("FILES", files).replace("COUNT", str(count))
+
 
 class TwoDumpsTest(ToolTest):
     """A test with the dumps `monday` and `friday`."""
