@@ -1,7 +1,7 @@
 """The objects of a heap dump as their records have them."""
 
 import struct
-from typing import Callable, Container, Iterable, Iterator, List, Optional, Tuple
+from typing import Callable, Collection, Container, Iterable, Iterator, List, Optional, Tuple
 
 from heap_tools import hprof_format as hprof
 from heap_tools.heap_dump import HeapDump, Span, UnknownTag
@@ -15,6 +15,8 @@ PlacedObject = Tuple[int, int, int]
 LONG_RECORD = 4 << 20
 #: How long the parts are into which a long record is cut, and how many objects are read to see that a cut is right.
 PART, PROOF = 1 << 20, 100
+#: Of how many classes it is looked at most whether a part of the file has their identifiers.
+MOST_LOOKED_FOR = 20
 #: The class whose instances show where a record can be cut: any dump has many of them.
 FREQUENT = "java/lang/String"
 
@@ -72,6 +74,25 @@ def chosen_objects(
                 at += head + length * size
             else:
                 at = _end_of_other(dump, tag, at)
+
+
+def instances_of(dump: HeapDump, spans: Iterable[Span], classes: Collection[int]) -> Iterator[PlacedObject]:
+    """Yields the instances of `classes` in some parts of the file, in its order. The caller may remove classes: when
+    none is left, nothing more is read. Parts that cannot have any are not walked over."""
+    for span in spans:
+        for each in chosen_objects(dump, [span], (), classes) if classes and _may_have(dump, span, classes) else ():
+            yield each
+            if not classes:
+                return
+
+
+def _may_have(dump: HeapDump, span: Span, classes: Collection[int]) -> bool:
+    """Tests whether a part of the file has the identifier of one of `classes`: to look for some bytes takes a tenth of
+    the time of a walk. A long part, or one for many classes, may have it."""
+    if span[1] - span[0] > LONG_RECORD or len(classes) > MOST_LOOKED_FOR:
+        return True
+    part = dump.bytes[slice(*span)]  # in bytes `find` is far faster than in a mapped file
+    return any(part.find(each.to_bytes(dump.id_size, "big")) >= 0 for each in classes)
 
 
 def _heads(size: int) -> List[Callable[..., Tuple[int, ...]]]:
