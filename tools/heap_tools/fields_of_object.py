@@ -51,11 +51,12 @@ def _targets(probe: Probe, held: Retained, uses: FieldUses) -> Set[int]:
 
 def units_below(probe: Probe, upper: Retained) -> List[Tried]:
     """Returns for each class with few instances, of which `upper` holds some, the fields that these have, if some of
-    them have many instances elsewhere, too: others are of one class, of which it is asked anyway."""
+    them have many instances elsewhere, too: others are of one class, of which it is asked anyway. Those of a collection
+    say nothing of what it is for."""
     few = {name for name in upper.lost if is_own(name) and probe.base.amount(name).objects <= FEW}
     found: Dict[str, List[Candidate]] = {}
     for field in probe.candidates.fields(probe.base):
-        for name in field.classes & few:
+        for name in few & field.classes if not field.is_collection else ():
             found.setdefault(name, []).append(field)
     units = {tuple(each.key for each in unit): unit for unit in found.values()}
     return [unit for unit in units.values() if len(unit) > 1 and any(each.count > FEW for each in unit)]

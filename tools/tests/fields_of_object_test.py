@@ -19,15 +19,21 @@ TOGETHER = "together shop/Part.parts, shop/Client.hosts"
 
 class Clients(DumpWriter):
     """Clients of `hosts[n]` hosts. A client has them in a list of its own, and in that which it inherits from `Part`,
-    as a host does. A host has 100 bytes. Of the static fields, `POOL` leads to the pool, which has the first client and
-    the last one in its fields, or, if `is_listed`, `LIST` to the list of all."""
+    as a host does; `names` are those of both classes. A host has 100 bytes. Of the static fields, `POOL` leads to the
+    pool, which has the first client and the last one in its fields, or, if `is_listed`, `LIST` to the list of all."""
 
-    def __init__(self, hosts: Sequence[int], id_size: int = 8, is_listed: bool = False) -> None:
+    def __init__(
+        self,
+        hosts: Sequence[int],
+        id_size: int = 8,
+        is_listed: bool = False,
+        names: Sequence[str] = ("shop/Part", "shop/Client"),
+    ) -> None:
         super().__init__(id_size)
         every = range(1000, 1000 + len(hosts))
         self.of_class(1, "shop/Service", {"POOL": 0 if is_listed else 100, "LIST": 101 * is_listed}, fields=[])
-        self.of_class(2, "shop/Part", fields=["parts"])
-        self.of_class(3, "shop/Client", fields=["hosts"], superclass=2)
+        self.of_class(2, names[0], fields=["parts"])
+        self.of_class(3, names[1], fields=["hosts"], superclass=2)
         self.of_class(4, "shop/Host", fields=["content"], superclass=2)
         self.of_class(5, "java/util/ArrayList", fields=["size", "elementData"])
         self.of_class(6, "[Ljava/lang/Object;")
@@ -70,6 +76,11 @@ class BelowTest(unittest.TestCase):
         """The fields of several clients are found, too, but do not say where it piles up."""
         paths = self.paths(*(Clients([count] * 3, is_listed=True) for count in (30, 90)))
         self.assertEqual((paths[0], [it for it in paths if it.endswith(f" > {TOGETHER}")]), (LIST, paths[2:3]))
+
+    def test_collection(self) -> None:
+        """The fields of a collection are not tried: that it holds what is in it says nothing."""
+        paths = self.paths(*(Clients([count], names=("shop/PartList", "shop/ClientMap")) for count in (70, 300)))
+        self.assertEqual((paths[0], [it for it in paths if "together" in it]), (POOL, []))
 
     def test_below_container(self) -> None:
         """Below a list of many clients nothing is asked for."""

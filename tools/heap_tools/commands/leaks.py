@@ -60,10 +60,10 @@ scores.
 
 Collections are classes that inherit from those of the JDK, classes whose names
 end with Map, List, Set, Queue or Deque, and classes within these. Below an
-answer that leads to none, the fields of a class with few objects are tried
-together, inherited ones too: several by which one object gained most count as
-one field. An object of many is named by a text in it, its key in a map, the
-thread that has it by a thread-local, or by those of what leads to it.
+answer that leads to none, the fields of another class with few objects are
+tried together, inherited ones too: several by which one object gained most
+count as one field. An object of many is named by a text in it, its key in a
+map, the thread that has it by a thread-local, or by those of what leads to it.
 
 Calls that are running do not count: their local variables lead into containers
 that fields hold. So local variables lead nowhere if less than P percent of the
