@@ -6,7 +6,7 @@ from typing import Dict, Iterable, List, Set, Tuple
 from heap_tools import hprof_format as hprof
 from heap_tools.heap_dump import Span
 from heap_tools.heap_objects import FEWEST_SEGMENTS, FieldValue, HeapObjects
-from heap_tools.object_records import instances_of
+from heap_tools.object_records import instances_in
 from heap_tools.parallel import shared
 
 #: From how many different identifiers in a field on no more are looked for: all that is asked is whether it is one.
@@ -64,7 +64,7 @@ def values_by_field(objects: HeapObjects, fields: Iterable[str], most: int, most
     def values_in(segments: List[Span]) -> Dict[str, FieldValues]:
         found, wanted = {name: FieldValues(most, most_null) for name in names}, dict(places)
         id_at, data = dump.unpack_id, dump.bytes
-        for at, _, class_id in instances_of(dump, segments, wanted):
+        for at, _, class_id in instances_in(dump, segments, wanted):
             for name, place in wanted[class_id]:
                 if found[name].add(at, at + place, id_at(data, at + place)[0]):
                     _leave_out(name, wanted)

@@ -76,7 +76,7 @@ def chosen_objects(
                 at = _end_of_other(dump, tag, at)
 
 
-def instances_of(dump: HeapDump, spans: Iterable[Span], classes: Collection[int]) -> Iterator[PlacedObject]:
+def instances_in(dump: HeapDump, spans: Iterable[Span], classes: Collection[int]) -> Iterator[PlacedObject]:
     """Yields the instances of `classes` in some parts of the file, in its order. The caller may remove classes: when
     none is left, nothing more is read. Parts that cannot have any are not walked over."""
     for span in spans:
