@@ -63,9 +63,15 @@ class Answer(NamedTuple):
 
 class Lines:
     """What a search has found, in the order of `line_order`: of one dump by what it holds. `between` are dumps between
-    the first and the last."""
+    the first and the last. `uses` may know the values of the fields that were found."""
 
-    def __init__(self, search: Search, probe: Probe, between: Sequence[EarlierProbe] = ()) -> None:
+    def __init__(
+        self,
+        search: Search,
+        probe: Probe,
+        between: Sequence[EarlierProbe] = (),
+        uses: Optional[FieldUses] = None,
+    ) -> None:
         self.search, self.probe, self.between, self.found = search, probe, between, search.found
         self.scoring = Scoring.GAIN if isinstance(probe, GrowthProbe) else Scoring.SHARE
         #: What is not found, but may have held before what a line holds now.
@@ -73,8 +79,7 @@ class Lines:
         if self.scoring is Scoring.GAIN:
             self.others = [*search.steady, *(probe.retained(kin) for kin in map(self._kin, self.found) if kin)]
         self.every = [*self.found, *self.others]
-        fields = [held.candidates[0] for held in self.found if self._is_field(held)]
-        self.uses = FieldUses(HeapObjects(probe.runs.dump), fields)
+        self.uses = uses or uses_of(self.found, probe)
         self.features = [self._features(held, number < len(self.found)) for number, held in enumerate(self.every)]
 
     def sorted(self) -> List[Retained]:
@@ -99,10 +104,10 @@ class Lines:
         """Returns which of several objects leads to the answer, if only one object has that field, and what names it:
         it has the field of the nearest line above of which that is known."""
         answer = self._order().answer()
-        if answer is None or self.every[answer].instances > 1 or not self._is_field(self.every[answer]):
+        if answer is None or self.every[answer].instances > 1 or not is_field(self.every[answer]):
             return None
         held, least = self.every[answer], self.every[answer].heap.objects
-        above = [it for it in self.found if self._is_field(it) and it.instances > 1 and it.heap.objects >= least]
+        above = [it for it in self.found if is_field(it) and it.instances > 1 and it.heap.objects >= least]
         for upper in sorted(above, key=lambda it: it.heap.objects):
             for only in self.uses.of(held.candidates[0]).values:
                 found = object_leading_to(self.probe, upper, only.instance, held.amount, self.uses)
@@ -177,12 +182,8 @@ class Lines:
 
     def _with_value(self, held: Retained) -> int:
         """Returns how many instances have a value in a line's field: of several some may have none."""
-        may_be_null = self._is_field(held) and held.instances > 1
+        may_be_null = is_field(held) and held.instances > 1
         return self.uses.count(held.candidates[0]) if may_be_null else held.instances
-
-    def _is_field(self, held: Retained) -> bool:
-        """Tests whether a line is one field of instances."""
-        return len(held.candidates) == 1 and held.candidates[0].kind == FIELD
 
     def _grew_at_each_step(self, held: Retained) -> bool:
         """Tests whether `held` gained between each two of the dumps that are asked."""
@@ -204,6 +205,16 @@ class Lines:
         return kin if now - had < MOST * (now - was) else []
 
 
+def is_field(held: Retained) -> bool:
+    """Tests whether a line is one field of instances."""
+    return len(held.candidates) == 1 and held.candidates[0].kind == FIELD
+
+
+def uses_of(found: Sequence[Retained], probe: Probe) -> FieldUses:
+    """Returns what knows the values of the fields among what was found."""
+    return FieldUses(HeapObjects(probe.runs.dump), [held.candidates[0] for held in found if is_field(held)])
+
+
 def kin_of(candidate: Candidate, probe: Probe) -> List[Candidate]:
     """Returns the fields of the class that declares `candidate`, static ones if it is static."""
     owner = candidate.name.rpartition(".")[0]
@@ -219,31 +230,39 @@ def answer_of(
     probes_between: Callable[[], List[EarlierProbe]] = lambda: [],
 ) -> Answer:
     """Searches the dumps for what holds `at_least` percent of the growth, and returns the `top` first lines."""
-    search = searched(probe, at_least, progress)
+    search, uses = searched(probe, at_least, progress)
     between = probes_between() if search.found else []
-    return Answer(*lines_found(search, probe, top, between), search, probe, between)
+    return Answer(*lines_found(search, probe, top, between, uses), search, probe, between)
 
 
-def searched(probe: Probe, at_least: int, progress: SearchProgress) -> Search:
-    """Searches for what holds `at_least` percent of what the probe asks for, alone or together."""
+def searched(probe: Probe, at_least: int, progress: SearchProgress) -> Tuple[Search, FieldUses]:
+    """Searches for what holds `at_least` percent of what the probe asks for, alone or together. Returns the search, and
+    what knows the values of the fields that hold it alone: these are read while it goes on."""
     search, fields = Search(probe, at_least, progress), probe.candidates.fields(probe.base)
     together = SearchTogether(search, ContainerSizes(HeapObjects(probe.runs.dump)).largest_first)
     probe.expect([together.statics])
     search.find_roots()
     together.expect_statics()
     search.look_in(fields)
+    uses = uses_of(search.found, probe)
+    if any(is_field(held) and held.instances > 1 for held in search.found):
+        uses.begin()
     together.find_fields(fields)
     together.find_statics()
     together.find_roots(fields)
-    return search
+    return search, uses
 
 
 def lines_found(
-    search: Search, probe: Probe, top: int, between: Sequence[EarlierProbe] = ()
+    search: Search,
+    probe: Probe,
+    top: int,
+    between: Sequence[EarlierProbe] = (),
+    uses: Optional[FieldUses] = None,
 ) -> Tuple[List[Line], Optional[LineObjects], int]:
     """Returns the `top` first lines of what a search has found, the objects that gained most of one, and how many more
-    lines there are."""
-    found = Lines(search, probe, between)
+    lines there are. `uses` may know the values of the fields that were found."""
+    found = Lines(search, probe, between, uses)
     objects = found.ask_for_objects()
     found.ask_for_elements()
     objects = None if found.ask_below() else objects

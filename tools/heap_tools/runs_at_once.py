@@ -11,8 +11,9 @@ from heap_tools.memory_copy import CopiesInMemory, MemoryCopy
 from heap_tools.parallel import processors
 from heap_tools.reports import Report
 
-#: The most runs at a time, however many processors there are: a dump has at most so many copies in memory.
-MOST_AT_A_TIME = 4
+#: The most runs at a time, however many processors there are: a dump has at most so many copies in memory. With four,
+#: a search on 164 and 431 MB took 19.5 to 20.9 seconds on four processors, with three 18.7, with two 21.4.
+MOST_AT_A_TIME = 3
 
 
 def at_a_time() -> int:
@@ -21,10 +22,11 @@ def at_a_time() -> int:
     return min(MOST_AT_A_TIME, processors())
 
 
-def workers_of(runs: int) -> int:
-    """Returns with how many workers each of so many runs marks that have not ended yet: as many as there are processors
-    for it. With more, four runs at once took 1.25 seconds in place of 1.05 on four processors."""
-    return max(1, min(WORKERS, -(-processors() // min(runs, at_a_time()))))
+def workers() -> int:
+    """Returns with how many workers a run marks: as many as there are processors for it, also beside others. While one
+    marks, the others mostly read: with two workers each, a search with three runs at once took 14.0 and 15.9 seconds,
+    with four 13.5 and 13.6."""
+    return min(WORKERS, processors())
 
 
 class ChangedDump(NamedTuple):
@@ -89,16 +91,16 @@ class RunsAtOnce:
                 return
             memory = changed.free_copy([each.length for each in self._running.values()])
             if memory:
-                self._start(number, changed.copy(memory), workers_of(len(self._waiting) + len(self._running)))
+                self._start(number, changed.copy(memory))
         if not self._running:
             number, changed = next(iter(self._waiting.items()))
-            self._start(number, changed.copy(None), workers_of(1))
+            self._start(number, changed.copy(None))
 
-    def _start(self, number: int, of_run: ContextManager[Copy], workers: int) -> None:
+    def _start(self, number: int, of_run: ContextManager[Copy]) -> None:
         """Starts the run for the dump of this number on a copy, which is in use until the run has ended."""
         changed = self._waiting.pop(number)
         in_use = self._in_use.enter_context(contextlib.ExitStack())
-        run = changed.heapmark.later_run(in_use.enter_context(of_run), self._children, workers)
+        run = changed.heapmark.later_run(in_use.enter_context(of_run), self._children, workers())
         self._running[run.child] = _Running(number, changed.dump.size, run, in_use)
 
     def _end_one(self) -> None:

@@ -23,7 +23,8 @@ from heap_tools.search_progress import SearchProgress
 #: is many times as large as its growth, hundreds of fields hold as much as the growth, and did not gain it.
 MOST_QUESTIONS = 300
 
-#: How many groups are looked into at once: as many runs of heapmark go on at the same time.
+#: How many groups are looked into at once: one more than runs of heapmark go on at the same time, so that one begins
+#: when another ends.
 AT_ONCE = 4
 
 #: The part of the least share up to which what static fields hold may differ from before, in all classes together.

@@ -8,7 +8,7 @@ from heap_tools.class_names import package
 from heap_tools.line_order import FEW, MOST
 from heap_tools.probe import Retained
 from heap_tools.reference_paths import is_root
-from heap_tools.search import UnitGroup, Search, Tried
+from heap_tools.search import AT_ONCE, Search, Tried, UnitGroup
 
 #: The part of what several hold together that those of them that are needed must hold, and how many these may be.
 PART_NEEDED, MOST_NEEDED = 0.9, 6
@@ -43,9 +43,17 @@ class SearchTogether:
         self.statics = [each for each in self.probe.candidates.statics() if not each.is_of_machine]
 
     def expect_statics(self) -> None:
-        """Expects the question what static fields held before, which `find_statics` asks if they hold enough."""
-        if self.probe.bound(self.statics) - self.steady() >= self.at_least:
-            self.probe.expect([], [self.statics])
+        """Expects what `find_statics` asks first, if static fields hold enough: what all held before; and if none is
+        found, what those of own classes hold and held, all of them and several of one class, if that is no question
+        about many classes."""
+        if self.probe.bound(self.statics) - self.steady() < self.at_least:
+            return
+        self.probe.expect([], [self.statics])
+        if not any(each.kind == STATIC for held in self.search.found for each in held.candidates):
+            own = [each for each in self.unknown(self.statics) if each.is_own]
+            several = [unit for unit in by_class(own) if len(unit) > 1]
+            groups = [own, *(several if len(several) <= AT_ONCE else [])]
+            self.probe.expect(groups, groups)
 
     def steady(self) -> float:
         """Returns what the static fields that are cut held before, in percent of the growth."""
@@ -186,6 +194,7 @@ class SearchTogether:
         several = [each for each in kin if len(each) > 1]
         one = UnitGroup(several, [1.0] * len(several))
         for unit in map(self.unknown, self.search.heavy([one], budget.questions) if len(several) > 1 else several):
+            self.probe.ask([unit], [unit])
             if self.has_share(unit):
                 least = max(PART_NEEDED * self.probe.share(unit), self.at_least)
                 needed = self.needed(unit, [], 0, least, budget)

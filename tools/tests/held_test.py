@@ -5,7 +5,7 @@ import pathlib
 import shutil
 import unittest
 
-from heap_tools.runs_at_once import workers_of
+from heap_tools.runs_at_once import workers
 from tests.support.dump_writer import INT, LONG, DumpWriter
 from tests.support.held_objects import threads
 from tests.support.services import finalizers, handler, running
@@ -262,7 +262,7 @@ class HeldTest(ToolTest):
         huge = {"GLIBC_TUNABLES": "glibc.malloc.hugetlb=1"}
         said = "held: nothing is retained by *"
         self.expect(["cache.hprof", VALUE], said=said, heapmark=other, variables=huge)
-        on_copy = f"--workers={workers_of(1)} -- /dev/stdin"
+        on_copy = f"--workers={workers()} -- /dev/stdin"
         words = (f"--skip={VALUE} -- /dev/null", "-- cache.hprof", *[on_copy] * 2)
         asked = "".join(f"glibc.malloc.hugetlb=1 {each}\n" for each in words)
         self.assertEqual(pathlib.Path("runs").read_text(), asked)

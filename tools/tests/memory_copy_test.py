@@ -12,7 +12,7 @@ from unittest import mock
 from heap_tools.changed_copy import Changes, write_copy
 from heap_tools.faults import Fault
 from heap_tools.heap_dump import HeapDump
-from heap_tools.memory_copy import CopiesInMemory, MemoryCopy, have_room
+from heap_tools.memory_copy import CopiesInMemory, MemoryCopy, give_back, have_room
 from tests.support.dump_writer import DumpWriter
 
 #: Further roots.
@@ -135,6 +135,18 @@ class MemoryCopyTest(unittest.TestCase):
             with next_of(memory, roots).changed({}) as first, next_of(memory, roots).changed({}) as second:
                 self.assertEqual([first, second], made[:2])
             self.assertEqual([content(file) for file in made], [wanted] * 3)
+
+    def test_given_back(self) -> None:
+        """The memory of all copies is given back at once; then new ones are made."""
+        every = [CopiesInMemory(self.dump) for _ in range(2)]
+        copies = [next_of(memory, []) for memory in every]
+        with copies[0].changed({}):
+            copies.append(next_of(every[0], []))
+        give_back(every)
+        for each in copies:
+            self.assertRaises(OSError, os.fstat, each.file)
+        with next_of(every[0], []).changed({}) as file:
+            self.assertEqual(content(file), self.by_pipe({}, []))
 
     def test_no_room(self) -> None:
         """There is none if it and heapmark beside it have no room, if the system makes none, or if it is full."""

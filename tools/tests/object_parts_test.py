@@ -17,8 +17,8 @@ class UsesTest(unittest.TestCase):
     """FieldUses"""
 
     def test_together(self) -> None:
-        """The fields that are given are read in one walk, when one of them is asked for, and another one in a walk of
-        its own, each of them once. Static fields have no instances."""
+        """The fields that are given are read in one walk, when one of them is asked for, or in one that was begun
+        before; another one in a walk of its own, each of them once. Static fields have no instances."""
         dump = DumpWriter()
         dump.of_class(1, "shop/Mail", fields=["cc", "text"])
         dump.of_class(2, "shop/Chat", {"ALL": 8}, fields=["room"])
@@ -34,6 +34,10 @@ class UsesTest(unittest.TestCase):
             self.assertEqual([uses.count(each) for each in mails], [1, 2])
             self.assertEqual(([uses.only_target(each) for each in mails], walk.call_count), ([0, 8], 1))
             self.assertEqual(([uses.only_target(room), uses.count(room)], walk.call_count), ([9, 1], 2))
+            begun = FieldUses(HeapObjects(found), mails)
+            begun.begin()
+            self.assertEqual(([begun.count(each) for each in [*mails, *mails]], walk.call_count), ([1, 2, 1, 2], 2))
+            self.assertEqual((begun.count(room), walk.call_count), (1, 3))
         ((instance, value),), (other,) = uses.of(mails[0]).values, uses.of(mails[0]).others
         self.assertEqual([found.id(at) for at in (instance + 1, value, other + 1)], [1000, 7, 1001])
 

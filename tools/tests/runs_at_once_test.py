@@ -61,24 +61,24 @@ class RunsAtOnceTest(TwoDumpsTest):
         self.assertEqual([pathlib.Path(f"/proc/self/fd/{each}").read_bytes() for each in files(runs)], [whole] * count)
 
     def test_workers(self) -> None:
-        """Runs that go on together share the processors; each has four workers at most, as without the option."""
+        """Each run has a worker for each processor, but at most four, as without the option."""
         first, last = self.both()
-        for runs, processors, wanted in ((1, 4, 4), (1, 2, 2), (2, 4, 2), (2, 1, 1), (3, 4, 2), (3, 16, 4), (6, 8, 2)):
+        for runs, processors, wanted in ((1, 4, 4), (1, 2, 2), (2, 4, 4), (2, 1, 1), (3, 3, 3), (6, 16, 4)):
             pathlib.Path("workers").unlink(missing_ok=True)
             self.answers([(first, 1)] * (runs // 2) + [(last, 2)] * (runs - runs // 2), processors)
             self.assertEqual(pathlib.Path("workers").read_text().split(), [f"--workers={wanted}"] * runs)
 
     def test_processors(self) -> None:
-        """There is a run for each processor, but not for more than four."""
-        for count, wanted in ((1, 1), (3, 3), (MOST_AT_A_TIME, MOST_AT_A_TIME), (64, MOST_AT_A_TIME)):
+        """There is a run for each processor, but not for more than three."""
+        for count, wanted in ((1, 1), (2, 2), (MOST_AT_A_TIME, MOST_AT_A_TIME), (64, MOST_AT_A_TIME)):
             with mock.patch("heap_tools.runs_at_once.processors", return_value=count):
                 self.assertEqual(at_a_time(), wanted)
-        self.assertEqual(MOST_AT_A_TIME, 4)
+        self.assertEqual(MOST_AT_A_TIME, 3)
 
     def test_many(self) -> None:
         """Many questions on one dump, and on two, are answered in their order, as many at a time as there are
         processors, and each copy is then as the dump."""
-        for processors in (2, 3, 4):
+        for processors in (2, 3):
             first, last = self.both(when("counted.*", processors))
             together = self.check([(last, 100 + number) for number in range(9)], processors)
             self.assertEqual((len(together), max(together)), (9, processors))
@@ -113,7 +113,7 @@ class RunsAtOnceTest(TwoDumpsTest):
             self.check_copies(last, count)
         changed = last.with_cut({25: b"c"})
         self.check([(changed, number) for number in range(4)])
-        self.check_copies(last, 4)
+        self.check_copies(last, 3)
         self.check_copies(first, 1)
 
     def test_room(self) -> None:

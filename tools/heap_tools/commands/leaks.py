@@ -18,6 +18,7 @@ from heap_tools.leak_documents import Cost, fields_of_growth, fields_of_one
 from heap_tools.leak_lines import Answer, Line, answer_of
 from heap_tools.leak_notes import notes_of, notes_words
 from heap_tools.leak_options import Options
+from heap_tools.memory_copy import give_back
 from heap_tools.one_dump import AT_LEAST, answer_of_one, question_of
 from heap_tools.one_dump_notes import notes_of_one, sentences_of
 from heap_tools.one_dump_output import lines_of_one
@@ -215,6 +216,7 @@ def print_growth(paths: Sequence[str], options: Options, output: Output) -> None
         comparison = comparison_of(dumps.dumps, options, shown)
         answer = answer_of(comparison.probe, options.at_least, options.top, shown, comparison.probes_between)
         notes = notes_of(comparison, answer, options.shows_values)
+        give_back([each.memory for each in dumps.dumps if each.memory])
     finally:
         progress.clear()
     has_heads = is_terminal(sys.stdout) and answer.lines

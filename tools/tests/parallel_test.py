@@ -1,0 +1,81 @@
+"""Tests work that goes on in processes of its own."""
+
+import os
+import pathlib
+import tempfile
+import time
+import unittest
+from typing import List
+from unittest import mock
+
+from heap_tools.faults import Fault
+from heap_tools.parallel import Work, shared
+
+
+def squares(numbers: List[int]) -> List[int]:
+    """Returns the squares of numbers."""
+    return [each * each for each in numbers]
+
+
+class WorkTest(unittest.TestCase):
+    """Work"""
+
+    def setUp(self) -> None:
+        folder = tempfile.TemporaryDirectory()
+        self.addCleanup(folder.cleanup)
+        self.folder = pathlib.Path(folder.name)
+        self.use(3)
+
+    def use(self, count: int) -> None:
+        """Lets this process use so many processors."""
+        patch = mock.patch("heap_tools.parallel.processors", return_value=count)
+        patch.start()
+        self.addCleanup(patch.stop)
+
+    def noted(self, numbers: List[int]) -> int:
+        """Writes a file that is called like the number of this process, and returns that number."""
+        (self.folder / str(os.getpid())).touch()
+        return os.getpid()
+
+    def begun(self, count: int) -> List[int]:
+        """Returns the numbers of the processes that have begun, when there are so many."""
+        while len(os.listdir(self.folder)) < count:
+            time.sleep(0.01)
+        return sorted(map(int, os.listdir(self.folder)))
+
+    def test_results(self) -> None:
+        """The results are in the order of the items, of which each part has as many as must be."""
+        numbers = list(range(10))
+        for least, parts in (1, [3, 3, 4]), (5, [5, 5]), (6, [10]):
+            found = shared(squares, numbers, least)
+            self.assertEqual([len(each) for each in found], parts)
+            self.assertEqual([each for part in found for each in part], squares(numbers))
+
+    def test_at_once(self) -> None:
+        """All parts begin before anybody asks for results; a single one does not, and is done in this process."""
+        work = Work(self.noted, [1, 2, 3], 1)
+        begun = self.begun(3)
+        self.assertEqual(sorted(work.results()), begun)
+        self.assertNotIn(os.getpid(), begun)
+        alone = Work(self.noted, [1, 2, 3], 2)
+        self.assertEqual(self.begun(3), begun)
+        self.assertEqual(alone.results(), [os.getpid()])
+
+    def test_end(self) -> None:
+        """Processes end with the work, also if nobody asks for results, and if one of them fails."""
+
+        def sleeping(numbers: List[int]) -> None:
+            self.noted(numbers)
+            time.sleep(60)
+
+        work = Work(sleeping, [1, 2, 3], 1)
+        begun = self.begun(3)
+        del work
+        self.assertEqual([each for each in begun if os.path.exists(f"/proc/{each}")], [])
+        with self.assertRaisesRegex(Fault, "ended early"):
+            shared(lambda numbers: os._exit(1) if 1 in numbers else sleeping(numbers), [1, 2, 3], 1)
+        self.assertEqual([each for each in self.begun(3) if os.path.exists(f"/proc/{each}")], [])
+
+
+if __name__ == "__main__":
+    unittest.main()
