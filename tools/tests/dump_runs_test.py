@@ -28,7 +28,7 @@ from heap_tools.heapmark import Heapmark
 
 def main(words):
     heapmark, times = Heapmark(), int(words[0])
-    runs_at_once.processors = lambda: 2 * times
+    runs_at_once.at_a_time = lambda: 2 * times
     dumps = [DumpRuns.of(heapmark, word, "tool") for word in words[1:]]
     reports_of(*[Question(runs, {24: b"a"}) for runs in dumps for _ in range(times)])
     return 0

@@ -94,7 +94,7 @@ class FirstRunsTest(TwoDumpsTest):
     def test_processors(self) -> None:
         """There is a run for each processor, but not for more than four. The next begins when any has ended."""
         paths = ["monday", "friday", "friday", "monday", "friday", "monday"]
-        for processors, most in ((1, 1), (2, 2), (3, 3), (4, 4), (64, 4)):
+        for processors, most in ((1, 1), (2, 2), (3, 3), (4, 3), (64, 3)):
             with mock.patch("heap_tools.runs_at_once.processors", return_value=processors):
                 self.assertEqual(max(self.together(when("began.*", most), *paths)), most)
         self.assertEqual(max(self.together(on("monday", when("began.*", 3)), "monday", "friday", "friday")), 2)
