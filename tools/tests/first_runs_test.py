@@ -92,7 +92,7 @@ class FirstRunsTest(TwoDumpsTest):
         return counts
 
     def test_processors(self) -> None:
-        """There is a run for each processor, but not for more than four. The next begins when any has ended."""
+        """There is a run for each processor, but not for more than three. The next begins when any has ended."""
         paths = ["monday", "friday", "friday", "monday", "friday", "monday"]
         for processors, most in ((1, 1), (2, 2), (3, 3), (4, 3), (64, 3)):
             with mock.patch("heap_tools.runs_at_once.processors", return_value=processors):
