@@ -4,11 +4,11 @@
 //! `worked` has dumps with their expected graphs, and `skipped` has dumps of which some fields are not followed.
 //! `chains` and `faults` have dumps that are not linked, with the first fault of each, and `faults_in_parts` tests a
 //! large dump with such faults. `gathered` has dumps of few objects that are nevertheless gathered in parts. `graphs`
-//! compares a graph with the expected one, `walks` tests the number of remaining identifiers of a walk, and `kinds`
-//! tests a visit by the kind of its object. `memory` lets each allocation fail in turn, and `peaks` bounds the bytes
-//! that a graph takes while it is built. `skips` has texts that are lists of fields and texts that are not, and `met`
-//! tests which entries of a list name a field of a dump. `texts` tests the texts of refusals, and `sizes` the size of a
-//! visit.
+//! compares a graph with the expected one, `walks` tests the number of remaining identifiers of a walk, `named` what
+//! identifiers name, and `kinds` a visit by the kind of its object. `memory` lets each allocation fail in turn, and
+//! `peaks` bounds the bytes that a graph takes while it is built. `skips` has texts that are lists of fields and texts
+//! that are not, and `met` tests which entries of a list name a field of a dump. `texts` tests the texts of refusals,
+//! and `sizes` the size of a visit.
 
 #![tactic(auto)]
 
@@ -30,6 +30,8 @@ mod kinds;
 mod memory;
 #[cfg(test)]
 mod met;
+#[cfg(test)]
+mod named;
 #[cfg(test)]
 mod peaks;
 #[cfg(test)]

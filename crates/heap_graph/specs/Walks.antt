@@ -28,6 +28,10 @@ ids_in steps = map (λ s. s.id) steps
 abbrev pub references_in : List Step → List ℕ
 references_in steps = filter_map (λ s. s.names) steps
 
+-- what the identifiers of `steps` name, with an item for each
+abbrev pub named_in : List Step → List (Option ℕ)
+named_in steps = map (λ s. s.names) steps
+
 -- A walk passes the steps that name no object, up to the first that names one, and continues after it. If no step names
 -- an object, the walk is at its end.
 abbrev pub GoesPast : List Step → Option ℕ → List Step → Type 0

@@ -2,18 +2,21 @@
 
 mod build;
 mod classes_and_roots;
+mod names_of_roots;
 
-ghost use Rattle.std.specs.Prelude.{All, ◌+◌, ◌<◌, ◌^◌, ◌≡◌, ◌≤◌, map, option_copied};
+ghost use Rattle.std.specs.Prelude.{All, IfSome, ◌+◌, ◌<◌, ◌^◌, ◌≡◌, ◌≤◌, map, option_copied};
 ghost use Rattle.hprof_grammar.specs.Dump.{limit};
 ghost use Rattle.heap_graph.specs.ObjectGraph.{bytes_at, class_at, class_count, object_count, references_of, row_at};
 ghost use Rattle.heap_graph.specs.RowNumbers.{row_count};
 ghost use Rattle.heap_graph.specs.Whole.{IsRowIn, IsWhole, id_list_of, unresolved_at, unresolved_roots};
-ghost use Rattle.heap_graph.specs.Walks.{ids_in, unresolved_left, references_in, step_in};
+ghost use Rattle.heap_graph.specs.Walks.{ids_in, unresolved_left, references_in, step_in, target_in};
 ghost use Rattle.heap_graph.specs.working.GraphOf.{GraphOf, GraphOf-prop};
 
+pub use self::names_of_roots::root_names;
 use crate::objects::Objects;
 use crate::objects::class_entries::ClassEntry;
 use crate::plan::Plan;
+use crate::resolving::target;
 use crate::row::{FIXED_ROWS, RowKey};
 use crate::skip::SkipEntry;
 use crate::successors::Successors;
@@ -98,6 +101,14 @@ impl<'a, A: Allocator> Graph<'a, A> {
     {
         let (row, bytes, class, ids) = self.objects.visit_of(&self.plan, object as usize);
         Visit::new(&self.objects.index, class, ids, row, bytes)
+    }
+
+    /// Returns the object that `id` names: the first that bears it. Returns `None` if `id` is 0 or no object bears it.
+    pub fn find(&self, id: u64) -> Option<u32>
+        ensures value { result ≡ target_in self.now.ids id }
+        ensures within { IfSome result (λ o. o < object_count self.now) }
+    {
+        target(&self.objects.index, id)
     }
 
     /// Returns the row of `object` in the histogram.

@@ -20,6 +20,7 @@
 mod classes;
 mod graph;
 mod laws;
+mod named;
 mod names;
 mod object_ids;
 mod objects;
@@ -32,8 +33,9 @@ mod successors;
 mod targets;
 mod visit;
 
-pub use graph::Graph;
+pub use graph::{Graph, root_names};
 pub use laws::{always_linked_or_fault, an_empty_list_skips_nothing, one_graph, one_skip_list};
+pub use named::Named;
 pub use refusal::{LinkFault, LinkRefusal, LinkRule};
 pub use row::RowKey;
 pub use skip::{Skip, SkipEntry, SkipRefusal};

@@ -2,6 +2,7 @@
 
 ghost use Rattle.heap_graph.specs.ByKind.{AreByKind};
 
+use crate::named::Named;
 use crate::object_ids::{ObjectIds, Rest};
 use crate::row::RowKey;
 use crate::targets::{ElementTargets, FieldTargets, NoIds, NoTargets, ObjectTargets, Targets};
@@ -119,6 +120,21 @@ impl<'g, A: Allocator> Visit<'g, A> {
             Some(_) => return others + 1,
             None => return others,
         }
+    }
+
+    /// Returns an iterator over what the remaining identifiers of the object name, with an item for each.
+    // Inlined, as `by_kind` is.
+    #[inline(always)]
+    pub fn named(self) -> Named<'g, A>
+        ensures { result ≡ self.entry.left }
+    {
+        let Visit {
+            index: known,
+            class,
+            rest,
+        } = self;
+        let Targets { index, ids, .. } = rest;
+        Named::new(known, class, index, ids)
     }
 
     /// Returns the remaining references of the object, with a variant for where its identifiers are.
