@@ -4,8 +4,19 @@ from __future__ import annotations
 
 import re
 
-#: Crates that only serve tests or measuring, besides those whose names end with `_tests`.
-NOT_OF_THE_PROGRAM = {"limited_heap", "test_dumps", "pool_bench"}
+#: Crates that the program does not stand on, besides those whose names end with `_tests`: some only serve tests or
+#: measuring, and no program stands on those of labels yet.
+NOT_OF_THE_PROGRAM = {
+    "limited_heap",
+    "test_dumps",
+    "pool_bench",
+    "label_sets",
+    "label_list",
+    "label_flow",
+    "labelled_graph",
+    "held_table",
+    "retention",
+}
 #: The libraries of the kit that the program may use.
 LIBRARIES = {"arrayvec", "atomic_table", "byteorder", "clap", "crossbeam_utils", "indexmap", "thiserror"}
 #: Words of locks, of waiting for others, of atomic steps, of channels, and of code that no proof covers.

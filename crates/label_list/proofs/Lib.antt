@@ -1,0 +1,5 @@
+pub mod Options
+pub mod Numbers
+pub mod Lines
+pub mod Lists
+pub mod Counts
