@@ -1,4 +1,5 @@
-# The head of run.sh, phases.sh and visualvm.sh, which are called with the same words: [RUNS [DUMP..]]. To be sourced.
+# The head of run.sh, phases.sh, visualvm.sh and retained.sh, which are called with the same words: [RUNS [DUMP..]]. To
+# be sourced.
 #
 # Reads the words by usage.sh. Sets `runs` if RUNS is given; `dumps`, those of /tmp/heapmark-bench if none is given;
 # `top`, the repository; `heapmark`, the binary that `rt run` in crates/heapmark made, or what the variable HEAPMARK

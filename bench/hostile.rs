@@ -1,6 +1,9 @@
 //! Dumps that are made to be slow to read: `hostile KIND COUNT > FILE`. Built by `rustc --edition 2024 -O`. `hostile`
 //! without words prints the kinds. `hostile skip` prints the list of fields to skip when `named_fields` is read. The
 //! kind `random_ids`, which is not printed, is for `dumps.sh`.
+//!
+//! `hostile labels KIND COUNT > LABELS` prints the labels for a dump of a kind that is made to be slow to label.
+//! `hostile labels` prints these kinds.
 
 #[path = "plain/rows/file.rs"]
 #[allow(dead_code)]
@@ -55,6 +58,27 @@ const KINDS: [(&str, Build); 31] = [
 
 /// For `dumps.sh`. The time to read it depends on the caches, so twice the size may take more than twice the time.
 const RANDOM_IDS: (&str, Build) = ("random_ids", random_ids);
+
+type Labels = fn(u64) -> String;
+
+/// For `hostile_labels.sh`.
+const LABELLED: [(&str, Build, Labels); 15] = [
+    ("labelled_list", list, label_each),
+    ("shuffled_labels", list, label_each_shuffled),
+    ("labelled_fields", chain_of_classes, label_each_class),
+    ("labelled_cycle", ring, label_each),
+    ("labelled_elements", array_of_all, label_elements),
+    ("wide_class", wide_class, label_fields),
+    ("many_labels", list, label_first),
+    ("one_label", list, label_all_alike),
+    ("two_chains", two_chains, label_chains),
+    ("apart_below", apart_below, label_each),
+    ("cuts_and_roots", list, cut_each),
+    ("missing_places", list, label_missing),
+    ("comb", comb, label_comb),
+    ("nested_comb", nested_comb, label_nested_comb),
+    ("late_references", late_references, label_late_references),
+];
 
 fn classes_in_a_chain(heap: File, count: u64) -> File {
     (1..count).fold(heap.class(CLASS, 0, &[]), |heap, above| heap.class(CLASS + above, CLASS + above - 1, &[]))
@@ -403,19 +427,266 @@ fn random_ids(_: File, count: u64) -> File {
     })
 }
 
+/// The number of labels that a text may have.
+const LABELS: u64 = 1 << 20;
+
+/// An instance whose class has the ID `CLASS`, and whose fields refer to these objects.
+fn linked(heap: File, object: u64, references: &[u64]) -> File {
+    let values = heap.subs().ids(references).bytes;
+    heap.instance(object, CLASS, &values)
+}
+
+/// `count` lines: for each number a label, and the first field of the object with that number.
+fn lines(count: u64, label: impl Fn(u64) -> u64) -> String {
+    (0..count).map(|number| format!("label {} object {} 1\n", label(number), OBJECT + number)).collect()
+}
+
+/// Each of `count` objects has a label of its own. From the label 1,048,576 on, these are the first labels again.
+fn label_each(count: u64) -> String {
+    lines(count, |number| number % LABELS)
+}
+
+/// Like `label_each`, with labels in no order.
+fn label_each_shuffled(count: u64) -> String {
+    lines(count, |number| shuffled(number % LABELS, LABELS))
+}
+
+/// One label for each of `count` objects.
+fn label_all_alike(count: u64) -> String {
+    lines(count, |_| 0)
+}
+
+/// `count` labels for the first object.
+fn label_first(count: u64) -> String {
+    (0..count.min(LABELS)).map(|label| format!("label {label} object {OBJECT} 1\n")).collect()
+}
+
+/// `count` labels, of places that the dump does not have, and one that it has.
+fn label_missing(count: u64) -> String {
+    let missing = |number| format!("label {} object {} {}\n", number % LABELS, OBJECT + number, 2 + number);
+    (1..count).map(missing).collect::<String>() + &lines(1, |_| 0)
+}
+
+/// All objects are roots, and refer to nothing.
+fn cut_each(count: u64) -> String {
+    let line = |number| format!("cut object {0} 1\nroot {0}\n", OBJECT + number);
+    (0..count).map(line).collect::<String>() + &lines(1, |_| 0)
+}
+
+/// A list of `count` instances, each of a class of its own that declares the field.
+fn chain_of_classes(file: File, count: u64) -> File {
+    let next = |number: u64| ((OBJECT + number + 1) as u32).to_be_bytes();
+    file.heap(|heap| {
+        let classes = (0..count).fold(heap, |heap, number| heap.class(CLASS + number, 0, &[2]));
+        let instance = |heap: File, number| heap.instance(OBJECT + number, CLASS + number, &next(number));
+        (0..count).fold(classes, instance).root(OBJECT)
+    })
+}
+
+fn label_each_class(count: u64) -> String {
+    (0..count).map(|number| format!("label {} class {} 1\n", number % LABELS, CLASS + number)).collect()
+}
+
+/// Like `list`, but the last instance refers to the first.
+fn ring(file: File, count: u64) -> File {
+    file.heap(|heap| {
+        let next = |number| OBJECT + (number + 1) % count;
+        let instance = |heap, number| linked(heap, OBJECT + number, &[next(number)]);
+        (0..count).fold(heap.class(CLASS, 0, &[2]), instance).root(OBJECT)
+    })
+}
+
+/// A label for each element of the array of `array_of_all`.
+fn label_elements(count: u64) -> String {
+    (0..count).map(|number| format!("label {} object {OBJECT} {}\n", number % LABELS, number + 1)).collect()
+}
+
+const FIELDS: u64 = 65_535;
+
+/// Instances of a class with as many fields as possible: the first refers to the next one, the others to objects that
+/// all have in common. The instances have `count` fields together, or somewhat more.
+fn wide_class(file: File, count: u64) -> File {
+    let instances = count.div_ceil(FIELDS);
+    let leaves: Vec<u64> = (1..FIELDS).map(|number| INSTANCE + number).collect();
+    file.heap(|heap| {
+        let classes = heap.class(CLASS, 0, &[2; FIELDS as usize]).class(CLASS + 1, 0, &[]);
+        let wide = (0..instances).fold(classes, |heap, number| {
+            let references = [&[OBJECT + number + 1], &leaves[..]].concat();
+            linked(heap, OBJECT + number, &references)
+        });
+        leaves.iter().fold(wide, |heap, leaf| heap.instance(*leaf, CLASS + 1, &[])).root(OBJECT)
+    })
+}
+
+/// A label for each field.
+fn label_fields(_: u64) -> String {
+    (1..=FIELDS).map(|field| format!("label {field} class {CLASS} {field}\n")).collect()
+}
+
+/// Two lists of `count / 3` instances, and as many objects to which one instance of each list refers.
+fn two_chains(file: File, count: u64) -> File {
+    let count = count / 3;
+    file.heap(|heap| {
+        let start = heap.class(CLASS, 0, &[2, 2]).class(CLASS + 1, 0, &[]);
+        let all = (0..count).fold(start, |heap, number| {
+            let [one, other] = [0, count].map(|begin| OBJECT + begin + number);
+            let below = INSTANCE + number;
+            let next = |object| if number + 1 < count { object + 1 } else { 0 };
+            let both = linked(linked(heap, one, &[next(one), below]), other, &[next(other), below]);
+            both.instance(below, CLASS + 1, &[])
+        });
+        all.root(OBJECT).root(OBJECT + count)
+    })
+}
+
+/// A label for each step along the lists: in turn one of the first list, one of the other. Every eighth label is in
+/// both.
+fn label_chains(count: u64) -> String {
+    let count = count / 3;
+    let label = |number| match number % count {
+        step if step % 8 == 0 => 2 * step,
+        step => 2 * step + number / count,
+    };
+    lines(2 * count, |number| label(number) % LABELS)
+}
+
+/// A list of `count / 2` instances, each with a reference to a further one, which refers to nothing.
+fn apart_below(file: File, count: u64) -> File {
+    let count = count / 2;
+    file.heap(|heap| {
+        let all = (0..count).fold(heap.class(CLASS, 0, &[2, 2]), |heap, number| {
+            let (object, below) = (OBJECT + number, INSTANCE + number);
+            linked(linked(heap, object, &[object + 1, below]), below, &[0, 0])
+        });
+        all.root(OBJECT)
+    })
+}
+
+/// Two lists of `count / 2` instances, each with references to the next and the previous one. Both ends are roots: of
+/// the first list its beginning is the first root, of the other its end. In reverse postorder, the objects of one list
+/// lose their labels from the last to the first.
+fn comb(file: File, count: u64) -> File {
+    let count = count / 2;
+    let (one, other) = (OBJECT, OBJECT + count);
+    file.heap(|heap| {
+        let all = [one, other].into_iter().fold(heap.class(CLASS, 0, &[2, 2]), |heap, begin| {
+            (0..count).fold(heap, |heap, number| {
+                let next = if number + 1 < count { begin + number + 1 } else { 0 };
+                let previous = if number > 0 { begin + number - 1 } else { 0 };
+                linked(heap, begin + number, &[next, previous])
+            })
+        });
+        all.root(one).root(one + count - 1).root(other + count - 1).root(other)
+    })
+}
+
+/// A label for each step forwards.
+fn label_comb(count: u64) -> String {
+    label_each(count / 2 * 2)
+}
+
+/// How long each of the four lists of `nested_comb` is.
+fn nested(count: u64) -> u64 {
+    count / 500
+}
+
+/// Two times two lists. The last object of the upper list refers to the last of the lower one, whose objects refer to
+/// their neighbours and to the object beside them in the upper list. The first objects of both lists are roots, in one
+/// order and in the other. Of one of the upper lists, in reverse postorder, each object takes a label from all objects
+/// after it, in turn: so time and memory grow with the square of the lists' length.
+fn nested_comb(file: File, count: u64) -> File {
+    let count = nested(count);
+    let all = |heap, upper: u64| {
+        let lower = upper + 2 * count;
+        (0..count).fold(heap, |heap, number| {
+            let (is_last, object) = (number + 1 == count, lower + number);
+            let up = if is_last { object } else { upper + number + 1 };
+            let previous = if number > 0 { object - 1 } else { 0 };
+            let next = if is_last { 0 } else { object + 1 };
+            linked(linked(heap, upper + number, &[up, 0, 0]), object, &[previous, upper + number, next])
+        })
+    };
+    file.heap(|heap| {
+        let (one, other) = (OBJECT, OBJECT + count);
+        let both = all(all(heap.class(CLASS, 0, &[2, 2, 2]), one), other);
+        both.root(one).root(one + 2 * count).root(other + 2 * count).root(other)
+    })
+}
+
+/// A label for each step along the upper lists.
+fn label_nested_comb(count: u64) -> String {
+    label_each(2 * nested(count))
+}
+
+/// How long each of the lists of `late_references` is.
+fn late(count: u64) -> u64 {
+    count / 500
+}
+
+/// Two times two lists: the last object of the first list refers to the beginning of the second one, whose objects each
+/// refer to a further object, and these to the beginning of the first list. The beginnings of both lists are roots. If
+/// the first list is visited again after each of the further objects, the time grows with the square of the lists'
+/// length; the two times differ in the order of the fields, so one of them is in the slow order.
+fn late_references(file: File, count: u64) -> File {
+    let count = late(count);
+    let all = |heap, first: u64, further_first: bool| {
+        let [second, further] = [first + count, first + 2 * count];
+        (0..count).fold(heap, |heap, number| {
+            let next = if number + 1 < count { second + number + 1 } else { 0 };
+            let one = linked(heap, first + number, &[first + number + 1, 0]);
+            let (here, there) = (next, further + number);
+            let both = linked(one, second + number, &if further_first { [there, here] } else { [here, there] });
+            linked(both, further + number, &[first, 0])
+        })
+    };
+    file.heap(|heap| {
+        let (one, other) = (OBJECT, OBJECT + 3 * count);
+        let both = all(all(heap.class(CLASS, 0, &[2, 2]), one, false), other, true);
+        [one, one + count, other, other + count].into_iter().fold(both, |heap, root| heap.root(root))
+    })
+}
+
+/// For each time, the same labels for the first root and for each step along the second list.
+fn label_late_references(count: u64) -> String {
+    let count = late(count);
+    let times = [(0, OBJECT + count, 1), (2, OBJECT + 4 * count, 2)];
+    let steps = |(root, second, field): (u64, u64, u64)| {
+        let label = move |number| {
+            let label = root * count + number;
+            format!("label {label} object {} {field}\nlabel {label} root {root}\n", second + number)
+        };
+        (0..count).map(label)
+    };
+    times.into_iter().flat_map(steps).collect()
+}
+
+/// What the words say to print. None if they are wrong.
+fn printed(words: &[&str]) -> Option<Vec<u8>> {
+    if let ["skip"] = words {
+        return Some(format!("{}\n", skip_list()).into_bytes());
+    }
+    let labelled = |kind: &str| LABELLED.iter().find(|(name, ..)| *name == kind);
+    match words {
+        ["labels", kind, count] => Some(labelled(kind)?.2(count.parse().ok()?).into_bytes()),
+        [kind, count] => {
+            let known = KINDS.iter().chain([&RANDOM_IDS]).find(|(name, _)| name == kind).map(|(_, build)| build);
+            let build = known.or_else(|| Some(&labelled(kind)?.1))?;
+            Some(build(File::header(4), count.parse().ok()?).bytes)
+        }
+        _ => None,
+    }
+}
+
 fn main() -> ExitCode {
     let words: Vec<String> = std::env::args().skip(1).collect();
-    if let [kind, count] = &words[..]
-        && let Some((_, build)) = KINDS.iter().chain([&RANDOM_IDS]).find(|(name, _)| name == kind)
-        && let Ok(count) = count.parse()
-    {
-        let file = build(File::header(4), count);
-        return io::stdout().write_all(&file.bytes).map_or(ExitCode::FAILURE, |()| ExitCode::SUCCESS);
+    let words: Vec<&str> = words.iter().map(String::as_str).collect();
+    if let Some(bytes) = printed(&words) {
+        return io::stdout().write_all(&bytes).map_or(ExitCode::FAILURE, |()| ExitCode::SUCCESS);
     }
-    if words == ["skip"] {
-        println!("{}", skip_list());
-        return ExitCode::SUCCESS;
+    if words == ["labels"] {
+        LABELLED.iter().for_each(|(name, ..)| println!("{name}"));
+    } else {
+        KINDS.iter().for_each(|(name, _)| println!("{name}"));
     }
-    KINDS.iter().for_each(|(name, _)| println!("{name}"));
     ExitCode::from(2)
 }

@@ -1,5 +1,7 @@
 //! What the parts of a dump mean to one another: its classes, their layouts, references, and the faults of its links.
 
+mod numbered;
+
 use crate::by_id::ById;
 use crate::dump::{Dump, Fault, Text, fault};
 use crate::index::Index;

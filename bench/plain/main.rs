@@ -1,6 +1,7 @@
 //! A plain marker of heap dumps: the same method and the same report as `heapmark`, with only Rust's std and no proof.
 //!
 //! usage: `plain FILE [--threads N] [--atomic] [--references table|bytes] [--count reachable|all] [--skip LIST]`
+//!        `plain FILE --labels LABELS`
 //!
 //! Written to be measured beside `heapmark`, and to agree with it to the byte. Without `--threads` one thread marks and
 //! no step is atomic; with `--atomic` one thread claims each object by one atomic step, and finishes it by another.
@@ -8,24 +9,39 @@
 //! `--references bytes`, otherwise in a table that is made from the bytes beforehand, in the phase `references`.
 //! `--count all` reports each object of the dump as if it were reachable. `--skip Class.field,..` does not follow these
 //! fields. The time of each phase, what was read, and the peak of memory go to standard error.
+//!
+//! With `--labels` it is `retained`: for each reachable object it finds the labels without which the object would not
+//! be reachable, by one thread in the dump's bytes, and writes how many objects have which set of labels, by class.
 
 mod by_id;
 mod dump;
+mod flow;
 mod graph;
 mod index;
+mod labels;
 mod mark;
 mod names;
 mod objects;
+mod options;
+mod places;
+mod ranks;
 mod report;
 #[cfg(test)]
 mod rows;
+mod sets;
 mod skip;
+mod table;
 mod tally;
 
 use dump::{Fault, LIMIT, Text, identifier_size};
+use flow::{Order, flow};
 use graph::Graph;
+use labels::{Entry, label_count};
 use mark::{Heap, Table, mark, mark_all, mark_atomically, mark_with, unmarked};
 use objects::Objects;
+use options::{Options, READ_FAULT, Task, arguments, task_of};
+use places::LabelledGraph;
+use sets::Sets;
 use skip::Skip;
 use std::fs::File;
 use std::io::{self, Read, Write};
@@ -49,14 +65,6 @@ const NAMES: [&str; 14] = [
     "TooLarge",
 ];
 
-#[derive(Clone, Copy)]
-struct Options {
-    threads: Option<usize>,
-    atomic: bool,
-    table: bool,
-    all: bool,
-}
-
 /// Prints the time from the end of one phase to the end of the next.
 struct Clock(Instant);
 
@@ -67,32 +75,6 @@ impl Clock {
     }
 }
 
-/// The file, the options, and the text of the list of fields, if it is given. None if the words are wrong.
-fn arguments() -> Option<(String, Options, Option<String>)> {
-    let mut options = Options { threads: None, atomic: false, table: true, all: false };
-    let mut skip = None;
-    let mut words = std::env::args().skip(1);
-    let file = words.next()?;
-    while let Some(word) = words.next() {
-        if word == "--atomic" {
-            options.atomic = true;
-            continue;
-        }
-        match (word.as_str(), words.next()?.as_str()) {
-            ("--threads", number) => {
-                options.threads = Some(number.parse().ok().filter(|number| (1..=64).contains(number))?)
-            }
-            ("--references", "table") => options.table = true,
-            ("--references", "bytes") => options.table = false,
-            ("--count", "reachable") => options.all = false,
-            ("--count", "all") => options.all = true,
-            ("--skip", list) if skip.is_none() => skip = Some(list.to_owned()),
-            _ => return None,
-        }
-    }
-    Some((file, options, skip))
-}
-
 fn read_file(name: &str) -> io::Result<Vec<u8>> {
     let file = File::open(name)?;
     let size = file.metadata()?.len().min(LIMIT as u64 + 1);
@@ -101,23 +83,51 @@ fn read_file(name: &str) -> io::Result<Vec<u8>> {
     Ok(bytes)
 }
 
-fn run<const ID: usize>(bytes: &[u8], skip: &Skip, options: Options, clock: &mut Clock) -> Result<String, Fault> {
+/// The graph of the dump, without these fields.
+fn linked<'a, const ID: usize>(bytes: &'a [u8], skip: &Skip, clock: &mut Clock) -> Result<Graph<'a, ID>, Fault> {
     let text = Text::<ID> { bytes };
     let dump = text.parse()?;
     clock.tell("parse");
     let objects = Objects::of(text, &dump);
     clock.tell("index");
     let graph = Graph::new(text, dump, objects, skip)?;
-    let (roots, unresolved) = graph.roots();
     clock.tell("link");
     eprintln!("objects {}", graph.len());
-    if !options.table {
-        return Ok(histogram(&graph, &graph, &roots, unresolved, options, clock));
+    Ok(graph)
+}
+
+fn run<const ID: usize>(bytes: &[u8], task: &Task, clock: &mut Clock) -> Result<String, Fault> {
+    match task {
+        Task::Report(options, skip) => Ok(reported(&linked::<ID>(bytes, skip, clock)?, *options, clock)),
+        Task::Table(entries) => Ok(labelled(&linked::<ID>(bytes, &Skip::default(), clock)?, entries, clock)),
     }
-    let (table, missing) = Table::new(&graph);
+}
+
+/// The report.
+fn reported<const ID: usize>(graph: &Graph<ID>, options: Options, clock: &mut Clock) -> String {
+    let (roots, unresolved) = graph.roots();
+    if !options.table {
+        return histogram(graph, graph, &roots, unresolved, options, clock);
+    }
+    let (table, missing) = Table::new(graph);
     clock.tell("references");
     eprintln!("references {}", table.references());
-    Ok(histogram(&graph, &table, &roots, unresolved + missing, options, clock))
+    histogram(graph, &table, &roots, unresolved + missing, options, clock)
+}
+
+/// The table of labels.
+fn labelled<const ID: usize>(graph: &Graph<ID>, entries: &[Entry], clock: &mut Clock) -> String {
+    let mut sets = Sets::new(label_count(entries));
+    let labelled = LabelledGraph::new(graph, entries, &mut sets);
+    clock.tell("labels");
+    let order = Order::new(&labelled);
+    clock.tell("order");
+    let (set_of, sweeps, visits) = flow(&labelled, &order, &mut sets);
+    clock.tell("flow");
+    eprintln!("sweeps {sweeps}\nvisits {visits}\nsets {}", sets.len());
+    let text = table::table(graph, &sets, &set_of);
+    clock.tell("table");
+    text
 }
 
 /// Marks the objects of the graph and returns the report. `unresolved` is the number of IDs already known to name none.
@@ -140,10 +150,10 @@ fn histogram<const ID: usize>(
     report::report(graph, &reachable, unreachable, unresolved + reachable.unresolved + missing)
 }
 
-fn marked(bytes: &[u8], skip: &Skip, options: Options, clock: &mut Clock) -> Result<String, Fault> {
+fn printed(bytes: &[u8], task: &Task, clock: &mut Clock) -> Result<String, Fault> {
     match identifier_size(bytes)? {
-        4 => run::<4>(bytes, skip, options, clock),
-        _ => run::<8>(bytes, skip, options, clock),
+        4 => run::<4>(bytes, task, clock),
+        _ => run::<8>(bytes, task, clock),
     }
 }
 
@@ -154,23 +164,27 @@ fn tell_peak() {
 }
 
 fn main() -> ExitCode {
-    let Some((file, options, list)) = arguments() else {
+    let Some((file, words)) = arguments() else {
         eprintln!("usage: plain FILE [--threads N] [--atomic] [--references table|bytes] [--count reachable|all]");
         eprintln!("       [--skip LIST]");
+        eprintln!("       plain FILE --labels LABELS");
         return ExitCode::from(2);
     };
-    let Some(skip) = list.map_or(Some(Skip::default()), |list| Skip::new(&list)) else {
-        eprintln!("plain: refused 21 BadOptions");
-        return ExitCode::FAILURE;
+    let task = match task_of(words) {
+        Ok(task) => task,
+        Err(refusal) => {
+            eprintln!("plain: refused {refusal}");
+            return ExitCode::FAILURE;
+        }
     };
     let mut clock = Clock(Instant::now());
     let Ok(bytes) = read_file(&file) else {
-        eprintln!("plain: refused 19 ReadFault");
+        eprintln!("plain: refused {READ_FAULT}");
         return ExitCode::FAILURE;
     };
     clock.tell("read");
     eprintln!("file {}", bytes.len());
-    match marked(&bytes, &skip, options, &mut clock) {
+    match printed(&bytes, &task, &mut clock) {
         Ok(text) => {
             let written = io::stdout().write_all(text.as_bytes());
             clock.tell("report");

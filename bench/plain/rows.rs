@@ -2,8 +2,9 @@
 //! without `--threads` and with 1, 2 and 64 threads. No test marks with `--atomic`.
 
 mod file;
+mod tables;
 
-use crate::{Clock, Options, Skip, marked};
+use crate::{Clock, Options, Skip, Task, printed};
 use file::File;
 use std::time::Instant;
 
@@ -17,7 +18,8 @@ fn id(value: u32) -> [u8; 4] {
 
 /// A report or a refusal in one line: `2 8 A, 1 0 <class>, R 3 8, U 0 0, X 0` or `8 at 31`.
 fn short(file: &File, skip: &Skip, options: Options) -> String {
-    let text = match marked(&file.bytes, skip, options, &mut Clock(Instant::now())) {
+    let task = Task::Report(options, skip.clone());
+    let text = match printed(&file.bytes, &task, &mut Clock(Instant::now())) {
         Ok(text) => text,
         Err(fault) => return format!("{} at {}", fault.code, fault.at),
     };
