@@ -157,6 +157,7 @@ is_whole v places ids records skip g linked within few few_roots graph =
     let class_total : class_count g ≡ length (class_dumps heap) =
     ap length graph.classes_are ∙ length-map (class_dumps heap) (named_in records) in
     record {
+      id_each = ap length graph.ids_are ∙ length-map (objects heap) id_of ∙ sym count;
       id_list_each = graph.id_lists_are.one_each ∙ sym count;
       row_each = ap length graph.rows_are ∙ length-map (objects heap) (row_of heap) ∙ sym count;
       bytes_each = ap length graph.bytes_are ∙ length-map (objects heap) (bytes_of v.id_size) ∙ sym count;

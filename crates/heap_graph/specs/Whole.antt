@@ -29,9 +29,11 @@ IsRowIn g (keys.Class n) = n < class_count g
 IsRowIn g (keys.Primitive t) = (4 ≤ t) × (t ≤ 11)
 IsRowIn g keys.ClassObject = Unit {0}
 
--- Each object has one list of identifiers, one row and one number of bytes. Roots, references and rows name only
--- objects and classes of the graph. The numbers of objects, classes, bytes and unresolved identifiers have bounds.
+-- Each object has one identifier, one list of the identifiers that it holds, one row and one number of bytes. Roots,
+-- references and rows name only objects and classes of the graph. The numbers of objects, classes, bytes and unresolved
+-- identifiers have bounds.
 pub record IsWhole (g : ObjectGraph) : Type 0 where
+  pub id_each : length g.ids ≡ object_count g
   pub id_list_each : length g.id_lists ≡ object_count g
   pub row_each : length g.rows ≡ object_count g
   pub bytes_each : length g.bytes ≡ object_count g
