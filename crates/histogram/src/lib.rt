@@ -31,7 +31,7 @@ mod write_whole;
 pub use counted::Counted;
 pub use laws::{one_histogram, one_report};
 pub use mark_core::OutOfMemory;
-pub use names::append_unnamed;
+pub use names::{append_unnamed, row_name};
 pub use read_to_limit::ReaderRefusal;
 pub use report::{Line, Report};
 pub use report_rows::rows;

@@ -11,7 +11,7 @@ use std::alloc::{AllocError, Allocator};
 use std::io::Write;
 
 /// Returns the name of `row`, as the report shows it. `AllocError` if an allocation fails.
-pub(crate) fn row_name<A: Allocator, B: Allocator>(
+pub fn row_name<A: Allocator, B: Allocator>(
     alloc: B,
     graph: &Graph<'_, A>,
     row: RowKey,
