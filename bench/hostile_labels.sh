@@ -7,8 +7,8 @@
 # COUNT: objects or labels of the smaller file of each kind (500000). Prints a Markdown table: for each kind the sizes
 # of the larger dump and its labels, both programs' processor seconds (user and system) and MiB on the smaller and the
 # larger, and whether their tables say the same, or both gave the same refusal. A run is stopped after five minutes, and
-# then differs. Exit status 1 if a run differs. retained is the binary of crates/retained/out, or what the variable RETAINED names, with the words
-# before the labels: RETAINED='./plain --labels'.
+# then differs. Exit status 1 if a run differs. retained is the binary of crates/retained/out, or what the variable
+# RETAINED names, with the words before the labels: RETAINED='./plain --labels'.
 set -euo pipefail
 
 top=$(cd "$(dirname "$0")/.." && pwd)
@@ -29,8 +29,8 @@ rustc --edition 2024 -O -o "$room/hostile" "$top/bench/hostile.rs"
 # shellcheck disable=SC2046 # a kind is one word
 [ $# -gt 0 ] || set -- $("$room/hostile" labels || true)
 
-# timed NAME PROGRAM [WORD..]: runs PROGRAM on the dump and the labels that were made last. Adds its processor seconds to
-# `times`, and its peak of memory to `peaks`.
+# timed NAME PROGRAM [WORD..]: runs PROGRAM on the dump and the labels that were made last. Adds its processor seconds
+# to `times`, and its peak of memory to `peaks`.
 timed() {
     local name=$1 program=$2
     shift 2
