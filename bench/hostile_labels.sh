@@ -14,6 +14,7 @@ set -euo pipefail
 top=$(cd "$(dirname "$0")/.." && pwd)
 # shellcheck source=bench/usage.sh
 . "$top/bench/usage.sh"
+of_tables=yes
 # shellcheck source=bench/markers.sh
 . "$top/bench/markers.sh"
 count=${1:-500000}

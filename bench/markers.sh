@@ -1,7 +1,8 @@
 # Runs heapmark, retained and the plain marker, and says how a run ended. To be sourced by the scripts that compare
 # them.
 #
-# The script sets `room`, a folder for what the runs print. To compare tables it builds `same_tables` there.
+# The script sets `room`, a folder for what the runs print. To compare tables it sets `of_tables`, and builds
+# `same_tables` in `room`.
 # shellcheck shell=bash disable=SC2034 disable=SC2154 # what is set here is used there, and the other way round
 
 # ran NAME COMMAND..: runs a marker. Keeps its report in NAME.report and what else it prints in NAME.told. Sets
@@ -28,7 +29,7 @@ how_ended() {
     refusal=$(sed -n 's/^[a-z]*: \(refused [0-9].*\)/\1/p' "$room/$1.told")
     if [ "$status" -eq 0 ] && [[ $(tail -n 1 "$room/$1.report") == *'(unresolved)' ]]; then
         echo report
-    elif [ "$status" -eq 0 ] && is_table "$room/$1.report"; then
+    elif [ "$status" -eq 0 ] && [ -n "${of_tables:-}" ] && is_table "$room/$1.report"; then
         echo table
     elif [ "$status" -eq 1 ] && [ ! -s "$room/$1.report" ] && [ -n "$refusal" ]; then
         echo "$refusal"

@@ -13,6 +13,7 @@
 runs=5
 # shellcheck source=bench/head.sh
 . "$(dirname "$0")/head.sh"
+of_tables=yes
 # shellcheck source=bench/markers.sh
 . "$top/bench/markers.sh"
 read -r -a retained <<< "${RETAINED:-$top/crates/retained/out/retained}"
