@@ -61,6 +61,7 @@ where
     // A reported fault is the first one of the labels or of the bytes read.
     ensures first_fault { IfErr result (λ fault. IfSome (R.remaining (inner_of reader.old)) (λ given.
         SaysOfInputs (bytes_of_run given) labels.now fault)) }
+    ensures fault_of_a_text { IfErr result (λ fault. (text : List ℕ) × SaysOfInputs text labels.now fault) }
     ensures bad_labels { IfErr result (λ fault. (line : ℕ) → fault ≡ Fault.BadLabels line
         → IsFirstBadLine labels.now line) }
 
@@ -74,6 +75,8 @@ where
     ensures beginning { result ≡ Err Fault.WriteFault → IfSome (R.remaining (inner_of reader.old)) (λ given.
         WritesPartOfTable (bytes_of_run given) labels.now
         (W.contents (inner_of writer.old)) (W.contents (inner_of writer.new))) }
+    ensures part_of_a_table { result ≡ Err Fault.WriteFault → (text : List ℕ) × WritesPartOfTable text labels.now
+        (W.contents (inner_of writer.old)) (W.contents (inner_of writer.new)) }
     ensures untouched { IfErr result (λ fault. fault ≢ Fault.WriteFault
         → Keeps (W.contents (inner_of writer.old)) (W.contents (inner_of writer.new))) }
 {
@@ -185,9 +188,7 @@ where
     ensures untouched { IfErr result (λ fault. fault ≢ Fault.WriteFault
         → Keeps (W.contents (inner_of writer.old)) (W.contents (inner_of writer.new))) }
 {
-    // Called for its clause `few`, which bounds the number of labels.
-    let _labels = list.labels();
-    let Ok(flow) = held(alloc, &found.graph, &found.root_names, list.entries()) else {
+    let Ok(flow) = held(alloc, &found.graph, &found.root_names, list) else {
         return Err(Fault::OutOfMemory);
     };
     let Ok(table) = Table::of(alloc, &found.graph, &flow) else {

@@ -7,7 +7,7 @@ use Rattle.label_sets.specs.Sets.{labels_of}
 use Rattle.labelled_graph.proofs.Holds.{are_held}
 use Rattle.labelled_graph.proofs.Referring.{formed}
 use Rattle.labelled_graph.specs.Holding.{AreHeld}
-use Rattle.labelled_graph.proofs.holding.held.Goals as goal
+use Rattle.labelled_graph.proofs.holding.held_by.Goals as goal
 
 pub of-requires-clause-labels : goal.of-requires-clause-labels
 of-requires-clause-labels g c = λ l p h.
@@ -15,7 +15,7 @@ of-requires-clause-labels g c = λ l p h.
       arith,
       c.each_label_is_counted.ensures c.args.entries.now l p h,
       c.in_ok-store.ensures.labels,
-      c.label_count.ensures,
+      c.requires.labels,
     )
 
 pub flow_of-requires : goal.flow_of-requires
@@ -38,6 +38,6 @@ returns-clause-held g c =
 
 pub returns-clause-labels : goal.returns-clause-labels
 returns-clause-labels g c =
-    let begun = c.in_ok-tables.ensures.extends.labels_are ∙ c.in_ok-store.ensures.labels ∙ c.label_count.ensures in
+    let begun = c.in_ok-tables.ensures.extends.labels_are ∙ c.in_ok-store.ensures.labels ∙ c.requires.labels in
     IfOk-weaker c.flow_of.result _ (λ (f : Flow). f.store.labels ≡ label_count c.args.entries.now)
     (λ (f : Flow) is. is.extends.labels_are ∙ begun) c.flow_of.ensures
