@@ -1,6 +1,6 @@
 """Builds the package of the tools, which pyproject.toml describes.
 
-The version stands in the sources of heapmark's command line: it is read there, and written beside the modules that are
+The version is in the sources of the command lines: it is read there, and written beside the modules that are
 built, since an installed package is not beside these sources. setuptools before version 70 leaves the writing of wheels
 to the package `wheel`; where a machine has neither, `PlainWheel` does that.
 """

@@ -4,8 +4,8 @@ import pathlib
 import re
 
 HERE = pathlib.Path(__file__).resolve().parent
-#: The one place where the version is written: the sources of the command line.
-SOURCE = HERE.parent.parent / "crates/command_line/src/help.rt"
+#: The one place where the version is written: the sources of the command lines.
+SOURCE = HERE.parent.parent / "crates/common_line/src/version.rt"
 #: Its copy in an installed package, beside this file.
 INSTALLED = HERE / "VERSION"
 

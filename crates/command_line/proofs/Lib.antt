@@ -1,2 +1,1 @@
-pub mod Matches
-pub mod Given
+pub mod HeapmarkLine

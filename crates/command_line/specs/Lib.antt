@@ -1,2 +1,3 @@
+pub use Rattle.common_line.specs.Line as CommonLine
 pub mod Line
 pub mod working

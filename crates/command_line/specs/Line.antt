@@ -1,37 +1,11 @@
 -- The command line of heapmark: its options, in clap's definitions, and the arguments that its words give.
-use Rattle.std.specs.Prelude.{List, Option, Some, [], codes, map, option_map, true, ℕ, ◌∷◌, ◌≡◌, ◌≢◌, ◌≤◌, ◌⊎◌}
-use Rattle.std.specs.Borrow.{Bor}
+use Rattle.std.specs.Prelude.{List, Option, Some, codes, option_map, ℕ, ◌≡◌, ◌≤◌}
 use Rattle.std.specs.Str.Parse.{IsNumeral, digits_value, without_leading_plus}
-use Rattle.clap.specs.Words.{App, IsAmong, Kinds, Rule, Text}
-use Rattle.clap.specs.Words.{fault_of, first_of, matches_of, new_app, new_rule, with_rule}
+use Rattle.clap.specs.Words.{App, Kinds, Rule, Text, new_app, new_rule, with_rule}
 use Rattle.clap.specs.declared.builder.action.ArgAction.TheVariants.{Set}
-use Rattle.clap.specs.declared.builder.value_parser.ValueParser.{ValueParser}
-use Rattle.clap.specs.declared.builder.value_parser.ValueParser.TheVariants as parser
-use Rattle.clap.specs.declared.error.kind.ErrorKind.{ErrorKind}
-use Rattle.clap.specs.declared.error.kind.ErrorKind.TheVariants as variant
+pub use Rattle.common_line.specs.Line.{file_rule, number_rule, option_rule, texts_of, with_version}
+use Rattle.common_line.specs.Line as line
 use Rattle.command_line.specs.declared.parsed_arguments.Arguments.{Arguments}
-
--- the file, which is required
-abbrev pub file_rule : Rule
-file_rule = record (new_rule (codes "file")) {
-  required = true;
-  action = Some Set;
-  value_names = 1;
-}
-
--- an option `--NAME N` with a default
-abbrev pub option_rule : Text → ValueParser → Text → Rule
-option_rule name values default = record (new_rule name) {
-  long = Some name;
-  action = Some Set;
-  value_names = 1;
-  parser = Some values;
-  defaults = default ∷ [];
-}
-
--- an option `--NAME N` with a default, whose numbers are `least` to `most`
-abbrev pub number_rule : Text → ℕ → ℕ → Text → Rule
-number_rule name least most default = option_rule name (parser.Unsigned least most) default
 
 -- an option `--skip LIST` with no default, which takes any text
 abbrev pub skip_rule : Rule
@@ -40,10 +14,6 @@ skip_rule = record (new_rule (codes "skip")) {
   action = Some Set;
   value_names = 1;
 }
-
--- a command that prints its version at --version
-abbrev pub with_version : App → App
-with_version a = record a { top = record a.top { has_version = true } }
 
 -- heapmark FILE --workers N --buffer N --buffers N --first-tag N --skip LIST
 unfoldable pub heapmark_line : App
@@ -56,32 +26,25 @@ heapmark_line =
     (number_rule (codes "first-tag") 0 281474976710655 (codes "0")))
     skip_rule
 
--- the texts of words
-abbrev pub texts_of : List (Bor Text) → List Text
-texts_of = map (λ word. word.now)
-
 -- what the words give for the file or an option: the text in them, or the option's default
 abbrev pub text_given : Text → List Text → Option Text
-text_given name words = first_of name (matches_of heapmark_line words)
+text_given name words = line.text_given heapmark_line name words
 
--- The kinds of error that a parse of the words may return: one for each fault of the words and for each request for the
--- help or the version.
+-- the kinds of error that a parse of the words may return
 abbrev pub faults_of : List Text → Kinds
-faults_of words = fault_of heapmark_line words
+faults_of words = line.faults_of heapmark_line words
 
 -- nothing is wrong with the words, and they ask for neither help nor version
 abbrev pub IsTaken : List Text → Type 0
-IsTaken words = faults_of words ≡ []
+IsTaken words = line.IsTaken heapmark_line words
 
 -- the words ask for the help or for the version
 abbrev pub AsksAboutProgram : List Text → Type 0
-AsksAboutProgram words =
-    IsAmong variant.DisplayHelp (faults_of words) ⊎ IsAmong variant.DisplayVersion (faults_of words)
+AsksAboutProgram words = line.AsksAboutProgram heapmark_line words
 
 -- something is wrong with the words: a fault that is no request for the help or the version
 abbrev pub IsWrong : List Text → Type 0
-IsWrong words = (kind : ErrorKind) × IsAmong kind (faults_of words)
-    × (kind ≢ variant.DisplayHelp) × (kind ≢ variant.DisplayVersion)
+IsWrong words = line.IsWrong heapmark_line words
 
 -- the words give `number` for the option `name`: the option's text is a decimal numeral that spells `number`
 pub record GivesNumber (name : Text) (words : List Text) (number : ℕ) : Type 0 where

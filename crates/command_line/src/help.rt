@@ -1,12 +1,5 @@
-//! Our texts in `--help` and `--version`; clap makes the rest from the options. Their lines are broken by hand, for 80
+//! Our texts in `--help`; clap makes the rest from the options. Their lines are broken by hand, for 80
 //! columns: the ported clap breaks no line.
-
-/// The version, and the logic with which it is proved. The second line is worded like the end of the line that
-/// `rt --version` prints: `dev/statuses` compares the two. The kit, which `rt --version` prints first, is omitted,
-/// since machines may have different kits with the same logic.
-pub(crate) const VERSION: &str = "\
-0.3.0
-rattle logic dac8208d650f15bf";
 
 /// The first paragraph of the help.
 pub(crate) const ABOUT: &str = "\
@@ -14,11 +7,6 @@ Marks the reachable objects of a Java heap dump with several threads, and prints
 a histogram of them: for each class the number of its reachable objects and the
 bytes of their fields or elements. An object is reachable if a path of
 references joins a root to it.";
-
-/// The help of the file.
-pub(crate) const FILE: &str = "\
-A heap dump of at most 1 GiB and 16,777,216 objects (HPROF binary,
-JAVA PROFILE 1.0.2), as `jcmd PID GC.heap_dump FILE` writes it";
 
 /// The help of `--workers`.
 pub(crate) const WORKERS: &str = "Threads, 1 to 64";

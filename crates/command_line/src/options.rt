@@ -1,11 +1,12 @@
 //! The command as clap builds it: the file and the options, with their ranges and defaults.
 ghost use Rattle.std.specs.Prelude.{◌≡◌, IfOk, codes, false};
 ghost use Rattle.clap.specs.Words.{app_of, rule_of};
-ghost use Rattle.command_line.specs.Line.{file_rule, heapmark_line, number_rule, option_rule, skip_rule};
+ghost use Rattle.command_line.specs.Line.{heapmark_line, number_rule, option_rule, skip_rule};
 
 use crate::help;
 use clap::builder::ValueParser;
 use clap::{Arg, ArgAction, Command, value_parser};
+use common_line::{VERSION, dump_file};
 use std::alloc::{AllocError, Global};
 
 /// Builds the command `heapmark FILE --workers N --buffer N --buffers N --first-tag N --skip LIST`, with `--help` and
@@ -15,27 +16,15 @@ pub(crate) fn command<'a>(alloc: Global) -> Result<Command<'a>, AllocError>
 {
     let command = Command::new(alloc, "heapmark")
         .about(help::ABOUT)
-        .version(help::VERSION)
+        .version(VERSION)
         .after_help(help::AFTER);
-    let command = command.arg(file(alloc))?;
+    let command = command.arg(dump_file(alloc))?;
     let command = command.arg(workers(alloc))?;
     let command = command.arg(buffer(alloc))?;
     let command = command.arg(buffers(alloc))?;
     let command = command.arg(first_tag(alloc))?;
     let command = command.arg(skip(alloc))?;
     Ok(command)
-}
-
-/// Builds the argument for the heap dump.
-fn file<'a>(alloc: Global) -> Arg<'a>
-    ensures rule { rule_of result ≡ file_rule }
-    ensures local { result.global ≡ false }
-{
-    Arg::new(alloc, "file")
-        .required(true)
-        .action(ArgAction::Set)
-        .value_name("FILE")
-        .help(help::FILE)
 }
 
 /// Builds the option for the number of threads that mark.

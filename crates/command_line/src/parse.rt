@@ -2,12 +2,14 @@
 ghost use Rattle.std.specs.Prelude.{◌≡◌, ◌≤◌, IfErr, IfOk, codes, option_map, true, ℕ};
 ghost use Rattle.clap.specs.Words.{FailsBy, first_value, found_of, kind_of, takes};
 ghost use Rattle.command_line.specs.Line.{AreGiven, AreInRange, faults_of, heapmark_line, texts_of};
-ghost use Rattle.command_line.specs.working.Matches.{HasAll, HasNumber, ReadsNumber};
+ghost use Rattle.command_line.specs.working.Matches.{HasAll, ReadsNumber};
+ghost use Rattle.common_line.specs.Matched.{HasNumber};
 
 use crate::options::command;
 use crate::parsed_arguments::Arguments;
 use clap::error::ErrorKind;
 use clap::{ArgMatches, Error};
+use common_line::parse;
 use std::alloc::Global;
 
 /// Returns the arguments that `words` give. The first word is the program's own name.
@@ -28,7 +30,7 @@ pub fn arguments<'a>(alloc: Global, words: &'a [&'a str]) -> Result<Arguments<'a
         Ok(command) => command,
         Err(refused) => return Err(Error::from(refused)),
     };
-    match command.try_get_matches_from(words) {
+    match parse(command, words) {
         Ok(matches) => Ok(values(&matches)),
         Err(error) => Err(error),
     }

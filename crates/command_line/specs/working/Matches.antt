@@ -1,15 +1,9 @@
 -- What the matches of a parse have for the file and the options.
-use Rattle.std.specs.Prelude.{IsSome, Option, Some, codes, length, ℕ, ◌≡◌}
+use Rattle.std.specs.Prelude.{IsSome, Some, codes, ℕ, ◌≡◌}
 use Rattle.std.specs.Str.Parse.{IsNumeral, digits_value, without_leading_plus}
-use Rattle.clap.specs.Words.{IsUnsignedIn, Text, first_value, one_text}
+use Rattle.clap.specs.Words.{Text, first_value}
 use Rattle.clap.specs.declared.parser.matches.Found.{Found}
-
--- a number from `least` to `most` is found for `name`
-pub record HasNumber (found : Found) (name : Text) (least most : ℕ) : Type 0 where
-  pub text : Text
-  pub first : first_value found name ≡ Some text
-  pub read : one_text found name ≡ Some text
-  pub within : IsUnsignedIn least most text
+use Rattle.common_line.specs.Matched.{HasNumber}
 
 -- the file and the options are found, each number in its range
 pub record HasAll (found : Found) : Type 0 where

@@ -17,5 +17,5 @@ returns c =
     (c.in_ok-command-4.ensures.shape c.buffers.ensures.local ∙ ap₂ with_rule
     (c.in_ok-command-3.ensures.shape c.buffer.ensures.local ∙ ap₂ with_rule
     (c.in_ok-command-2.ensures.shape c.workers.ensures.local ∙ ap₂ with_rule
-    (c.in_ok-command.ensures.shape c.file.ensures.local ∙ ap₂ with_rule start c.file.ensures.rule)
+    (c.in_ok-command.ensures.shape c.dump_file.ensures.local ∙ ap₂ with_rule start c.dump_file.ensures.rule)
     c.workers.ensures.rule) c.buffer.ensures.rule) c.buffers.ensures.rule) c.first_tag.ensures.rule) c.skip.ensures.rule
