@@ -5,7 +5,7 @@ use Rattle.command_line.specs.Line.{AsksAboutProgram, text_given}
 use Rattle.heapmark.specs.Causes.{KnownCauses}
 use Rattle.heapmark.specs.OfFile.{PrintsReason, PrintsReasonFirst, WritesReportOfFile}
 use Rattle.heapmark.specs.RefusalText.{refusal_line}
-use Rattle.heapmark.specs.RunRefusals.{out_of_memory}
+use Rattle.front_end.specs.RunRefusals.{out_of_memory}
 use Rattle.heapmark.specs.StatusOf.{IsStatusOf}
 use Rattle.heapmark.specs.working.Answered.{IsAnswered}
 use Rattle.heapmark.specs.working.StatusOfSome.{IsStatusOfSome}

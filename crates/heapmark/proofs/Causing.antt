@@ -4,9 +4,9 @@ use Rattle.heap_graph.specs.declared.skip.refusal.SkipRefusal.{SkipRefusal}
 use Rattle.heap_graph.specs.declared.skip.refusal.SkipRefusal.TheVariants as skipping
 use Rattle.heapmark.specs.Answer.{IsRunRefusal}
 use Rattle.heapmark.specs.Causes.{HasCause, KnownCauses}
-use Rattle.heapmark.specs.RefusalCodes.{bad_options_refusal, skip_refusal, write_fault, write_refusal}
-use Rattle.heapmark.specs.RunRefusals.{out_of_memory, read_fault}
-use Rattle.heapmark.specs.declared.refusal.Refusal.{Refusal}
+use Rattle.front_end.specs.RefusalCodes.{bad_options_refusal, skip_refusal, write_fault, write_refusal}
+use Rattle.front_end.specs.RunRefusals.{out_of_memory, read_fault}
+use Rattle.front_end.specs.declared.refusal.Refusal.{Refusal}
 use Rattle.histogram.specs.declared.report_writing.WriteRefusal.{WriteRefusal}
 use Rattle.histogram.specs.declared.report_writing.WriteRefusal.TheVariants as writing
 

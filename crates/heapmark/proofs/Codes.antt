@@ -10,8 +10,8 @@ use Rattle.hprof_grammar.specs.Fault.RecordFault.{bad_length, in_heap, no_snapsh
 use Rattle.hprof_grammar.specs.Fault.FirstFault.{bad_header, bad_id_size, in_records, short_header, too_large}
 use Rattle.hprof_grammar.specs.Record.{Record}
 use Rattle.heapmark.specs.Answer.{FirstFaultOf, IsRunRefusal, RefusesFirstFault}
-use Rattle.heapmark.specs.RunRefusals.{out_of_memory}
-use Rattle.heapmark.specs.declared.refusal.Refusal.{Refusal}
+use Rattle.front_end.specs.RunRefusals.{out_of_memory}
+use Rattle.front_end.specs.declared.refusal.Refusal.{Refusal}
 
 abbrev pub IsFaultCode : ℕ → Type 0
 IsFaultCode code = (1 ≤ code) × (code ≤ 14)

@@ -1,8 +1,8 @@
 -- The lines after a refusal: about the file, about an option, or none.
 use Rattle.std.proofs.Common.{List, Option, codes, decimal, inl, inr, refl, subst, sym, ℕ, ◌++◌, ◌≡◌}
-use Rattle.heapmark.proofs.PrintedLine.{nothing_about}
+use Rattle.front_end.proofs.PrintedLine.{nothing_about}
 use Rattle.heapmark.specs.SecondLine.{IsOption, PrintsAbout, PrintsHint}
-use Rattle.heapmark.specs.ShownText.{shown_text}
+use Rattle.front_end.specs.ShownText.{shown_text}
 
 pub is_first_tag : (n : ℕ) → IsOption (codes "--first-tag " ++ decimal n)
 is_first_tag n = inr (n, inl refl)
@@ -22,4 +22,4 @@ pub of_option : (file option : List ℕ) (old new : Option (List ℕ)) → IsOpt
 of_option file option old new is printed = inr (option, is, printed)
 
 pub no_hint : (file : List ℕ) (known : Option (List ℕ)) → PrintsHint file known known
-no_hint file known = inl (nothing_about (shown_text file) known)
+no_hint file known = inl (nothing_about (codes "heapmark") (shown_text file) known)

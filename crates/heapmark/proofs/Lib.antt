@@ -5,5 +5,4 @@ pub mod Faults
 pub mod Hints
 pub mod OfFile
 mod OfMarking
-pub mod PrintedLine
 pub mod UnmetLines

@@ -13,12 +13,12 @@ use Rattle.heapmark.specs.BadOptions.{GivesTooFewBuffers, HasBadOptions}
 use Rattle.heapmark.specs.Causes.{HasCause, KnownCauses}
 use Rattle.heapmark.specs.OfFile.{IsReason, PrintsReason, PrintsReasonFirst, WritesReportOfBytes, WritesReportOfFile}
 use Rattle.heapmark.specs.OfFile.{HasUnreadFile, bytes_of_file}
-use Rattle.heapmark.specs.RefusalCodes.{bad_options_refusal, skip_refusal}
+use Rattle.front_end.specs.RefusalCodes.{bad_options_refusal, skip_refusal}
 use Rattle.heapmark.specs.RefusalText.{refusal_line}
-use Rattle.heapmark.specs.RunRefusals.{out_of_memory, read_fault}
+use Rattle.front_end.specs.RunRefusals.{out_of_memory, read_fault}
 use Rattle.heapmark.specs.SecondLine.{PrintsHint, PrintsHintFor}
 use Rattle.heapmark.specs.SkippedFields.{HasBadList, IsSkipListOf}
-use Rattle.heapmark.specs.declared.refusal.Refusal.{Refusal}
+use Rattle.front_end.specs.declared.refusal.Refusal.{Refusal}
 use Rattle.heapmark.specs.working.NoReport.{HasTooFewBuffers, list_of}
 use Rattle.heapmark.proofs.Causing.{starved_cause}
 use Rattle.heapmark.proofs.Codes.{run_unplaced}

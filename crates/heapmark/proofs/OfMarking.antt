@@ -5,9 +5,9 @@ use Rattle.drain.specs.declared.marked.RunFault.TheVariants.{OutOfMemory, TagSpe
 use Rattle.heapmark.proofs.Codes.{IsKnown, known_unplaced}
 use Rattle.heapmark.specs.Answer.{IsAcceptedText, IsRunRefusal, RefusesFirstFault}
 use Rattle.heapmark.specs.RefusalCodes.{run_refusal}
-use Rattle.heapmark.specs.RunRefusals.{out_of_memory}
+use Rattle.front_end.specs.RunRefusals.{out_of_memory}
 use Rattle.heapmark.specs.working.Marking.{IsOfMarking}
-use Rattle.heapmark.specs.declared.refusal.Refusal.{Refusal}
+use Rattle.front_end.specs.declared.refusal.Refusal.{Refusal}
 
 abbrev pub IsToldOf : List ℕ → Refusal → Type 0
 IsToldOf text refusal = RefusesFirstFault text refusal ⊎ (refusal ≡ out_of_memory)

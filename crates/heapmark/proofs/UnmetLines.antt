@@ -2,6 +2,7 @@
 use Rattle.std.proofs.Common.{List, Option, [], ℕ, ◌∷◌}
 use Rattle.std.proofs.KnownBytes.{Keeps-refl, Keeps-trans}
 use Rattle.std.specs.Io.KnownBytes.{Keeps}
+use Rattle.front_end.proofs.PrintedLine.{nothing}
 use Rattle.heapmark.specs.UnmetEntries.{PrintsOnlyUnmet, PrintsUnmet, unmet_line}
 use Rattle.histogram.specs.Counting.{AppendsBeginning}
 
@@ -10,6 +11,10 @@ none known = ([], Keeps-refl known)
 
 pub none_kept : (old new : Option (List ℕ)) → Keeps old new → PrintsOnlyUnmet old new
 none_kept old new keeps = ([], keeps)
+
+-- a line of which nothing is written
+pub no_line : (known : Option (List ℕ)) (bytes : List ℕ) → AppendsBeginning known known bytes
+no_line = nothing
 
 pub one_more : (old between new : Option (List ℕ)) (entry : List ℕ) → PrintsOnlyUnmet old between
     → AppendsBeginning between new (unmet_line entry) → PrintsOnlyUnmet old new

@@ -5,8 +5,8 @@ use Rattle.heap_graph.specs.Accepted.{IsAccepted}
 use Rattle.heap_graph.specs.LinkFault.{HasLinkFault}
 use Rattle.heap_graph.specs.Skips.{SkipEntry}
 use Rattle.histogram.specs.Report.{IsReport}
-use Rattle.heapmark.specs.RunRefusals.{out_of_memory, read_fault, fault_refusal}
-use Rattle.heapmark.specs.declared.refusal.Refusal.{Refusal}
+use Rattle.front_end.specs.RunRefusals.{out_of_memory, read_fault, fault_refusal}
+use Rattle.front_end.specs.declared.refusal.Refusal.{Refusal}
 use Rattle.histogram.specs.Counting.{AppendsBeginning}
 use Rattle.hprof_grammar.specs.Fault.{FirstFault}
 use Rattle.hprof_grammar.specs.Record.{Record}

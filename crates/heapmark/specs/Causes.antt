@@ -1,6 +1,6 @@
 -- The cause of a refusal that only a part of the run can have found.
 use Rattle.std.specs.Prelude.{ℕ, ◌≡◌}
-use Rattle.heapmark.specs.declared.refusal.Refusal.{Refusal}
+use Rattle.front_end.specs.declared.refusal.Refusal.{Refusal}
 
 -- What is known of the causes that were found. A function that takes any `Causes` (causes.rt) knows nothing of these
 -- facts. It learns one only from a call that it makes with the token of the cause.

@@ -2,7 +2,7 @@
 use Rattle.std.specs.Prelude.{IfSome, List, OnOk, Option, Result, ℕ}
 use Rattle.heap_graph.specs.Skips.{SkipEntry}
 use Rattle.heapmark.specs.Answer.{WritesReport, bytes_read}
-use Rattle.heapmark.specs.declared.refusal.Refusal.{Refusal}
+use Rattle.front_end.specs.declared.refusal.Refusal.{Refusal}
 
 -- If the result is no refusal, the bytes read are an accepted dump, and all that was written is the report of exactly
 -- the objects that a path of references joins to a root, each counted once. The value of a field to be skipped is no

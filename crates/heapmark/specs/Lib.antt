@@ -5,9 +5,7 @@ pub mod Headline
 pub mod OfFile
 pub mod RefusalCodes
 pub mod RefusalText
-pub mod RunRefusals
 pub mod SecondLine
-pub mod ShownText
 pub mod SkippedFields
 pub mod StatusOf
 pub mod UnmetEntries

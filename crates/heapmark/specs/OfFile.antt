@@ -5,13 +5,13 @@ use Rattle.command_line.specs.Line.{text_given}
 use Rattle.heap_graph.specs.Skips.{SkipEntry}
 use Rattle.heapmark.specs.Answer.{IsAcceptedText, IsRefusalOf, IsRunRefusal, RefusesFirstFault, WritesReport}
 use Rattle.heapmark.specs.Answer.{bytes_read}
-use Rattle.heapmark.specs.RefusalCodes.{bad_options_refusal}
+use Rattle.front_end.specs.RefusalCodes.{bad_options_refusal}
 use Rattle.heapmark.specs.BadOptions.{HasBadOptions}
 use Rattle.heapmark.specs.Causes.{HasCause, KnownCauses}
 use Rattle.heapmark.specs.RefusalText.{refusal_line}
 use Rattle.heapmark.specs.SecondLine.{PrintsHintFor}
 use Rattle.heapmark.specs.SkippedFields.{IsSkipListOf}
-use Rattle.heapmark.specs.declared.refusal.Refusal.{Refusal}
+use Rattle.front_end.specs.declared.refusal.Refusal.{Refusal}
 use Rattle.histogram.specs.Counting.{AppendsBeginning}
 
 -- The bytes of the file that `words` name, if they name one and a contract can name its bytes. `bytes_at` has the bytes

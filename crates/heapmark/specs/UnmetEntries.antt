@@ -1,7 +1,7 @@
 -- What follows a report at a terminal: the lines about the entries of `--skip` that name no field of the dump.
 use Rattle.std.specs.Prelude.{List, Option, [], codes, ℕ, ◌++◌, ◌∷◌}
 use Rattle.std.specs.Io.KnownBytes.{Keeps}
-use Rattle.heapmark.specs.ShownText.{shown_text}
+use Rattle.front_end.specs.ShownText.{shown_text}
 use Rattle.histogram.specs.Counting.{AppendsBeginning}
 
 -- The line about an entry. Its control characters are shown escaped, so the only newline, 10, ends the line.

@@ -3,56 +3,34 @@
 ghost use Rattle.std.specs.Prelude.{◌≡◌, ◌≢◌, ◌↔◌, ◌⊎◌, ◌*◌, ◌+◌, ◌-◌, ◌^◌, ◌<◌, ◌≤◌};
 ghost use Rattle.std.specs.Prelude.{IfErr, IfOk, IfSome, IsOk, IsSome, OnErr, OnOk, true, ℕ, codes};
 ghost use Rattle.std.specs.Io.KnownBytes.{Keeps};
-ghost use Rattle.clap.specs.Words.{kind_of};
 ghost use Rattle.command_line.specs.Line.{AreGiven, AreInRange, AsksAboutProgram, GivesNumber, IsTaken, IsWrong};
 ghost use Rattle.command_line.specs.Line.{text_given, texts_of};
 ghost use Rattle.heapmark.specs.Causes.{HasCause};
 ghost use Rattle.heapmark.specs.OfFile.{IsReason, PrintsReason, PrintsReasonFirst, WritesReportOfBytes};
 ghost use Rattle.heapmark.specs.OfFile.{WritesReportOfFile};
-ghost use Rattle.heapmark.specs.RefusalText.{refusal_line};
-ghost use Rattle.heapmark.specs.RunRefusals.{out_of_memory};
 ghost use Rattle.heapmark.specs.SecondLine.{PrintsHint};
 ghost use Rattle.heapmark.specs.StatusOf.{IsStatusOf};
 ghost use Rattle.heapmark.specs.SkippedFields.{HasBadList, IsSkipListOf, WritesBeginningFor, WritesReportFor};
 ghost use Rattle.drain.specs.Options.{IsInRange};
 ghost use Rattle.heapmark.specs.working.Hint.{HasHint};
 ghost use Rattle.heapmark.specs.working.NoReport.{HasTooFewBuffers, bad_options, list_of, refusal_of, starved, wanted};
-ghost use Rattle.histogram.specs.Counting.{AppendsBeginning, failures_of, inner_of, is_flushed};
+ghost use Rattle.histogram.specs.Counting.{failures_of, inner_of, is_flushed};
 
 use crate::causes::Causes;
-use crate::dumps::Dumps;
 use crate::hint::advise;
 use crate::no_report::{NoReport, Unreported};
 use crate::pipeline::run;
 use crate::printing::subject::Subject;
-use crate::printing::{print_about, print_line};
-use crate::refusal::Refusal;
-use crate::shown::Shown;
-use clap::error::ErrorKind;
-use command_line::{Arguments, Error, arguments};
+use crate::printing::{print_about, print_refusal};
+use command_line::{Arguments, arguments};
 use drain::{BadOptions, NoGate, Options};
+use front_end::{DONE, Dumps, Refusal, Shown, print_words_error};
 use heap_graph::{Skip, SkipRefusal};
 use histogram::Counted;
 use std::alloc::Global;
-use std::io::{Seek, Write};
+use std::io::Write;
 use std::sync::Wait;
 use std::thread::Threads;
-
-/// The exit status if the report of the file was written, or the help or the version was asked for.
-pub(crate) const DONE: u8 = 0;
-
-/// The exit status if the options, the file or the run was refused, or an allocation failed.
-const REFUSED: u8 = 1;
-
-/// The exit status if the command line is wrong, or not UTF-8.
-const WRONG_WORDS: u8 = 2;
-
-/// The message about a word that is not text.
-const NOT_TEXT: &str = "\
-error: a word of the command line is not UTF-8 text
-
-For more information, try '--help'.
-";
 
 /// Does what `words` ask for. The first word is the program's own name. Prints a refusal, in one line, or what is wrong
 /// with the words, on `err`.
@@ -171,55 +149,11 @@ fn answer_line<'a, T: Causes + Dumps + AllocGlobal + Threads + Wait + Sync, W: W
                 (status, Some(Unreported { arguments, reason }))
             }
         },
-        Err(error) => (answer_words(rt.alloc(), &error, out, err), None),
+        Err(error) => (
+            print_words_error(rt.alloc(), "heapmark", &error, out, err),
+            None,
+        ),
     }
-}
-
-/// Prints the text of `error`: the help or the version on `out`, or what is wrong with the words on `err`. If an
-/// allocation failed, prints that refusal on `err` instead. Returns the exit status.
-fn answer_words<W: Write, E: Write>(
-    alloc: Global,
-    error: &Error,
-    out: &mut Counted<W>,
-    err: &mut E,
-) -> u8
-    requires { failures_of out.old < 2 ^ 64 - 1 }
-    ensures status { result ≤ 2 }
-    ensures asked { result ≡ 0
-        → (kind_of error.now ≡ ErrorKind.DisplayHelp) ⊎ (kind_of error.now ≡ ErrorKind.DisplayVersion) }
-    ensures usage { result ≡ 2 → (kind_of error.now ≢ ErrorKind.DisplayHelp)
-        × (kind_of error.now ≢ ErrorKind.DisplayVersion) × (kind_of error.now ≢ ErrorKind.OutOfMemory) }
-    ensures wrong { kind_of error.now ≢ ErrorKind.DisplayHelp → kind_of error.now ≢ ErrorKind.DisplayVersion
-        → kind_of error.now ≢ ErrorKind.OutOfMemory → result ≡ 2 }
-    ensures silent { result ≡ 0 → Keeps (E.contents err.old) (E.contents err.new) }
-    ensures untouched { result ≢ 0 → Keeps (W.contents (inner_of out.old)) (W.contents (inner_of out.new)) }
-    ensures no_failure { result ≢ 0 → failures_of out.new ≡ failures_of out.old }
-    ensures failures { failures_of out.new ≤ failures_of out.old + 1 }
-    ensures told { result ≡ 1
-        → AppendsBeginning (E.contents err.old) (E.contents err.new) (refusal_line out_of_memory) }
-{
-    match error.kind() {
-        ErrorKind::OutOfMemory => print_refusal(err, &Refusal::OUT_OF_MEMORY),
-        ErrorKind::DisplayHelp | ErrorKind::DisplayVersion => {
-            let Ok(text) = format!(in alloc; "{error}") else {
-                return print_refusal(err, &Refusal::OUT_OF_MEMORY);
-            };
-            let _ = out.write_whole(text.as_bytes());
-            DONE
-        }
-        _ => {
-            let _ = write!(err, "{error}");
-            WRONG_WORDS
-        }
-    }
-}
-
-/// Prints that a word of the command line is not text. Does not show the word, and returns the exit status.
-pub fn refuse_bytes<E: Write>(err: &mut E) -> u8
-    ensures { result ≡ 2 }
-{
-    let _ = err.write_all(NOT_TEXT.as_bytes());
-    WRONG_WORDS
 }
 
 /// Prints why the file could not be opened (code 19), or what can be done about the refusal, if a hint is known.
@@ -236,15 +170,6 @@ fn explain<T: Dumps + AllocGlobal, E: Write>(rt: &T, err: &mut E, unreported: &U
             print_about(err, Subject::File(Shown(arguments.file)), reason);
         }
     }
-}
-
-/// Prints `refusal` in one line, and returns its exit status.
-pub fn print_refusal<E: Write>(err: &mut E, refusal: &Refusal) -> u8
-    ensures status { result ≡ 1 }
-    ensures line { AppendsBeginning (E.contents err.old) (E.contents err.new) (refusal_line refusal.now) }
-{
-    print_line(err, refusal);
-    REFUSED
 }
 
 /// Returns the options of `arguments` for the marking. `Err(BadOptions)` if they are not allowed (`IsInRange`).

@@ -11,15 +11,13 @@ ghost use Rattle.heapmark.specs.SecondLine.{PrintsHint};
 ghost use Rattle.heapmark.specs.working.Hint.{HasHint};
 ghost use Rattle.heapmark.specs.working.NoReport.{HasTooFewBuffers};
 
-use crate::dumps::Dumps;
 use crate::printing::print_about;
 use crate::printing::subject::Subject;
-use crate::refusal::Refusal;
-use crate::refusal::codes::{BAD_OPTIONS, OUT_OF_MEMORY, TAG_SPENT, WORKER_REFUSED};
-use crate::shown::Shown;
 use beginning::Beginning;
 use command_line::Arguments;
 use file_hint::FileHint;
+use front_end::codes::{BAD_OPTIONS, OUT_OF_MEMORY, TAG_SPENT, WORKER_REFUSED};
+use front_end::{Dumps, Refusal, Shown};
 use hprof_grammar::LIMIT;
 use hprof_grammar::fault_codes::{BAD_HEADER, DUMP_ORDER, SUB_TRUNCATED, TOO_LARGE, TRUNCATED};
 use option_hint::{OptionHint, least_buffers};

@@ -14,13 +14,13 @@
 //! clauses can say what they do for known words and known bytes, and they can only read a file.
 //!
 //! The headline is defined in `specs/Headline.antt`, what it says of the program in `specs/OfFile.antt`, the refusals
-//! in `specs/RunRefusals.antt`. The README of the repository has them in words, and `docs/ARCHITECTURE.md` says where
-//! everything else is.
+//! in `front_end`. The README of the repository has them in words, and `docs/ARCHITECTURE.md` says where everything else
+//! is.
 #![tactic(auto)]
 
-ghost use Rattle.std.specs.Prelude.{◌≡◌, ◌-◌, ◌^◌, ◌<◌, IfOk, IfSome, false, map, string_bytes};
+ghost use Rattle.std.specs.Prelude.{◌≡◌, ◌-◌, ◌^◌, ◌<◌, IfSome, false};
 ghost use Rattle.std.specs.Io.KnownBytes.{Keeps};
-ghost use Rattle.command_line.specs.Line.{AsksAboutProgram, texts_of};
+ghost use Rattle.command_line.specs.Line.{AsksAboutProgram};
 ghost use Rattle.heapmark.specs.OfFile.{PrintsReason, PrintsReasonFirst, WritesReportOfFile};
 ghost use Rattle.heapmark.specs.StatusOf.{IsStatusOf};
 ghost use Rattle.heapmark.specs.UnmetEntries.{PrintsOnlyUnmet};
@@ -30,34 +30,30 @@ ghost use Rattle.histogram.specs.Counting.{failures_of, inner_of};
 
 mod causes;
 mod command;
-mod command_words;
-mod dumps;
 mod hint;
 mod laws;
+mod marking_refusal;
 mod no_report;
 mod pipeline;
 mod printing;
-mod refusal;
-mod shown;
 mod unmet_skips;
 
 pub use causes::Causes;
 pub use command::program;
 pub use command_line::{Arguments, arguments};
-pub use command_words::CommandWords;
 pub use drain::{BadOptions, Gate, NoGate, Options};
-pub use dumps::Dumps;
+pub use front_end::{CommandWords, Dumps, Refusal};
 pub use heap_graph::{Skip, SkipRefusal};
 pub use histogram::{Counted, one_report};
 pub use laws::{accepted_or_fault, always_accepted_or_fault, one_first_fault};
 pub use pipeline::run;
-pub use refusal::Refusal;
 
 #[cfg(test)]
 mod tests;
 
-use command::{DONE, print_refusal, program_at_terminal, refuse_bytes};
-use std::alloc::{AllocError, Global};
+use command::program_at_terminal;
+use front_end::{DONE, refuse_bytes, words_of};
+use printing::print_refusal;
 use std::io::{ErrorKind, IsTerminal, Write};
 use std::process::ExitCode;
 use std::sync::Wait;
@@ -150,15 +146,4 @@ where
         Ok(words) => program(rt, words.as_slice(), out, err),
         Err(_) => print_refusal(err, &Refusal::OUT_OF_MEMORY),
     }
-}
-
-/// Borrows each of `texts` as a word. `Err(AllocError)` if an allocation fails.
-fn words_of(texts: &[String], alloc: Global) -> Result<Vec<&str>, AllocError>
-    ensures { IfOk result (λ words. texts_of words.items ≡ map string_bytes texts.now) }
-{
-    let mut words = Vec::new(alloc);
-    for text in texts {
-        words.push(text.as_str())?;
-    }
-    Ok(words)
 }

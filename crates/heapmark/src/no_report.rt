@@ -3,8 +3,8 @@
 ghost use Rattle.std.specs.Prelude.{◌≡◌};
 ghost use Rattle.heapmark.specs.working.NoReport.{refusal_of};
 
-use crate::refusal::Refusal;
 use command_line::Arguments;
+use front_end::Refusal;
 use std::io;
 
 /// Why there is no report of a file.

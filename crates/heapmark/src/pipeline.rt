@@ -13,12 +13,13 @@ ghost use Rattle.heapmark.specs.Answer.{RefusesFirstFault, WritesReport};
 ghost use Rattle.heapmark.specs.Answer.{WritesBeginning, WritesSomeBeginning, WritesSomeReport, bytes_read, read_limit};
 ghost use Rattle.heapmark.specs.Causes.{HasCause};
 ghost use Rattle.heapmark.specs.Headline.{Headline};
-ghost use Rattle.heapmark.specs.RunRefusals.{HasCode, out_of_memory, read_fault};
+ghost use Rattle.front_end.specs.RunRefusals.{HasCode, out_of_memory, read_fault};
 ghost use Rattle.heapmark.specs.working.Marking.{IsOfMarking};
 
 use crate::causes::Causes;
-use crate::refusal::Refusal;
+use crate::marking_refusal::refusal_of_marking;
 use drain::{Gate, Options, mark};
+use front_end::Refusal;
 use heap_graph::{Graph, Skip};
 use histogram::{Counted, Report, rows, write_report};
 use hprof_grammar::{LIMIT, Team, read};
@@ -228,7 +229,7 @@ where
 {
     let marked = match mark(rt, alloc, graph, options, gate) {
         Ok(marked) => marked,
-        Err(fault) => return Err(Refusal::of_marking(rt, fault)),
+        Err(fault) => return Err(refusal_of_marking(rt, fault)),
     };
     Ok(rows(team, alloc, graph, &marked)?)
 }

@@ -8,11 +8,9 @@ ghost use Rattle.std.specs.Prelude.{◌≡◌, IfOk, string_bytes};
 ghost use Rattle.heapmark.specs.UnmetEntries.{PrintsOnlyUnmet, unmet_line};
 ghost use Rattle.histogram.specs.Counting.{AppendsBeginning};
 
-use crate::dumps::Dumps;
 use crate::pipeline::read_bytes;
-use crate::printing::write_beginning;
-use crate::shown::Shown;
 use command_line::{Arguments, arguments};
+use front_end::{Dumps, Shown, write_beginning};
 use heap_graph::Skip;
 use hprof_grammar::{Team, read};
 use std::alloc::{AllocError, Global};
@@ -77,7 +75,7 @@ fn tell_unmet<E: Write>(alloc: Global, err: &mut E, list: &str, met: &[bool])
 }
 
 /// Prints the line about `entry`, or nothing if an allocation fails.
-#[tactic(auto, using(crate::proofs::PrintedLine::nothing))]
+#[tactic(auto, using(crate::proofs::UnmetLines::no_line))]
 fn tell_entry<E: Write>(alloc: Global, err: &mut E, entry: &str)
     ensures { AppendsBeginning (E.contents err.old) (E.contents err.new) (unmet_line entry.now) }
 {

@@ -1,7 +1,7 @@
 -- The refusals of a marking other than out of memory.
 use Rattle.std.specs.Prelude.{◌≡◌, ◌⊎◌}
 use Rattle.heapmark.specs.RefusalCodes.{tag_spent, worker_refused}
-use Rattle.heapmark.specs.declared.refusal.Refusal.{Refusal}
+use Rattle.front_end.specs.declared.refusal.Refusal.{Refusal}
 
 -- the tags of a stack are spent, or a worker's thread could not be started
 abbrev pub IsOfMarking : Refusal → Type 0

@@ -2,11 +2,11 @@
 use Rattle.std.specs.Prelude.{List, Option, option_map, ℕ, ◌*◌, ◌+◌, ◌<◌}
 use Rattle.command_line.specs.declared.parsed_arguments.Arguments.{Arguments}
 use Rattle.drain.specs.Options.{Choice, choice}
-use Rattle.heapmark.specs.RefusalCodes.{bad_options_refusal}
-use Rattle.heapmark.specs.RunRefusals.{out_of_memory, read_fault}
+use Rattle.front_end.specs.RefusalCodes.{bad_options_refusal}
+use Rattle.front_end.specs.RunRefusals.{out_of_memory, read_fault}
 use Rattle.heapmark.specs.declared.no_report.NoReport.{NoReport}
 use Rattle.heapmark.specs.declared.no_report.NoReport.TheVariants as no_report
-use Rattle.heapmark.specs.declared.refusal.Refusal.{Refusal}
+use Rattle.front_end.specs.declared.refusal.Refusal.{Refusal}
 
 -- the options that `a` has for the marking
 abbrev pub wanted : Arguments → Choice

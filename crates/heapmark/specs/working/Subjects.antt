@@ -1,6 +1,6 @@
 -- What a line after a refusal is about, as it is printed.
 use Rattle.std.specs.Prelude.{List, codes, decimal, ℕ, ◌++◌}
-use Rattle.heapmark.specs.ShownText.{shown_text}
+use Rattle.front_end.specs.ShownText.{shown_text}
 use Rattle.heapmark.specs.declared.printing.subject.Subject.{Subject}
 use Rattle.heapmark.specs.declared.printing.subject.Subject.TheVariants as subject
 

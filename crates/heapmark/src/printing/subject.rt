@@ -3,7 +3,7 @@
 ghost use Rattle.std.specs.Prelude.{◌++◌, Some, codes};
 ghost use Rattle.heapmark.specs.working.Subjects.{subject_text};
 
-use crate::shown::Shown;
+use front_end::Shown;
 use std::fmt;
 
 /// What a line after a refusal is about.
@@ -32,21 +32,5 @@ impl fmt::Display for Subject<'_> {
             Subject::Buffers(buffers) => write!(f, "--buffers {buffers}"),
             Subject::Skip => f.write_str("--skip"),
         }
-    }
-}
-
-/// The text of a line about `subject`.
-#[derive(Clone, Copy)]
-pub(super) struct About<'a> {
-    pub(super) subject: Subject<'a>,
-    pub(super) text: &'a str,
-}
-
-impl fmt::Display for About<'_> {
-    ghost output = { λ about. Some (subject_text about.subject ++ codes ": " ++ about.text.now) };
-
-    fn fmt<W: fmt::Write>(&self, f: &mut fmt::Formatter<W>) -> fmt::Result {
-        let About { subject, text } = *self;
-        write!(f, "{subject}: {text}")
     }
 }

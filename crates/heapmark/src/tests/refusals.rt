@@ -1,7 +1,7 @@
 //! The line that a refusal prints.
 
 use crate::Refusal;
-use crate::command::print_refusal;
+use crate::printing::print_refusal;
 use std::alloc::Global;
 
 /// The code and the name of each refusal, also of 17, which is withdrawn.

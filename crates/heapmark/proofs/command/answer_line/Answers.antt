@@ -1,27 +1,17 @@
 -- If the words are no valid arguments, the status is 0 only if they request the help or the version. At any other
 -- status nothing is written.
-use Rattle.std.proofs.Common.{arith, inl, inr, rules, subst, ◌≡◌, ◌≢◌, ◌⊎◌}
-use Rattle.clap.specs.Words.{IsAmong, Kinds, kind_of}
-use Rattle.clap.specs.declared.error.kind.ErrorKind.{ErrorKind}
-use Rattle.clap.specs.declared.error.kind.ErrorKind.TheVariants as variant
+use Rattle.std.proofs.Common.{arith, inl, inr, ◌≢◌}
+use Rattle.clap.specs.Words.{kind_of}
 use Rattle.command_line.specs.Line.{AsksAboutProgram, faults_of, texts_of}
+use Rattle.front_end.proofs.WordsError.{asks}
 use Rattle.heapmark.proofs.command.answer_line.Goals as goal
-
--- an error that prints the help or the version is one of those that the words request
-asks : (kinds : Kinds) (kind : ErrorKind) → (kind ≡ variant.DisplayHelp) ⊎ (kind ≡ variant.DisplayVersion)
-    → (kind ≡ variant.OutOfMemory) ⊎ IsAmong kind kinds
-    → IsAmong variant.DisplayHelp kinds ⊎ IsAmong variant.DisplayVersion kinds
-asks kinds kind (inl help) (inl memory) = search rules
-asks kinds kind (inr version) (inl memory) = search rules
-asks kinds kind (inl help) (inr among) = inl (subst (λ k. IsAmong k kinds) help among)
-asks kinds kind (inr version) (inr among) = inr (subst (λ k. IsAmong k kinds) version among)
 
 pub returns-in-Err-clause-status : goal.returns-in-Err-clause-status
 returns-in-Err-clause-status g c =
     let words = texts_of c.args.words.now in
     let kind = kind_of c.in-Err.error in
-    let told = c.answer_words.ensures in
-    let not_done : (AsksAboutProgram words → ⊥) → c.answer_words.result ≢ 0 =
+    let told = c.print_words_error.ensures in
+    let not_done : (AsksAboutProgram words → ⊥) → c.print_words_error.result ≢ 0 =
     λ none zero. none (asks (faults_of words) kind (told.asked zero) c.in-Err.ensures.faults) in
     record {
       most = told.status;
@@ -47,5 +37,5 @@ returns-in-Err-clause-status g c =
 pub returns-in-Err-clause-of_file : goal.returns-in-Err-clause-of_file
 returns-in-Err-clause-of_file g c =
     let words = texts_of c.args.words.now in
-    λ zero none. absurd (none (asks (faults_of words) (kind_of c.in-Err.error) (c.answer_words.ensures.asked zero)
+    λ zero none. absurd (none (asks (faults_of words) (kind_of c.in-Err.error) (c.print_words_error.ensures.asked zero)
     c.in-Err.ensures.faults))

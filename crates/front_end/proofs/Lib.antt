@@ -1,0 +1,2 @@
+pub mod PrintedLine
+pub mod WordsError

@@ -1,0 +1,27 @@
+//! The refusal of a run whose marking failed.
+
+ghost use Rattle.std.specs.Prelude.{◌≡◌};
+ghost use Rattle.heapmark.specs.Causes.{HasCause};
+ghost use Rattle.heapmark.specs.RefusalCodes.{run_refusal};
+
+use crate::causes::Causes;
+use drain::RunFault;
+use front_end::Refusal;
+
+/// Returns the refusal of a run whose marking failed with `fault`. Passes the token of the fault to `rt`, if it has one.
+pub(crate) fn refusal_of_marking<T: Causes>(rt: &T, fault: RunFault) -> Refusal
+    ensures value { result ≡ run_refusal fault }
+    ensures cause { HasCause (T.causes rt.now) result }
+{
+    match fault {
+        RunFault::OutOfMemory => Refusal::OUT_OF_MEMORY,
+        RunFault::TagSpent(token) => {
+            rt.tag_is_spent(token);
+            Refusal::TAG_SPENT
+        }
+        RunFault::WorkerRefused(token) => {
+            rt.worker_is_refused(token);
+            Refusal::WORKER_REFUSED
+        }
+    }
+}
