@@ -7,6 +7,7 @@ import os
 import pathlib
 import pty
 import subprocess
+import sys
 
 import known_dumps
 import real_dumps
@@ -26,8 +27,8 @@ from checked_run import (
 from started_threads import COMPILER, StartedThreads
 from watched_pipe import WatchedPipe
 
-CRATE = TOP / "crates/heapmark"
-SMALL = CRATE / "data/two_objects.hprof"
+CRATE, RETAINED = TOP / "crates/heapmark", TOP / "crates/retained"
+SMALL, ONE_LABEL = CRATE / "data/two_objects.hprof", RETAINED / "data/one_label"
 WORKERS = (1, 2, 4, 64)
 #: The most bytes of memory for each object besides the file, if objects are in order and if they are in none, with at
 #: most `FEW_WORKERS`. Those in no order are close together, so that narrow entries serve: 8.2 bytes, 4 for the place
@@ -39,6 +40,9 @@ PHASES_IN_NO_ORDER = ("reading", "noting granules", "testing links", "counting u
 #: The most that the program's processor time may be beside the plain marker's, and how many runs of each are tried, of
 #: which the shortest counts. A machine may be busy, so the bound is wide.
 MOST_TIMES, TURNS = 3, 3
+#: How many dumps with labels are made at random, and what chance begins with; the small dump of a virtual machine on
+#: which all labels are tried. bench/ tries more.
+RANDOM_DUMPS, SEED, LABELLED = "300", "1", "jdk21"
 #: How many runs are tried until one is seen with the right number of threads: a look each millisecond may miss some,
 #: and may see one that has ended and was joined, but is not gone.
 LOOKS = 3
@@ -148,6 +152,27 @@ def of_machines(program: str, room: str) -> str:
     return f"classes that the machine counts alike: {', '.join(alike)}"
 
 
+def random_labels(program: str, room: str) -> str:
+    """What retained prints for small dumps and labels made at random: for each object the labels without which it is
+    not reachable, as bench/retained_random.rs finds them by a walk for each label."""
+    require("rustc")
+    judge = f"{room}/retained_random"
+    run_tool(program, ["rustc", "--edition", "2024", "-O", "-o", judge, "bench/retained_random.rs"])
+    run_tool(program, [judge, str(RETAINED / "out/retained"), SEED, RANDOM_DUMPS])
+    return f"{RANDOM_DUMPS} dumps"
+
+
+def labels_of_machines(program: str, room: str) -> str:
+    """What retained says that each field, static field and root of the small dumps of virtual machines holds: the
+    difference of two reports of heapmark, of the dump and of a copy without the references."""
+    if not real_dumps.can_unpack():
+        raise LeftOut("Python's lzma is not here")
+    real_dumps.unpack(LABELLED, f"{room}/dump")
+    words = ["--program", str(RETAINED / "out/retained"), "--judge", program, "--mixed", "2", f"{room}/dump"]
+    lines = run_tool(program, [sys.executable, "bench/retained_check.py", "check", *words])
+    return lines[0]
+
+
 def largest_file(program: str, room: str) -> None:
     """The largest file that is read, and one of a byte more."""
     report = known_dumps.write_largest(f"{room}/dump")
@@ -215,6 +240,8 @@ def at_terminal(program: str, room: str, content: bytes, words: list[str], wante
 PARTS = {
     "pipes": pipes,
     "small dumps of virtual machines": of_machines,
+    "labels of random dumps": random_labels,
+    "labels of a virtual machine's dump": labels_of_machines,
     "two million objects in one record": in_one_record,
     "two million objects in many records": in_many_records,
     "threads of each phase": threads_of_phases,

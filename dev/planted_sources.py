@@ -4,12 +4,12 @@ from __future__ import annotations
 
 CLAIM, LEADER = "buffer_pool/src/pool/claim_and_finish.rt", "drain/src/leader.rt"
 PIPELINE, PAUSE = "heapmark/src/pipeline.rt", "drain/src/pause.rt"
-COMMAND, DUMPS = "heapmark/src/command.rt", "heapmark/src/dumps.rt"
-WORDS, MAIN = "heapmark/src/command_words.rt", "heapmark/src/main.rt"
+COMMAND, DUMPS = "heapmark/src/command.rt", "front_end/src/dumps.rt"
+WORDS, MAIN = "front_end/src/command_words.rt", "heapmark/src/main.rt"
 UNMET, HINT = "heapmark/src/unmet_skips.rt", "heapmark/src/hint.rt"
 HOOKS, COUNTED = "drain/src/hooks.rt", "histogram/src/counted/calls.rt"
-CONVERSIONS, READING = "heapmark/src/refusal/from_parts.rt", "histogram/src/read_to_limit.rt"
-CODES, THREADS = "heapmark/src/refusal/codes.rt", "drain/src/worker_threads.rt"
+CONVERSIONS, READING = "front_end/src/refusal/from_parts.rt", "histogram/src/read_to_limit.rt"
+CODES, THREADS = "front_end/src/refusal/codes.rt", "drain/src/worker_threads.rt"
 HASH, CLASSES, TABLE = (f"heap_graph/src/{it}.rt" for it in ("classes/hash", "objects/class_table", "classes/table"))
 
 #: A lock beside the table, as a proved body had it: a claim spins on an atomic word of the pool's own.

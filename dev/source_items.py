@@ -26,7 +26,36 @@ ITEMS = {
             fn worker_is_refused(&self, _token: RefusedThread) {}
         }""",
     ],
-    "heapmark/src/command_words.rt": [
+    "heapmark/src/marking_refusal.rt": [
+        """pub(crate) fn refusal_of_marking<T: Causes>(rt: &T, fault: RunFault) -> Refusal {
+            match fault {
+                RunFault::OutOfMemory => Refusal::OUT_OF_MEMORY,
+                RunFault::TagSpent(token) => {
+                    rt.tag_is_spent(token);
+                    Refusal::TAG_SPENT
+                }
+                RunFault::WorkerRefused(token) => {
+                    rt.worker_is_refused(token);
+                    Refusal::WORKER_REFUSED
+                }
+            }
+        }""",
+    ],
+    "retained/src/main.rt": [
+        """fn main(rt: HostRuntime) -> ExitCode {
+            let (mut out, mut err) = (Counted::new(rt.stdout()), rt.stderr());
+            let is_terminal = err.is_terminal();
+            ExitCode::from(process(&rt, &rt, &mut out, &mut err, is_terminal))
+        }""",
+    ],
+    "retained/src/command.rt": [
+        "let mut reader = match rt.open_dump(name) {",
+        "let _position = rt.position(name, reader);",
+        "let labels = match read_labels(rt, arguments.labels) {",
+        "let mut reader = match rt.open_dump(arguments.file) {",
+        "let _position = rt.position(arguments.file, reader);",
+    ],
+    "front_end/src/command_words.rt": [
         "use std::env::Env;",
         "use std::{env, io};",
         """impl<V: Env> CommandWords for V {
@@ -59,7 +88,7 @@ ITEMS = {
         "let bytes = bytes_again(rt, arguments.file)?;",
         "if let Some(met) = met_in_file(rt, &arguments, list) {",
     ],
-    "heapmark/src/dumps.rt": [
+    "front_end/src/dumps.rt": [
         "use std::fs::OpenFile;",
         "use std::rt::Files;",
         "use std::{fs, io};",
@@ -123,21 +152,6 @@ ITEMS = {
                 match refusal {
                     SkipRefusal::BadOptions => Refusal::BAD_OPTIONS,
                     SkipRefusal::OutOfMemory => Refusal::OUT_OF_MEMORY,
-                }
-            }
-        }""",
-        """impl Refusal {
-            pub(crate) fn of_marking<T: Causes>(rt: &T, fault: RunFault) -> Refusal {
-                match fault {
-                    RunFault::OutOfMemory => Refusal::OUT_OF_MEMORY,
-                    RunFault::TagSpent(token) => {
-                        rt.tag_is_spent(token);
-                        Refusal::TAG_SPENT
-                    }
-                    RunFault::WorkerRefused(token) => {
-                        rt.worker_is_refused(token);
-                        Refusal::WORKER_REFUSED
-                    }
                 }
             }
         }""",
@@ -215,6 +229,16 @@ ITEMS = {
             fn build_hasher(&self) -> FoldHasher { self.begun }
         }""",
     ],
+    "held_table/src/hash.rt": [
+        "use std::hash::{BuildHasher, FoldHasher};",
+        "pub(crate) struct FixedHash { begun: FoldHasher, }",
+        "pub(crate) fn new() -> Self { FixedHash { begun: FoldHasher::default(), } }",
+        """impl BuildHasher for FixedHash {
+            type Hasher = FoldHasher;
+            fn build_hasher(&self) -> FoldHasher { self.begun }
+        }""",
+    ],
+    "held_table/src/tally.rt": ["keys: IndexSet::with_hasher(alloc, FixedHash::new()),"],
     "heap_graph/src/classes.rt": ["pub(crate) use hash::{ClassHash, HashSeed};"],
     "heap_graph/src/classes/table.rt": ["map: IndexMap::with_hasher(alloc, hash),"],
     "heap_graph/src/objects/class_table.rt": [
@@ -236,11 +260,20 @@ OF_ITEMS = {
     **dict.fromkeys(("open_dump", "reopen_dump", "dump_size"), "system"),
     **dict.fromkeys(("HashSeed", "BuildHasher", "DefaultHasher", "FoldHasher", "hash_of", "with_hasher"), "seed"),
 }
-RULES = {"drain": "causes", "heap_graph": "seed", "heapmark": "system", "histogram": "causes"}
+RULES = {
+    "drain": "causes",
+    "front_end": "system",
+    "heap_graph": "seed",
+    "held_table": "seed",
+    "heapmark": "system",
+    "histogram": "causes",
+    "retained": "system",
+}
 WHOLE = {
     "heapmark/src/causes.rt",
-    "heapmark/src/command_words.rt",
-    "heapmark/src/dumps.rt",
+    "heapmark/src/marking_refusal.rt",
+    "front_end/src/command_words.rt",
+    "front_end/src/dumps.rt",
     "heap_graph/src/classes/hash.rt",
     CONVERSIONS,
     HOOK,

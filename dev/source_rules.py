@@ -4,19 +4,10 @@ from __future__ import annotations
 
 import re
 
-#: Crates that the program does not stand on, besides those whose names end with `_tests`: some only serve tests or
-#: measuring, and no program stands on those of labels yet.
-NOT_OF_THE_PROGRAM = {
-    "limited_heap",
-    "test_dumps",
-    "pool_bench",
-    "label_sets",
-    "label_list",
-    "label_flow",
-    "labelled_graph",
-    "held_table",
-    "retention",
-}
+#: Crates that no program stands on, besides those whose names end with `_tests`, since they only serve tests or
+#: measuring; and `label_sets`, which says that memory is short also if there are 2^32 sets, and has a hash without a
+#: seed.
+NOT_OF_THE_PROGRAM = {"limited_heap", "test_dumps", "pool_bench", "label_sets"}
 #: The libraries of the kit that the program may use.
 LIBRARIES = {"arrayvec", "atomic_table", "byteorder", "clap", "crossbeam_utils", "indexmap", "thiserror"}
 #: Words of locks, of waiting for others, of atomic steps, of channels, and of code that no proof covers.
@@ -40,7 +31,7 @@ STARTS = {
     "drain/src/worker_threads.rt": {"Promise", "PromisedHandle", "Scope", "scope", "scope_env"},
 }
 #: The files of the constants of refusals, of the conversions from faults, and of the hooks of a marking.
-CODES, CONVERSIONS = "heapmark/src/refusal/codes.rt", "heapmark/src/refusal/from_parts.rt"
+CODES, CONVERSIONS = "front_end/src/refusal/codes.rt", "front_end/src/refusal/from_parts.rt"
 HOOK = "drain/src/hooks.rt"
 #: What makes allocations fail, or dumps, for tests: no code of the program names it.
 FOR_TESTS = {"limited_heap", "test_dumps"}
@@ -62,13 +53,17 @@ ALLOCATING = {
     "Graph :: assemble",
     "line . texts",
     "words_of",
+    "root_names",
+    "held",
+    "Table :: of",
 }
 #: The token of a thread that was refused, the call in whose arm for `Err` it may be made, and the test in whose block.
 REFUSED_THREAD, STARTING, MAY_START = "RefusedThread", {"scope . spawn_with"}, {"job . hook . may_start"}
 #: The files that declare the names of these faults and calls, so that no other item, variant, variable or parameter is
 #: taken for one. What the kit declares has none.
 DECLARED: dict[str, set[str]] = {
-    **dict.fromkeys(("AllocError", "AllocFailed", "Table", "Vec", "format", "spawn_with"), set()),
+    **dict.fromkeys(("AllocError", "AllocFailed", "Vec", "format", "spawn_with"), set()),
+    "Table": {"held_table/src/table.rt"},
     "OUT_OF_MEMORY": {CODES},
     "Graph": {"heap_graph/src/graph.rt"},
     "OutOfMemory": {
@@ -79,7 +74,9 @@ DECLARED: dict[str, set[str]] = {
         "histogram/src/read_to_limit.rt",
         "histogram/src/report_writing.rt",
         "hprof_grammar/src/flaw.rt",
+        "label_list/src/refusal.rt",
         "mark_core/src/out_of_memory.rt",
+        "retention/src/fault.rt",
         "work_pair/src/stop.rt",
     },
     "Pool": {"buffer_pool/src/pool.rt"},
@@ -97,14 +94,20 @@ DECLARED: dict[str, set[str]] = {
         "id_index/src/narrow_index_builder.rt",
         "id_index/src/narrow_entries_builder.rt",
         "id_index/src/wide_entries_builder.rt",
+        "label_list/src/list.rt",
         "mark_core/src/account.rt",
         "mark_core/src/state/stacks.rt",
         "work_pair/src/pair/spill_list.rt",
     },
     "take_objects": {"heap_graph/src/graph/build.rt", "hprof_grammar/src/dump.rt"},
-    "text_of": {"histogram/src/report_text.rt"},
-    "texts": {"heapmark/src/command_words.rt", "heapmark/src/main.rt"},
-    "words_of": {"heapmark/src/main.rt", "id_index/src/used_ids.rt"},
+    "text_of": {"held_table/src/text.rt", "histogram/src/report_text.rt"},
+    "texts": {
+        "front_end/src/command_words.rt",
+        "front_end/src/words.rt",
+        "heapmark/src/main.rt",
+        "retained/src/main.rt",
+    },
+    "words_of": {"front_end/src/words.rt", "id_index/src/used_ids.rt"},
 }
 #: The faults of the bytes, and the crate that makes each, where a clause says that it is the first.
 FAULTS_OF_BYTES = {"FormatFault": "hprof_grammar", "LinkFault": "heap_graph"}

@@ -1,4 +1,4 @@
-"""Tests of tools/build, on a repository of four crates and a stand-in for rt."""
+"""Tests of tools/build, on a repository of six crates and a stand-in for rt."""
 
 from __future__ import annotations
 
@@ -13,8 +13,10 @@ import time
 import unittest
 
 TOP = pathlib.Path(__file__).resolve().parents[2]
-#: The crates, in no order: `low` below `left` and `right`, and `heapmark` on top; `apart` is of no use to it.
+#: The crates, in no order: `low` below `left` and `right`, `heapmark` on top of both and `retained` on top of `right`;
+#: `apart` is of no use to either.
 CRATES = """heapmark: left right
+retained: right
 apart: low
 left: low  # a comment: with a colon
 right tests_may=Threads: low clap
@@ -28,7 +30,7 @@ echo "begin $name WORD$*" >> ../../log
 sleep "$(cat ../../seconds)"
 [ "$name" = "$(cat ../../bad)" ] && { echo "the proof fails"; exit 1; }
 echo "end $name" >> ../../log
-[ "$name" = heapmark ] && echo "a report" || true
+case $name in heapmark | retained) echo "a report of $name" ;; esac
 """
 
 
@@ -36,7 +38,7 @@ class BuildTest(unittest.TestCase):
     def setUp(self) -> None:
         self.room = tempfile.TemporaryDirectory()
         self.top = pathlib.Path(self.room.name)
-        for name in ("heapmark", "apart", "left", "right", "low"):
+        for name in ("heapmark", "retained", "apart", "left", "right", "low"):
             (self.top / "crates" / name / "src").mkdir(parents=True)
         for folder in ("tools", "dev", "docs", "bin"):
             (self.top / folder).mkdir()
@@ -78,26 +80,28 @@ class BuildTest(unittest.TestCase):
     def test_crates_after_those_below(self) -> None:
         status, out, _ = self.ended("--crates", "2", "--jobs", "4")
         self.assertEqual(status, 0)
-        self.assertIn("a report\n", out)
+        self.assertIn("a report of heapmark\n", out)
+        self.assertIn("a report of retained\n", out)
         log = self.log()
         self.assertFalse([it for it in log if "apart" in it])
         at = {line.split()[1]: number for number, line in enumerate(log) if line.startswith("begin")}
         ends = {line.split()[1]: number for number, line in enumerate(log) if line.startswith("end")}
-        for name, used in (("left", "low"), ("right", "low"), ("heapmark", "left"), ("heapmark", "right")):
+        for name, used in (("left", "low"), ("right", "low"), ("heapmark", "left"), ("retained", "right")):
             self.assertLess(ends[used], at[name], log)
 
     def test_crates_at_a_time(self) -> None:
         self.set(seconds="0.3")
         self.ended("--crates", "1", "--jobs", "4")
         steps = [line.split()[0] for line in self.log() if line.startswith(("begin", "end"))]
-        self.assertEqual(steps, 4 * ["begin", "end"])
+        self.assertEqual(steps, 5 * ["begin", "end"])
 
     def test_the_longest_chain_gets_the_most_processes(self) -> None:
         self.ended("--crates", "2", "--jobs", "4")
         self.assertIn("begin low statements --jobs 4", self.log())
         self.assertIn("begin left statements --jobs 4", self.log())
         self.assertIn("begin right statements --jobs 1", self.log())
-        self.assertIn("begin heapmark run --jobs 4 -- data/two_objects.hprof", self.log())
+        self.assertIn("begin heapmark run --jobs 3 -- data/two_objects.hprof", self.log())
+        self.assertIn("begin retained run --jobs 2 -- data/two_objects.hprof data/one_label", self.log())
 
     def test_urgent_crates_share_the_processes(self) -> None:
         (self.top / "docs/GATE.md").write_text("    left 40 - 50\n    right 30 - 50\n    low 9 - 9\n")
@@ -112,7 +116,8 @@ class BuildTest(unittest.TestCase):
         log = self.log()
         self.assertIn("begin left lib --jobs 4", log)
         self.assertIn("begin right statements --jobs 1", log)
-        self.assertEqual([it for it in log if it.startswith("keeps nothing")], ["keeps nothing heapmark"])
+        kept_nothing = sorted(it for it in log if it.startswith("keeps nothing"))
+        self.assertEqual(kept_nothing, ["keeps nothing heapmark", "keeps nothing retained"])
         self.assertEqual([it.parent.parent.name for it in self.top.glob("crates/*/out/incremental")], ["left"])
 
     def test_a_crate_that_is_not_proved(self) -> None:

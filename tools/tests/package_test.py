@@ -19,8 +19,11 @@ TOP = pathlib.Path(__file__).resolve().parents[2]
 DATA = TOP / "crates/heapmark/data"
 DUMP = str(DATA / "two_objects.hprof")
 BINARY = os.path.realpath(os.environ.get("HEAPMARK") or TOP / "crates/heapmark/out/heapmark")
+RETAINED = TOP / "crates/retained/out/retained"
+#: The programs that are built.
+BUILT = {"heapmark": BINARY, "retained": RETAINED}
 TOOLS = ("leaks", "grown", "holders", "held", "sizes")
-DOCUMENTS = ("README.md", "docs/LEAK.md", "docs/JSON.md", "docs/HISTOGRAM.md", "docs/FORMAT.md")
+DOCUMENTS = ("README.md", "docs/LEAK.md", "docs/JSON.md", "docs/HISTOGRAM.md", "docs/FORMAT.md", "docs/LABELS.md")
 #: The headings of the help, and those of a manual page.
 HEADINGS = {"Usage: ": "", **{f"{head}:": head.upper() for head in ("Arguments", "Options", "Exit status", "Example")}}
 HEADINGS["Examples:"] = "EXAMPLE"
@@ -102,7 +105,7 @@ class PackageTest(unittest.TestCase):
             self.assertEqual((ended.returncode, ended.stderr.count("\n"), other.exists()), (1, 1, False))
             self.assertTrue(ended.stderr.startswith("package: ") and why.strip("*") in ended.stderr, ended.stderr)
         self.assertEqual(self.packed(self.made, BINARY).stderr, f"package: {self.made} exists already\n")
-        wrong: list[list[str]] = [[], [str(other), BINARY, "more"], ["--other"]]
+        wrong: list[list[str]] = [[], [str(other), BINARY, str(RETAINED), "more"], ["--other"]]
         for words in wrong:
             self.assertEqual((self.packed(*words).returncode, other.exists()), (2, False))
 
@@ -111,6 +114,8 @@ class PackageTest(unittest.TestCase):
         programs = self.made / "bin"
         report = (TOP / "crates/heapmark/stdout").read_text(encoding="utf-8")
         self.assertEqual(ran(programs / "heapmark", DUMP).stdout, report)
+        table = (TOP / "crates/retained/stdout").read_text(encoding="utf-8")
+        self.assertEqual(ran(programs / "retained", DUMP, TOP / "crates/retained/data/one_label").stdout, table)
         number = ran(programs / "heapmark", "--version").stdout.split()[1]
         for name in TOOLS:
             self.assertEqual(ran(programs / name, "--help").stdout, ran(TOP / "tools" / name, "--help").stdout)
@@ -134,7 +139,7 @@ class PackageTest(unittest.TestCase):
         """Nothing else is in the folder: of the library all that is not for tests."""
         found = {str(path.relative_to(self.made)) for path in self.made.rglob("*") if path.is_file()}
         library = {name for name in found if name.startswith("lib/heapmark/heap_tools/")}
-        self.assertEqual(len(found - library), 5 * (len(TOOLS) + 1) + len(DOCUMENTS))
+        self.assertEqual(len(found - library), 5 * (len(TOOLS) + len(BUILT)) + len(DOCUMENTS))
         self.assertEqual(
             [name for name in library if re.search(r"_test|testing|dump_writer|pycache|page_sample", name)], []
         )
@@ -147,21 +152,22 @@ class PackageTest(unittest.TestCase):
     def test_manual_pages(self) -> None:
         """`man` sets each page without a warning. It has all words of the help, and says where to read on."""
         version = ran(BINARY, "--version").stdout.split("\n")[0]
-        for name in ("heapmark", *TOOLS):
+        for name in (*BUILT, *TOOLS):
             page = self.made / f"share/man/man1/{name}.1"
             for width in ("80", "1000"):
                 ended = ran("man", "--warnings", "-E", "ascii", "-l", page, env={**self.environment, "MANWIDTH": width})
                 self.assertEqual((ended.returncode, ended.stderr), (0, ""), name)
             plain = re.sub(".\b", "", ended.stdout)
-            text = ran(BINARY if name == "heapmark" else TOP / "tools" / name, "--help").stdout
+            text = ran(BUILT.get(name, TOP / "tools" / name), "--help").stdout
             for heading, of_page in HEADINGS.items():
                 text = re.sub(f"^{heading}", of_page, text, flags=re.M)
             if name == "heapmark":
                 text += " ".join(cell for row in refusals() for cell in row)
             self.assertEqual(words_of(text) - words_of(plain), collections.Counter(), name)
             self.assertRegex(plain, rf"(?m)^{version} +\d{{4}}-\d\d-\d\d +{name.upper()}\(1\)$")
-            for part in ("\nSEE ALSO", "\nENVIRONMENT", "GLIBC_TUNABLES"):
-                self.assertIn(part, plain)
+            self.assertIn("\nSEE ALSO", plain)
+            for part in ("\nENVIRONMENT", "GLIBC_TUNABLES"):
+                self.assertEqual(part in plain, name != "retained", name)
 
     def test_refusals(self) -> None:
         """The README's refusals are those of FORMAT."""
@@ -201,6 +207,10 @@ class PackageTest(unittest.TestCase):
             (["heapmark", "--workers", ""], ""),
             (["heapmark", "--skip", ""], ""),
             (["heapmark", dump, two], ""),
+            (["retained", "--v"], "--version"),
+            (["retained", two], dump),
+            (["retained", dump, two], dump),
+            (["retained", dump, dump, two], ""),
             (["grown", "--p"], "--per-hour"),
             (["grown", "a", "b", two], dump),
             (["grown", "--more-than", ""], ""),
