@@ -8,10 +8,10 @@ use Rattle.histogram.specs.declared.counted.Counted.{Counted}
 use Rattle.retained.proofs.OfFiles.{says_silent}
 use Rattle.retained.specs.OfFiles.{HasUnreadFile, IsReason, OfBoth, PrintsHint, PrintsReason, PrintsReasonFirst}
 use Rattle.retained.specs.OfFiles.{PrintsRefusal, PrintsRefusalFirst, WritesPartOfSomeTable, WritesSomeTable}
-use Rattle.retained.specs.OfFiles.{WritesTableOf, WritesTableOfFiles, bytes_given, bytes_of_labels}
+use Rattle.retained.specs.OfFiles.{WritesTableOf, bytes_given, bytes_of_labels}
 use Rattle.retained.specs.StatusOf.{IsStatusOf, IsStatusOfSome}
 use Rattle.retained.specs.working.Answered.{IsAnswered, IsDoneFor}
-use Rattle.retained_line.specs.Line.{AreGiven, AsksAboutProgram, IsTaken, text_given}
+use Rattle.retained_line.specs.Line.{AreGiven, IsTaken, text_given}
 use Rattle.retained_line.specs.declared.parsed_arguments.Arguments.{Arguments}
 use Rattle.retention.specs.Outcome.{SaysOfInputs, bytes_of_run}
 use Rattle.retention.specs.declared.fault.Fault.{Fault}

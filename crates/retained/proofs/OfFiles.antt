@@ -1,5 +1,5 @@
 -- What a run says of the bytes that it reads, said of the two files whose bytes these are.
-use Rattle.std.proofs.Common.{IfSome, List, None, Option, Some, inl, inr, refl, subst, sym, ℕ, ◌≡◌, ◌⊎◌, ◌∙◌}
+use Rattle.std.proofs.Common.{IfSome, List, None, Option, Some, inl, inr, subst, sym, ℕ, ◌≡◌, ◌⊎◌, ◌∙◌}
 use Rattle.retained.specs.OfFiles.{OfBoth, bytes_of_labels}
 use Rattle.retention.specs.Outcome.{SaysOfInputs, bytes_of_run}
 use Rattle.retention.specs.declared.fault.Fault.{Fault}
