@@ -76,8 +76,18 @@ fn explain<E: Write>(err: &mut E, arguments: &Arguments<'_>, reason: &NoTable)
         (E.contents err.old) (E.contents err.new) }
 {
     match reason {
-        NoTable::DumpNotOpened(error) => print_about(err, "retained", &Shown(arguments.file), error),
-        NoTable::LabelsNotOpened(error) => print_about(err, "retained", &Shown(arguments.labels), error),
+        NoTable::DumpNotOpened(error) => print_about(
+            err,
+            "retained",
+            &Shown(arguments.file),
+            error,
+        ),
+        NoTable::LabelsNotOpened(error) => print_about(
+            err,
+            "retained",
+            &Shown(arguments.labels),
+            error,
+        ),
         NoTable::Stopped(Fault::BadLabels(line)) => {
             print_about(err, "retained", &Shown(arguments.labels), &BadLine(*line));
         }
