@@ -274,6 +274,33 @@ class DocumentsTest(ToolTest):
         found = self.document("leaks", "one.hprof", "--class", "shop/Order", "--objects", "--weak")
         self.assertEqual((found["classes"], found["unit"], found["follows_weak"]), (["shop/Order"], "objects", True))
 
+    def test_shares_of_objects(self) -> None:
+        """What the share of an object is of: of one dump what the field retains; of two its growth if it is measured
+        what the object gained, else what the field retains in the last dump."""
+        of_customer(20).write("few.hprof")
+        of_customer(300, 30).write("some.hprof")
+        of_customer(400, 60).write("many.hprof")
+        for paths, share_of, least, most in (
+            (["many.hprof"], "retained", 83, 84),  # 400 of 479 orders
+            (["some.hprof", "many.hprof"], "growth", 100, 100),
+            (["few.hprof", "many.hprof"], "retained", 83, 84),
+        ):
+            with self.subTest(paths=paths):
+                found = self.document("leaks", "--top", "1", *paths)
+                (one,) = found["objects"]["objects"]
+                self.assertEqual(one["share_of"], share_of)
+                self.assertTrue(least <= one["share_percent"] <= most, one)
+
+    def test_hidden(self) -> None:
+        """The number of the lines that are not shown, of one dump and of two."""
+        of_customer(20).write("before.hprof")
+        of_customer(400, 60).write("after.hprof")
+        for paths in ["after.hprof"], ["before.hprof", "after.hprof"]:
+            every = self.document("leaks", *paths, "--top", "99")
+            self.assertEqual((every["hidden"], len(every["lines"]) > 2), (0, True), paths)
+            found = self.document("leaks", *paths, "--top", "1")
+            self.assertEqual((found["hidden"], found["lines"]), (len(every["lines"]) - 1, every["lines"][:1]), paths)
+
     def test_nothing(self) -> None:
         """Where no line is printed because nothing could be found, no document is."""
         DUMPS["shop"].write("shop.hprof")

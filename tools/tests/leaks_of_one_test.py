@@ -1,5 +1,6 @@
 """Runs leaks on one small dump, and compares what it prints."""
 
+import json
 import pathlib
 import unittest
 
@@ -85,6 +86,18 @@ class LeaksOfOneTest(ToolTest):
             self.assertIn(said, ended.said)
             self.assertIn("80  static shop/Baskets.ALL > shop/Basket.items\n", ended.out.splitlines(True)[0])
             self.assertEqual("alice" in ended.said, name.endswith('"'))
+
+    def test_object_on_page(self) -> None:
+        """The end of the path on the page has the object's share of the heap: its share of the line, of that of the
+        line, which holds less than all."""
+        of_customer(400).write("one.hprof")
+        ended = self.ran("--html", "page.html", "--json", "one.hprof")
+        found = json.loads(ended.out)
+        (one,), line = found["objects"]["objects"], found["lines"][found["objects"]["line"] - 1]
+        share = one["share_percent"] * line["share_percent"] / 100
+        self.assertLess(share + 3, one["share_percent"])
+        text = Outline(pathlib.Path("page.html").read_text(encoding="utf-8")).text().replace("\u00a0", " ")
+        self.assertRegex(text, rf'1 of 80 shop/Basket its field name "of alice 640" [0-9.]+ kB {share:.0f}%')
 
     def test_ran_out(self) -> None:
         """The thread on whose stack the error's constructor is on top."""

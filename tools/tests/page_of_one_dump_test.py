@@ -52,6 +52,15 @@ class PageOfOneTest(HtmlOfPage):
             ],
         )
 
+    def test_share_of_object(self) -> None:
+        """At the end of the path is what the object holds of the heap, which is less than it holds of the line."""
+        name = '1 of 500 com/acme/mail/Tenant its field name "tenant-317"'
+        self.check_texts(one_dump(), f"{name} 37.4 MB 75%")  # 95.6% of 78.8%
+        it = one_dump()
+        half = dataclasses.replace(it.suspects[1], held=dataclasses.replace(it.suspects[1].held, percent=50.0))
+        all_of_it = dataclasses.replace(it.objects[0], percent=100.0)
+        self.check_texts(one_dump(suspects=[it.suspects[0], half], objects=[all_of_it]), f"{name} 37.4 MB 50%")
+
     def test_paths_of_other_lines(self) -> None:
         """An object of a line beside the first one is no end of the path, but in the table of objects."""
         it = one_dump()

@@ -5,6 +5,7 @@ import fnmatch
 import os
 import pathlib
 import pty
+import resource
 import signal
 import subprocess
 import tempfile
@@ -118,6 +119,16 @@ class ToolTest(unittest.TestCase):
         self.assertEqual(ended.status, 4)
         self.assertNotIn("cannot be written", ended.said)
         self.expect(words, out, stderr=None, preexec_fn=lambda: os.close(2))
+        self.check_half(words, out)
+
+    def check_half(self, words: Sequence[str], out: str) -> None:
+        """Tests that the tool says so if only the first half of its output has room in a file."""
+        half = len(out.encode()) // 2
+        with open("half", "wb") as file:
+            limit = lambda: resource.setrlimit(resource.RLIMIT_FSIZE, (half, half))
+            ended = self.ran(*words, stdout=file, preexec_fn=limit)
+        why = f"{self.tool}: the output cannot be written"
+        self.assertEqual((ended.status, ended.said.split("\n")[0], os.path.getsize("half")), (4, why, half))
 
     def check_interrupt(self, *words: str) -> None:
         """Tests that a signal ends the tool and the heapmark that it runs, and that it then prints only that."""
