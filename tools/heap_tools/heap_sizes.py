@@ -85,7 +85,7 @@ def _reachable(report: Report, totals: Dict[str, Total], sizes: Optional[ObjectS
     """Returns what the reachable objects of each row take: all, if all are reachable; else the same for each byte that
     they have in the dump as for the others, besides what each object takes."""
     found: Dict[str, Amount] = {}
-    for name, amount in report.rows:
+    for name, amount in report.by_name().items():
         total = totals.get(name, Total())
         if sizes is None:
             found[name] = amount

@@ -81,6 +81,14 @@ class Report:
             known = self.families.get(of_family)
             self.families[of_family] = known.plus(amount) if known else amount
 
+    def by_name(self) -> Dict[str, Amount]:
+        """Returns the objects and bytes of all classes of each name, of which each has a row: several loaders may have
+        a class of one name."""
+        found: Dict[str, Amount] = {}
+        for name, amount in self.rows:
+            found[name] = found.get(name, Amount()).plus(amount)
+        return found
+
     def amount(self, family: str) -> Amount:
         """Returns the objects and bytes of a class, and of all hidden classes of its name."""
         return self.families.get(family, Amount())

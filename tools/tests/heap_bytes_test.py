@@ -7,12 +7,12 @@ import unittest
 from dataclasses import replace
 from unittest import mock
 
-from heap_tools import heap_bytes
+from heap_tools import heap_bytes, heap_sample
 from heap_tools.class_growth import growths
 from heap_tools.faults import Fault
 from heap_tools.heap_bytes import counted_in_heap
 from heap_tools.heap_layout import Layout
-from heap_tools.reports import Amount, Report, Row
+from heap_tools.reports import Amount, Report, Row, Unit
 from heap_tools.snapshot_bytes import in_common_bytes
 from heap_tools.snapshots import Snapshot
 from tests.support.dump_writer import BYTE
@@ -120,6 +120,23 @@ class FilesTest(unittest.TestCase):
             with self.assertRaisesRegex(Fault, "histogram: a histogram: its bytes are not those of"):
                 in_common_bytes([self.histogram, other], dump_bytes)
         self.assertTrue(pathlib.Path("few").exists())
+
+    def test_uneven_arrays(self) -> None:
+        """A dump has as many bytes as a histogram of the same heap, though the mean padding of its arrays is another in
+        the sample: nothing grew."""
+        it = LaidOutHeap(COMPRESSED)
+        it.dump.root(*it.uneven())
+        it.written().write("dump")
+        dump = self.dump._replace(report=MarkedRuns(it.read()).report)
+        with mock.patch.object(heap_sample, "SAMPLED", 2000):
+            (alone, _), _ = in_common_bytes([dump, dump], False)
+            rows = [Row("java/lang/Class", alone.report.amount("<class>")), Row("shop/Order", Amount(600, 14400))]
+            report = Report([*rows, Row("byte[]", Amount(5400, 129600))], in_heap=True)
+            for files in ([dump, self.histogram], [self.histogram, dump]):
+                files = [each if each is dump else each._replace(report=report) for each in files]
+                found, _ = in_common_bytes(files, False)
+                self.assertEqual(growths([each.report for each in found], Unit.BYTES), [])
+        self.assertNotEqual(alone.report.amount("byte[]").bytes, 129600)
 
     def test_class_objects(self) -> None:
         """Class objects that only the histogram has, since the dump omits them, are no growth and do not shrink."""

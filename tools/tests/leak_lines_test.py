@@ -4,7 +4,7 @@ import unittest
 from typing import List, Optional, Sequence, Tuple
 from unittest import mock
 
-from heap_tools.candidates import STATIC, Candidate
+from heap_tools.candidates import FIELD, STATIC, Candidate
 from heap_tools.heap_objects import FieldValue
 from heap_tools.leak_lines import LineObjects, Lines
 from heap_tools.line_order import NEARLY
@@ -129,6 +129,23 @@ class LinesTest(unittest.TestCase):
         ways = [["shop/S.blue"], ["shop/S.green"]]
         lines = self.lines([green, other], [(ways[:1], 90)], [(ways[1:], 90), ([["shop/Other.all"]], 40)], before=1)
         self.assertEqual([str(held.candidates[0]) for held in lines.sorted()], ["shop/Other.all", "shop/S.green"])
+
+    def test_kin_of_what_held_hardly_any(self) -> None:
+        """What the fields of a class held before is asked only of a field that held up to a tenth of what it holds."""
+        _, green, _ = FIELDS
+        for before, is_asked in ((10, True), (11, False)):
+            earlier: Things = [([["shop/S.green"]], before), ([["shop/S.blue"]], 90)]
+            lines = self.lines([green], earlier, [([["shop/S.blue"], ["shop/S.green"]], 100)], before=1)
+            assert isinstance(lines.probe, ToldGains)
+            asked = ["shop/S.blue", "shop/S.green"] in lines.probe.earlier.asked
+            self.assertEqual(asked, is_asked, before)
+
+    def test_chain(self) -> None:
+        """A field that holds more than half of its own instances is a chain."""
+        for held, is_chain in ((100, False), (101, True)):
+            follower = Candidate(FIELD, "shop/Thing.next", 200, {}, frozenset(["shop/Thing"]))
+            lines = self.lines([follower], [], [([["shop/Thing.next"]], held)])
+            self.assertEqual(lines.features[0].is_chain, is_chain, held)
 
     def test_kin_asked(self) -> None:
         """What the fields of a class hold now is asked only if they held more than half of it before: else it cannot

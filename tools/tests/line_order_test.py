@@ -5,13 +5,14 @@ parentheses after a name are what the line gained of 1,000, its instances before
 with a value, and others; all else is as in `SPOKEN`."""
 
 import unittest
+from dataclasses import replace
 from typing import Any, Dict, List, NamedTuple, Sequence, Set, Tuple
 
 from heap_tools import line_order
 from heap_tools.candidates import FIELD, LOCAL, STATIC, THREAD, THREADS
 from heap_tools.commands import leaks
 from heap_tools.line_features import Features
-from heap_tools.line_order import FEW, LASTS, MOST, MOST_ASKED, NEARLY, LineOrder, Scoring
+from heap_tools.line_order import FEW, LASTS, MOST, MOST_ASKED, NEARLY, LineOrder, Scoring, part_gained
 
 GROWTH = 1000
 #: What words in parentheses mean. `moved`: what gained nothing, and is no line; `other`: it gained what others lost.
@@ -283,6 +284,14 @@ class LineOrderTest(unittest.TestCase):
             order, _ = Row.of(f"none: *{above} > shop/Node.edges (9..99)").order()
             self.assertEqual(order.to_ask_of_elements(), [], above)
         self.assertEqual(LineOrder([], lambda upper, lower: False, GROWTH).to_ask_of_elements(), [])
+
+    def test_part_gained(self) -> None:
+        """What moved is seen by the classes that have a tenth or more of the objects that were gained."""
+        for moved, part in ((9, 0.0), (10, 1.0)):
+            found = line("shop/A.a", "", 0)
+            lower = replace(found, gains={"shop/Order": 100 - moved, "shop/Moved": moved, "shop/Less": -50})
+            upper = replace(found, gains={"shop/Moved": moved, "shop/Less": 50})
+            self.assertEqual(part_gained(lower, upper), part, moved)
 
     def test_help(self) -> None:
         """The help of leaks quotes the order."""

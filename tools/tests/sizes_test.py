@@ -4,13 +4,15 @@ import pathlib
 import re
 import unittest
 from typing import Dict, List
+from unittest import mock
 
-from heap_tools import page
+from heap_tools import heap_sample, page
 from heap_tools.heap_layout import STACK, Layout
-from heap_tools.heap_sizes import ClassSize, sizes_by_package, unreachable_first
+from heap_tools.heap_sizes import ClassSize, sizes_by_package, sizes_in, unreachable_first
 from heap_tools.reports import Amount
 from tests.support.dump_writer import BYTE
 from tests.support.laid_out_heap import LaidOutHeap
+from tests.support.marker import MarkedRuns
 from tests.support.page_sample import one_dump
 from tests.support.services import cache
 from tests.support.tool_test import ToolTest
@@ -41,6 +43,25 @@ def lines(text: str) -> Dict[str, List[str]]:
     return {row[-1]: row[:-1] for row in (line.split(maxsplit=5) for line in text.splitlines())}
 
 
+class HeapSizesTest(unittest.TestCase):
+    """What classes take, and what of that is unreachable."""
+
+    def test_uneven_arrays(self) -> None:
+        """What is unreachable takes about what it does, never less than nothing, though the mean padding of arrays is
+        another in the sample than in the dump, and another of what is reachable."""
+        for lost, exact in ((range(4000, 4200), 200 * 24), (range(0), 0), (range(6000), 6000 * 24)):
+            it = LaidOutHeap(Layout(8, 12, 4, 16))
+            every = it.uneven()
+            it.dump.root(*(each for number, each in enumerate(every) if number not in lost))
+            with mock.patch.object(heap_sample, "SAMPLED", 2000):
+                found = {each.name: each for each in sizes_in(MarkedRuns(it.read())).classes}
+            taken = [found[name].every for name in ("shop/Order", "byte[]")]
+            self.assertEqual(taken, [Amount(600, 14400), Amount(5400, 129600)])
+            self.assertEqual([name for name, each in found.items() if each.unreachable.bytes < 0], [], exact)
+            unreachable = sum(found[name].unreachable.bytes for name in ("shop/Order", "byte[]"))
+            self.assertAlmostEqual(unreachable, exact, delta=0.05 * exact)
+
+
 class SizesTest(ToolTest):
     """sizes on a heap."""
 
@@ -66,6 +87,18 @@ class SizesTest(ToolTest):
         said = ended.said.splitlines()
         self.assertTrue(re.match("sizes: 601 objects are unreachable: garbage", said[0]), said)
         self.assertEqual(said[1:], [LAYOUT])
+
+    def test_classes_of_one_name(self) -> None:
+        """Objects of classes of one name, from two loaders, are one row: all of them are reachable."""
+        heap = LaidOutHeap(Layout(8, 12, 4, 16))
+        for fields in (2, 2, 5):
+            order = heap.of_class("shop/Order", fields)
+            for _ in range(400):
+                heap.dump.root(heap.instance(order), heap.values(BYTE, 8))
+        heap.written().write("loaders.hprof")
+        found = lines(self.ran("loaders.hprof").out)
+        self.assertEqual((found["shop/Order"][:2], found["shop/Order"][4]), (["1200", str(800 * 24 + 400 * 32)], "0"))
+        self.assertEqual((found["byte[]"][0], found["byte[]"][4]), ("1200", "0"))
 
     def test_options(self) -> None:
         """Packages, unreachable objects only, and few lines."""

@@ -80,6 +80,18 @@ class LaidOutHeap:
                 if hole and (4 * number + at) % 3 == 0:
                     self.place(hole)
 
+    def uneven(self, parts: int = 12) -> List[int]:
+        """Puts arrays of bytes in the heap that are all as long, 24 bytes, but have other paddings where a small sample
+        is taken: each part of the file begins with 50 of 1 byte and as many orders, and ends with 400 of 8 bytes.
+        Returns the identifiers of all."""
+        found: List[int] = []
+        order = self.of_class("shop/Order", 2)
+        for _ in range(parts):
+            for _ in range(50):
+                found += [self.instance(order), self.values(BYTE, 1)]
+            found += [self.values(BYTE, 8) for _ in range(IN_A_SEGMENT - 100)]
+        return found
+
     def written(self, shuffled: bool = False) -> DumpWriter:
         """Returns the dump, its objects in the order of their addresses or in no order."""
         writers = list(self._writers)
