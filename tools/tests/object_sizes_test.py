@@ -62,6 +62,25 @@ class AddedFieldsTest(unittest.TestCase):
         for count, size in ((1, 24), (2, 280)):
             self.assertEqual(self.sizes([256], count=count, shuffled=True), [size])
 
+    def test_two_that_agree(self) -> None:
+        """Of classes to which the virtual machine adds fields, and of room, two objects count that have the same, and
+        are most of those of their class."""
+        for name, added, size in (
+            ("shop/Order", [256, 256], 280),
+            ("shop/Order", [256, 264], 24),
+            ("shop/Order", [256, 256, 272], 280),
+            ("shop/Order", [256, 256, 272, 280], 24),
+            ("java/lang/VirtualThread", [24, 24], 48),
+            ("java/lang/VirtualThread", [24, 32], 24),
+            ("java/lang/VirtualThread", [24, 24, 32], 48),
+            ("java/lang/VirtualThread", [24, 24, 32, 40], 24),
+        ):
+            heap = LaidOutHeap(COMPRESSED)
+            order = heap.of_class(name, 1, 1)
+            for more in added:
+                heap.instance(order, more)
+            self.assertEqual(sizes_of(heap, shuffled=True).instance(order), size, (name, added))
+
     def test_some_without(self) -> None:
         """What some objects of a class lack is not added to any."""
         heap = LaidOutHeap(COMPRESSED)

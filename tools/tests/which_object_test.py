@@ -338,15 +338,29 @@ class GrewTest(unittest.TestCase):
 
     def test_owner(self) -> None:
         """An object without a name is the same one if its identifier, its class and the name of its owner are."""
-        for first, owner, wanted in ((1000, "eu", [True]), (1001, "eu", []), (1000, "us", [])):
-            both: List[Queues] = []
-            for at, name, sizes in ((1000, "eu", [9000, 100, 10]), (first, owner, [9000, 4000, 10])):
-                both.append(Queues(sizes, names=[None] * 3, first=at))
-                both[-1].of_class(20, "shop/Shop", fields=["name", "queue"])
-                both[-1].instance(500, 20, 501, at + 1)
-                both[-1].string(501, name)
-                both[-1].root(500)
-            self.assertEqual([each.has_gained for each in self.grown(both[0], both[1])], wanted, (first, owner))
+        for first, owner, of_class, wanted in (
+            (1000, "eu", 4, [True]),
+            (1001, "eu", 4, []),
+            (1000, "us", 4, []),
+            (1000, "eu", 21, []),
+        ):
+            before = self.owned([9000, 100, 10], 1000, "eu", 4)
+            after = self.owned([9000, 4000, 10], first, owner, of_class)
+            found = [each.has_gained for each in self.grown(before, after)]
+            self.assertEqual(found, wanted, (first, owner, of_class))
+
+    def owned(self, sizes: Sequence[int], first: int, owner: str, of_class: int) -> Queues:
+        """Returns queues without names, of which the second, of the class `of_class`, is that of a shop with a name.
+        The class 21 inherits from that of queues."""
+        dump = Queues(sizes, names=[None] * len(sizes), first=first)
+        dump.of_class(20, "shop/Shop", fields=["name", "queue"])
+        dump.of_class(21, "shop/LateQueue", superclass=4)
+        dump.instance(500, 20, 501, first + 1)
+        dump.string(501, owner)
+        dump.root(500)
+        head = b"\x21" + dump.form.spell([first + 1]) + bytes(4)
+        dump.heap = dump.heap.replace(head + dump.form.spell([4]), head + dump.form.spell([of_class]))
+        return dump
 
     def test_elements(self) -> None:
         """Elements of a list that grew are measured in both dumps, too."""
