@@ -9,8 +9,9 @@ import signal
 import subprocess
 import sys
 import tempfile
-import time
 import unittest
+
+from tests.support.waiting import wait_until
 
 TOP = pathlib.Path(__file__).resolve().parents[2]
 #: The crates, in no order: `low` below `left` and `right`, `heapmark` on top of both and `retained` on top of `right`;
@@ -132,8 +133,7 @@ class BuildTest(unittest.TestCase):
         self.set(seconds="30")
         for number in (signal.SIGINT, signal.SIGTERM, signal.SIGHUP):
             build = self.start()
-            while not (self.top / "log").exists():
-                time.sleep(0.05)
+            wait_until((self.top / "log").exists, "the log")
             build.send_signal(number)
             build.communicate(timeout=10)
             self.assertEqual(build.returncode, 128 + number)

@@ -121,7 +121,7 @@ class HeapmarkTest(ToolTest):
     def test_failed_at_once(self) -> None:
         """What failed is said with the number of its run and the path of its dump, whatever ends first. The others are
         ended."""
-        both = "until [ $(wc -l < pids) = 2 ]; do sleep 0.1; done"
+        both = "for _ in $(seq 300); do [ $(wc -l < pids) -lt 2 ] || break; sleep 0.1; done"
         pathlib.Path("sleeps").write_text("exec sleep 50")
         pathlib.Path("fails").write_text(f"{both}; exit 3")
         for number, names in ((1, ("fails", "sleeps")), (2, ("sleeps", "fails"))):

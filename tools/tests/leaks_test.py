@@ -498,7 +498,7 @@ class LeaksTest(ToolTest):
     def test_heapmark(self) -> None:
         """A heapmark that fails later."""
         later = self.program('[ "$(wc -l < runs)" -lt 6 ] || kill -9 $$\nexec HEAPMARK "$@"')
-        said = "leaks: *: run [56] on * failed: signal 9"  # two begin at once
+        said = "leaks: *: run [5-7] on * failed: signal 9"  # three begin at once
         self.expect(["--html", "page.html", "monday", "friday"], said=said, status=5, heapmark=later)
         self.assertFalse(os.path.exists("page.html"))
         said = "leaks: /nowhere cannot be run: No such file or directory: the variable HEAPMARK names it"

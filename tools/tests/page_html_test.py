@@ -260,7 +260,7 @@ class PageOfTwoTest(HtmlOfPage):
     def test_worst_names(self) -> None:
         """No page is too large, whatever the names: of names that may be broken everywhere fewer are shown, and less of
         each."""
-        for char in (*"<\"'&/$.a\u202e\U0001f4a9", "\"$", "&/"):
+        for char in (*"<\"'&/$.a\u202e\U0001f4a9", '"$', "&/"):
             with self.subTest(char):
                 self.outline(hostile_leak([char * 10_000 + str(number) for number in range(40)], [char * 10_000] * 40))
 

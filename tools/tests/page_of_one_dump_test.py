@@ -183,7 +183,7 @@ class PageOfOneTest(HtmlOfPage):
 
     def test_worst_names(self) -> None:
         """No page is too large, whatever the names."""
-        for char in (*"<&/\u202e\U0001f4a9", "\"$", "&/"):
+        for char in (*"<&/\u202e\U0001f4a9", '"$', "&/"):
             with self.subTest(char):
                 names = [char * 10_000 + str(number) for number in range(40)]
                 self.outline(hostile_one_dump(names, [char * 10_000] * 40))

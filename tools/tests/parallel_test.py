@@ -10,6 +10,7 @@ from unittest import mock
 
 from heap_tools.faults import Fault
 from heap_tools.parallel import Work, shared
+from tests.support.waiting import wait_until
 
 
 def squares(numbers: List[int]) -> List[int]:
@@ -39,8 +40,7 @@ class WorkTest(unittest.TestCase):
 
     def begun(self, count: int) -> List[int]:
         """Returns the numbers of the processes that have begun, when there are so many."""
-        while len(os.listdir(self.folder)) < count:
-            time.sleep(0.01)
+        wait_until(lambda: len(os.listdir(self.folder)) >= count, f"one of {count} processes")
         return sorted(map(int, os.listdir(self.folder)))
 
     def test_results(self) -> None:

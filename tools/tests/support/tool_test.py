@@ -11,9 +11,10 @@ import subprocess
 import tempfile
 import time
 import unittest
-from typing import Any, Dict, NamedTuple, Optional, Sequence, Tuple
+from typing import Any, Dict, List, NamedTuple, Optional, Sequence, Tuple
 
 from tests.support.dump_writer import row
+from tests.support.waiting import wait_until
 
 TOOLS = pathlib.Path(__file__).resolve().parent.parent.parent
 TOP = TOOLS.parent
@@ -169,10 +170,15 @@ def heed_signals() -> None:
 
 def when_written(path: str) -> int:
     """Returns the number in the file `path` once a program has written it."""
-    while True:
+    numbers: List[int] = []
+
+    def is_written() -> bool:
         with contextlib.suppress(FileNotFoundError, ValueError):
-            return int(pathlib.Path(path).read_text())
-        time.sleep(0.05)
+            numbers.append(int(pathlib.Path(path).read_text()))
+        return bool(numbers)
+
+    wait_until(is_written, path)
+    return numbers[0]
 
 
 def report(*rows: Row, unreachable: Tuple[int, int] = (0, 0)) -> str:
