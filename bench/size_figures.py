@@ -114,19 +114,18 @@ def main() -> int:
     parser.add_argument("histogram")
     options = parser.parse_args()
     name = pathlib.Path(options.dump).stem
-    with open(options.dump, "rb") as file:
-        dump = HeapDump(file)
-        peak, began, used = PeakMemory(), time.monotonic(), processor_seconds()
-        try:
-            sizes = ObjectSizes(dump)
-        except UnknownLayout as unknown:
-            print(f"| {name} | {unknown} |")
-            return 1
-        took = f"{time.monotonic() - began:.1f} s, {processor_seconds() - used:.1f} s of processors"
-        memory = peak.megabytes()
-        here = in_rows_of_histogram({each: total.taken for each, total in totals_of(dump, sizes).items()})
-        there = histogram_of(options.histogram)
-        omitted = unloaded_classes(dump, sizes.is_ascending, there[CLASS_OBJECTS].objects)
+    dump = HeapDump(pathlib.Path(options.dump).read_bytes())
+    peak, began, used = PeakMemory(), time.monotonic(), processor_seconds()
+    try:
+        sizes = ObjectSizes(dump)
+    except UnknownLayout as unknown:
+        print(f"| {name} | {unknown} |")
+        return 1
+    took = f"{time.monotonic() - began:.1f} s, {processor_seconds() - used:.1f} s of processors"
+    memory = peak.megabytes()
+    here = in_rows_of_histogram({each: total.taken for each, total in totals_of(dump, sizes).items()})
+    there = histogram_of(options.histogram)
+    omitted = unloaded_classes(dump, sizes.is_ascending, there[CLASS_OBJECTS].objects)
     columns, lines, is_good = compared(here, omitted, there)
     layout = sizes.layout
     numbers = f"{layout.alignment}, {layout.header}, {layout.array_header}, {layout.reference}"

@@ -39,8 +39,8 @@ def main() -> int:
     if not words.dump.is_file() or words.copy.exists() and words.copy.samefile(words.dump):
         parser.error("DUMP is a file, and COPY another one")
     omitted, kept = 0, 0
-    with open(words.dump, "rb") as file, open(words.copy, "wb") as copy:
-        dump = HeapDump(file, nameless=True)
+    with open(words.copy, "wb") as copy:
+        dump = HeapDump(words.dump.read_bytes(), nameless=True)
         used = used_names(dump)
         copy.write(dump.bytes[:HEADER_SIZE])
         for tag, at, end in dump.records():

@@ -4,7 +4,6 @@ import os
 from typing import Dict, Iterator, Sequence, Tuple
 
 from heap_tools import hprof_format as hprof
-from heap_tools.faults import UNREADABLE, Fault
 from heap_tools.heap_dump import HeapDump
 
 #: The bytes that a copy has at places of the dump.
@@ -18,22 +17,15 @@ def number_code(dump: HeapDump) -> bytes:
     return bytes([hprof.LONG if dump.id_size == 8 else hprof.INT])
 
 
-def require_whole(dump: HeapDump) -> None:
-    """Raises `Fault` if the file of the dump became shorter: a mapping that is read beyond its end ends the tool by a
-    signal."""
-    if os.fstat(dump.file.fileno()).st_size < dump.size:
-        raise _shorter(dump)
-
-
 def write_copy(dump: HeapDump, to: int, changes: Changes, roots: Sequence[int] = ()) -> None:
     """Writes the dump into the open file `to`, but at each place of `changes` its bytes, and with `roots`, further
-    objects that are roots. Raises `Fault` if the file of the dump became shorter."""
+    objects that are roots."""
     added = b"".join(bytes([hprof.UNKNOWN]) + root.to_bytes(dump.id_size, "big") for root in roots)
     begin, copy = 0, _Copy(dump, to)
     if added:
         begin, end = dump.segments[0]
         copy.send(0, begin, {**changes, begin - 4: hprof.COUNT.pack(end - begin + len(added))})
-        _write_all(to, added)
+        _write_all(to, memoryview(added))
     copy.send(begin, dump.size, changes)
 
 
@@ -41,15 +33,15 @@ class _Copy:
     """A copy of `dump` that is written into the open file `to`."""
 
     def __init__(self, dump: HeapDump, to: int) -> None:
-        self.dump, self.to = dump, to
+        self.to, self.content = to, memoryview(dump.bytes)
 
     def send(self, begin: int, end: int, changes: Changes) -> None:
         """Writes the dump from `begin` to `end` with those of `changes` that are there."""
         for place, changed in self._stretches({at: new for at, new in changes.items() if begin <= at < end}):
-            self._send_part(begin, place)
-            _write_all(self.to, changed)
+            _write_all(self.to, self.content[begin:place])
+            _write_all(self.to, memoryview(changed))
             begin = place + len(changed)
-        self._send_part(begin, end)
+        _write_all(self.to, self.content[begin:end])
 
     def _stretches(self, changes: Changes) -> Iterator[Tuple[int, bytes]]:
         """Yields the places and the bytes of the parts of the dump that change. Changes that are near are one part."""
@@ -61,33 +53,13 @@ class _Copy:
                 changed = bytearray()
             if not changed:
                 begin = end = place
-            changed += self._read(end, place) + new
+            changed += self.content[end:place]
+            changed += new
         if changed:
             yield begin, bytes(changed)
 
-    def _read(self, begin: int, end: int) -> bytes:
-        """Returns the dump from `begin` to `end`, read from the file: a mapping that became shorter ends the tool."""
-        copied = os.pread(self.dump.file.fileno(), end - begin, begin)
-        if len(copied) < end - begin:
-            raise _shorter(self.dump)
-        return copied
 
-    def _send_part(self, begin: int, end: int) -> None:
-        """Writes the dump from `begin` to `end`, without a copy of it in this process."""
-        while begin < end:
-            sent = os.sendfile(self.to, self.dump.file.fileno(), begin, end - begin)
-            if sent == 0:
-                raise _shorter(self.dump)
-            begin += sent
-
-
-def _write_all(to: int, content: bytes) -> None:
+def _write_all(to: int, content: memoryview) -> None:
     """Writes all of `content` into the open file `to`."""
-    rest = memoryview(content)
-    while rest:
-        rest = rest[os.write(to, rest) :]
-
-
-def _shorter(dump: HeapDump) -> Fault:
-    """Returns the fault that the file of the dump became shorter."""
-    return Fault(UNREADABLE, f"{dump.file.name}: it became shorter while it was read")
+    while content:
+        content = content[os.write(to, content) :]

@@ -1,7 +1,7 @@
 """What `leaks` asks about the growth between dumps of one program."""
 
 from dataclasses import dataclass
-from typing import List, NamedTuple, Optional, Sequence, Tuple
+from typing import List, NamedTuple, Optional, Sequence, Tuple, TypeVar
 
 from heap_tools.class_growth import growths
 from heap_tools.class_lookup import family_of
@@ -11,6 +11,7 @@ from heap_tools.direct_buffers import BUFFER, DirectMemory, direct_memory, more_
 from heap_tools.dump_runs import DumpRuns
 from heap_tools.faults import NOTHING, UNREADABLE, Fault
 from heap_tools.first_runs import FirstRuns
+from heap_tools.heap_bytes import measure
 from heap_tools.heapmark import Heapmark
 from heap_tools.humanize import counted
 from heap_tools.leak_options import Options
@@ -18,10 +19,12 @@ from heap_tools.omissions import more_unreachable
 from heap_tools.probe import EarlierProbe, GrowthProbe
 from heap_tools.reports import Amount, Unit
 from heap_tools.running_calls import PASSING, Calls, DumpSide, without, without_running_calls
-from heap_tools.same_program import Taken, other_main, other_program, same_file, wrong_order
+from heap_tools.same_program import Taken, other_main, other_program, wrong_order
 from heap_tools.search_progress import SearchProgress
 from heap_tools.weak_growth import MUCH_WEAKLY_HELD, Followed, followed_of, grown, weakly_held_words
 
+#: A dump, or its number.
+Dump = TypeVar("Dump")
 #: How many dumps between the first and the last are asked what the lines hold in them.
 BETWEEN = 3
 
@@ -91,13 +94,18 @@ class Comparison:
 
 
 def dumps_of(paths: Sequence[str], heapmark: Heapmark, progress: Progress) -> List[DumpRuns]:
-    """Returns the dumps at `paths`: the records of one are read while heapmark reads others. Raises `Fault` if one
-    cannot be read, if they are the same, not in the order of their times, or seem to be of two programs."""
+    """Returns the dumps at `paths`: the records of one are read while heapmark reads others. Those that will not be
+    asked are measured, and have no content then, so that not all are in memory. Raises `Fault` if one cannot be read,
+    if they are the same, not in the order of their times, or seem to be of two programs."""
     dumps: List[DumpRuns] = []
+    asked = {0, *spread(range(1, len(paths) - 1), BETWEEN), len(paths) - 1}
     with FirstRuns(heapmark, paths, "leaks") as first:
-        for number in range(1, len(paths) + 1):
-            progress.show(f"reading dump {number} of {len(paths)}")
+        for number in range(len(paths)):
+            progress.show(f"reading dump {number + 1} of {len(paths)}")
             dumps.append(DumpRuns.read(heapmark, first.next()))
+            if number not in asked:
+                measure(dumps[-1].dump)
+                dumps[-1].dump.forget()
     require_one_program(dumps)
     return dumps
 
@@ -106,7 +114,9 @@ def require_one_program(dumps: Sequence[DumpRuns]) -> None:
     """Raises `Fault` if dumps are the same, not in the order of their times, or seem to be of two programs."""
     first, last = dumps[0], dumps[-1]
     why = wrong_order([Taken(each.path, each.dump.time) for each in dumps])
-    why = why or same_file([each.path for each in dumps])
+    pairs = zip(dumps, dumps[1:])
+    same = (f"{it.path}: the same file as {was.path}" for was, it in pairs if was.dump.is_same(it.dump))
+    why = why or next(same, None)
     if why:
         raise Fault(UNREADABLE, why)
     few = other_program(*(map(family, each.dump.names.values()) for each in (first, last)))
@@ -171,7 +181,7 @@ def missing_words(dumps: Sequence[DumpRuns]) -> str:
     return f"{more_unreachable(unreachable_growth(dumps))}: see grown with jmap -histo:live"
 
 
-def spread(dumps: Sequence[DumpRuns], most: int) -> List[DumpRuns]:
+def spread(dumps: Sequence[Dump], most: int) -> List[Dump]:
     """Returns at most `most` of `dumps`, as far apart from each other as from the ends."""
     count = min(len(dumps), most)
     return [dumps[(2 * number + 1) * len(dumps) // (2 * count)] for number in range(count)]

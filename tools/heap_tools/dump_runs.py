@@ -4,34 +4,31 @@ import struct
 from typing import Dict, List, NamedTuple, Optional, Sequence
 
 from heap_tools.changed_copy import Changes
-from heap_tools.faults import UNREADABLE, Fault
+from heap_tools.dump_file import FileState, changed, content_of, state_of
 from heap_tools.first_runs import AcceptedDump, FirstRuns
-from heap_tools.heap_dump import HeapDump, UnknownTag
-from heap_tools.heapmark import Heapmark, opened
+from heap_tools.heap_dump import HeapDump
+from heap_tools.heapmark import Heapmark
 from heap_tools.memory_copy import CopiesInMemory
 from heap_tools.object_sizes import RowSizes
 from heap_tools.reports import Report
 from heap_tools.runs_at_once import ChangedDump, RunsAtOnce
 
 
-def read_dump(path: str, length: int, report: Report) -> HeapDump:
-    """Returns the records of a dump of which heapmark has made `report`, when it had `length` bytes. Raises `Fault` if
-    they are not as heapmark read them."""
+def read_dump(path: str, state: Optional[FileState], report: Report) -> HeapDump:
+    """Returns the records of a dump of which heapmark has made `report`; its file had the state `state` before that.
+    Raises `Fault` if they are not as heapmark read them."""
+    content = content_of(path, state)
     try:
-        dump = HeapDump(opened(path), report.has_nameless())
-        if dump.size != length:
-            raise ValueError("another length")
-        return dump
-    except UnknownTag as unknown:
-        raise Fault(UNREADABLE, f"{path}: {unknown}") from None
-    except (IndexError, KeyError, ValueError, struct.error):
-        raise Fault(UNREADABLE, f"{path}: it changed while it was read") from None
+        return HeapDump(content, report.has_nameless(), path)
+    except (IndexError, KeyError, ValueError, struct.error):  # a change that the state of the file does not show
+        raise changed(path) from None
 
 
 class DumpRuns:
     """A dump in a plain file, and the runs of heapmark on it. `report` is that of the dump as it is. Later runs are on
     copies in which `cut` is changed, too, and the objects `roots` are roots: on those in `memory`, if there is one with
-    these roots, else on one that a pipe brings. With `sizes`, all reports are in bytes of the heap."""
+    these roots, else on one that a pipe brings. With `sizes`, all reports are in bytes of the heap. `state` is that of
+    the file when it was read."""
 
     def __init__(
         self,
@@ -43,9 +40,10 @@ class DumpRuns:
         roots: Sequence[int],
         memory: Optional[CopiesInMemory] = None,
         sizes: Optional[RowSizes] = None,
+        state: Optional[FileState] = None,
     ) -> None:
         self.heapmark, self.path, self.report, self.dump = heapmark, path, report, dump
-        self.cut, self.roots, self.memory, self.sizes = cut, roots, memory, sizes
+        self.cut, self.roots, self.memory, self.sizes, self.state = cut, roots, memory, sizes, state
 
     @classmethod
     def of(cls, heapmark: Heapmark, path: str, tool: str) -> "DumpRuns":
@@ -56,20 +54,28 @@ class DumpRuns:
     @classmethod
     def read(cls, heapmark: Heapmark, accepted: AcceptedDump) -> "DumpRuns":
         """Reads the records of a dump that heapmark has accepted. Raises `Fault` if they are not as it read them."""
-        path, length, report = accepted
-        dump = read_dump(path, length, report)
-        return cls(heapmark, path, report, dump, {}, (), CopiesInMemory(dump))
+        path, state, report = accepted
+        dump = read_dump(path, state, report)
+        return cls(heapmark, path, report, dump, {}, (), CopiesInMemory(dump), state=state)
 
     def with_cut(self, changes: Changes, roots: Sequence[int] = ()) -> "DumpRuns":
         """Returns the same dump, in whose copies `changes` are made and `roots` are roots, too."""
         cut: Dict[int, bytes] = {**self.cut, **changes}
-        every = [*self.roots, *roots]
-        return DumpRuns(self.heapmark, self.path, self.report, self.dump, cut, every, self.memory, self.sizes)
+        return self._like(self.report, cut, [*self.roots, *roots], self.sizes)
 
     def in_heap(self, sizes: RowSizes) -> "DumpRuns":
         """Returns the same dump, with reports in bytes of the heap."""
-        report = sizes.report(self.report)
-        return DumpRuns(self.heapmark, self.path, report, self.dump, self.cut, self.roots, self.memory, sizes)
+        return self._like(sizes.report(self.report), self.cut, self.roots, sizes)
+
+    def _like(self, report: Report, cut: Changes, roots: Sequence[int], sizes: Optional[RowSizes]) -> "DumpRuns":
+        """Returns the same dump with another report, other changes and roots of its copies, or other sizes."""
+        return DumpRuns(self.heapmark, self.path, report, self.dump, cut, roots, self.memory, sizes, self.state)
+
+    def changed_words(self) -> List[str]:
+        """Returns in words that the file has changed since it was read, nothing if it has not."""
+        if state_of(self.path) == self.state:
+            return []
+        return [f"{self.path} has changed since it was read: all that is said is of what it was"]
 
     def counted(self, report: Report) -> Report:
         """Returns a report of heapmark on this dump in the bytes that count."""
@@ -86,8 +92,7 @@ class DumpRuns:
 
     def changed(self, changes: Changes) -> ChangedDump:
         """Returns what heapmark has to read for the report of the dump with these changes."""
-        every = {**self.cut, **changes}
-        return ChangedDump(self.heapmark, self.path, self.dump, every, self.roots, self.memory)
+        return ChangedDump(self.heapmark, self.path, self.dump, changes, self.cut, self.roots, self.memory)
 
 
 class Question(NamedTuple):

@@ -1,9 +1,10 @@
 """First runs of heapmark on dumps, as they are: as many at a time as processors and memory allow."""
 
 from collections import deque
-from typing import Deque, Dict, NamedTuple, Sequence, Union
+from typing import Deque, Dict, NamedTuple, Optional, Sequence, Union
 
 from heap_tools.child_process import Child, Children, Ran
+from heap_tools.dump_file import FileState, state_of, unchanged
 from heap_tools.faults import Fault
 from heap_tools.heapmark import FirstRun, Heapmark
 from heap_tools.memory_copy import have_room
@@ -13,18 +14,25 @@ from heap_tools.runs_at_once import at_a_time
 
 
 class AcceptedDump(NamedTuple):
-    """A dump in the plain file `path` of which heapmark has made `report`. The file had `length` bytes before that."""
+    """A dump in the plain file `path` of which heapmark has made `report`. The file had the state `state` before
+    that."""
 
     path: str
-    length: int
+    state: Optional[FileState]
     report: Report
 
 
 class _Begun(NamedTuple):
-    """A run on a dump that had `length` bytes when it began."""
+    """A run on a dump whose file had the state `state` when it began."""
 
     run: FirstRun
-    length: int
+    state: Optional[FileState]
+
+    def report(self, ran: Ran) -> Report:
+        """Returns the report of the run. Raises `Fault` if heapmark refused the dump, if the run failed, or if the file
+        has changed since it began."""
+        with unchanged(self.run.path, self.state):
+            return self.run.report(ran)
 
 
 class FirstRuns:
@@ -57,7 +65,7 @@ class FirstRuns:
         while turn.run.child not in self._ended:
             self._end_one()
             self._begin_some()
-        return AcceptedDump(turn.run.path, turn.length, turn.run.report(self._ended.pop(turn.run.child)))
+        return AcceptedDump(turn.run.path, turn.state, turn.report(self._ended.pop(turn.run.child)))
 
     def _begin_some(self) -> None:
         """Begins runs, in the order of the dumps, as long as there is room for one more. None begins after a dump that
@@ -77,10 +85,10 @@ class FirstRuns:
     def _begin(self, path: str) -> _Begun:
         """Begins the run on a dump. Raises `Fault` or `OSError` if that cannot be done."""
         require_plain_dump(path, self._tool)
-        length = length_of(path)
+        state = state_of(path)
         run = self._heapmark.first_run(path, self._children)
-        self._running[run.child] = length
-        return _Begun(run, length)
+        self._running[run.child] = state.length if state else 0
+        return _Begun(run, state)
 
     def _end_one(self) -> None:
         """Waits until a run has ended, and keeps how it ended."""

@@ -1,6 +1,7 @@
 """Whether bytes are those of the heap, as the virtual machine counts, or those of the dump."""
 
 from typing import List, NamedTuple, Optional, Sequence, Union
+from weakref import WeakKeyDictionary
 
 from heap_tools.dump_runs import DumpRuns
 from heap_tools.heap_dump import HeapDump
@@ -11,6 +12,12 @@ from heap_tools.reports import Report
 
 #: No virtual machine writes a dump with fewer objects: of such a one it is not said that its layout is not known.
 FEWEST_OF_HEAP = 3000
+
+
+#: The sizes in a dump, or why its layout is not known.
+Measured = Union[RowSizes, str]
+#: Those of dumps that were measured before others were read.
+KNOWN: "WeakKeyDictionary[HeapDump, Measured]" = WeakKeyDictionary()
 
 
 class Counted(NamedTuple):
@@ -39,17 +46,24 @@ def counted_in_heap(dumps: Sequence[DumpRuns], dump_bytes: bool) -> Counted:
     return Counted(counted, layout_words(found[-1]))
 
 
-def _sizes_of(dumps: Sequence[DumpRuns]) -> List[Union[RowSizes, str]]:
+def measure(dump: HeapDump) -> None:
+    """Finds the sizes in a dump now, since its content will be forgotten."""
+    KNOWN[dump] = _sizes_or_why(dump)
+
+
+def _sizes_of(dumps: Sequence[DumpRuns]) -> List[Measured]:
     """Returns the sizes in each dump, or why its layout is not known. Dumps are looked into at once."""
 
-    def sizes_of(some: List[DumpRuns]) -> List[Union[RowSizes, str]]:
+    def sizes_of(some: List[DumpRuns]) -> List[Measured]:
         return [_sizes_or_why(each.dump) for each in some]
 
     return [each for part in shared(sizes_of, [*dumps], least=1) for each in part]
 
 
-def _sizes_or_why(dump: HeapDump) -> Union[RowSizes, str]:
+def _sizes_or_why(dump: HeapDump) -> Measured:
     """Returns the sizes in a dump, or why its layout is not known."""
+    if dump in KNOWN:
+        return KNOWN[dump]
     try:
         return ObjectSizes(dump).rows
     except UnknownLayout as unknown:

@@ -4,13 +4,14 @@ heapmark has accepted the dump, so its form is not tested here. Records that hea
 traces, are.
 """
 
-import mmap
+import hashlib
 import struct
 from collections import deque
-from typing import IO, Deque, Dict, Iterable, Iterator, List, NamedTuple, Optional, Set, Tuple
+from typing import Deque, Dict, Iterable, Iterator, List, NamedTuple, Optional, Set, Tuple
 
 from heap_tools import hprof_format as hprof
 from heap_tools.class_names import of_dump, shown
+from heap_tools.faults import UNREADABLE, Fault
 
 #: The static fields that hold the loaders of the JDK and of the class path.
 LASTING_LOADERS = frozenset(
@@ -26,11 +27,12 @@ LASTING_LOADERS = frozenset(
 Span = Tuple[int, int]
 
 
-class UnknownTag(ValueError):
-    """A sub-record has a tag that this version of the tools does not know."""
+class UnknownTag(Fault):
+    """A sub-record of the dump `path` has a tag that this version of the tools does not know."""
 
-    def __init__(self, tag: int, at: int) -> None:
-        super().__init__(f"the sub-record at {at} has the tag 0x{tag:02x}, which these tools do not know")
+    def __init__(self, path: str, tag: int, at: int) -> None:
+        what = f"the sub-record at {at} has the tag 0x{tag:02x}, which these tools do not know"
+        super().__init__(UNREADABLE, f"{path}: {what}")
 
 
 class Field(NamedTuple):
@@ -70,14 +72,13 @@ class Frame(NamedTuple):
 
 
 class HeapDump:
-    """The records of the dump in the plain file `file`. `nameless`: it has classes that no LOAD CLASS names, so that
-    all segments are read. `field_names` are the names of fields by the identifiers of their strings. Raises
-    `UnknownTag` for a sub-record that is not known."""
+    """The records of a dump, the whole content of a file. `nameless`: it has classes that no LOAD CLASS names, so that
+    all segments are read. `path`: what messages call the dump. `field_names` are the names of fields by the identifiers
+    of their strings. Raises `UnknownTag` for a sub-record that is not known."""
 
-    def __init__(self, file: IO[bytes], nameless: bool = False) -> None:
-        self.file = file
-        self.bytes = mmap.mmap(file.fileno(), 0, access=mmap.ACCESS_READ)
-        self.size = len(self.bytes)
+    def __init__(self, content: bytes, nameless: bool = False, path: str = "") -> None:
+        self.path, self.bytes, self.size = path, content, len(content)
+        self._digest = b""
         self.id_size = self.number(hprof.ID_SIZE_AT, 4)
         self.time = self.number(hprof.TIME_AT, 8)
         self.unpack_id = struct.Struct(">Q" if self.id_size == 8 else ">I").unpack_from
@@ -95,6 +96,20 @@ class HeapDump:
         self._read_records()
         self._read_heap(nameless)
         self.names = {class_id: self._class_name(class_id) for class_id in self.classes}
+
+    def forget(self) -> None:
+        """Gives the memory of the content back. Classes, threads and their stacks are still known."""
+        self._digest = self._digest_of_content()
+        self.bytes = b""
+
+    def is_same(self, other: "HeapDump") -> bool:
+        """Tests whether two dumps have the same content, also if it was forgotten."""
+        if (self.size, self.time) != (other.size, other.time):
+            return False
+        return self._digest_of_content() == other._digest_of_content()
+
+    def _digest_of_content(self) -> bytes:
+        return self._digest or hashlib.sha256(self.bytes).digest()
 
     def number(self, at: int, size: int) -> int:
         """Reads the number in the `size` bytes at the offset `at`."""
@@ -117,7 +132,7 @@ class HeapDump:
 
     def records(self) -> Iterator[Tuple[int, int, int]]:
         """Yields the tag of each record, where its body begins and where it ends. Raises `ValueError` if the last one
-        does not end where the file does: then that became shorter since heapmark accepted it."""
+        does not end where the content does: then this is not what heapmark accepted."""
         at = hprof.HEADER_SIZE
         while at < self.size:
             tag, body = self.bytes[at], at + hprof.RECORD_HEAD_SIZE
@@ -126,7 +141,7 @@ class HeapDump:
                 break
             yield tag, body, at
         if at != self.size:
-            raise ValueError(f"a record ends at {at}, and the file at {self.size}")
+            raise ValueError(f"a record ends at {at}, and the content at {self.size}")
 
     def _read_records(self) -> None:
         """Keeps where strings and heap records are, how classes are called, and frames and traces."""
@@ -219,7 +234,7 @@ class HeapDump:
                 elif tag in root_sizes:
                     at += 1 + size + root_sizes[tag]
                 else:
-                    raise UnknownTag(tag, at)
+                    raise UnknownTag(self.path, tag, at)
                 yield begin, tag
 
     def _note_root(self, at: int, tag: int) -> None:

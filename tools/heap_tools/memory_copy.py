@@ -5,9 +5,9 @@ import mmap
 import os
 import threading
 import weakref
-from typing import Iterator, List, Optional, Sequence
+from typing import Callable, Iterator, List, Optional, Sequence
 
-from heap_tools.changed_copy import Changes, require_whole, write_copy
+from heap_tools.changed_copy import Changes, write_copy
 from heap_tools.free_memory import free_memory
 from heap_tools.heap_dump import HeapDump
 
@@ -18,16 +18,18 @@ TAKEN_BY_HEAPMARK = 2.2
 
 class MemoryCopy:
     """A copy of `dump` in which the objects `roots` are roots, too. It is in anonymous memory: nothing of it is on a
-    disk. `file` is its descriptor. Raises `OSError` if the system has no such memory, and `Fault` if the file of the
-    dump became shorter."""
+    disk. `file` is its descriptor. Raises `OSError` if the system has no such memory."""
 
     def __init__(self, dump: HeapDump, roots: Sequence[int]) -> None:
         self.roots = tuple(roots)
+        self._dump = dump
         self.file: int = getattr(os, "memfd_create")("dump")  # Python 3.7 has none: see CopiesInMemory
         self._closed = weakref.finalize(self, os.close, self.file)
         write_copy(dump, self.file, {}, roots)
         self._bytes = mmap.mmap(self.file, 0)
         self._added_at, self._added = dump.segments[0][0] if roots else 0, len(self._bytes) - dump.size
+        #: The changes that stay from one run to the next.
+        self._cut: Changes = {}
         self._in_use = threading.Lock()
 
     def close(self) -> None:
@@ -41,12 +43,15 @@ class MemoryCopy:
         return not self._in_use.locked()
 
     @contextlib.contextmanager
-    def changed(self, changes: Changes) -> Iterator[Optional[int]]:
-        """Yields the file with `changes`, which are put back at the end. Yields None if it is in use: no two runs read
-        one copy. It stays in use if an interrupt ends this before all is put back."""
+    def changed(self, changes: Changes, cut: Changes = {}) -> Iterator[Optional[int]]:
+        """Yields the file with `cut`, and with `changes`, which are put back at the end. What many runs have in common
+        is in `cut`: it stays until another one is asked for. A change at a place of `cut` is as long as it is there.
+        Yields None if the copy is in use: no two runs read one. It stays in use if an interrupt ends this before all is
+        put back."""
         if not self._in_use.acquire(blocking=False):
             yield None
             return
+        self._keep(cut)
         places = {self._place(at): new for at, new in changes.items()}
         old = {at: self._bytes[at : at + len(new)] for at, new in places.items()}
         try:
@@ -55,6 +60,13 @@ class MemoryCopy:
         finally:
             self._write(old)
             self._in_use.release()
+
+    def _keep(self, cut: Changes) -> None:
+        """Puts `cut` in the place of the changes that stay."""
+        if cut is not self._cut:
+            self._write({self._place(at): self._dump.bytes[at : at + len(new)] for at, new in self._cut.items()})
+            self._write({self._place(at): new for at, new in cut.items()})
+            self._cut = cut
 
     def _place(self, at: int) -> int:
         """Returns where the copy has what the dump has at the offset `at`. The added roots are before some of it."""
@@ -84,8 +96,7 @@ class CopiesInMemory:
     def free(self, roots: Sequence[int], beside: Sequence[int] = ()) -> Optional[MemoryCopy]:
         """Returns a copy in which the objects `roots` are roots and that no run reads, if there is room for a run on it
         while others go on, on dumps of the lengths `beside`. Returns None if there is none: also if the copies have
-        other roots. Raises `Fault` if the file of the dump became shorter."""
-        require_whole(self._dump)
+        other roots."""
         if any(each.roots != tuple(roots) for each in self._copies):
             return None
         dumps = [*beside, self._dump.size]
@@ -111,8 +122,18 @@ class CopiesInMemory:
 
 def give_back(every: Sequence[CopiesInMemory]) -> None:
     """Gives back the memory of all copies, several at a time, when no run reads one any more."""
-    threads = [threading.Thread(target=copy.close) for copies in every for copy in copies.copies()]
+    threads = [_begun(copy.close) for copies in every for copy in copies.copies()]
     for thread in threads:
+        if thread:
+            thread.join()
+
+
+def _begun(work: Callable[[], None]) -> Optional[threading.Thread]:
+    """Does `work` in a thread of its own, which is returned. Does it at once if the system starts no more threads."""
+    thread = threading.Thread(target=work)
+    try:
         thread.start()
-    for thread in threads:
-        thread.join()
+        return thread
+    except RuntimeError:
+        work()
+        return None

@@ -91,8 +91,7 @@ def _may_have(dump: HeapDump, span: Span, classes: Collection[int]) -> bool:
     the time of a walk. A long part, or one for many classes, may have it."""
     if span[1] - span[0] > LONG_RECORD or len(classes) > MOST_LOOKED_FOR:
         return True
-    part = dump.bytes[slice(*span)]  # in bytes `find` is far faster than in a mapped file
-    return any(part.find(each.to_bytes(dump.id_size, "big")) >= 0 for each in classes)
+    return any(dump.bytes.find(each.to_bytes(dump.id_size, "big"), *span) >= 0 for each in classes)
 
 
 def _heads(size: int) -> List[Callable[..., Tuple[int, ...]]]:
@@ -110,7 +109,7 @@ def _end_of_other(dump: HeapDump, tag: int, at: int) -> int:
     if tag == hprof.JNI_GLOBAL:
         return at + 1 + 2 * dump.id_size
     if tag not in hprof.ROOT_SIZES:
-        raise UnknownTag(tag, at)
+        raise UnknownTag(dump.path, tag, at)
     return at + 1 + dump.id_size + hprof.ROOT_SIZES[tag]
 
 
@@ -146,9 +145,8 @@ def some_instances(dump: HeapDump, classes: Iterable[int], searched: int) -> Lis
     patterns, begin, end = [_head_of(dump, each) for each in classes], dump.segments[0][0], dump.segments[-1][1]
     found: List[int] = []
     for first in {begin, max(begin, end - searched)}:
-        part = dump.bytes[first : min(end, first + searched)]  # in bytes `find` is far faster than in a mapped file
-        places = (part.find(pattern) - 5 - dump.id_size for pattern in patterns)
-        found += [dump.id(first + each + 1) for each in places if each >= 0 and part[each] == hprof.INSTANCE]
+        places = (dump.bytes.find(each, first, min(end, first + searched)) - 5 - dump.id_size for each in patterns)
+        found += [dump.id(each + 1) for each in places if each >= first and dump.bytes[each] == hprof.INSTANCE]
     return found
 
 

@@ -99,7 +99,7 @@ def object_of(line: int, it: HoldingObject, field: Optional[page.FieldEntry] = N
 def dump_of(runs: DumpRuns) -> page.DumpEntry:
     """Returns what the page shows of a dump."""
     report = runs.report
-    size, made = os.path.getsize(runs.path), runs.dump.time
+    size, made = runs.dump.size, runs.dump.time
     return page.DumpEntry(runs.path, size, made, report.reachable, report.unreachable, report.unresolved)
 
 

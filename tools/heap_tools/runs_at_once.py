@@ -30,13 +30,15 @@ def workers() -> int:
 
 
 class ChangedDump(NamedTuple):
-    """A dump in the file `path` that `heapmark` is to read with `changes`, and with the objects `roots` as roots: from
-    one of the copies in `memory`, if there are any, or from a pipe."""
+    """A dump in the file `path` that `heapmark` is to read with `changes` and `cut`, which it has in common with other
+    runs, and with the objects `roots` as roots: from one of the copies in `memory`, if there are any, or from a
+    pipe."""
 
     heapmark: Heapmark
     path: str
     dump: HeapDump
     changes: Changes
+    cut: Changes
     roots: Sequence[int] = ()
     memory: Optional[CopiesInMemory] = None
 
@@ -48,11 +50,12 @@ class ChangedDump(NamedTuple):
     @contextlib.contextmanager
     def copy(self, memory: Optional[MemoryCopy]) -> Iterator[Copy]:
         """Yields `memory` with the changes, for one run, or one that a pipe brings if that is None."""
-        with memory.changed(self.changes) if memory else contextlib.nullcontext() as file:
+        with memory.changed(self.changes, self.cut) if memory else contextlib.nullcontext() as file:
             if file is not None:
                 yield Copy(self.path, file)
             else:
-                yield Copy(self.path, feed=lambda pipe: write_copy(self.dump, pipe, self.changes, self.roots))
+                every = {**self.cut, **self.changes}
+                yield Copy(self.path, feed=lambda pipe: write_copy(self.dump, pipe, every, self.roots))
 
 
 class _Running(NamedTuple):

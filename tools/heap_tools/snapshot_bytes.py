@@ -64,13 +64,12 @@ def _in_heap(snapshots: Sequence[Snapshot]) -> Tuple[List[Snapshot], str]:
 
 def _measured(snapshot: Snapshot, beside_histogram: bool) -> _Measured:
     """Returns what a dump has in the heap. Beside a histogram, which has the sizes of all objects, all are read."""
-    dump = read_dump(snapshot.path, os.path.getsize(snapshot.path), snapshot.report)
-    with dump.file:
-        sizes = ObjectSizes(dump)
-        if not beside_histogram:
-            return _Measured(sizes.rows, Amount())
-        omitted = unloaded_classes(dump, sizes.is_ascending, snapshot.report.unresolved)
-        return _Measured(sizes.of_all(shapes_of(dump)), omitted)
+    dump = read_dump(snapshot.path, snapshot.state, snapshot.report)
+    sizes = ObjectSizes(dump)
+    if not beside_histogram:
+        return _Measured(sizes.rows, Amount())
+    omitted = unloaded_classes(dump, sizes.is_ascending, snapshot.report.unresolved)
+    return _Measured(sizes.of_all(shapes_of(dump)), omitted)
 
 
 def _counted(snapshot: Snapshot, measured: _Measured, last: RowSizes) -> Snapshot:

@@ -3,6 +3,7 @@
 import os
 from typing import List, NamedTuple, Optional, Sequence
 
+from heap_tools.dump_file import FileState, state_of, unchanged
 from heap_tools.faults import UNREADABLE, WRONG_USE, Fault
 from heap_tools.heapmark import Heapmark
 from heap_tools.hprof_format import HEADER_SIZE, MAGIC, TIME_AT
@@ -11,12 +12,14 @@ from heap_tools.reports import Report, read_text
 
 class Snapshot(NamedTuple):
     """A file of the command line. `kind` is dump, report or histogram; `time` the time in a dump's header, in
-    milliseconds since 1970, or None."""
+    milliseconds since 1970, or None; `state` that of the file before heapmark read the dump, None if it is no plain
+    file."""
 
     path: str
     kind: str
     report: Report
     time: Optional[int] = None
+    state: Optional[FileState] = None
 
 
 class SnapshotReader:
@@ -32,6 +35,7 @@ class SnapshotReader:
         """Reads a file of any of the three kinds."""
         if not os.path.isfile(path):
             return self._dump(path, ", and only dumps may come from what is no plain file")
+        state = state_of(path)
         try:
             with open(path, "rb") as file:
                 header = file.read(HEADER_SIZE)
@@ -42,11 +46,17 @@ class SnapshotReader:
         except PermissionError:
             header = b""  # heapmark says so
         time = int.from_bytes(header[TIME_AT:], "big") if len(header) == HEADER_SIZE else None
-        return self._dump(path, time=time)
+        return self._plain_dump(path, time, state)
 
-    def _dump(self, path: str, why: str = "", time: Optional[int] = None) -> Snapshot:
+    def _plain_dump(self, path: str, time: Optional[int], state: Optional[FileState]) -> Snapshot:
+        """Runs heapmark on a dump in a plain file, which had the state `state` before it was opened. Raises `Fault` if
+        it has changed since then."""
+        with unchanged(path, state):
+            return self._dump(path)._replace(time=time, state=state)
+
+    def _dump(self, path: str, why: str = "") -> Snapshot:
         """Runs heapmark on a dump."""
-        return Snapshot(path, "dump", self.heapmark.first_report(path, self.options, why), time)
+        return Snapshot(path, "dump", self.heapmark.first_report(path, self.options, why))
 
 
 def read_snapshots(paths: Sequence[str], skip: Optional[str]) -> List[Snapshot]:

@@ -1,6 +1,5 @@
 """Tests what counts as a holder in a dump, and what does not."""
 
-import tempfile
 import unittest
 from typing import List
 
@@ -47,11 +46,7 @@ class CandidatesTest(unittest.TestCase):
 
     def candidates(self, dump: DumpWriter, follows_weak: bool = False) -> Candidates:
         """Returns what can hold objects in a dump."""
-        file = tempfile.TemporaryFile()
-        self.addCleanup(file.close)
-        file.write(dump.bytes())
-        file.flush()
-        return Candidates(HeapDump(file), follows_weak)
+        return Candidates(HeapDump(dump.bytes()), follows_weak)
 
     def named(self, candidates: List[Candidate]) -> List[str]:
         """Returns the names of candidates."""

@@ -1,6 +1,5 @@
 """Tests of which loaders it is said that there are more classes."""
 
-import tempfile
 import unittest
 
 from heap_tools.class_counts import MACHINE_LOADER, MANY, grown_class_counts, class_pattern_of
@@ -20,10 +19,7 @@ def dump_of(loaders: int, classes: int, name: str = "shop/Plugin{}", others: int
         for each in range(classes):
             dump.of_class(number, name.format(each), loader=loader)
             number += 1
-    with tempfile.TemporaryFile() as file:
-        file.write(dump.bytes())
-        file.flush()
-        return HeapDump(file)
+    return HeapDump(dump.bytes())
 
 
 class ClassCountsTest(unittest.TestCase):

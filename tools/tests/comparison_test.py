@@ -1,6 +1,5 @@
 """Tests which dumps are compared, which of those between the first and the last are asked, and how."""
 
-import tempfile
 import unittest
 from typing import Any, List, Optional, Tuple
 from unittest import mock
@@ -41,10 +40,7 @@ class BetweenTest(unittest.TestCase):
 
     def runs(self, dump: DumpWriter) -> MarkedRuns:
         """Returns the runs on a dump."""
-        with tempfile.TemporaryFile() as file:
-            file.write(dump.bytes())
-            file.flush()
-            return MarkedRuns(HeapDump(file))
+        return MarkedRuns(HeapDump(dump.bytes()))
 
     def test_running_calls(self) -> None:
         """In the dumps between, too, the calls lead nowhere that do not count: all, those of the JDK, or none. Weak

@@ -1,6 +1,5 @@
 """Tests how much memory of direct buffers a dump is said to have."""
 
-import tempfile
 import unittest
 
 from heap_tools.direct_buffers import DirectMemory, direct_memory, more_direct_memory, worth_saying
@@ -25,10 +24,9 @@ class DirectBuffersTest(unittest.TestCase):
             dump.instance(202, 2, 200, 0, word(9), word(4000))
             dump.instance(203, 3, 201, 0, word(9), word(700))
             dump.instance(204, 4, word(9), word(30))
-            with tempfile.TemporaryFile() as file:
-                file.write(dump.bytes().replace(b"int_____", b"capacity"))
-                file.flush()
-                self.assertEqual(direct_memory(HeapDump(file)), DirectMemory(2, 5700))
+            self.assertEqual(
+                direct_memory(HeapDump(dump.bytes().replace(b"int_____", b"capacity"))), DirectMemory(2, 5700)
+            )
 
     def test_mapped_classes(self) -> None:
         """The file of the JDK's own classes, which the virtual machine maps, is no memory of the program."""
@@ -41,17 +39,11 @@ class DirectBuffersTest(unittest.TestCase):
             dump.instance(201, 2, 0, word(700))
             dump.instance(202, 2, attached or 201, word(attached and 128_000_000))
             dump.instance(300, 5, 202 if attached else 0)
-            with tempfile.TemporaryFile() as file:
-                file.write(dump.bytes().replace(b"int_____", b"capacity"))
-                file.flush()
-                self.assertEqual(direct_memory(HeapDump(file)), wanted)
+            self.assertEqual(direct_memory(HeapDump(dump.bytes().replace(b"int_____", b"capacity"))), wanted)
 
     def test_none(self) -> None:
         """A dump without the class of direct buffers has none."""
-        with tempfile.TemporaryFile() as file:
-            file.write(DumpWriter().bytes())
-            file.flush()
-            self.assertEqual(direct_memory(HeapDump(file)), DirectMemory())
+        self.assertEqual(direct_memory(HeapDump(DumpWriter().bytes())), DirectMemory())
 
     def test_words(self) -> None:
         """Growth has a sentence, all else none."""

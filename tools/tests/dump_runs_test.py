@@ -6,12 +6,11 @@ import subprocess
 import sys
 import time
 import unittest
-from typing import List, Tuple
+from typing import Callable, Dict, List, Tuple
 from unittest import mock
 
 from heap_tools.changed_copy import Changes
 from heap_tools.dump_runs import DumpRuns, Question, reports_of
-from heap_tools.faults import Fault
 from heap_tools.heapmark import Heapmark, LaterFault
 from tests.support.tool_test import ENDING, TOOLS, heed_signals, report, when_written
 from tests.support.two_dumps import TwoDumpsTest
@@ -126,18 +125,27 @@ class DumpRunsTest(TwoDumpsTest):
                 runs.without({})
                 self.assertEqual(pathlib.Path("got").read_bytes(), pathlib.Path(runs.path).read_bytes())
 
-    def test_shorter(self) -> None:
-        """A file that becomes shorter between two questions is said to be so, by its name."""
-        for is_pipe in (False, True):
-            runs = self.both()[0]
-            if is_pipe:
-                runs.memory = None
-            runs.without({})
-            os.truncate("monday", runs.dump.size - 1)
-            for ask in lambda: [runs.without({})], lambda: reports_of(*[Question(runs, {24: b"a"})] * 2):
-                self.assertRaisesRegex(Fault, "^monday: it became shorter while it was read$", ask)
-            with open("monday", "ab") as file:
-                file.write(b"a")
+    def test_file_is_not_read_again(self) -> None:
+        """Whatever becomes of the file, heapmark gets what was read."""
+        whole = pathlib.Path("monday").read_bytes()
+        becomes: List[Callable[[], object]] = [
+            lambda: os.truncate("monday", 0),
+            lambda: os.truncate("monday", len(whole) - 1),
+            lambda: pathlib.Path("monday").write_bytes(bytes(len(whole))),
+            lambda: os.remove("monday"),
+        ]
+        for become in becomes:
+            for is_pipe in (False, True):
+                pathlib.Path("monday").write_bytes(whole)
+                runs = self.both()[0]
+                if is_pipe:
+                    runs.memory = None
+                become()
+                asked: List[Dict[int, bytes]] = [{}, {24: b"a"}]
+                for changes in asked:
+                    runs.without(changes)
+                    got = pathlib.Path("got").read_bytes()
+                    self.assertEqual(got, whole[:24] + changes.get(24, whole[24:25]) + whole[25:])
 
     def test_interrupt(self) -> None:
         """A signal ends the tool and all runs, on two dumps or several on each."""

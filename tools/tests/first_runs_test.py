@@ -11,6 +11,7 @@ import unittest
 from typing import List
 from unittest import mock
 
+from heap_tools.dump_file import state_of
 from heap_tools.dump_runs import DumpRuns
 from heap_tools.faults import Fault
 from heap_tools.first_runs import AcceptedDump, FirstRuns
@@ -84,7 +85,7 @@ class FirstRunsTest(TwoDumpsTest):
         heapmark = self.heapmark(meanwhile)
         found = self.accepted(heapmark, *paths)
         lengths = [os.path.getsize(path) for path in paths]
-        self.assertEqual([(each.path, each.length) for each in found], [*zip(paths, lengths)])
+        self.assertEqual([(each.path, each.state) for each in found], [(path, state_of(path)) for path in paths])
         self.assertEqual([each.report.amount("A").objects for each in found], lengths)
         self.assertEqual(heapmark.runs, len(paths))
         counts = [int(each) for each in pathlib.Path("together").read_text().split()]
@@ -172,7 +173,7 @@ class FirstRunsTest(TwoDumpsTest):
             with FirstRuns(heapmark, ["monday", "friday"], "tool") as first:
                 with self.assertRaisesRegex(Fault, f"^{path}: it changed while it was read$"):
                     for _ in range(2):
-                        DumpRuns.read(heapmark, first.next()).dump.file.close()
+                        DumpRuns.read(heapmark, first.next())
 
     def test_next_goes_on(self) -> None:
         """The records of a dump are read while heapmark reads the next, also if runs on both have no room at once."""
@@ -180,7 +181,7 @@ class FirstRunsTest(TwoDumpsTest):
             heapmark = self.heapmark(on("friday", when("ended.*", 1)))
             with mock.patch("heap_tools.memory_copy.free_memory", return_value=room):
                 with FirstRuns(heapmark, ["monday", "friday"], "tool") as first:
-                    DumpRuns.read(heapmark, first.next()).dump.file.close()
+                    DumpRuns.read(heapmark, first.next())
                     pathlib.Path("ended.1").touch()
                     self.assertEqual(first.next().path, "friday")
 

@@ -9,6 +9,7 @@ from unittest import mock
 
 from heap_tools import heap_bytes, heap_sample
 from heap_tools.class_growth import growths
+from heap_tools.dump_file import state_of
 from heap_tools.faults import Fault
 from heap_tools.heap_bytes import counted_in_heap
 from heap_tools.heap_layout import Layout
@@ -84,13 +85,17 @@ class FilesTest(unittest.TestCase):
         self.addCleanup(folder.cleanup)
         self.addCleanup(os.chdir, os.getcwd())
         os.chdir(folder.name)
-        heap(8).written().write("dump")
         report = MarkedRuns(heap(8).read()).report
-        self.dump = Snapshot("dump", "dump", report)
+        self.dump = self.written(heap(8), "dump", report)
         self.report = Snapshot("report", "report", report)
         rows = [Row("shop/Order", Amount(300, 7200)), Row("java/lang/Class", Amount(2, 200))]
         rows += [Row("int[]", Amount(1, 24)), Row("[Ljdk/internal/vm/FillerElement;", Amount(2, 48))]
         self.histogram = Snapshot("histogram", "histogram", Report(rows, in_heap=True))
+
+    def written(self, it: LaidOutHeap, path: str, report: Report) -> Snapshot:
+        """Writes a dump, and returns what grown has of it."""
+        it.written().write(path)
+        return Snapshot(path, "dump", report, state=state_of(path))
 
     def test_dumps(self) -> None:
         """Dumps count bytes of the heap, but not beside a report, not from a pipe, and not if the user says so."""
@@ -115,8 +120,8 @@ class FilesTest(unittest.TestCase):
         self.assertEqual(in_common_bytes([self.histogram] * 2, True), ([self.histogram] * 2, ""))
         few = LaidOutHeap(COMPRESSED)
         few.mixed(2)
-        few.written().write("few")
-        for other, dump_bytes in ((self.report, False), (self.dump, True), (self.dump._replace(path="few"), False)):
+        small = self.written(few, "few", self.dump.report)
+        for other, dump_bytes in ((self.report, False), (self.dump, True), (small, False)):
             with self.assertRaisesRegex(Fault, "histogram: a histogram: its bytes are not those of"):
                 in_common_bytes([self.histogram, other], dump_bytes)
         self.assertTrue(pathlib.Path("few").exists())
@@ -126,8 +131,7 @@ class FilesTest(unittest.TestCase):
         the sample: nothing grew."""
         it = LaidOutHeap(COMPRESSED)
         it.dump.root(*it.uneven())
-        it.written().write("dump")
-        dump = self.dump._replace(report=MarkedRuns(it.read()).report)
+        dump = self.written(it, "dump", MarkedRuns(it.read()).report)
         with mock.patch.object(heap_sample, "SAMPLED", 2000):
             (alone, _), _ = in_common_bytes([dump, dump], False)
             rows = [Row("java/lang/Class", alone.report.amount("<class>")), Row("shop/Order", Amount(600, 14400))]
@@ -144,8 +148,7 @@ class FilesTest(unittest.TestCase):
         table = it.of_class("[Ljava/lang/Object;", number=it.place(112))
         lacking = [it.place(size) for size in (112, 120, 136)]
         it.dump.root(it.values(BYTE, 8), it.array(table, 4, [*lacking, table]))
-        it.written().write("dump")
-        dump = self.dump._replace(report=replace(MarkedRuns(it.read()).report, unresolved=len(lacking)))
+        dump = self.written(it, "dump", replace(MarkedRuns(it.read()).report, unresolved=len(lacking)))
         (alone, _), _ = in_common_bytes([dump, dump], False)
         loaded = alone.report.amount("<class>")
         rows = [Row("java/lang/Class", loaded.plus(Amount(3, 368)))]

@@ -1,9 +1,7 @@
 """Tests how much memory the heap of a program may have."""
 
 import lzma
-import pathlib
 import struct
-import tempfile
 import unittest
 from typing import Optional
 
@@ -40,11 +38,7 @@ class HeapCapacityTest(unittest.TestCase):
 
     def capacity(self, content: bytes) -> Optional[int]:
         """Returns what a dump with this content says."""
-        with tempfile.TemporaryDirectory() as room:
-            path = pathlib.Path(room, "app.hprof")
-            path.write_bytes(content)
-            with path.open("rb") as file:
-                return heap_capacity(HeapDump(file))
+        return heap_capacity(HeapDump(content))
 
     def test_virtual_machines(self) -> None:
         """Each was started with -Xmx24m."""

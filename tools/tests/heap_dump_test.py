@@ -3,7 +3,7 @@
 import os
 import tempfile
 import unittest
-from typing import IO, Any, Callable, List, Union
+from typing import Any, Callable, List, Union
 from unittest import mock
 
 from heap_tools import heap_dump, hprof_format, parallel
@@ -39,15 +39,7 @@ class HprofTest(unittest.TestCase):
 
     def read(self, dump: DumpWriter, nameless: bool = False) -> heap_dump.HeapDump:
         """Returns what is read of a dump."""
-        return heap_dump.HeapDump(self.file(dump.bytes()), nameless)
-
-    def file(self, content: bytes = b"") -> IO[bytes]:
-        """Returns a temporary file with this content."""
-        file = tempfile.TemporaryFile()
-        self.addCleanup(file.close)
-        file.write(content)
-        file.flush()
-        return file
+        return heap_dump.HeapDump(dump.bytes(), nameless)
 
     def copied(self, found: heap_dump.HeapDump, *changes: Any) -> bytes:
         """Returns a copy of a dump that was read, with changes."""
@@ -297,7 +289,6 @@ class RunsTest(ToolTest):
         dump.write("dump")
         with mock.patch.dict(os.environ, HEAPMARK=self.program(text)):
             found = DumpRuns.of(Heapmark(), "dump", "test")
-        self.addCleanup(found.dump.file.close)
         return found
 
     def test_nameless(self) -> None:
@@ -360,14 +351,6 @@ class CopyTest(HprofTest):
         for id_size, code in ((4, hprof_format.INT), (8, hprof_format.LONG)):
             self.assertEqual(number_code(self.read(Service(id_size))), bytes([code]))
             self.assertEqual(hprof_format.PRIMITIVE_SIZES[code], id_size)
-
-    def test_shorter(self) -> None:
-        """A file that became shorter is seen."""
-        found = self.read(Service())
-        os.truncate(found.file.fileno(), 200)
-        for changes in ({}, {150: b"a", 300: b"b"}):
-            with self.assertRaisesRegex(Fault, ": it became shorter while it was read$"):
-                self.copied(found, changes)
 
 
 class ProcessesTest(unittest.TestCase):

@@ -267,7 +267,7 @@ class HeldTest(ToolTest):
         asked = "".join(f"glibc.malloc.hugetlb=1 {each}\n" for each in words)
         self.assertEqual(pathlib.Path("runs").read_text(), asked)
         other = self.program('case $* in *stdin) exit 1 ;; esac\nexec HEAPMARK "$@"')
-        said = "held: cache.hprof: not read a second time"
+        said = "held: cache.hprof: not read a second time: */other: run 2 on cache.hprof failed: status 1"
         self.expect(["cache.hprof", VALUE], said=said, status=1, heapmark=other)
         said = "held: /nowhere cannot be run: No such file or directory: the variable HEAPMARK names it"
         self.expect(["cache.hprof", VALUE], said=said, status=5, heapmark="/nowhere")

@@ -2,9 +2,11 @@
 and how many are made."""
 
 import contextlib
+import itertools
 import os
 import pathlib
 import tempfile
+import threading
 import unittest
 from typing import List, Sequence, Tuple, Type
 from unittest import mock
@@ -33,13 +35,7 @@ class MemoryCopyTest(unittest.TestCase):
     """A copy in memory, with and without further roots"""
 
     def setUp(self) -> None:
-        folder = tempfile.TemporaryDirectory()
-        self.addCleanup(folder.cleanup)
-        self.path = pathlib.Path(folder.name, "dump")
-        shop().write(self.path)
-        file = open(self.path, "rb")
-        self.addCleanup(file.close)
-        self.dump = HeapDump(file)
+        self.dump = HeapDump(shop().bytes())
 
     def by_pipe(self, changes: Changes, roots: Sequence[int]) -> bytes:
         """Returns the copy that a pipe would bring."""
@@ -60,7 +56,7 @@ class MemoryCopyTest(unittest.TestCase):
                 with copy.changed(changes) as file:
                     self.assertEqual(content(file), wanted)
                     self.assertEqual(os.path.getsize(f"/proc/self/fd/{file}"), len(wanted))
-        self.assertEqual(self.path.read_bytes(), shop().bytes())
+        self.assertEqual(self.dump.bytes, shop().bytes())
 
     def test_put_back(self) -> None:
         """After each end of a run it has the dump's bytes again: also after a fault, an interrupt, or an exit."""
@@ -101,6 +97,34 @@ class MemoryCopyTest(unittest.TestCase):
         with self.assertRaises(KeyboardInterrupt), copy.changed({100: b"a"}):
             interrupt.start()
             self.addCleanup(interrupt.stop)
+        with copy.changed({}) as file:
+            self.assertIsNone(file)
+
+    def test_cut(self) -> None:
+        """What many runs have in common stays from one to the next, and is written only once; another cut takes its
+        place. What a run has besides is put back, also where it is the cut's."""
+        heap = self.dump.segments[0][0]
+        cuts: List[Changes] = [{24: b"a", heap: b"bc", self.dump.size - 3: b"d"}, {24: b"x", heap + 9: b"y"}, {}]
+        every: List[Changes] = [{25: b"e"}, {24: b"f", heap: b"gh"}, {}]
+        for roots in ROOTS:
+            copy = MemoryCopy(self.dump, roots)
+            was: Changes = {}
+            for cut, changes in itertools.product([*cuts, *reversed(cuts)], every):
+                with mock.patch.object(copy, "_write", wraps=copy._write) as write:
+                    with copy.changed(changes, cut) as file:
+                        self.assertEqual(content(file), self.by_pipe({**cut, **changes}, roots))
+                lengths = [len(call[0][0]) for call in write.call_args_list]
+                of_cut = [] if cut is was else [len(was), len(cut)]
+                self.assertEqual(lengths, [*of_cut, len(changes), len(changes)])
+                self.assertEqual(content(copy.file), self.by_pipe(cut, roots))
+                was = cut
+
+    def test_interrupt_while_it_is_cut(self) -> None:
+        """A copy of which it is not known what it has is not read again."""
+        copy = MemoryCopy(self.dump, [])
+        with mock.patch.object(copy, "_write", side_effect=KeyboardInterrupt):
+            with self.assertRaises(KeyboardInterrupt), copy.changed({}, {100: b"a"}):
+                self.fail("it was changed")
         with copy.changed({}) as file:
             self.assertIsNone(file)
 
@@ -148,6 +172,14 @@ class MemoryCopyTest(unittest.TestCase):
         with next_of(every[0], []).changed({}) as file:
             self.assertEqual(content(file), self.by_pipe({}, []))
 
+    def test_given_back_without_threads(self) -> None:
+        """If the system starts no thread, the memory is given back nevertheless."""
+        memory = CopiesInMemory(self.dump)
+        copy = next_of(memory, [])
+        with mock.patch.object(threading.Thread, "start", side_effect=RuntimeError("can't start new thread")):
+            give_back([memory])
+        self.assertRaises(OSError, os.fstat, copy.file)
+
     def test_no_room(self) -> None:
         """There is none if it and heapmark beside it have no room, if the system makes none, or if it is full."""
         for much, is_made in ((2 * self.dump.size, False), (4 * self.dump.size, True)):
@@ -192,18 +224,6 @@ class MemoryCopyTest(unittest.TestCase):
                 self.assertEqual([memory.free([]), memory.free([])], [None, None])
             self.assertEqual(create.call_count, 1)
         self.assertIs(memory.free([]), first)
-
-    def test_shorter(self) -> None:
-        """That the file of the dump became shorter is said before a copy is made, while it is, and later."""
-        memory = CopiesInMemory(self.dump)
-        os.truncate(self.path, 200)
-        why = f"^{self.path}: it became shorter while it was read$"
-        for fails in lambda: memory.free([]), lambda: MemoryCopy(self.dump, []):
-            self.assertRaisesRegex(Fault, why, fails)
-        shop().write(self.path)
-        self.assertIsNotNone(memory.free([]))
-        os.truncate(self.path, 200)
-        self.assertRaisesRegex(Fault, why, memory.free, [])
 
 
 def next_of(memory: CopiesInMemory, roots: Sequence[int]) -> MemoryCopy:

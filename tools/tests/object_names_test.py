@@ -1,6 +1,5 @@
 """Tests what names an object of a dump."""
 
-import tempfile
 import unittest
 from typing import List, Sequence, Tuple
 from unittest import mock
@@ -27,11 +26,7 @@ class NamesTest(unittest.TestCase):
 
     def read(self, content: bytes) -> HeapDump:
         """Returns what is read of a dump."""
-        file = tempfile.TemporaryFile()
-        self.addCleanup(file.close)
-        file.write(content)
-        file.flush()
-        return HeapDump(file)
+        return HeapDump(content)
 
     def test_keys(self) -> None:
         """An object has the names of the keys under which maps have it: texts and numbers."""

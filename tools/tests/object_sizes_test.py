@@ -2,7 +2,6 @@
 
 import lzma
 import pathlib
-import tempfile
 import unittest
 from typing import Dict, List, Sequence
 
@@ -250,10 +249,8 @@ class RealDumpsTest(unittest.TestCase):
     def test_histograms(self) -> None:
         """All classes that have as many objects take as many bytes, to 1%, and all of them to 0.3%."""
         for name in ("jdk17", "jdk21", "jdk25"):
-            with tempfile.TemporaryFile() as file, (REAL / f"{name}.histogram").open("rb") as text:
-                file.write(lzma.open(REAL / f"{name}.hprof.xz").read())
-                file.flush()
-                dump = HeapDump(file)
+            dump = HeapDump(lzma.open(REAL / f"{name}.hprof.xz").read())
+            with (REAL / f"{name}.histogram").open("rb") as text:
                 histogram = read_text(text, name)
             assert histogram
             sizes = ObjectSizes(dump)

@@ -10,7 +10,7 @@ from unittest import mock
 
 from heap_tools.faults import Fault
 from heap_tools.parallel import Work, shared
-from tests.support.waiting import wait_until
+from tests.support.waiting import time_limit, wait_until
 
 
 def squares(numbers: List[int]) -> List[int]:
@@ -70,9 +70,10 @@ class WorkTest(unittest.TestCase):
 
         work = Work(sleeping, [1, 2, 3], 1)
         begun = self.begun(3)
-        del work
+        with time_limit(20):
+            del work
         self.assertEqual([each for each in begun if os.path.exists(f"/proc/{each}")], [])
-        with self.assertRaisesRegex(Fault, "ended early"):
+        with self.assertRaisesRegex(Fault, "ended early"), time_limit(20):
             shared(lambda numbers: os._exit(1) if 1 in numbers else sleeping(numbers), [1, 2, 3], 1)
         self.assertEqual([each for each in self.begun(3) if os.path.exists(f"/proc/{each}")], [])
 

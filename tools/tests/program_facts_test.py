@@ -1,8 +1,6 @@
 """What a dump says of the program that it is of."""
 
 import lzma
-import pathlib
-import tempfile
 import unittest
 
 from heap_tools.heap_dump import HeapDump
@@ -19,11 +17,7 @@ class ProgramFactsTest(unittest.TestCase):
 
     def facts_in(self, content: bytes, shows_values: bool = True) -> ProgramFacts:
         """Returns what a dump with this content says."""
-        with tempfile.TemporaryDirectory() as room:
-            path = pathlib.Path(room, "app.hprof")
-            path.write_bytes(content)
-            with path.open("rb") as file:
-                return facts_of(HeapDump(file), shows_values)
+        return facts_of(HeapDump(content), shows_values)
 
     def test_virtual_machines(self) -> None:
         """The program and the virtual machine, by the tables of the properties of each version."""

@@ -6,6 +6,7 @@ import unittest
 from typing import List, Sequence, Tuple
 from unittest import mock
 
+from heap_tools.changed_copy import Changes
 from heap_tools.dump_runs import DumpRuns, Question, reports_of
 from heap_tools.heapmark import LaterFault
 from heap_tools.memory_copy import CopiesInMemory, have_room
@@ -55,9 +56,11 @@ class RunsAtOnceTest(TwoDumpsTest):
             path.unlink()
         return together
 
-    def check_copies(self, runs: DumpRuns, count: int) -> None:
-        """Tests how many copies in memory a dump has, and that all have its bytes."""
-        whole = pathlib.Path(runs.path).read_bytes()
+    def check_copies(self, runs: DumpRuns, count: int, cut: Changes = {}) -> None:
+        """Tests how many copies in memory a dump has, and that all have its bytes, but for `cut`."""
+        whole = bytearray(pathlib.Path(runs.path).read_bytes())
+        for at, new in cut.items():
+            whole[at : at + len(new)] = new
         self.assertEqual([pathlib.Path(f"/proc/self/fd/{each}").read_bytes() for each in files(runs)], [whole] * count)
 
     def test_workers(self) -> None:
@@ -113,6 +116,8 @@ class RunsAtOnceTest(TwoDumpsTest):
             self.check_copies(last, count)
         changed = last.with_cut({25: b"c"})
         self.check([(changed, number) for number in range(4)])
+        self.check_copies(last, 3, changed.cut)
+        self.check([(last, number) for number in range(4)])
         self.check_copies(last, 3)
         self.check_copies(first, 1)
 

@@ -459,10 +459,7 @@ class RandomTest(unittest.TestCase):
 
     def marked(self, content: bytes) -> MarkedRuns:
         """Returns a dump that is marked in this process."""
-        with tempfile.TemporaryFile() as file:
-            file.write(content)
-            file.flush()
-            return MarkedRuns(HeapDump(file))
+        return MarkedRuns(HeapDump(content))
 
     def probe(self, *both: DumpRuns) -> GrowthProbe:
         """Returns what asks two dumps about the growth of their bytes."""
@@ -562,8 +559,6 @@ class RandomTest(unittest.TestCase):
                     both.append(DumpRuns.of(Heapmark(), f"{folder}/{name}", "leaks"))
                 proved = self.probe(*both)
                 lines = [self.lines(each) for each in (probe, proved)]
-                for runs in both:
-                    runs.dump.file.close()
             self.assertEqual(lines[0], lines[1], seed)
             self.assertEqual(probe.growth, proved.growth)
 

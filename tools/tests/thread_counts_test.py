@@ -1,6 +1,5 @@
 """Tests how threads are counted by their names."""
 
-import tempfile
 import unittest
 from typing import List
 from unittest import mock
@@ -53,11 +52,7 @@ class ThreadCountsTest(unittest.TestCase):
 
     def read(self, dump: DumpWriter) -> HeapDump:
         """Returns what is read of a dump."""
-        file = tempfile.TemporaryFile()
-        self.addCleanup(file.close)
-        file.write(dump.bytes())
-        file.flush()
-        return HeapDump(file)
+        return HeapDump(dump.bytes())
 
     def test_patterns(self) -> None:
         """Numbers in names are one, however long they are."""

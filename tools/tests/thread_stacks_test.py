@@ -1,6 +1,5 @@
 """Tests where the thread is that ran out of memory, and those whose local variables hold much."""
 
-import tempfile
 import unittest
 from typing import List, Tuple
 
@@ -35,11 +34,7 @@ class ThreadStacksTest(unittest.TestCase):
 
     def read(self, dump: DumpWriter) -> HeapDump:
         """Returns the dump as it is read."""
-        file = tempfile.TemporaryFile()
-        self.addCleanup(file.close)
-        file.write(dump.bytes())
-        file.flush()
-        return HeapDump(file)
+        return HeapDump(dump.bytes())
 
     def test_ran_out(self) -> None:
         """The first own method and two more are said, of each thread on whose stack the error's constructor is on

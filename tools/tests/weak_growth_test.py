@@ -1,6 +1,5 @@
 """Tests which weak references are followed: those of a kind that alone hold most of what grew, but never soft ones."""
 
-import tempfile
 import unittest
 from typing import Dict, List, Tuple
 from unittest import mock
@@ -42,10 +41,7 @@ def referring(kept: int, counts: Dict[str, int], blocked: bool = False) -> DumpR
     dump.instance(700, 30, 701)
     dump.instance(701, 31, 702, b"\0")
     dump.values(702, BYTE, b"Finalizer")
-    with tempfile.TemporaryFile() as file:
-        file.write(dump.bytes())
-        file.flush()
-        return MarkedRuns(HeapDump(file))
+    return MarkedRuns(HeapDump(dump.bytes()))
 
 
 class FollowedTest(unittest.TestCase):

@@ -108,7 +108,7 @@ class Difference(NamedTuple):
             notes.append(
                 f"nothing is retained by {named}: what that leads to, if anything, is reachable another way, too"
             )
-        return notes
+        return [*notes, *self.runs.changed_words()]
 
 
 def difference(path: str, text: str, follows_weak: bool = False, dump_bytes: bool = False) -> Difference:
@@ -132,8 +132,8 @@ def difference(path: str, text: str, follows_weak: bool = False, dump_bytes: boo
         return Difference(runs, None, runs.report, entries, dumps.words)
     try:
         return Difference(runs, *largest(runs, changes), entries, dumps.words)
-    except LaterFault:
-        raise Fault(UNREADABLE, f"{path}: not read a second time") from None
+    except LaterFault as fault:
+        raise Fault(UNREADABLE, f"{path}: not read a second time: {fault}") from None
 
 
 def largest(runs: DumpRuns, changes: Changes) -> Tuple[Report, Report]:

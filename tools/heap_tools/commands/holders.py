@@ -198,7 +198,7 @@ def holders_sentences(found: Found) -> List[str]:
     notes += filter(None, [found.bytes_words])
     cost = f"{counted(search.all, 'field')}, {counted(probe.runs.heapmark.runs, 'run')} of heapmark"
     rest = f"threads or the virtual machine hold {without_statics(probe):,} of {what} without any static field"
-    return [*notes, f"{rest}; {cost}"]
+    return [*notes, *probe.runs.changed_words(), f"{rest}; {cost}"]
 
 
 def main(words: Sequence[str]) -> int:

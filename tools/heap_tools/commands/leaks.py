@@ -223,7 +223,8 @@ def print_growth(paths: Sequence[str], options: Options, output: Output) -> None
     above = lines_above(comparison, answer.probe, width_of(answer.lines)) if has_heads else ""
     cost = output.cost(answer.search)
     sentences = [*comparison.why, *notes_words(notes), *remainder(answer, comparison)]
-    sentences += [*filter(None, [dumps.words]), str(cost)]
+    changed = [words for each in dumps.dumps for words in each.changed_words()]
+    sentences += [*filter(None, [dumps.words]), *changed, str(cost)]
     if output.is_json:
         write(document("leaks", fields_of_growth(comparison, answer, notes, cost), sentences))
     else:
@@ -246,7 +247,8 @@ def print_one(path: str, options: Options, output: Output) -> None:
     finally:
         progress.clear()
     cost = output.cost(answer.search)
-    sentences = [*sentences_of(answer, notes), *filter(None, [dumps.words]), str(cost)]
+    changed = dumps.dump.changed_words()
+    sentences = [*sentences_of(answer, notes), *filter(None, [dumps.words]), *changed, str(cost)]
     write(document("leaks", fields_of_one(answer, notes, cost), sentences) if output.is_json else lines_of_one(answer))
     if output.page is not None:
         write_page(output.page, page_of_one(answer, notes, output.making(), options.shows_values))

@@ -1,6 +1,5 @@
 """sizes: what the classes of a dump take in the heap, as the virtual machine counts."""
 
-import os
 import platform
 import shlex
 import sys
@@ -132,7 +131,7 @@ def content_of_sizes(
     return page.Sizes(
         dump=page.DumpEntry(
             runs.path,
-            os.path.getsize(runs.path),
+            runs.dump.size,
             runs.dump.time,
             whole.reachable,
             whole.unreachable,
@@ -164,7 +163,7 @@ def main(words: Sequence[str]) -> int:
         progress.clear()
     every = sizes_shown(sizes, options)
     shown = every[: options.top]
-    notes = size_notes(sizes, len(every) - len(shown))
+    notes = [*size_notes(sizes, len(every) - len(shown)), *runs.changed_words()]
     if options.json:
         write(document("sizes", sizes_fields(runs, sizes, shown, options.packages, len(every) - len(shown)), notes))
     else:

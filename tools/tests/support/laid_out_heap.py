@@ -1,7 +1,6 @@
 """Heap dumps whose identifiers are the addresses of objects in a heap with a known layout."""
 
 import random
-import tempfile
 from typing import Callable, Dict, List, Sequence, Tuple
 
 from heap_tools.heap_dump import HeapDump
@@ -110,7 +109,4 @@ class LaidOutHeap:
 
 def read(dump: DumpWriter) -> HeapDump:
     """Writes a dump and reads it."""
-    with tempfile.TemporaryFile() as file:
-        file.write(dump.bytes())
-        file.flush()
-        return HeapDump(file)
+    return HeapDump(dump.bytes())

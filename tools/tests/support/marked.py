@@ -1,6 +1,5 @@
 """Probes of dumps that are marked in this process, not by heapmark."""
 
-import tempfile
 
 from heap_tools.candidates import Candidates
 from heap_tools.heap_dump import HeapDump
@@ -12,10 +11,7 @@ from tests.support.marker import MarkedRuns
 
 def marked(dump: DumpWriter) -> MarkedRuns:
     """Returns a dump that is marked in this process."""
-    with tempfile.TemporaryFile() as file:
-        file.write(dump.bytes())
-        file.flush()
-        return MarkedRuns(HeapDump(file))
+    return MarkedRuns(HeapDump(dump.bytes()))
 
 
 def probe_of(dump: DumpWriter) -> Probe:

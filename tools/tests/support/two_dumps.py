@@ -40,7 +40,4 @@ class TwoDumpsTest(ToolTest):
         """Returns the runs of a stand-in on both dumps."""
         with mock.patch.dict(os.environ, HEAPMARK=program):
             heapmark = Heapmark()
-        found = [DumpRuns.of(heapmark, name, "tool") for name in ("monday", "friday")]
-        for each in found:
-            self.addCleanup(each.dump.file.close)
-        return found
+        return [DumpRuns.of(heapmark, name, "tool") for name in ("monday", "friday")]
