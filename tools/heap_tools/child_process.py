@@ -1,6 +1,7 @@
 """Processes that a tool starts: what they print is read with a bound, and none outlives the tool."""
 
 import contextlib
+import errno
 import fcntl
 import os
 import selectors
@@ -24,7 +25,11 @@ Wanted = Callable[[bytes], bool]
 
 
 class NotStarted(Exception):
-    """A program cannot be run; the text says why."""
+    """A program cannot be run; the text says why, and `number` is the system's number for that."""
+
+    def __init__(self, number: int) -> None:
+        super().__init__(os.strerror(number))
+        self.number = number
 
 
 class Ran(NamedTuple):
@@ -145,8 +150,12 @@ class Children:
 
 def _start(program: str, call: Call, environment: Dict[str, str], children: List[Child]) -> Child:
     """Starts a process and adds it to `children`. A signal that ends this tool is held back until it is there, so that
-    `Children` can then end it. It inherits the files that the shell opened for this tool, such as /dev/fd/63."""
-    read, written = _terminal() if call.to_terminal else os.pipe()
+    `Children` can then end it. It inherits the files that the shell opened for this tool, such as /dev/fd/63. Raises
+    `NotStarted` if the system does not start it."""
+    try:
+        read, written = _terminal() if call.to_terminal else os.pipe()
+    except OSError as fault:
+        raise NotStarted(fault.errno or errno.EIO) from None
     messages = open(read, "rb", 0)
     streams: Dict[str, Any] = {"stdin": PIPE if call.feed else call.stdin, "stdout": PIPE, "stderr": written}
     how: Dict[str, Any] = {"env": environment, "close_fds": False, "bufsize": 0, "preexec_fn": _in_child}
@@ -156,7 +165,10 @@ def _start(program: str, call: Call, environment: Dict[str, str], children: List
         return children[-1]
     except OSError as fault:
         messages.close()
-        raise NotStarted(fault.strerror) from None
+        raise NotStarted(fault.errno or errno.EIO) from None
+    except subprocess.SubprocessError:  # the new process could not even run `_in_child`
+        messages.close()
+        raise NotStarted(errno.ENOMEM) from None
     finally:
         os.close(written)
         _unblock()

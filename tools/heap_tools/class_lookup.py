@@ -16,7 +16,7 @@ def family_of(text: str, dump: HeapDump, *reports: Report) -> str:
         for one in families(text):
             if one in names:
                 return one
-    raise Fault(NO_SUCH_NAME, f"{text}: no class of the dump has this name: {why_unknown(text, known)}")
+    raise Fault(NO_SUCH_NAME, f"{text or repr(text)}: no class of the dump has this name: {why_unknown(text, known)}")
 
 
 def why_unknown(text: str, known: Iterable[str]) -> str:

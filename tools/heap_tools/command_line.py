@@ -111,6 +111,9 @@ def run(tool: str, main: Callable[[Sequence[str]], int]) -> NoReturn:
     except OSError as fault:
         say(": ".join(str(part) for part in (tool, fault.filename, fault.strerror or fault) if part is not None))
         status = UNREADABLE
+    except MemoryError:
+        say(f"{tool}: out of memory")
+        status = UNREADABLE
     except KeyboardInterrupt:
         _ignore(heeded)
         say(f"{tool}: interrupted")

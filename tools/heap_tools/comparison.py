@@ -130,7 +130,7 @@ def comparison_of(dumps: Sequence[DumpRuns], options: Options, progress: SearchP
     user follows them or those of one kind alone hold most of the growth."""
     progress.show()
     ends, unit = (dumps[0], dumps[-1]), options.unit
-    families = [family_of(options.of_class, dumps[-1].dump, dumps[-1].report)] if options.of_class else None
+    families = families_asked(options, dumps[-1])
     direct = direct_memory(ends[0].dump), direct_memory(ends[1].dump)
     followed, sides = followed_of(ends, families, unit, options.weak)
     asked = with_growth(sides, with_direct_memory(sides, Asked(families, unit), direct), dumps)
@@ -141,6 +141,12 @@ def comparison_of(dumps: Sequence[DumpRuns], options: Options, progress: SearchP
     earlier = EarlierProbe(first.runs, first.candidates, asked.families, asked.unit, progress.show, first.base)
     probe = GrowthProbe(earlier, last.runs, last.candidates, asked.families, asked.unit, progress.show, last.base)
     return Comparison(dumps, direct, probe, followed, calls, [*filter(None, [followed.why]), *asked.why])
+
+
+def families_asked(options: Options, runs: DumpRuns) -> Optional[List[str]]:
+    """Returns the family that the user asks for, or None if that is the whole heap. Raises `Fault` if the dump has none
+    of that name."""
+    return None if options.of_class is None else [family_of(options.of_class, runs.dump, runs.report)]
 
 
 def with_direct_memory(sides: Sequence[DumpSide], asked: Asked, direct: Tuple[DirectMemory, DirectMemory]) -> Asked:

@@ -10,6 +10,11 @@ from heap_tools.class_names import byte_escapes
 from heap_tools.faults import UNWRITABLE, Fault
 
 
+#: How many characters of a message are shown: the longest names of files have 4,096 bytes, each spelt by at most four
+#: characters, but those of classes may have 65,535.
+LONGEST_LINE = 20_000
+
+
 def in_one_line(text: str) -> str:
     """Spells what does not print, such as control characters and marks of direction, which a terminal would obey: each
     of their bytes as `\\x..`. Bytes of a file's name that are no text stay as they are."""
@@ -22,10 +27,14 @@ def as_heapmark_spells(text: str) -> str:
 
 
 def say(text: str) -> None:
-    """Writes a line on standard error. If it cannot be written, nobody would read it."""
+    """Writes a line on standard error, of a very long one its beginning and its end. If it cannot be written, nobody
+    would read it."""
+    line = in_one_line(text)
+    if len(line) > LONGEST_LINE:
+        line = f"{line[: LONGEST_LINE // 2]} .. {line[-LONGEST_LINE // 2 :]}"
     try:
         if sys.stderr:
-            os.write(sys.stderr.fileno(), f"{in_one_line(text)}\n".encode(errors="surrogateescape"))
+            os.write(sys.stderr.fileno(), f"{line}\n".encode(errors="surrogateescape"))
     except OSError:
         pass
 

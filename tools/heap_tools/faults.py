@@ -1,5 +1,7 @@
 """How a tool ends early: with a message and an exit status."""
 
+from typing import Tuple, Type
+
 
 class Fault(Exception):
     """Ends a tool with the exit status `status`, and with a message unless `text` is empty."""
@@ -7,6 +9,10 @@ class Fault(Exception):
     def __init__(self, status: int, text: str = "") -> None:
         super().__init__(text)
         self.status = status
+
+    def __reduce__(self) -> "Tuple[Type[Fault], Tuple[int, str]]":
+        """Returns how it is made in another process."""
+        return Fault, (self.status, str(self))
 
 
 #: A file cannot be read, was refused, or does not go with the others.

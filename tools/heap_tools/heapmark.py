@@ -1,20 +1,39 @@
 """heapmark: how it is found, how it runs, and what its refusals say."""
 
 import contextlib
+import errno
 import os
 import re
 import sys
-from typing import BinaryIO, Iterable, NamedTuple, Optional, Sequence
+from typing import BinaryIO, NamedTuple, Optional, Sequence
 
 from heap_tools.child_process import Call, Child, Children, Feed, NotStarted, Ran
 from heap_tools.console import as_heapmark_spells, is_terminal, say
 from heap_tools.faults import NO_HEAPMARK, UNREADABLE, WRONG_USE, Fault
-from heap_tools.reports import Report, may_be_report, read_report
+from heap_tools.reports import LARGEST_DUMP, Report, ReportBound, read_report
 
 #: The most bytes that heapmark prints at --version.
 LONGEST_VERSION = 1 << 12
 #: With how many workers heapmark marks if nothing else is said.
 WORKERS = 4
+#: What may help if the system lacks something that a process needs, by the number of its error.
+ADVICE = {
+    errno.EAGAIN: "see ulimit -u",
+    errno.ENOMEM: "free some memory, or see ulimit -v",
+    errno.EMFILE: "see ulimit -n",
+    errno.ENFILE: "close some files",
+}
+#: What is said of refusals that are not the dump's fault, by their codes; of all others, that heapmark accepts no such
+#: dump.
+REASONS = {
+    "15": "heapmark is out of memory: free some, or see ulimit -v",
+    "18": "the system starts no thread for heapmark: see ulimit -u and ulimit -v",
+    "19": "heapmark cannot read it",
+}
+#: Advice of heapmark's that a tool has no option for.
+ONE_WORKER = ", or try --workers 1, which takes the least"
+#: The file by which heapmark reads a copy.
+STANDARD_INPUT = "/dev/stdin"
 
 
 class LaterFault(Fault):
@@ -29,9 +48,11 @@ def nearest() -> str:
 
 
 class Copy(NamedTuple):
-    """A copy of the dump `path` with changes: the descriptor of an open file, or a pipe that `feed` writes it to."""
+    """A copy of the dump `path`, which has `length` bytes, with changes: the descriptor of an open file, or a pipe that
+    `feed` writes it to."""
 
     path: str
+    length: int
     file: Optional[int] = None
     feed: Optional[Feed] = None
 
@@ -55,10 +76,10 @@ class Heapmark:
         try:
             return children.start(self.program, call, self.environment)
         except NotStarted as why:
-            text = f"{self.program} cannot be run: {why}: {self._advice()}"
+            text = f"{self.program} cannot be run: {why}: {ADVICE.get(why.number) or self._where()}"
             raise Fault(NO_HEAPMARK, text) from None
 
-    def _advice(self) -> str:
+    def _where(self) -> str:
         """Returns what to do if there is no such program."""
         if os.environ.get("HEAPMARK"):
             return "the variable HEAPMARK names it"
@@ -73,7 +94,7 @@ class Heapmark:
     def check_fields(self, fields: str) -> None:
         """Raises `Fault` if `fields` is no list. heapmark refuses such a text before it opens a file: with refusal 21,
         or with status 2 if the text is not UTF-8."""
-        ran = self._run(Call(["--skip=" + fields, "--", "/dev/null"], may_be_report))
+        ran = self._run(Call(["--skip=" + fields, "--", "/dev/null"], ReportBound(0)))
         if ran.status == 2 or any("refused 21 " in line for line in ran.said):
             raise Fault(WRONG_USE, f"{fields}: no list of 1 to 64 fields Class.field with commas between")
 
@@ -94,15 +115,16 @@ class Heapmark:
             try:
                 path.encode()
             except UnicodeEncodeError:  # heapmark takes no such name
-                name, stdin = "/dev/stdin", stack.enter_context(opened(path)).fileno()
-            call = Call([*options, "--", name], may_be_report, stdin, to_terminal=to_terminal)
+                name, stdin = STANDARD_INPUT, stack.enter_context(opened(path)).fileno()
+            bound = ReportBound(os.path.getsize(path) if os.path.isfile(path) else LARGEST_DUMP)
+            call = Call([*options, "--", name], bound, stdin, to_terminal=to_terminal)
             child = self._started(call, children)
         return FirstRun(self, child, path, name)
 
     def later_run(self, copy: Copy, children: Children, workers: int) -> "LaterRun":
         """Starts a run with so many workers on a copy of a dump among `children`."""
-        words = [f"--workers={workers}", "--", "/dev/stdin"]
-        child = self._started(Call(words, may_be_report, copy.file, copy.feed), children)
+        words = [f"--workers={workers}", "--", STANDARD_INPUT]
+        child = self._started(Call(words, ReportBound(copy.length), copy.file, copy.feed), children)
         self.runs += 1
         return LaterRun(self, child, self.runs, copy.path)
 
@@ -124,6 +146,8 @@ class Heapmark:
             ended = "no report"
         if number == 1 and (ran.status >= 0 or ran.was_stopped):
             ended += ": is it heapmark?"
+        if "refused 19 " in ended and not os.path.exists(STANDARD_INPUT):
+            ended += f": it reads copies by {STANDARD_INPUT}, which needs /proc"
         raise LaterFault(NO_HEAPMARK, f"{self.program}: run {number} on {path} failed: {ended}")
 
 
@@ -157,11 +181,13 @@ class LaterRun(NamedTuple):
         return self.heapmark.judged(self.path, ran, self.number)
 
 
-def _reason(said: Iterable[str], path: str) -> str:
+def _reason(said: Sequence[str], path: str) -> str:
     """Returns why heapmark refused the file that it got as `path`: its advice, if it gave any, and the refusal."""
     lines, name = [re.sub("^heapmark: ", "", line) for line in said], f"{as_heapmark_spells(path)}: "
-    advice = next((line[len(name) :] for line in lines if line.startswith(name)), "no dump that heapmark accepts")
-    return f"{advice} ({lines[0]})" if lines else advice
+    code = next((line.split()[1] for line in lines if re.match("refused [0-9]", line)), "")
+    reason = REASONS.get(code, "no dump that heapmark accepts")
+    advice = next((line[len(name) :] for line in lines if line.startswith(name)), reason)
+    return f"{advice.replace(ONE_WORKER, '')} ({lines[0]})"
 
 
 def opened(path: str) -> BinaryIO:

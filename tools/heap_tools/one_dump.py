@@ -3,8 +3,8 @@
 from dataclasses import dataclass
 from typing import List, NamedTuple, Optional
 
-from heap_tools.class_lookup import family_of
 from heap_tools.class_objects import require_objects
+from heap_tools.comparison import families_asked
 from heap_tools.container_sizes import ContainerSizes
 from heap_tools.dump_runs import DumpRuns
 from heap_tools.heap_dump import HeapDump
@@ -55,7 +55,7 @@ class HeapAnswer:
 def question_of(runs: DumpRuns, options: Options, progress: SearchProgress) -> HeapQuestion:
     """Returns what asks a dump. Calls that are running do not count, nor do weak references, unless the user follows
     them or they hold most. Shares are of all that is reachable."""
-    families = [family_of(options.of_class, runs.dump, runs.report)] if options.of_class else None
+    families = families_asked(options, runs)
     followed, (side,) = followed_of([runs], families, options.unit, options.weak)
     if families:
         require_objects(families[0], runs, side.base)

@@ -4,12 +4,15 @@ import os
 import pickle
 import signal
 import weakref
-from typing import BinaryIO, Callable, Generic, List, Tuple, TypeVar
+from typing import Any, BinaryIO, Callable, Generic, List, NamedTuple, NoReturn, TypeVar
 
 from heap_tools.faults import UNREADABLE, Fault
 
 Item = TypeVar("Item")
 Result = TypeVar("Result")
+
+#: How a process ends that ran out of memory.
+NO_MEMORY = 3
 
 
 def processors() -> int:
@@ -17,26 +20,38 @@ def processors() -> int:
     return len(os.sched_getaffinity(0))
 
 
+class _Process(NamedTuple):
+    """A process with a part of the work: its number, and the stream that its result comes from."""
+
+    number: int
+    stream: BinaryIO
+
+
 class Work(Generic[Item, Result]):
     """Calls of `function` with parts of the list `items`, each in a process of its own. There are as many parts as
     processors, but each has at least `least` items. All begin at once, and end when their results are there, or at the
-    end of this tool. A single part is left for `results`, in this process."""
+    end of this tool. A single part is left for `results`, in this process; and so is all if the system starts no more
+    processes."""
 
     def __init__(self, function: Callable[[List[Item]], Result], items: List[Item], least: int) -> None:
         self._function, self._items = function, items
         count = max(1, min(processors(), len(items) // least))
         bounds = [len(items) * number // count for number in range(count + 1)]
-        children: List[Tuple[int, BinaryIO]] = []
-        self._children, self._end = children, weakref.finalize(self, _end, children)
-        for begin, end in zip(bounds, bounds[1:]) if count > 1 else ():
-            children.append(_started(function, items[begin:end]))
+        processes: List[_Process] = []
+        self._processes, self._end = processes, weakref.finalize(self, _end, processes)
+        try:
+            for begin, end in zip(bounds, bounds[1:]) if count > 1 else ():
+                processes.append(_started(function, items[begin:end]))
+        except OSError:
+            _end(processes)
 
     def results(self) -> List[Result]:
-        """Returns the results, in the order of the items."""
-        if not self._children:
+        """Returns the results, in the order of the items. Raises what the first process raised that failed: `Fault`,
+        `MemoryError`, or `Fault` if it ended early."""
+        if not self._processes:
             return [self._function(self._items)]
         try:
-            return [pickle.loads(_all_of(stream)) for _, stream in self._children]
+            return [_next_result(self._processes) for _ in range(len(self._processes))]
         finally:
             self._end()
 
@@ -46,32 +61,63 @@ def shared(function: Callable[[List[Item]], Result], items: List[Item], least: i
     return Work(function, items, least).results()
 
 
-def _end(children: List[Tuple[int, BinaryIO]]) -> None:
-    """Ends processes, if they have not ended."""
-    for child, stream in children:
+def _end(processes: List[_Process]) -> None:
+    """Ends processes, if they have not ended, and forgets them."""
+    while processes:
+        number, stream = processes.pop()
         stream.close()
-        os.kill(child, signal.SIGKILL)
-        os.waitpid(child, 0)
+        os.kill(number, signal.SIGKILL)
+        os.waitpid(number, 0)
 
 
-def _started(function: Callable[[List[Item]], Result], items: List[Item]) -> Tuple[int, BinaryIO]:
-    """Starts a process that calls `function`. Returns its number, and the stream that its result comes from."""
+def _started(function: Callable[[List[Item]], Result], items: List[Item]) -> _Process:
+    """Starts a process that calls `function`. Raises `OSError` if the system starts none."""
     reads, writes = os.pipe()
-    child = os.fork()
-    if child == 0:
-        try:
-            with open(writes, "wb") as stream:
-                pickle.dump(function(items), stream)
-        finally:
-            os._exit(0)
-    os.close(writes)
-    return child, open(reads, "rb")
+    try:
+        number = os.fork()
+        if number == 0:
+            _work(function, items, writes)
+    except OSError:
+        os.close(reads)
+        raise
+    finally:
+        os.close(writes)
+    return _Process(number, open(reads, "rb"))
 
 
-def _all_of(stream: BinaryIO) -> bytes:
-    """Returns the whole result. Raises `Fault` if the process ended without one: it ran out of memory, or what it read
-    changed."""
-    content = stream.read()
-    if not content:
+def _work(function: Callable[[List[Item]], Result], items: List[Item], writes: int) -> NoReturn:
+    """Calls `function`, writes what it returns or the fault that it raises, and ends this process."""
+    status = 1
+    try:
+        with open(writes, "wb") as stream:
+            pickle.dump(_returned(function, items), stream)
+        status = 0
+    except MemoryError:
+        status = NO_MEMORY
+    finally:
+        os._exit(status)
+
+
+def _returned(function: Callable[[List[Item]], Result], items: List[Item]) -> Any:
+    """Returns what `function` does, or the fault that it raises."""
+    try:
+        return function(items)
+    except Fault as fault:
+        return fault
+
+
+def _next_result(processes: List[_Process]) -> Any:
+    """Returns the result of the first of the processes, which then has ended, and forgets that one. Raises the fault
+    that it raised, `MemoryError` if it ran out of memory, and `Fault` if it ended without a result."""
+    content = processes[0].stream.read()
+    number, stream = processes.pop(0)  # it is about to end: no signal may reach another one of its number
+    stream.close()
+    _, ended = os.waitpid(number, 0)
+    if ended == NO_MEMORY << 8:
+        raise MemoryError
+    if ended:
         raise Fault(UNREADABLE, "a process that reads the dump ended early")
-    return content
+    result = pickle.loads(content)
+    if isinstance(result, Fault):
+        raise result
+    return result

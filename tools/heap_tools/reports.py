@@ -12,6 +12,11 @@ from heap_tools.faults import UNREADABLE, Fault
 #: The names of the last three rows of a report.
 TOTALS = ["(reachable)", "(unreachable)", "(unresolved)"]
 LONGEST_LINE = 1 << 20  # a name has at most 65,535 bytes, each shown by at most four
+#: The fewest bytes that a class has in a dump, and how many rows are of none: those of arrays of primitive values, of
+#: class objects, and the totals.
+SMALLEST_CLASS, OTHER_ROWS = 43, 12
+#: The most bytes of a dump that heapmark accepts.
+LARGEST_DUMP = 1 << 30
 #: A row of a report of heapmark.
 ROW = re.compile(rb" *([0-9]{1,19}) +([0-9]{1,19})  ([!-~]+)")
 
@@ -115,10 +120,23 @@ def lines_of(file: BinaryIO) -> Iterator[bytes]:
     return (line.rstrip(b"\r\n") for line in iter(lambda: file.readline(LONGEST_LINE), b""))
 
 
-def may_be_report(text: bytes) -> bool:
-    """Tests whether `text` may be the beginning of a report of heapmark: its first line is a row, or not yet whole."""
-    line, end, _ = text[:LONGEST_LINE].partition(b"\n")
-    return bool(ROW.fullmatch(line)) if end else len(text) < LONGEST_LINE
+class ReportBound:
+    """Tests whether what a process has printed so far may be the beginning of a report of heapmark on a dump with
+    `length` bytes: its first line is a row, or not yet whole, it has no more rows than the dump may have classes, and
+    no line is too long. What is printed without end is bounded so."""
+
+    def __init__(self, length: int) -> None:
+        self._most_rows = length // SMALLEST_CLASS + OTHER_ROWS
+        self._rows = self._at = self._line = 0
+
+    def __call__(self, text: bytes) -> bool:
+        """Tests it of `text`, which begins with the one before."""
+        self._rows += text.count(b"\n", self._at)
+        self._line = max(self._line, 1 + text.rfind(b"\n", self._at))
+        self._at = len(text)
+        if self._rows > self._most_rows or self._at - self._line >= LONGEST_LINE:
+            return False
+        return not self._line or bool(ROW.fullmatch(text, 0, text.find(b"\n")))
 
 
 def read_report(lines: Iterable[bytes], path: str) -> Optional[Report]:

@@ -4,7 +4,7 @@ import contextlib
 from typing import ContextManager, Dict, Iterator, List, NamedTuple, Optional, Sequence
 
 from heap_tools.changed_copy import Changes, write_copy
-from heap_tools.child_process import Child, Children
+from heap_tools.child_process import Child, Children, Feed
 from heap_tools.heap_dump import HeapDump
 from heap_tools.heapmark import WORKERS, Copy, Heapmark, LaterRun
 from heap_tools.memory_copy import CopiesInMemory, MemoryCopy
@@ -52,10 +52,11 @@ class ChangedDump(NamedTuple):
         """Yields `memory` with the changes, for one run, or one that a pipe brings if that is None."""
         with memory.changed(self.changes, self.cut) if memory else contextlib.nullcontext() as file:
             if file is not None:
-                yield Copy(self.path, file)
+                yield Copy(self.path, self.dump.size, file)
             else:
                 every = {**self.cut, **self.changes}
-                yield Copy(self.path, feed=lambda pipe: write_copy(self.dump, pipe, every, self.roots))
+                feed: Feed = lambda pipe: write_copy(self.dump, pipe, every, self.roots)
+                yield Copy(self.path, self.dump.size, feed=feed)
 
 
 class _Running(NamedTuple):

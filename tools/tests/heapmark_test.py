@@ -52,7 +52,7 @@ class HeapmarkTest(ToolTest):
                 self.heapmark(text).first_report("dump")
             self.assertEqual(raised.exception.status, status, text)
         with self.assertRaises(LaterFault):
-            self.later(self.heapmark("cat > all; exit 1"), Copy("dump", feed=lambda pipe: None))
+            self.later(self.heapmark("cat > all; exit 1"), Copy("dump", 0, feed=lambda pipe: None))
         with mock.patch.dict(os.environ, HEAPMARK="/no/where"), self.assertRaises(Fault) as raised:
             Heapmark().first_report("dump")
         self.assertEqual(raised.exception.status, NO_HEAPMARK)
@@ -86,7 +86,7 @@ class HeapmarkTest(ToolTest):
         """A report is read whole, whatever its length, and so is a first row with a long name."""
         rows = [(1, 8, "a" * 200_000), *((1, 8, f"A{number}") for number in range(20_000))]
         pathlib.Path("report").write_text(report(*rows))
-        pathlib.Path("dump").touch()
+        pathlib.Path("dump").write_bytes(bytes(43 * 20_001))
         self.assertEqual(len(self.heapmark("cat report").first_report("dump").rows), 20_001)
 
     def test_feed(self) -> None:
@@ -99,10 +99,10 @@ class HeapmarkTest(ToolTest):
             while rest:
                 rest = rest[os.write(pipe, rest) :]
 
-        self.later(heapmark, Copy("dump", feed=feed))
+        self.later(heapmark, Copy("dump", 0, feed=feed))
         self.assertEqual(pathlib.Path("all").read_bytes(), content)
         with self.assertRaisesRegex(LaterFault, "run 1 on dump failed: status 3"):
-            self.later(self.heapmark("exit 3"), Copy("dump", feed=feed))
+            self.later(self.heapmark("exit 3"), Copy("dump", 0, feed=feed))
 
     def test_at_once(self) -> None:
         """Runs that go on at the same time are numbered as they begin. All that they print is read as it comes: none
@@ -112,7 +112,7 @@ class HeapmarkTest(ToolTest):
         waits = "for _ in $(seq 300); do [ $(ls printed.* | wc -l) -lt 3 ] || exit 0; sleep 0.1; done; exit 3"
         heapmark = self.heapmark(f"cat long; head -c 200000 /dev/zero | tr '\\0' x >&2; touch printed.$$\n{waits}")
         with open("long", "rb") as file, mock.patch("heap_tools.heapmark.say") as say:
-            found = self.later(heapmark, *[Copy("dump", file.fileno())] * 3)
+            found = self.later(heapmark, *[Copy("dump", 1 << 20, file.fileno())] * 3)
         self.assertEqual(sorted(number for number, _ in found), [1, 2, 3])
         self.assertEqual([len(each.rows) for _, each in found], [20_001] * 3)
         self.assertEqual((heapmark.runs, say.call_count), (3, 3))
@@ -127,7 +127,7 @@ class HeapmarkTest(ToolTest):
         for number, names in ((1, ("fails", "sleeps")), (2, ("sleeps", "fails"))):
             heapmark = self.heapmark("echo $$ >> pids; . /dev/stdin")
             with contextlib.ExitStack() as stack:
-                copies = [Copy(name, stack.enter_context(open(name, "rb")).fileno()) for name in names]
+                copies = [Copy(name, 0, stack.enter_context(open(name, "rb")).fileno()) for name in names]
                 runs = stack.enter_context(Children())
                 begun = [heapmark.later_run(copy, runs, 2) for copy in copies]
                 child, ran = runs.next_ended()

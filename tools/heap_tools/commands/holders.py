@@ -134,7 +134,7 @@ def find_holders(options: Namespace, name: Optional[str]) -> Found:
     try:
         dumps = counted_in_heap([DumpRuns.of(heapmark, options.dump, "holders")], options.dump_bytes)
         runs = dumps.dump
-        families = [family_of(name, runs.dump, runs.report)] if name else None
+        families = None if name is None else [family_of(name, runs.dump, runs.report)]
         in_bytes = options.bytes or not families or is_array(families[0])
         unit = Unit.BYTES if in_bytes else Unit.OBJECTS
         shown = SearchProgress(progress, heapmark)
@@ -144,7 +144,7 @@ def find_holders(options: Namespace, name: Optional[str]) -> Found:
             require_objects(families[0], runs, side.base)
         (side,), _ = without_running_calls([side], families, unit, unit.of(side.base.total(families)))
         probe = Probe(side.runs, side.candidates, families, unit, shown.show, side.base)
-        search = Search(probe, options.at_least or (10 if name else 20), shown)
+        search = Search(probe, options.at_least or (10 if families else 20), shown)
         search.find(side.candidates.fields(side.base))
         SearchTogether(search).find_statics()
     finally:
