@@ -30,6 +30,8 @@ class EndTest(unittest.TestCase):
         """A fault of the system takes one line, with the file if there is one."""
         for body, line in (
             ("open('/no/file')", "tool: /no/file: No such file or directory"),
+            ("raise MemoryError", "tool: out of memory"),
+            ("bytes(1 << 60)", "tool: out of memory"),
             ("raise OSError(errno.EAGAIN, os.strerror(errno.EAGAIN))", "tool: Resource temporarily unavailable"),
             ("raise OSError('why')", "tool: why"),
         ):
@@ -56,6 +58,7 @@ class EndTest(unittest.TestCase):
             for raised, status, line in (
                 ("KeyboardInterrupt", 130, "interrupted"),
                 (f'ModuleNotFoundError("{missing}")', 5, needed),
+                ("MemoryError", 1, "out of memory"),
             ):
                 body = text.replace("from heap_tools", f"raise {raised}\n    from x")
                 words = [sys.executable, "-c", f"__file__ = {str(TOOLS / tool)!r}\n{body}"]
@@ -113,6 +116,15 @@ class LineTest(unittest.TestCase):
         ):
             self.assertEqual(console.in_one_line(text), spelled)
             self.assertEqual(console.as_heapmark_spells(text), text)
+
+    def test_long(self) -> None:
+        """Of a very long line the beginning and the end are written."""
+        for length, wanted in ((20_000, 20_000), (20_001, 20_004), (1 << 20, 20_004)):
+            with mock.patch("os.write") as write, mock.patch("sys.stderr", mock.Mock()):
+                console.say(f"begin {'x' * (length - 10)} end")
+            written = write.call_args[0][1].decode()
+            self.assertEqual((len(written), written[:6], written[-5:]), (wanted + 1, "begin ", " end\n"))
+            self.assertEqual(" .. " in written, wanted > 20_000)
 
     def test_surrogates(self) -> None:
         """Bytes of a file's name that are no text stay as they are."""

@@ -8,6 +8,7 @@ from unittest import mock
 
 from heap_tools import heap_dump, hprof_format, parallel
 from heap_tools.changed_copy import NEAR, number_code, write_copy
+from heap_tools.dump_file import content_of, state_of
 from heap_tools.dump_runs import DumpRuns
 from heap_tools.faults import UNREADABLE, Fault
 from heap_tools.heap_objects import FEWEST_SEGMENTS, HeapObjects
@@ -305,6 +306,39 @@ class RunsTest(ToolTest):
         for name, wanted in (("?0x5", True), ("shop/Order", False)):
             found = self.runs(dump, f"cat << 'END'\n{report((1, 8, name))}END")
             self.assertEqual("?0x5" in found.dump.names.values(), wanted)
+
+    def test_forgotten(self) -> None:
+        """A dump whose content is forgotten is the same as before, has its time and classes, and takes no memory."""
+        dumps: List[DumpWriter] = []
+        for text in (b"one", b"two", b"one"):
+            dumps.append(Service())
+            dumps[-1].values(400, BYTE, text)
+        first, other, same = (heap_dump.HeapDump(dump.bytes()) for dump in dumps)
+        longer = heap_dump.HeapDump(Service().bytes())
+        pairs = ((first, same), (same, first), (first, other), (first, longer))
+        for each in first, other, same, longer:
+            self.assertEqual([one.is_same(another) for one, another in pairs], [True, True, False, False])
+            each.forget()
+            self.assertEqual((each.bytes, "shop/Order" in each.names.values()), (b"", True))
+            self.assertEqual([one.is_same(another) for one, another in pairs], [True, True, False, False])
+
+    def test_changes(self) -> None:
+        """A file that has another length, time of change or number than before heapmark read it has changed, whatever
+        it has; so has one that is gone, or came."""
+        dump = Service()
+        dump.write("dump")
+        state = state_of("dump")
+        assert state
+        self.assertEqual(content_of("dump", state), dump.bytes())
+        for name in ("length", "changed", "number", "device"):
+            other = state._replace(**{name: getattr(state, name) + 1})
+            self.assertRaisesRegex(Fault, f"^{SHRUNK}$", content_of, "dump", other)
+        self.assertRaisesRegex(Fault, f"^{SHRUNK}$", content_of, "dump", None)
+        self.assertRaisesRegex(Fault, "^none: No such file or directory$", content_of, "none", state)
+        self.assertEqual([state_of("none"), state_of("a\0b")], [None, None])
+        with mock.patch("os.fstat", return_value=os.stat("dump")), mock.patch("builtins.open") as opens:
+            opens.return_value.__enter__.return_value.read.return_value = dump.bytes()[:-1]
+            self.assertRaisesRegex(Fault, f"^{SHRUNK}$", content_of, "dump", state)
 
     def test_shrinks(self) -> None:
         """A file that became shorter after heapmark accepted it, or empty, is the file's fault, wherever it ends."""

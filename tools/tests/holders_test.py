@@ -121,8 +121,9 @@ class HoldersTest(ToolTest):
             ([shop_dump, "Goat"], "spell it as the report does, and in quotes"),
             ([odd, "Part"], "did you mean java/Part?"),
             ([odd, "shop.Part"], "did you mean java/Part?"),
+            ([odd, ""], "*"),
         ):
-            said = f"holders: {words[1]}: no class of the dump has this name: {why}"
+            said = f"holders: {words[1] or repr('')}: no class of the dump has this name: {why}"
             self.expect(words, said=said, status=6)
         dump = DumpWriter()
         dump.of_class(1, "com/shop/Cache$Order")

@@ -70,7 +70,11 @@ class LeaksOfOneTest(ToolTest):
         held = line(400, 3200, 100, 1, "static shop/Service.CACHE > shop/Cache.table")
         held += line(400, 3200, 100, 1, "static shop/Service.CACHE")
         self.expect(["cache.hprof", "--class", "shop.Order", "--objects"], held, "*")
-        self.expect(["cache.hprof", "--class", "shop/None"], said="leaks: shop/None: no class of the dump *", status=6)
+        for name, spelt in (("shop/None", "shop/None"), ("", "''")):
+            said = f"leaks: {spelt}: no class of the dump *"
+            self.expect(["cache.hprof", "--class", name], said=said, status=6)
+            cache(20).write("before.hprof")
+            self.expect(["before.hprof", "cache.hprof", "--class", name], said=said, status=6)
         dump = cache(4)
         dump.of_class(10, "shop/Ghost")
         dump.write("ghost.hprof")

@@ -2,6 +2,7 @@
 
 import os
 import pathlib
+import signal
 import tempfile
 import time
 import unittest
@@ -9,6 +10,7 @@ from typing import List
 from unittest import mock
 
 from heap_tools.faults import Fault
+from heap_tools.heap_dump import UnknownTag
 from heap_tools.parallel import Work, shared
 from tests.support.waiting import time_limit, wait_until
 
@@ -76,6 +78,51 @@ class WorkTest(unittest.TestCase):
         with self.assertRaisesRegex(Fault, "ended early"), time_limit(20):
             shared(lambda numbers: os._exit(1) if 1 in numbers else sleeping(numbers), [1, 2, 3], 1)
         self.assertEqual([each for each in self.begun(3) if os.path.exists(f"/proc/{each}")], [])
+
+    def test_faults(self) -> None:
+        """What the first process that fails raised is raised: a fault of its own, that it is out of memory, or that it
+        ended early, also if it has written a part of its result."""
+
+        def fails(how: List[str]) -> bytes:
+            if how == ["fault"]:
+                raise UnknownTag("dump", 0x77, 99)
+            if how == ["memory"]:
+                raise MemoryError
+            if how == ["early"]:
+                os.kill(os.getpid(), signal.SIGKILL)
+            return bytes(1 << 20)
+
+        for how, kind, said in (
+            ("fault", Fault, "^dump: the sub-record at 99 has the tag 0x77, which these tools do not know$"),
+            ("memory", MemoryError, ""),
+            ("early", Fault, "^a process that reads the dump ended early$"),
+        ):
+            with self.assertRaisesRegex(kind, said):
+                shared(fails, ["none", how, "none"], 1)
+        self.assertEqual(os.listdir("/proc/self/task"), [str(os.getpid())])
+
+    def test_partly_written(self) -> None:
+        """A process that ends while it writes its result has none."""
+        with mock.patch(
+            "heap_tools.parallel.pickle.dump", side_effect=lambda _, stream: stream.write(b"\x80") and 1 / 0
+        ):
+            with self.assertRaisesRegex(Fault, "ended early"):
+                shared(squares, [1, 2, 3], 1)
+
+    def test_no_more_processes(self) -> None:
+        """If the system starts no more, all is done in this process, and none is left."""
+        begun: List[int] = []
+        fork = os.fork
+
+        def forks() -> int:
+            if begun:
+                raise BlockingIOError(11, "Resource temporarily unavailable")
+            begun.append(fork())
+            return begun[0]
+
+        with mock.patch("os.fork", forks):
+            self.assertEqual(shared(squares, [1, 2, 3], 1), [[1, 4, 9]])
+        self.assertFalse(os.path.exists(f"/proc/{begun[0]}"))
 
 
 if __name__ == "__main__":

@@ -4,7 +4,7 @@ import io
 import unittest
 
 from heap_tools.faults import Fault
-from heap_tools.reports import Amount, Report, read_text
+from heap_tools.reports import LONGEST_LINE, Amount, Report, ReportBound, read_text
 from tests.support.tool_test import histogram, report
 
 #: More bytes than a number of 32 bits has, and more than a file of heapmark can hold objects.
@@ -49,6 +49,32 @@ class ReportsTest(unittest.TestCase):
         for text in (report((1, 10, "A")), histogram((1, 10, "A"))):
             with self.assertRaises(Fault):
                 read_text(io.BytesIO(text.encode() * 2), "file")
+
+
+class BoundTest(unittest.TestCase):
+    """What is the beginning of a report, as it comes."""
+
+    def test_bound(self) -> None:
+        """The first line is a row, there are no more rows than the dump may have classes, and no line is too long,
+        however the text comes in parts."""
+        row = b"         1               8  A\n"
+        for length, text, is_report in (
+            (43, row * 13, True),
+            (43, row * 14, False),
+            (430, row * 22, True),
+            (430, row * 23, False),
+            (0, b"12", True),
+            (0, b"12\n", False),
+            (0, row + b"anything", True),
+            (0, b"x" * LONGEST_LINE, False),
+            (0, row + b"x" * (LONGEST_LINE - 1), True),
+            (0, row + b"x" * LONGEST_LINE, False),
+            (0, row + b"x" * 99 + b"\n" + b"x" * (LONGEST_LINE - 1), True),
+        ):
+            for part in (1 << 30, 1 << 16, 1000):
+                bound = ReportBound(length)
+                ends = [*range(part, len(text), part), len(text)]
+                self.assertEqual(all([bound(text[:end]) for end in ends]), is_report, (length, text[:60], part))
 
 
 if __name__ == "__main__":
