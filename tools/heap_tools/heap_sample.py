@@ -11,7 +11,7 @@ from functools import reduce
 from itertools import chain, groupby, islice, tee
 from operator import or_
 from typing import Counter as Counts
-from typing import Dict, Iterable, List, NamedTuple, Sequence, Set, Tuple
+from typing import Dict, Iterable, Iterator, List, NamedTuple, Sequence, Set
 
 from heap_tools import hprof_format as hprof
 from heap_tools.heap_dump import HeapDump, Span
@@ -24,8 +24,11 @@ SAMPLED = 200_000
 #: In how many parts of the file the sample is taken. The first and the last are longer: they have the objects of the
 #: virtual machine's start.
 PARTS = 40
-#: What is farther from the next object is not taken as its neighbour: there may be others that the dump does not have.
-LONGEST = 1 << 16
+#: How many objects of a sample are enough: if the parts have fewer, more parts are read.
+ENOUGH_SAMPLED = 50_000
+#: What is farther from the next object, besides its elements of so many bytes at most, is not taken as its neighbour:
+#: there may be others that the dump does not have.
+LONGEST, LONGEST_VALUE = 1 << 16, 8
 #: The bits of an address within a range, all of whose objects are taken. A range is at least `LONGEST` bytes long.
 RANGE_BITS = 16
 #: The fewest parts of the file for which a process of its own pays.
@@ -79,24 +82,47 @@ class Sample(NamedTuple):
 def sample_of(dump: HeapDump) -> Sample:
     """Takes a sample of the objects of `dump`, the class objects between them included."""
     spans = short_spans(dump)
-    stretches = [_beginning(dump, spans[number], count) for number, count in _parts(len(spans)).items()]
+    stretches = _stretches(dump, spans)
     classes = sorted(dump.classes)
     if _ascending(stretches) >= ASCENDING:
         stretches += _with_their_next(dump, spans, _special(dump, stretches))
-        between = {class_id for each in stretches if each for class_id in classes[slice(*_places(classes, each))]}
-        return _sample(chain.from_iterable(stretches), between, True)
+        return _sample([_with_classes(each, classes) for each in stretches], True)
     ranges = _ranges(dump, stretches)
     parts = shared(lambda some: _within(dump, some, ranges), spans, FEWEST_SPANS)
-    between = {each for each in classes if each >> RANGE_BITS in ranges}
-    return _sample(chain.from_iterable(parts), between, False)
+    between = [_class_object(each) for each in classes if each >> RANGE_BITS in ranges]
+    return _sample([sorted(chain(between, *parts))], False)
 
 
-def _parts(count: int) -> Dict[int, int]:
-    """Returns which of `count` parts of the file are read, and how many objects of each."""
+def _stretches(dump: HeapDump, spans: Sequence[Span]) -> List[List[HeapObject]]:
+    """Returns the first objects of some parts of the file, in the order of the file: of more parts if these have few
+    objects, since large arrays fill them. What goes on from one part to the next is one stretch."""
+    found: Dict[int, List[HeapObject]] = {}
+    whole: Set[int] = set()
+    for some in _parts(len(spans)):
+        found.update({number: _beginning(dump, spans[number], count) for number, count in some.items()})
+        whole.update(number for number, count in some.items() if len(found[number]) < count)
+        if sum(map(len, found.values())) >= ENOUGH_SAMPLED:
+            break
+    stretches: List[List[HeapObject]] = []
+    for number in sorted(found):
+        if number - 1 in whole:
+            stretches[-1] += found[number]
+        else:
+            stretches.append(found[number])
+    return stretches
+
+
+def _parts(count: int) -> Iterator[Dict[int, int]]:
+    """Yields which of `count` parts of the file are read first, and how many objects of each; then which others may be
+    read, a few at a time."""
     numbers = sorted({number * (count - 1) // (PARTS - 1) for number in range(PARTS)})
     ends = {numbers[0], numbers[-1]}
     share = SAMPLED // (len(numbers) + 4 * len(ends))
-    return {number: 5 * share if number in ends else share for number in numbers}
+    yield {number: 5 * share if number in ends else share for number in numbers}
+    others = sorted(set(range(count)).difference(numbers))
+    times = -(-len(others) // PARTS)
+    for first in range(times):
+        yield {number: share for number in others[first::times]}
 
 
 def _beginning(dump: HeapDump, span: Span, most: int) -> List[HeapObject]:
@@ -113,9 +139,21 @@ def _ascending(stretches: Iterable[List[HeapObject]]) -> float:
     return near / max(1, total)
 
 
-def _places(classes: List[int], stretch: List[HeapObject]) -> Tuple[int, int]:
-    """Returns where in the sorted list `classes` those begin and end that are between the objects of a stretch."""
-    return bisect_left(classes, stretch[0][0]), bisect_right(classes, stretch[-1][0])
+def _class_object(class_id: int) -> HeapObject:
+    """Returns a class object as an object of a sample."""
+    return class_id, class_id, CLASS_OBJECT, 0
+
+
+def _with_classes(stretch: List[HeapObject], classes: List[int]) -> List[HeapObject]:
+    """Returns the objects of a stretch, and those class objects of the sorted list `classes` that are between two of
+    them, each where it is. What follows at a lower address is not the neighbour of what is before it."""
+    found: List[HeapObject] = []
+    for one, after in zip(stretch, stretch[1:]):
+        found.append(one)
+        if one[0] < after[0]:
+            begin, end = bisect_right(classes, one[0]), bisect_left(classes, after[0])
+            found += map(_class_object, classes[begin:end])
+    return found + stretch[-1:]
 
 
 def _special(dump: HeapDump, stretches: Iterable[List[HeapObject]]) -> List[int]:
@@ -173,12 +211,21 @@ def _within(dump: HeapDump, spans: List[Span], ranges: Set[int]) -> List[HeapObj
     return [each for each in heap_objects(dump, spans) if each[0] >> RANGE_BITS in ranges]
 
 
-def _sample(objects: Iterable[HeapObject], classes: Set[int], is_ascending: bool) -> Sample:
-    """Returns what is known of these objects and class objects, of which no other is between two. An object may be
-    among them several times. They are no set: most come in order already, and are sorted in a tenth of the time."""
-    every = sorted(chain(objects, ((class_id, class_id, CLASS_OBJECT, 0) for class_id in classes)))
-    every = [each for each, _ in groupby(every)]
-    pairs = zip(every, islice(every, 1, None))
-    found = Counter([(of, kind, length, after[0] - here) for (here, of, kind, length), after in pairs])
-    near = Counter({Neighbour(*each): count for each, count in found.items() if each[-1] <= LONGEST})
-    return Sample(near, reduce(or_, [each[0] for each in every[:-1]], 0), is_ascending)
+def _sample(stretches: Sequence[List[HeapObject]], is_ascending: bool) -> Sample:
+    """Returns what is known of the objects in some stretches, in each of which no other object is between two. What the
+    last one of a stretch has for its neighbour is not known. Two stretches may have an object in common."""
+    every = sorted(
+        (*one, after[0] - one[0])
+        for stretch in stretches
+        for one, after in zip(stretch, stretch[1:])
+        if one[0] < after[0]
+    )
+    found = Counter(each[1:] for each, _ in groupby(every))
+    near = Counter({Neighbour(*each): count for each, count in found.items() if _is_near(*each[1:])})
+    return Sample(near, reduce(or_, (each[0] for each in every), 0), is_ascending)
+
+
+def _is_near(kind: int, length: int, gap: int) -> bool:
+    """Tests whether an object that is `gap` bytes before the next may be its neighbour. A large array is as long as its
+    elements."""
+    return gap <= LONGEST + (length * LONGEST_VALUE if kind > 0 else 0)
