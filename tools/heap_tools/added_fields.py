@@ -4,19 +4,24 @@ It adds fields of its own to some classes of the JDK, and room around fields tha
 there may be a hole after the fields of a superclass. Objects with such an addition are never as near to the next as
 their fields say. But so may be objects after each of which something lay that the dump does not have: an addition
 counts only if it cannot be that.
+
+In the old space of CMS, up to JDK 13, no object takes less than three words, though a smaller one has its own size.
 """
 
 from collections import Counter, defaultdict
 from typing import Counter as Counts
-from typing import Container, Dict, Iterator, List, NamedTuple, Tuple
+from typing import Container, Dict, Iterator, List, NamedTuple, Sequence, Set, Tuple
 
 from heap_tools.heap_dump import HeapDump
 from heap_tools.heap_layout import MAJORITY, OVERLAPPING, WORD, Fields, Layout
-from heap_tools.heap_sample import CLASS_OBJECT, WITH_ADDED_FIELDS, Sample
+from heap_tools.heap_sample import CLASS_OBJECT, WITH_ADDED_FIELDS, WITH_ROOM, Sample
 
 #: How many objects show an addition of which each could be the hole that an object left, if more than half of those of
 #: the class agree. In the order of references there are holes after garbage, so there no number of them shows it.
 MANY_ADDED = 4
+#: What the smallest object takes in the old space of CMS, and of how many classes all objects, which have less, are as
+#: far from the next: no addition is so small, if all fields are those of one class.
+SMALLEST_OF_CMS, SOME_SMALL = 24, 2
 #: The least room that is left on one side of a field that several threads write, larger than most holes. The number of
 #: objects that show that, or what is added to a class of `WITH_ADDED_FIELDS`.
 ROOM, SOME_ADDED = 128, 2
@@ -50,15 +55,49 @@ class _Additions:
         self.dump, self.layout, self.is_ascending = dump, layout, sample.is_ascending
         self.seen: Dict[int, List[Seen]] = defaultdict(list)
         self.below: Dict[int, List[int]] = defaultdict(list)
-        for (class_id, kind, _, gap), count in sample.neighbours.items():
-            if kind != 0 or class_id in stacks:
-                continue
-            one = Seen(class_id, layout.instance(fields.get(class_id, Fields())), gap, count)
-            while class_id in dump.classes:
+        every = [
+            Seen(class_id, layout.instance(fields.get(class_id, Fields())), gap, count)
+            for (class_id, kind, _, gap), count in sample.neighbours.items()
+            if kind == 0 and class_id not in stacks
+        ]
+        is_cms = self._is_cms(every)
+        for one in every:
+            if is_cms and self._is_small(one) and not self._is_added_to(one.class_id):
+                one = one._replace(gap=layout.aligned(one.plain))
+            for class_id in self._lineage(one.class_id):
                 self.seen[class_id].append(one)
-                class_id = dump.classes[class_id].superclass
         for class_id, each in dump.classes.items():
             self.below[each.superclass].append(class_id)
+
+    def _is_small(self, one: Seen) -> bool:
+        """Tests whether objects are smaller than the smallest of CMS, and as far from the next as that is long."""
+        return self.layout.aligned(one.plain) < SMALLEST_OF_CMS == one.gap
+
+    def _is_cms(self, every: Sequence[Seen]) -> bool:
+        """Tests whether objects are in an old space of CMS: of some classes, all whose fields are their own, all objects
+        that are smaller than its smallest take as much as that."""
+        plain = (it for it in every if self._has_own_fields(it.class_id) and not self._is_added_to(it.class_id))
+        small: Set[int] = set()
+        others: Set[int] = set()
+        for one in plain:
+            (small if self._is_small(one) else others).add(one.class_id)
+        return len(small - others) >= SOME_SMALL
+
+    def _lineage(self, class_id: int) -> Iterator[int]:
+        """Yields a class and those that it inherits from."""
+        while class_id in self.dump.classes:
+            yield class_id
+            class_id = self.dump.classes[class_id].superclass
+
+    def _is_added_to(self, class_id: int) -> bool:
+        """Tests whether the virtual machine adds fields to a class, or to one that it inherits from."""
+        return any(self.dump.names[each] in WITH_ADDED_FIELDS for each in self._lineage(class_id))
+
+    def _has_own_fields(self, class_id: int) -> bool:
+        """Tests whether the fields of a class, inherited ones too, are those of one class: then there is no hole
+        between them."""
+        every = (self.dump.classes[each].fields for each in self._lineage(class_id))
+        return sum(any(not field.is_static for field in fields) for fields in every) <= 1
 
     def found(self) -> Iterator[Tuple[int, int]]:
         """Yields the classes to which something is added, and how many bytes that is."""
@@ -89,8 +128,13 @@ class _Additions:
             return max(added, inherited) if votes >= SOME_ADDED else inherited
         enough = votes >= MANY_ADDED and self.is_ascending or votes >= SOME_ADDED and (least >= ROOM or has_fields)
         is_certain = least < aligned(self.layout.header) or has_fields and least <= max(WORD, self.layout.alignment)
+        is_certain |= self.dump.names[class_id] in WITH_ROOM and self._is_room(least)
         is_shown = is_certain or enough and votes > MAJORITY * count
         return added if added > inherited and is_shown else inherited
+
+    def _is_room(self, added: int) -> bool:
+        """Tests whether so many bytes are room on one side of fields or on both, but for what alignment adds."""
+        return added in (side * ROOM + more for side in (1, 2) for more in range(2 * self.layout.alignment + 1))
 
 
 def _most_agreed(seen: List[Seen], alignment: int) -> Tuple[int, int]:

@@ -11,7 +11,7 @@ from functools import reduce
 from itertools import chain, groupby, islice, tee
 from operator import or_
 from typing import Counter as Counts
-from typing import Dict, Iterable, Iterator, List, NamedTuple, Sequence, Set
+from typing import Dict, Iterable, Iterator, List, NamedTuple, Sequence, Set, Tuple
 
 from heap_tools import hprof_format as hprof
 from heap_tools.heap_dump import HeapDump, Span
@@ -49,10 +49,22 @@ WITH_ADDED_FIELDS = frozenset(
         "invoke/ResolvedMethodName",
     )
 )
+#: The classes of OpenJDK with fields that several threads write, around which the virtual machine leaves room.
+WITH_ROOM = frozenset(
+    f"java/util/concurrent/{name}"
+    for name in (
+        "ConcurrentHashMap$CounterCell",
+        "Exchanger$Node",
+        "ForkJoinPool",
+        "ForkJoinPool$WorkQueue",
+        "SubmissionPublisher$BufferedSubscription",
+        "atomic/Striped64$Cell",
+    )
+)
 #: The parts of the file, or ranges of addresses, that are read at most for the sake of special objects; how many class
 #: objects are such; how many objects of a class with added fields are enough; and how many bytes at both ends of the
 #: heap are searched for objects of such a class.
-MOST_SPECIAL, SOME_CLASSES, ENOUGH, SEARCHED = 20, 8, 3, 16 << 20
+MOST_SPECIAL, SOME_CLASSES, ENOUGH, SEARCHED = 32, 8, 3, 16 << 20
 #: The bytes of an object besides its values, about.
 HEADER = 16
 #: What a class object has as the code of its elements' type.
@@ -135,8 +147,13 @@ def _ascending(stretches: Iterable[List[HeapObject]]) -> float:
     total = near = 0
     for stretch in stretches:
         total += max(0, len(stretch) - 1)
-        near += sum(0 < after[0] - before[0] <= LONGEST for before, after in zip(stretch, stretch[1:]))
+        near += sum(one[0] < after[0] and _is_near(*one[2:], after[0] - one[0]) for one, after in pairs_of(stretch))
     return near / max(1, total)
+
+
+def pairs_of(stretch: List[HeapObject]) -> Iterator[Tuple[HeapObject, HeapObject]]:
+    """Yields each object of a stretch but the last with the one after it."""
+    return zip(stretch, islice(stretch, 1, None))
 
 
 def _class_object(class_id: int) -> HeapObject:
@@ -148,7 +165,7 @@ def _with_classes(stretch: List[HeapObject], classes: List[int]) -> List[HeapObj
     """Returns the objects of a stretch, and those class objects of the sorted list `classes` that are between two of
     them, each where it is. What follows at a lower address is not the neighbour of what is before it."""
     found: List[HeapObject] = []
-    for one, after in zip(stretch, stretch[1:]):
+    for one, after in pairs_of(stretch):
         found.append(one)
         if one[0] < after[0]:
             begin, end = bisect_right(classes, one[0]), bisect_left(classes, after[0])
@@ -162,7 +179,7 @@ def _special(dump: HeapDump, stretches: Iterable[List[HeapObject]]) -> List[int]
     and threads."""
     classes, met = sorted(dump.classes), Counter(each[1] for stretch in stretches for each in stretch)
     found = [*{each.loader for each in dump.classes.values() if each.loader}]
-    few = [each for each, name in dump.names.items() if name in WITH_ADDED_FIELDS and met[each] < ENOUGH]
+    few = [each for each, name in dump.names.items() if name in WITH_ADDED_FIELDS | WITH_ROOM and met[each] < ENOUGH]
     found += some_instances(dump, few, SEARCHED)
     found += [classes[number * len(classes) // SOME_CLASSES] for number in range(SOME_CLASSES) if classes]
     return found + [dump.id(root.place) for root in dump.roots if root.kind == hprof.THREAD_OBJECT]
@@ -215,10 +232,7 @@ def _sample(stretches: Sequence[List[HeapObject]], is_ascending: bool) -> Sample
     """Returns what is known of the objects in some stretches, in each of which no other object is between two. What the
     last one of a stretch has for its neighbour is not known. Two stretches may have an object in common."""
     every = sorted(
-        (*one, after[0] - one[0])
-        for stretch in stretches
-        for one, after in zip(stretch, stretch[1:])
-        if one[0] < after[0]
+        (*one, after[0] - one[0]) for stretch in stretches for one, after in pairs_of(stretch) if one[0] < after[0]
     )
     found = Counter(each[1:] for each, _ in groupby(every))
     near = Counter({Neighbour(*each): count for each, count in found.items() if _is_near(*each[1:])})

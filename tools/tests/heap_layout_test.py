@@ -35,13 +35,17 @@ def found_in(dump: HeapDump) -> Layout:
     return layout_of(sample_of(dump), fields_by_class(dump), dump.id_size)
 
 
-class LayoutTest(unittest.TestCase):
-    """The layout of a heap."""
+class WithLayout(unittest.TestCase):
+    """A test of layouts."""
 
     def require_unknown(self, dump: HeapDump, why: str) -> None:
         """Tests that no layout is found, and why."""
         with self.assertRaisesRegex(UnknownLayout, why):
             found_in(dump)
+
+
+class LayoutTest(WithLayout):
+    """The layout of a heap."""
 
     def test_layouts(self) -> None:
         """Each layout is found, of objects in the order of their addresses and in no order."""
@@ -138,7 +142,7 @@ class LayoutTest(unittest.TestCase):
             self.assertEqual(layout.words(), text)
 
 
-class SampleTest(unittest.TestCase):
+class SampleTest(WithLayout):
     """What is read of a dump."""
 
     def test_bound(self) -> None:
@@ -152,6 +156,55 @@ class SampleTest(unittest.TestCase):
             self.assertEqual(layout_of(sample, fields_by_class(dump), 8), COMPRESSED)
             self.assertLess(2000, sum(sample.neighbours.values()))
             self.assertLess(sum(sample.neighbours.values()), 10000)
+
+    def test_neighbours(self) -> None:
+        """What follows an object in the sample is not its neighbour if the file has others between: jobs are in it only
+        since threads are before them."""
+        for shuffled in (False, True):
+            heap = LaidOutHeap(COMPRESSED)
+            order, thread, job = (heap.of_class(name, 3) for name in ("shop/Order", "java/lang/Thread", "shop/Job"))
+            for number in range(4000):
+                heap.instance(order)
+                heap.values(BYTE, number % 9)
+                if 1950 < number < 2050:
+                    heap.dump.thread(number, heap.instance(thread))
+                    heap.instance(job)
+                    heap.values(BYTE, 40)
+            dump = heap.read(shuffled)
+            with mock.patch.object(heap_sample, "SAMPLED", 2000), mock.patch.object(heap_sample, "PARTS", 3):
+                sample = sample_of(dump)
+            gaps = {of: {it.gap for it in sample.neighbours if it[:2] == (of, 0)} for of in (thread, job)}
+            self.assertEqual((gaps[thread], gaps[job] - {24}), ({24}, set()), shuffled)
+            self.assertEqual(layout_of(sample, fields_by_class(dump), 8), COMPRESSED)
+
+    def test_backwards(self) -> None:
+        """What follows in the file at a lower address is no neighbour, nor is the first object of the next space."""
+        heap = LaidOutHeap(COMPRESSED)
+        order = heap.of_class("shop/Order", 2)
+        first = [heap.instance(order) for _ in range(400)]
+        heap.at += 1 << 20
+        for _ in range(400):
+            heap.values(BYTE, 8)
+        heap.at = first[0] - 24 * 300
+        for _ in range(300):
+            heap.instance(order)
+        sample = sample_of(heap.read())
+        self.assertEqual({(each.kind, each.gap) for each in sample.neighbours}, {(0, 24), (BYTE, 24)})
+        self.assertEqual(sum(sample.neighbours.values()), 399 + 399 + 299)
+
+    def test_large_arrays(self) -> None:
+        """Arrays that are larger than a neighbour may be far show the layout themselves; parts of the file that have
+        few objects, since large arrays fill them, are more."""
+        heap = LaidOutHeap(COMPRESSED)
+        order = heap.of_class("shop/Order", 2)
+        for number in range(20_000):
+            heap.values(BYTE, 900 + 8 * (number % 31)) if number % 20 else heap.instance(order)
+        dump = heap.read()
+        with mock.patch.multiple(heap_sample, LONGEST=512, PARTS=3, SAMPLED=2600):
+            self.assertEqual(found_in(dump), COMPRESSED)
+            self.assertGreater(sum(sample_of(dump).neighbours.values()), 5000)
+            with mock.patch.object(heap_sample, "ENOUGH_SAMPLED", 1):
+                self.require_unknown(dump, "too few objects have a neighbour")
 
     def test_few_of_a_kind(self) -> None:
         """A class loader and instances of a class with added fields are in the sample, whatever it is of."""

@@ -3,7 +3,7 @@
 import lzma
 import pathlib
 import unittest
-from typing import Dict, List, Sequence
+from typing import Dict, List, Sequence, Tuple
 
 from heap_tools.class_names import CLASSES
 from heap_tools.heap_dump import HeapDump
@@ -79,6 +79,40 @@ class AddedFieldsTest(unittest.TestCase):
             for more in added:
                 heap.instance(order, more)
             self.assertEqual(sizes_of(heap, shuffled=True).instance(order), size, (name, added))
+
+    def test_pools(self) -> None:
+        """One object of a class that is known to have room shows it, also if others have a hole after it."""
+        pool = "java/util/concurrent/ForkJoinPool"
+        cases: List[Tuple[List[int], int]] = [
+            ([256], 280),
+            ([128], 152),
+            ([264], 288),
+            ([256, 368, 368, 368, 400], 280),
+            ([300], 24),
+            ([112], 24),
+            ([], 24),
+        ]
+        for added, size in cases:
+            heap = LaidOutHeap(COMPRESSED)
+            of_class = heap.of_class(pool, 1, 1)
+            for more in added:
+                heap.instance(of_class, more)
+            self.assertEqual(sizes_of(heap, shuffled=True).instance(of_class), size, added)
+
+    def test_smallest_of_cms(self) -> None:
+        """Objects of 16 bytes that are 24 from the next are no larger if those of several classes are, as in the old
+        space of CMS: but for those to which the virtual machine adds fields."""
+        for small, sizes in ((1, [24, 16, 24]), (2, [16, 16, 24])):
+            heap = LaidOutHeap(COMPRESSED)
+            classes = [heap.of_class(f"shop/Box{number}", 0, 1) for number in range(small)]
+            young = heap.of_class("shop/Young", 0, 1)
+            method = heap.of_class("java/lang/invoke/ResolvedMethodName", 0, 1)
+            for of_class in (*classes, method):
+                heap.instance(of_class, 8)
+            for more in (0, 8, 8):
+                heap.instance(young, more)
+            found = sizes_of(heap)
+            self.assertEqual([found.instance(each) for each in (classes[0], young, method)], sizes, small)
 
     def test_some_without(self) -> None:
         """What some objects of a class lack is not added to any."""
