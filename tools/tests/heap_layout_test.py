@@ -212,14 +212,15 @@ class SampleTest(WithLayout):
         heap.mixed(1000)
         loader = heap.of_class("shop/Loader", 3)
         module = heap.of_class("java/lang/Module", 3)
-        numbers = [heap.instance(loader), heap.instance(module)]
+        pool = heap.of_class("java/util/concurrent/ForkJoinPool", 5)
+        numbers = [heap.instance(each) for each in (loader, module, pool)]
         heap.classes.clear()
         heap.of_class("shop/Order", loader=numbers[0], number=4096)
         heap.mixed(1000)
         for shuffled in (False, True):
             with mock.patch.object(heap_sample, "SAMPLED", 2000), mock.patch.object(heap_sample, "PARTS", 3):
                 sample = sample_of(heap.read(shuffled))
-            self.assertLessEqual({loader, module}, {each.class_id for each in sample.neighbours})
+            self.assertLessEqual({loader, module, pool}, {each.class_id for each in sample.neighbours})
 
 
 class LongRecordTest(unittest.TestCase):

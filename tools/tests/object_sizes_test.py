@@ -54,7 +54,9 @@ class AddedFieldsTest(unittest.TestCase):
     def test_classes_of_the_virtual_machine(self) -> None:
         """Of classes to which the virtual machine adds fields two objects show how many."""
         for count, size in ((1, 24), (2, 48)):
-            self.assertEqual(self.sizes([24], "java/lang/VirtualThread", count, shuffled=True), [size])
+            for shuffled in (False, True):  # in a file in order, the objects of such classes are looked for, too
+                found = self.sizes([24], "java/lang/VirtualThread", count, shuffled=shuffled)
+                self.assertEqual(found, [size], (count, shuffled))
 
     def test_room(self) -> None:
         """Two objects show room around fields that several threads write."""
@@ -113,6 +115,16 @@ class AddedFieldsTest(unittest.TestCase):
                 heap.instance(young, more)
             found = sizes_of(heap)
             self.assertEqual([found.instance(each) for each in (classes[0], young, method)], sizes, small)
+
+    def test_holes_as_small(self) -> None:
+        """A hole between the fields of two classes is no sign of CMS."""
+        heap = LaidOutHeap(COMPRESSED)
+        base = heap.of_class("shop/Base", has_byte=True)
+        heirs = [heap.of_class(f"shop/Heir{number}", superclass=base, has_byte=True) for number in range(3)]
+        for each in heirs:
+            heap.instance(each, 8)
+        found = sizes_of(heap)
+        self.assertEqual([found.instance(each) for each in (base, *heirs)], [16, 24, 24, 24])
 
     def test_some_without(self) -> None:
         """What some objects of a class lack is not added to any."""

@@ -18,7 +18,7 @@ class LaidOutHeap:
 
     def __init__(self, layout: Layout, id_size: int = 8) -> None:
         self.layout, self.dump, self.at = layout, DumpWriter(id_size), FIRST
-        self.classes: Dict[int, Tuple[int, int]] = {}
+        self.classes: Dict[int, Tuple[int, int, int]] = {}
         self._writers: List[Callable[[], None]] = []
 
     def of_class(
@@ -30,13 +30,14 @@ class LaidOutHeap:
         statics: Sequence[str] = (),
         loader: int = 0,
         number: int = 0,
+        has_byte: bool = False,
     ) -> int:
         """Writes a class with these fields besides those of its superclass, and returns its identifier. Its object is
         outside of the heap, unless `number` says where."""
         number = number or FIRST_CLASS + 4096 * len(self.classes)
-        inherited = self.classes.get(superclass, (0, 0))
-        self.classes[number] = inherited[0] + references, inherited[1] + ints
-        fields = [f"field{at}" for at in range(references)] + [f"int{at}" for at in range(ints)]
+        inherited = self.classes.get(superclass, (0, 0, 0))
+        self.classes[number] = inherited[0] + references, inherited[1] + ints, inherited[2] + has_byte
+        fields = [f"field{at}" for at in range(references)] + [f"int{at}" for at in range(ints)] + ["coder"] * has_byte
         self.dump.of_class(number, name, {each: 0 for each in statics}, fields, superclass, loader)
         return number
 
@@ -47,9 +48,11 @@ class LaidOutHeap:
 
     def instance(self, of_class: int, added: int = 0) -> int:
         """Puts an instance in the heap, with `added` bytes that the dump does not show. Returns its identifier."""
-        references, ints = self.classes[of_class]
-        number = self.place(self.layout.header + references * self.layout.reference + 4 * ints + added)
-        values = [0] * references + [bytes(4)] * ints
+        references, ints, bytes_of_fields = self.classes[of_class]
+        number = self.place(
+            self.layout.header + references * self.layout.reference + 4 * ints + bytes_of_fields + added
+        )
+        values = [0] * references + [bytes(4)] * ints + [bytes(1)] * bytes_of_fields
         self._writers.append(lambda: self.dump.instance(number, of_class, *values))
         return number
 
