@@ -5,9 +5,11 @@
 #
 # Dumps bench/java/Filler.java with 40 MB by each collector and mode that Java has; without compressed references, or
 # classes; with objects at multiples of 16 bytes; with compact object headers; from Java 21 on 3,000 parked virtual
-# threads; and Filler with MEGABYTES (500) by G1, ZGC and Shenandoah. Then prints a table, as bench/size_figures.py
-# says, and fails if a comparison does. Java is that of JAVA_HOME, else that of PATH; bench/debian_jdk.sh unpacks
-# others. Names of dumps of 32 bits have `-32-bit`: JAVA_HOME=$(bench/debian_jdk.sh 17 bookworm i386) makes such ones.
+# threads; and Filler with MEGABYTES (500) by G1, ZGC and Shenandoah. Filler wants Java 16. Then pools of threads with
+# their jobs, and large arrays among few small objects (bench/java/sizes), by each collector: CMS, too, as Java 11 has
+# it. Then prints a table, as bench/size_figures.py says, and fails if a comparison does. Java is that of JAVA_HOME, else
+# that of PATH; bench/debian_jdk.sh unpacks others: JAVA_HOME=$(bench/debian_jdk.sh 11 bullseye). Names of dumps of 32
+# bits have `-32-bit`: JAVA_HOME=$(bench/debian_jdk.sh 17 bookworm i386) makes such ones.
 #
 # DIR (/tmp/heapmark-sizes) gets the dumps with their histograms; those that are there are not made again, and each dump
 # NAME.hprof in DIR with a NAME.histogram is compared. PATTERN: only dumps whose names match it, such as '*-g1'.
@@ -60,19 +62,29 @@ compared() {
 filler() {
     local name=$jdk-$1
     shift
-    ! accepts "$@" || compared "$name" -Xmx700m "$@" Filler 40
+    [ "$number" -lt 16 ] || ! accepts "$@" || compared "$name" -Xmx700m "$@" Filler 40
+}
+
+# few NAME OPTION..: compares pools with their jobs, and large arrays, if the virtual machine takes the options.
+few() {
+    local name=$1
+    shift
+    accepts "$@" || return 0
+    compared "$jdk-pools-$name" -Xmx700m "$@" Pools 30
+    compared "$jdk-arrays-$name" -Xmx900m "$@" LargeArrays 190
 }
 
 # large NAME OPTION..: compares Filler with many megabytes.
 large() {
     local name=$jdk-$1
     shift
-    ! accepts "$@" || compared "$name" "-Xmx$((large * 5 / 2))m" "$@" Filler "$large"
+    [ "$number" -lt 16 ] || ! accepts "$@" || compared "$name" "-Xmx$((large * 5 / 2))m" "$@" Filler "$large"
     [ "${HEAP_SIZES_KEEP:-yes}" = yes ] || rm -f "$room/$name.hprof"
 }
 
 number=$(version) jdk=j$(version)$(bits)
-"${java}javac" -encoding UTF-8 -d "$room/classes" "$top/bench/java/Filler.java"
+"${java}javac" -encoding UTF-8 -d "$room/classes" "$top"/bench/java/sizes/*.java
+[ "$number" -lt 16 ] || "${java}javac" -encoding UTF-8 -d "$room/classes" "$top/bench/java/Filler.java"
 echo '| Dump | Layout | Classes | In the dump | Omitted | With these | Off | Took |'
 echo '|---|---|---|---|---|---|---|---|'
 filler g1 -XX:+UseG1GC
@@ -91,6 +103,12 @@ if [ "$number" -ge 21 ]; then
     "${java}javac" -encoding UTF-8 -d "$room/classes" "$top/bench/java/newer/Virtual.java"
     compared "$jdk-virtual" -Xmx700m Virtual 3000
 fi
+few g1 -XX:+UseG1GC
+few serial -XX:+UseSerialGC
+few parallel -XX:+UseParallelGC
+few cms -XX:+UseConcMarkSweepGC
+few shenandoah -XX:+UseShenandoahGC
+few z -XX:+UseZGC
 large large-g1 -XX:+UseG1GC
 large large-z -XX:+UseZGC
 large large-shenandoah -XX:+UseShenandoahGC

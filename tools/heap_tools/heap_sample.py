@@ -51,14 +51,15 @@ WITH_ADDED_FIELDS = frozenset(
 )
 #: The classes of OpenJDK with fields that several threads write, around which the virtual machine leaves room.
 WITH_ROOM = frozenset(
-    f"java/util/concurrent/{name}"
+    f"java/{name}"
     for name in (
-        "ConcurrentHashMap$CounterCell",
-        "Exchanger$Node",
-        "ForkJoinPool",
-        "ForkJoinPool$WorkQueue",
-        "SubmissionPublisher$BufferedSubscription",
-        "atomic/Striped64$Cell",
+        "lang/Thread",
+        "util/concurrent/ConcurrentHashMap$CounterCell",
+        "util/concurrent/Exchanger$Node",
+        "util/concurrent/ForkJoinPool",
+        "util/concurrent/ForkJoinPool$WorkQueue",
+        "util/concurrent/SubmissionPublisher$BufferedSubscription",
+        "util/concurrent/atomic/Striped64$Cell",
     )
 )
 #: The parts of the file, or ranges of addresses, that are read at most for the sake of special objects; how many class

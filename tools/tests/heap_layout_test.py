@@ -213,7 +213,10 @@ class SampleTest(WithLayout):
         loader = heap.of_class("shop/Loader", 3)
         module = heap.of_class("java/lang/Module", 3)
         pool = heap.of_class("java/util/concurrent/ForkJoinPool", 5)
-        numbers = [heap.instance(each) for each in (loader, module, pool)]
+        heap.instance(pool)
+        for number in range(3000):
+            heap.values(BYTE, number % 99)
+        numbers = [heap.instance(each) for each in (loader, module)]
         heap.classes.clear()
         heap.of_class("shop/Order", loader=numbers[0], number=4096)
         heap.mixed(1000)
