@@ -106,7 +106,7 @@ fi
 few g1 -XX:+UseG1GC
 few serial -XX:+UseSerialGC
 few parallel -XX:+UseParallelGC
-few cms -XX:+UseConcMarkSweepGC
+[ "$number" -ge 14 ] || few cms -XX:+UseConcMarkSweepGC -XX:-PrintWarnings
 few shenandoah -XX:+UseShenandoahGC
 few z -XX:+UseZGC
 large large-g1 -XX:+UseG1GC

@@ -122,14 +122,18 @@ class _Additions:
         if not has_fields and class_id not in kinds and len(kinds) == 1:
             return inherited  # what one subclass shows is its own
         added, votes = _most_agreed(seen, self.layout.alignment)
-        count = sum(each.objects for each in seen)
+        is_most = votes > MAJORITY * sum(each.objects for each in seen)
+        if has_fields and not is_most:  # there may be a hole after the objects of a subclass
+            own = [each for each in seen if each.class_id == class_id]
+            agree = sum(each.objects for each in own if each.gap == aligned(each.plain + added))
+            is_most = agree > MAJORITY * sum(each.objects for each in own)
         if least == 0:  # alignment hides it in some subclasses
             votes -= sum(each.objects for each in seen if each.gap == aligned(each.plain + inherited))
             return max(added, inherited) if votes >= SOME_ADDED else inherited
         enough = votes >= MANY_ADDED and self.is_ascending or votes >= SOME_ADDED and (least >= ROOM or has_fields)
         is_certain = least < aligned(self.layout.header) or has_fields and least <= max(WORD, self.layout.alignment)
         is_certain |= self.dump.names[class_id] in WITH_ROOM and self._is_room(least)
-        is_shown = is_certain or enough and votes > MAJORITY * count
+        is_shown = is_certain or enough and is_most
         return added if added > inherited and is_shown else inherited
 
     def _is_room(self, added: int) -> bool:

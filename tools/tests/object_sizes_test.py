@@ -169,6 +169,20 @@ class AddedFieldsTest(unittest.TestCase):
             heap.instance(loader, 8)
             self.assertEqual(sizes_of(heap).instance(loader), 32 + alignment)
 
+    def test_subclass_with_holes(self) -> None:
+        """Objects of a class of the virtual machine show what is added to it, though more of a subclass have a hole
+        after them; two are needed, which are most of its own."""
+        for of_thread, size in (([24, 24], 56), ([24, 24, 64], 56), ([24], 32), ([24, 24, 64, 80], 32)):
+            heap = LaidOutHeap(COMPRESSED)
+            thread = heap.of_class("java/lang/Thread", 3, 2)  # 32 bytes
+            worker = heap.of_class("shop/Worker", 0, 2, thread)
+            for more in of_thread:
+                heap.instance(thread, more)
+            for _ in range(9):
+                heap.instance(worker, 96)
+            found = sizes_of(heap, shuffled=True)
+            self.assertEqual((found.instance(thread), found.instance(worker)), (size, size + 8), of_thread)
+
     def test_one_subclass(self) -> None:
         """What is added to one subclass is not added to the others."""
         heap = LaidOutHeap(COMPRESSED)
