@@ -1,21 +1,26 @@
 """Tests which dumps are compared, which of those between the first and the last are asked, and how."""
 
+import os
 import unittest
 from typing import Any, List, Optional, Tuple
 from unittest import mock
 
 from heap_tools.candidates import FIELD, WEAK, Candidates
 from heap_tools.changed_copy import Changes
-from heap_tools.comparison import BETWEEN, Comparison, require_one_program, spread
+from heap_tools.comparison import BETWEEN, Comparison, dumps_of, require_one_program, spread
+from heap_tools.console import Progress
 from heap_tools.direct_buffers import DirectMemory
+from heap_tools.dump_runs import DumpRuns
 from heap_tools.faults import Fault
 from heap_tools.heap_dump import HeapDump
+from heap_tools.heapmark import Heapmark
 from heap_tools.reports import Unit
 from heap_tools.running_calls import Calls
 from heap_tools.weak_growth import Followed
 from tests.support.dump_writer import DumpWriter
 from tests.support.marker import MarkedRuns
 from tests.support.services import of_main, running
+from tests.support.tool_test import HEAPMARK, ToolTest
 
 
 class SpreadTest(unittest.TestCase):
@@ -76,12 +81,38 @@ class BetweenTest(unittest.TestCase):
         for name, runs in (("first", first), ("same", same), ("other", other)):
             runs.path = name
         for last, said in ((same, None), (other, "the main class shop/B, not the shop/A")):
-            with mock.patch("heap_tools.comparison.same_file", return_value=None):
-                if said is None:
+            if said is None:
+                require_one_program([first, last])
+            else:
+                with self.assertRaisesRegex(Fault, f"^other: another program. it has {said} of first$"):
                     require_one_program([first, last])
-                else:
-                    with self.assertRaisesRegex(Fault, f"^other: another program. it has {said} of first$"):
-                        require_one_program([first, last])
+
+
+class DumpsOfTest(ToolTest):
+    """The dumps of a command line, of which heapmark makes the reports."""
+
+    def read(self, *paths: str) -> List[DumpRuns]:
+        """Returns what is read of these dumps."""
+        with mock.patch.dict(os.environ, HEAPMARK=HEAPMARK):
+            return dumps_of(paths, Heapmark(), Progress("leaks"))
+
+    def test_many(self) -> None:
+        """Of many dumps only those that will be asked stay in memory: the first, the last, and some between."""
+        for number in range(7):
+            of_main("shop/A", number).write(f"{number}")
+        for count, kept in ((2, [0, 1]), (5, [0, 1, 2, 3, 4]), (6, [0, 1, 3, 4, 5]), (7, [0, 1, 3, 5, 6])):
+            found = self.read(*map(str, range(count)))
+            self.assertEqual([number for number, each in enumerate(found) if each.dump.bytes], kept)
+            self.assertEqual([each.dump.time for each in found], [60_000 * number for number in range(count)])
+
+    def test_same(self) -> None:
+        """That two of many dumps are the same is seen, whether they stay in memory or not."""
+        for number in range(7):
+            of_main("shop/A", min(number, 4) if number < 6 else 6).write(f"{number}")
+        with self.assertRaisesRegex(Fault, "^5: the same file as 4$"):
+            self.read(*map(str, range(7)))
+        with self.assertRaisesRegex(Fault, "^0: the same file as 0$"):
+            self.read("0", "0")
 
 
 if __name__ == "__main__":

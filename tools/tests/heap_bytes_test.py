@@ -11,7 +11,7 @@ from heap_tools import heap_bytes, heap_sample
 from heap_tools.class_growth import growths
 from heap_tools.dump_file import state_of
 from heap_tools.faults import Fault
-from heap_tools.heap_bytes import counted_in_heap
+from heap_tools.heap_bytes import counted_in_heap, measure
 from heap_tools.heap_layout import Layout
 from heap_tools.reports import Amount, Report, Row, Unit
 from heap_tools.snapshot_bytes import in_common_bytes
@@ -68,6 +68,18 @@ class DumpsTest(unittest.TestCase):
         first, last = MarkedRuns(heap(1).read()), MarkedRuns(heap(7).read())
         found = counted_in_heap([first, last], False).dumps
         self.assertEqual(found[0].counted(last.report).rows, found[1].report.rows)
+
+    def test_measured_before(self) -> None:
+        """A dump whose content is forgotten has the sizes that it had, or none."""
+        for it, is_known in ((heap(8), True), (LaidOutHeap(COMPRESSED), False)):
+            every = [MarkedRuns(it.read()) for _ in range(2)]
+            measure(every[1].dump)
+            every[1].dump.forget()
+            last = MarkedRuns(heap(8).read())
+            found = [counted_in_heap([each, last], False) for each in every]
+            self.assertEqual(found[0].words, found[1].words)
+            self.assertEqual([each.dumps[0].report.in_heap for each in found], [is_known] * 2)
+            self.assertEqual(*(each.dumps[0].report.rows for each in found))
 
     def test_two_layouts(self) -> None:
         """Dumps with two layouts have their own sizes each."""
