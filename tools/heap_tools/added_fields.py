@@ -19,8 +19,8 @@ from heap_tools.heap_sample import CLASS_OBJECT, WITH_ADDED_FIELDS, WITH_ROOM, S
 #: How many objects show an addition of which each could be the hole that an object left, if more than half of those of
 #: the class agree. In the order of references there are holes after garbage, so there no number of them shows it.
 MANY_ADDED = 4
-#: What the smallest object takes in the old space of CMS, and of how many classes all objects, which have less, are as
-#: far from the next: no addition is so small, if all fields are those of one class.
+#: The bytes that the smallest object takes in the old space of CMS, and the number of classes of smaller objects that
+#: show such a space.
 SMALLEST_OF_CMS, SOME_SMALL = 24, 2
 #: The least room that is left on one side of a field that several threads write, larger than most holes. The number of
 #: objects that show that, or what is added to a class of `WITH_ADDED_FIELDS`.
@@ -74,8 +74,8 @@ class _Additions:
         return self.layout.aligned(one.plain) < SMALLEST_OF_CMS == one.gap
 
     def _is_cms(self, every: Sequence[Seen]) -> bool:
-        """Tests whether objects are in an old space of CMS: of some classes, all whose fields are their own, all objects
-        that are smaller than its smallest take as much as that."""
+        """Tests whether objects are in an old space of CMS. Classes of smaller objects show it if all of these take as
+        much as its smallest, and it is no addition: nothing is added to them, and there is no hole between fields."""
         plain = (it for it in every if self._has_own_fields(it.class_id) and not self._is_added_to(it.class_id))
         small: Set[int] = set()
         others: Set[int] = set()

@@ -148,11 +148,12 @@ def _ascending(stretches: Iterable[List[HeapObject]]) -> float:
     total = near = 0
     for stretch in stretches:
         total += max(0, len(stretch) - 1)
-        near += sum(one[0] < after[0] and _is_near(*one[2:], after[0] - one[0]) for one, after in pairs_of(stretch))
+        gaps = ((one, after[0] - one[0]) for one, after in _pairs_of(stretch))
+        near += sum(0 < gap <= LONGEST or gap > 0 and _is_near(*one[2:], gap) for one, gap in gaps)
     return near / max(1, total)
 
 
-def pairs_of(stretch: List[HeapObject]) -> Iterator[Tuple[HeapObject, HeapObject]]:
+def _pairs_of(stretch: List[HeapObject]) -> Iterator[Tuple[HeapObject, HeapObject]]:
     """Yields each object of a stretch but the last with the one after it."""
     return zip(stretch, islice(stretch, 1, None))
 
@@ -165,13 +166,20 @@ def _class_object(class_id: int) -> HeapObject:
 def _with_classes(stretch: List[HeapObject], classes: List[int]) -> List[HeapObject]:
     """Returns the objects of a stretch, and those class objects of the sorted list `classes` that are between two of
     them, each where it is. What follows at a lower address is not the neighbour of what is before it."""
+    if all(one[0] < after[0] for one, after in _pairs_of(stretch)):
+        return sorted(chain(stretch, _between(classes, stretch[:1], stretch[-1:])))
     found: List[HeapObject] = []
-    for one, after in pairs_of(stretch):
-        found.append(one)
-        if one[0] < after[0]:
-            begin, end = bisect_right(classes, one[0]), bisect_left(classes, after[0])
-            found += map(_class_object, classes[begin:end])
+    for one, after in _pairs_of(stretch):
+        found += [one, *_between(classes, [one], [after])]
     return found + stretch[-1:]
+
+
+def _between(classes: List[int], first: List[HeapObject], last: List[HeapObject]) -> Iterator[HeapObject]:
+    """Returns those class objects of the sorted list `classes` that are between two objects, if there are these and the
+    first is before the last."""
+    begins = (bisect_right(classes, one[0]) for one in first)
+    ends = (bisect_left(classes, one[0]) for one in last)
+    return chain.from_iterable(map(_class_object, classes[begin:end]) for begin, end in zip(begins, ends))
 
 
 def _special(dump: HeapDump, stretches: Iterable[List[HeapObject]]) -> List[int]:
@@ -233,7 +241,7 @@ def _sample(stretches: Sequence[List[HeapObject]], is_ascending: bool) -> Sample
     """Returns what is known of the objects in some stretches, in each of which no other object is between two. What the
     last one of a stretch has for its neighbour is not known. Two stretches may have an object in common."""
     every = sorted(
-        (*one, after[0] - one[0]) for stretch in stretches for one, after in pairs_of(stretch) if one[0] < after[0]
+        (*one, after[0] - one[0]) for stretch in stretches for one, after in _pairs_of(stretch) if one[0] < after[0]
     )
     found = Counter(each[1:] for each, _ in groupby(every))
     near = Counter({Neighbour(*each): count for each, count in found.items() if _is_near(*each[1:])})

@@ -46,8 +46,8 @@ class Work(Generic[Item, Result]):
             _end(processes)
 
     def results(self) -> List[Result]:
-        """Returns the results, in the order of the items. Raises what the first process raised that failed: `Fault`,
-        `MemoryError`, or `Fault` if it ended early."""
+        """Returns the results, in the order of the items. Raises the `Fault` or the `MemoryError` of the first process
+        that failed, or `Fault` if it ended early."""
         if not self._processes:
             return [self._function(self._items)]
         try:
