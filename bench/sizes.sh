@@ -106,7 +106,7 @@ fi
 few g1 -XX:+UseG1GC
 few serial -XX:+UseSerialGC
 few parallel -XX:+UseParallelGC
-[ "$number" -ge 14 ] || few cms -XX:+UseConcMarkSweepGC -XX:-PrintWarnings
+[ "$number" -ge 14 ] || few cms -XX:-PrintWarnings -XX:+UseConcMarkSweepGC
 few shenandoah -XX:+UseShenandoahGC
 few z -XX:+UseZGC
 large large-g1 -XX:+UseG1GC
