@@ -12,7 +12,7 @@ from heap_tools.faults import UNWRITABLE, Fault
 
 #: How many characters of a message are shown: the longest names of files have 4,096 bytes, each spelt by at most four
 #: characters, but those of classes may have 65,535.
-LONGEST_LINE = 20_000
+LONGEST_MESSAGE = 20_000
 
 
 def in_one_line(text: str) -> str:
@@ -30,8 +30,8 @@ def say(text: str) -> None:
     """Writes a line on standard error, of a very long one its beginning and its end. If it cannot be written, nobody
     would read it."""
     line = in_one_line(text)
-    if len(line) > LONGEST_LINE:
-        line = f"{line[: LONGEST_LINE // 2]} .. {line[-LONGEST_LINE // 2 :]}"
+    if len(line) > LONGEST_MESSAGE:
+        line = f"{line[: LONGEST_MESSAGE // 2]} .. {line[-LONGEST_MESSAGE // 2 :]}"
     try:
         if sys.stderr:
             os.write(sys.stderr.fileno(), f"{line}\n".encode(errors="surrogateescape"))

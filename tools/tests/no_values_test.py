@@ -1,4 +1,4 @@
-"""Tests that --no-values hides what the fields of dumps have, wherever it may be said, and however an object is named."""
+"""Tests that --no-values hides what the fields of dumps have, wherever it may be said and whatever names an object."""
 
 import html
 import json
