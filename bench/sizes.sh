@@ -6,8 +6,8 @@
 # Dumps bench/java/Filler.java with 40 MB by each collector and mode that Java has; without compressed references, or
 # classes; with objects at multiples of 16 bytes; with compact object headers; from Java 21 on 3,000 parked virtual
 # threads; and Filler with MEGABYTES (500) by G1, ZGC and Shenandoah. Filler wants Java 16. Then pools of threads with
-# their jobs, and large arrays among few small objects (bench/java/sizes), by each collector: CMS, too, as Java 11 has
-# it. Then prints a table, as bench/size_figures.py says, and fails if a comparison does. Java is that of JAVA_HOME, else
+# their jobs, and large arrays among few small objects (bench/java/sizes), by each collector, in Java 11 also by CMS.
+# Then prints a table, as bench/size_figures.py says, and fails if a comparison does. Java is that of JAVA_HOME, else
 # that of PATH; bench/debian_jdk.sh unpacks others: JAVA_HOME=$(bench/debian_jdk.sh 11 bullseye). Names of dumps of 32
 # bits have `-32-bit`: JAVA_HOME=$(bench/debian_jdk.sh 17 bookworm i386) makes such ones.
 #

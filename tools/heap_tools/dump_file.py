@@ -49,7 +49,7 @@ def unchanged(path: str, state: Optional[FileState]) -> Iterator[None]:
         raise changed(path)
 
 
-def content_of(path: str, state: Optional[FileState]) -> bytes:
+def whole_content(path: str, state: Optional[FileState]) -> bytes:
     """Returns the content of the file `path`, which had the state `state` before heapmark read it. Raises `Fault` if it
     cannot be read, or if it has changed since then."""
     if state is None:

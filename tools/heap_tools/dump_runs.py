@@ -4,7 +4,7 @@ import struct
 from typing import Dict, List, NamedTuple, Optional, Sequence
 
 from heap_tools.changed_copy import Changes
-from heap_tools.dump_file import FileState, changed, content_of, state_of
+from heap_tools.dump_file import FileState, changed, whole_content, state_of
 from heap_tools.first_runs import AcceptedDump, FirstRuns
 from heap_tools.heap_dump import HeapDump
 from heap_tools.heapmark import Heapmark
@@ -17,7 +17,7 @@ from heap_tools.runs_at_once import ChangedDump, RunsAtOnce
 def read_dump(path: str, state: Optional[FileState], report: Report) -> HeapDump:
     """Returns the records of a dump of which heapmark has made `report`; its file had the state `state` before that.
     Raises `Fault` if they are not as heapmark read them."""
-    content = content_of(path, state)
+    content = whole_content(path, state)
     try:
         return HeapDump(content, report.has_nameless(), path)
     except (IndexError, KeyError, ValueError, struct.error):  # a change that the state of the file does not show

@@ -8,7 +8,7 @@ from unittest import mock
 
 from heap_tools import heap_dump, hprof_format, parallel
 from heap_tools.changed_copy import NEAR, number_code, write_copy
-from heap_tools.dump_file import content_of, state_of
+from heap_tools.dump_file import whole_content, state_of
 from heap_tools.dump_runs import DumpRuns
 from heap_tools.faults import UNREADABLE, Fault
 from heap_tools.heap_objects import FEWEST_SEGMENTS, HeapObjects
@@ -329,16 +329,16 @@ class RunsTest(ToolTest):
         dump.write("dump")
         state = state_of("dump")
         assert state
-        self.assertEqual(content_of("dump", state), dump.bytes())
+        self.assertEqual(whole_content("dump", state), dump.bytes())
         for name in ("length", "changed", "number", "device"):
             other = state._replace(**{name: getattr(state, name) + 1})
-            self.assertRaisesRegex(Fault, f"^{SHRUNK}$", content_of, "dump", other)
-        self.assertRaisesRegex(Fault, f"^{SHRUNK}$", content_of, "dump", None)
-        self.assertRaisesRegex(Fault, "^none: No such file or directory$", content_of, "none", state)
+            self.assertRaisesRegex(Fault, f"^{SHRUNK}$", whole_content, "dump", other)
+        self.assertRaisesRegex(Fault, f"^{SHRUNK}$", whole_content, "dump", None)
+        self.assertRaisesRegex(Fault, "^none: No such file or directory$", whole_content, "none", state)
         self.assertEqual([state_of("none"), state_of("a\0b")], [None, None])
         with mock.patch("os.fstat", return_value=os.stat("dump")), mock.patch("builtins.open") as opens:
             opens.return_value.__enter__.return_value.read.return_value = dump.bytes()[:-1]
-            self.assertRaisesRegex(Fault, f"^{SHRUNK}$", content_of, "dump", state)
+            self.assertRaisesRegex(Fault, f"^{SHRUNK}$", whole_content, "dump", state)
 
     def test_shrinks(self) -> None:
         """A file that became shorter after heapmark accepted it, or empty, is the file's fault, wherever it ends."""

@@ -256,7 +256,7 @@ class RefusalTest(ToolTest):
                 "heapmark is out of memory: free some, or see ulimit -v (refused 15 OutOfMemory)",
             ),
             (
-                "heapmark: refused 18 WorkerRefused\nheapmark: --workers 4: the system starts no more threads: try fewer",
+                "heapmark: refused 18 WorkerRefused\nheapmark: --workers 4: the system starts no more threads",
                 "the system starts no thread for heapmark: see ulimit -u and ulimit -v (refused 18 WorkerRefused)",
             ),
             ("heapmark: refused 19 ReadFault", "heapmark cannot read it (refused 19 ReadFault)"),

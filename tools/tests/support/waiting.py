@@ -26,7 +26,7 @@ def time_limit(seconds: int) -> Iterator[None]:
 
 
 def wait_until(is_so: Callable[[], bool], what: str) -> None:
-    """Returns when `is_so` returns true. Raises `AssertionError` with `what` if that takes more than `LIMIT` seconds."""
+    """Returns when `is_so` returns true. Raises `AssertionError` with `what` after `LIMIT` seconds."""
     ends = time.monotonic() + LIMIT
     while not is_so():
         if time.monotonic() > ends:
