@@ -1,15 +1,17 @@
 """Tests that each tool ends in a line and with its status, by no signal and without a traceback, whatever becomes of a
 dump while it is read, and whatever the system lacks."""
 
+import itertools
 import os
 import pathlib
+import re
 import resource
 import shutil
 import signal
 import subprocess
 import sys
 import unittest
-from typing import Callable, Dict, Iterator, List, NamedTuple, Sequence
+from typing import Callable, Dict, Iterator, List, NamedTuple, Optional, Sequence
 
 from tests.support.dump_writer import BYTE
 from tests.support.services import cache
@@ -24,8 +26,10 @@ COMMANDS = (
     ["held", "friday", "static shop/Service.CACHE"],
     ["grown", "monday", "friday"],
 )
-#: What becomes of the dump.
-CHANGES = {"emptied": ": > friday", "cut": "truncate -s 3000 friday", "overwritten": "cat other > friday"}
+#: What becomes of the dump: it is emptied, cut or overwritten.
+CHANGES = (": > friday", "truncate -s 3000 friday", "cat other > friday")
+#: What is said of that.
+CHANGED = "friday: it changed while it was read"
 #: A stand-in for heapmark that changes the dump before it is read, after it was read, or when a copy is.
 CHANGING = """case "$*" in
 *friday) BEFORE; HEAPMARK "$@"; status=$?; AFTER; exit $status ;;
@@ -60,8 +64,8 @@ class Lack(NamedTuple):
 
 
 #: The fewest open files, and bytes of memory, with which a tool gets something done, and many more.
-FILES = Lack(resource.RLIMIT_NOFILE, range(5, 24, 3))
-MEMORY = Lack(resource.RLIMIT_AS, [megabytes << 20 for megabytes in (24, 32, 36, 40, 48, 64, 384)])
+FILES = Lack(resource.RLIMIT_NOFILE, range(5, 24, 6))
+MEMORY = Lack(resource.RLIMIT_AS, [megabytes << 20 for megabytes in (24, 32, 40, 56, 384)])
 
 
 class StressTest(ToolTest):
@@ -86,40 +90,43 @@ class StressTest(ToolTest):
             self.assertEqual(self.right[key].status, 0, self.right[key].said)
         return self.right[key].out
 
-    def require_line(self, ended: Ended, words: Sequence[str], statuses: Sequence[int]) -> None:
-        """Tests that a tool printed nothing, and ended with one of some statuses and a line."""
+    def require_line(self, ended: Ended, words: Sequence[str], statuses: Sequence[int], said: str = "") -> None:
+        """Tests that a tool printed nothing, and ended with one of some statuses and a line, which has what is
+        `said`."""
         self.assertEqual((ended.out, ended.status in statuses), ("", True), ended)
         self.assertRegex(ended.said, rf"\A{words[0]}: [^\n]*\n\Z")
+        self.assertIn(said, ended.said)
 
     def test_changed(self) -> None:
         """A dump that is emptied, cut or overwritten before heapmark reads it, or before the tool has, is said to have
-        changed. What comes later does not matter, and is said, too."""
-        for words in COMMANDS:
-            shutil.copy2("whole", "friday")
-            whole = self.rightly(words)
-            for becomes, change in CHANGES.items():
-                for moment in ("BEFORE", "AFTER", "LATER"):
-                    with self.subTest(words=words, becomes=becomes, moment=moment):
-                        shutil.copy2("whole", "friday")
-                        text = CHANGING.replace(moment, change)
-                        for other in ("BEFORE", "AFTER", "LATER"):
-                            text = text.replace(other, ":")
-                        ended = self.of_tool(words, heapmark=self.program(text))
-                        if moment == "LATER" and " -- /dev/stdin" in pathlib.Path("runs").read_text():
-                            self.assertEqual((ended.status, ended.out), (0, whole))
-                            self.assertIn(f"{words[0]}: friday has changed since it was read: ", ended.said)
-                        elif moment == "LATER":
-                            self.assertEqual((ended.status, ended.out), (0, whole))
-                        else:
-                            self.require_line(ended, words, [1])
-                            self.assertIn("friday: it changed while it was read", ended.said)
+        changed."""
+        for words, change, moment in itertools.product(COMMANDS, CHANGES, ("BEFORE", "AFTER")):
+            with self.subTest(words=words, change=change, moment=moment):
+                shutil.copy2("whole", "friday")
+                self.require_line(self.of_tool(words, self.changing(moment, change)), words, [1], CHANGED)
+
+    def test_changed_later(self) -> None:
+        """What becomes of a dump after it was read does not matter. If heapmark reads copies then, that is said."""
+        for words, change in itertools.product(COMMANDS, CHANGES):
+            with self.subTest(words=words, change=change):
+                shutil.copy2("whole", "friday")
+                whole = self.rightly(words)
+                ended = self.of_tool(words, self.changing("LATER", change))
+                self.assertEqual((ended.status, ended.out), (0, whole), ended.said)
+                of_copy = " -- /dev/stdin" in pathlib.Path("runs").read_text()
+                said = f"{words[0]}: friday has changed since it was read: all that is said is of what it was\n"
+                self.assertEqual(said in ended.said, of_copy)
 
     def test_gone(self) -> None:
         """A dump that is gone before the tool has read it takes a line, too."""
         for words in COMMANDS:
-            text = CHANGING.replace("BEFORE", ":").replace("AFTER", "rm friday").replace("LATER", ":")
             shutil.copy2("whole", "friday")
-            self.require_line(self.of_tool(words, heapmark=self.program(text)), words, [1])
+            self.require_line(self.of_tool(words, self.changing("AFTER", "rm friday")), words, [1], CHANGED)
+
+    def changing(self, moment: str, change: str) -> str:
+        """Returns a stand-in for heapmark that changes the dump at a moment."""
+        text = CHANGING.replace(moment, change)
+        return self.program(re.sub("BEFORE|AFTER|LATER", ":", text))
 
     def with_less(self, lack: Lack) -> Iterator[Ended]:
         """Yields how each tool ends with less and less, and tests that it ends rightly, or with a line."""
@@ -134,17 +141,7 @@ class StressTest(ToolTest):
 
     def limited(self, words: Sequence[str], limit: int, value: int) -> Ended:
         """Runs a tool with a limit."""
-        command = [sys.executable, str(TOOLS / words[0]), *words[1:]]
-        ended = subprocess.run(
-            command,
-            env={**os.environ, "HEAPMARK": HEAPMARK},
-            stdin=subprocess.DEVNULL,
-            stdout=subprocess.PIPE,
-            stderr=subprocess.PIPE,
-            preexec_fn=lambda: resource.setrlimit(limit, (value, value)),
-            check=False,
-        )
-        return Ended(ended.returncode, ended.stdout.decode(), ended.stderr.decode())
+        return ended_of([str(TOOLS / words[0]), *words[1:]], limit=lambda: resource.setrlimit(limit, (value, value)))
 
     def test_files(self) -> None:
         """With few open files."""
@@ -168,11 +165,7 @@ class StressTest(ToolTest):
 
     def lacking(self, what: str, words: Sequence[str]) -> Ended:
         """Runs a tool to which the system gives none of something."""
-        text = WITHOUT.replace("LACKS", LACKING[what])
-        command = [sys.executable, "-c", text, str(TOOLS / words[0]), *words[1:]]
-        environment = {**os.environ, "HEAPMARK": HEAPMARK}
-        ended = subprocess.run(command, env=environment, stdout=subprocess.PIPE, stderr=subprocess.PIPE, check=False)
-        return Ended(ended.returncode, ended.stdout.decode(), ended.stderr.decode())
+        return ended_of(["-c", WITHOUT.replace("LACKS", LACKING[what]), str(TOOLS / words[0]), *words[1:]])
 
     def test_processes(self) -> None:
         """Without further processes, a tool does all by itself; without heapmark it cannot do anything."""
@@ -181,8 +174,7 @@ class StressTest(ToolTest):
                 ended = self.lacking(what, words)
                 self.assertEqual((ended.status, ended.out), (0, self.rightly(words)), ended.said)
             ended = self.lacking("processes", words)
-            self.require_line(ended, words, [5])
-            self.assertTrue(ended.said.endswith(" cannot be run: Resource temporarily unavailable: see ulimit -u\n"))
+            self.require_line(ended, words, [5], " cannot be run: Resource temporarily unavailable: see ulimit -u\n")
 
     def test_no_proc(self) -> None:
         """Without /proc, heapmark cannot read copies."""
@@ -190,13 +182,9 @@ class StressTest(ToolTest):
         if not shutil.which("unshare") or subprocess.run([*apart, "true"], stderr=subprocess.DEVNULL).returncode:
             self.skipTest("/proc cannot be hidden")
         for words in COMMANDS:
-            command = [*apart, sys.executable, str(TOOLS / words[0]), *words[1:]]
-            environment = {**os.environ, "HEAPMARK": HEAPMARK}
-            ran = subprocess.run(command, env=environment, stdout=subprocess.PIPE, stderr=subprocess.PIPE, check=False)
-            ended = Ended(ran.returncode, ran.stdout.decode(), ran.stderr.decode())
+            ended = ended_of([str(TOOLS / words[0]), *words[1:]], apart)
             if ended.status:
-                self.require_line(ended, words, [1, 5])
-                self.assertIn("it reads copies by /dev/stdin, which needs /proc", ended.said)
+                self.require_line(ended, words, [1, 5], ": it reads copies by /dev/stdin, which needs /proc\n")
             else:
                 self.assertEqual(ended.out, self.rightly(words))
 
@@ -212,10 +200,9 @@ class StressTest(ToolTest):
                 "exec tr '\\0' 1 < /dev/zero",
             ):
                 ended = self.of_tool(words, heapmark=self.program(prints))
-                self.require_line(ended, words, [5])
-                self.assertIn("failed: no report: is it heapmark?", ended.said)
+                self.require_line(ended, words, [5], "failed: no report: is it heapmark?\n")
             if words[0] in ("leaks", "holders", "held"):
-                later = f"case $* in *stdin) exec yes '  2  8  A' ;; esac\nexec HEAPMARK \"$@\""
+                later = "case $* in *stdin) exec yes '  2  8  A' ;; esac\nexec HEAPMARK \"$@\""
                 self.require_line(self.of_tool(words, heapmark=self.program(later)), words, [1, 5])
 
     def test_signals(self) -> None:
@@ -225,16 +212,25 @@ class StressTest(ToolTest):
             for name in ("SIGINT", "SIGTERM", "SIGHUP"):
                 sends = f"os.kill(os.getpid(), signal.{name})\n    from heap_tools"
                 body = (TOOLS / tool).read_text(encoding="utf-8").replace("from heap_tools", sends)
-                command = [sys.executable, "-c", f"__file__ = {str(TOOLS / tool)!r}\n{body}", "--version"]
-                for handler, status, said in (
-                    (signal.SIG_DFL, 130, f"{tool}: interrupted\n"),
-                    (signal.SIG_IGN, 0, ""),
-                ):
-                    heeds: Callable[[], object] = lambda: signal.signal(signal.Signals[name], handler)
-                    ended = subprocess.run(
-                        command, stdout=subprocess.PIPE, stderr=subprocess.PIPE, preexec_fn=heeds, check=False
-                    )
-                    self.assertEqual((ended.returncode, ended.stderr.decode()), (status, said), (tool, name))
+                command = ["-c", f"__file__ = {str(TOOLS / tool)!r}\n{body}", "--version"]
+                handlers = (signal.SIG_DFL, 130, f"{tool}: interrupted\n"), (signal.SIG_IGN, 0, "")
+                for handler, status, said in handlers:
+                    ended = ended_of(command, limit=lambda: signal.signal(signal.Signals[name], handler))
+                    self.assertEqual((ended.status, ended.said), (status, said), (tool, name))
+
+
+def ended_of(words: Sequence[str], before: Sequence[str] = (), limit: Optional[Callable[[], object]] = None) -> Ended:
+    """Runs Python with these words, after others, and with a limit. Returns how it ended."""
+    ran = subprocess.run(
+        [*before, sys.executable, *words],
+        env={**os.environ, "HEAPMARK": HEAPMARK},
+        stdin=subprocess.DEVNULL,
+        stdout=subprocess.PIPE,
+        stderr=subprocess.PIPE,
+        preexec_fn=limit,
+        check=False,
+    )
+    return Ended(ran.returncode, ran.stdout.decode(), ran.stderr.decode())
 
 
 class RefusalTest(ToolTest):
