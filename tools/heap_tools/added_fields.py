@@ -22,9 +22,10 @@ MANY_ADDED = 4
 #: The bytes that the smallest object takes in the old space of CMS, and the number of classes of smaller objects that
 #: show such a space.
 SMALLEST_OF_CMS, SOME_SMALL = 24, 2
-#: The least room that is left on one side of a field that several threads write, larger than most holes. The number of
-#: objects that show that, or what is added to a class of `WITH_ADDED_FIELDS`.
-ROOM, SOME_ADDED = 128, 2
+#: The room that is left before, between and after fields that several threads write, and how often a class may have it.
+#: The number of objects that show that, or what is added to a class of `WITH_ADDED_FIELDS`: of garbage there may be a
+#: hole of any size after some objects of a class.
+ROOM, MOST_ROOMS, SOME_ADDED = 128, 4, 2
 
 
 class Seen(NamedTuple):
@@ -130,15 +131,16 @@ class _Additions:
         if least == 0:  # alignment hides it in some subclasses
             votes -= sum(each.objects for each in seen if each.gap == aligned(each.plain + inherited))
             return max(added, inherited) if votes >= SOME_ADDED else inherited
-        enough = votes >= MANY_ADDED and self.is_ascending or votes >= SOME_ADDED and (least >= ROOM or has_fields)
+        is_room = self._is_room(least)
+        enough = votes >= MANY_ADDED and self.is_ascending or votes >= SOME_ADDED and (is_room or has_fields)
         is_certain = least < aligned(self.layout.header) or has_fields and least <= max(WORD, self.layout.alignment)
-        is_certain |= self.dump.names[class_id] in WITH_ROOM and self._is_room(least)
+        is_certain |= self.dump.names[class_id] in WITH_ROOM and is_room
         is_shown = is_certain or enough and is_most
         return added if added > inherited and is_shown else inherited
 
     def _is_room(self, added: int) -> bool:
-        """Tests whether so many bytes are room on one side of fields or on both, but for what alignment adds."""
-        return added in (side * ROOM + more for side in (1, 2) for more in range(2 * self.layout.alignment + 1))
+        """Tests whether `added` bytes are the room that is left around fields, but for what alignment adds."""
+        return ROOM <= added < (MOST_ROOMS + 1) * ROOM and added % ROOM <= 2 * self.layout.alignment
 
 
 def _most_agreed(seen: List[Seen], alignment: int) -> Tuple[int, int]:

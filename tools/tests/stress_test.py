@@ -100,7 +100,8 @@ class StressTest(ToolTest):
     def test_changed(self) -> None:
         """A dump that is emptied, cut or overwritten before heapmark reads it, or before the tool has, is said to have
         changed."""
-        for words, change, moment in itertools.product(COMMANDS, CHANGES, ("BEFORE", "AFTER")):
+        commands = [*COMMANDS, ["grown", "--dump-bytes", "monday", "friday"]]
+        for words, change, moment in itertools.product(commands, CHANGES, ("BEFORE", "AFTER")):
             with self.subTest(words=words, change=change, moment=moment):
                 shutil.copy2("whole", "friday")
                 self.require_line(self.of_tool(words, self.changing(moment, change)), words, [1], CHANGED)
