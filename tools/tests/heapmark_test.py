@@ -1,6 +1,7 @@
 """Tests how the tools find and run heapmark, with stand-ins for it."""
 
 import contextlib
+import errno
 import os
 import pathlib
 import re
@@ -81,6 +82,18 @@ class HeapmarkTest(ToolTest):
                 heapmark = Heapmark()
             why = "^heapmark cannot be run: No such file or directory: build heapmark with tools/build, .* HEAPMARK "
             self.assertRaisesRegex(Fault, why, heapmark.first_report, "dump")
+
+    def test_no_files(self) -> None:
+        """If the system opens no more files, that is said, not that the program is missing."""
+        pathlib.Path("dump").touch()
+        heapmark = self.heapmark("exit 0")
+        full = OSError(errno.EMFILE, os.strerror(errno.EMFILE))
+        said = "other cannot be run: Too many open files: see ulimit -n$"
+        for lacking in (["os.openpty", "os.pipe"], ["subprocess.Popen"]):
+            with contextlib.ExitStack() as stack, self.assertRaisesRegex(Fault, said):
+                for name in lacking:
+                    stack.enter_context(mock.patch(name, side_effect=full))
+                heapmark.first_report("dump")
 
     def test_long_report(self) -> None:
         """A report is read whole, whatever its length, and so is a first row with a long name."""
