@@ -21,7 +21,7 @@ DUMP = str(DATA / "two_objects.hprof")
 BINARY = os.path.realpath(os.environ.get("HEAPMARK") or TOP / "crates/heapmark/out/heapmark")
 RETAINED = TOP / "crates/retained/out/retained"
 #: The programs that are built.
-BUILT = {"heapmark": BINARY, "retained": RETAINED}
+BUILT: dict[str, str | pathlib.Path] = {"heapmark": BINARY, "retained": RETAINED}
 TOOLS = ("leaks", "grown", "holders", "held", "sizes")
 DOCUMENTS = ("README.md", "docs/LEAK.md", "docs/JSON.md", "docs/HISTOGRAM.md", "docs/FORMAT.md", "docs/LABELS.md")
 #: The headings of the help, and those of a manual page.
