@@ -27,8 +27,9 @@ nothing known bytes = (0, omega arith, appends_nothing known)
 
 -- a line about a subject, or nothing of it
 
-pub about : (program subject bytes text : List ℕ) (old new : Option (List ℕ)) → bytes ≡ text → All (λ byte. byte ≢ 10) bytes
-    → AppendsBeginning old new (line_by program (subject ++ codes ": " ++ text)) → PrintsAboutBy program subject old new
+pub about : (program subject bytes text : List ℕ) (old new : Option (List ℕ)) → bytes ≡ text
+    → All (λ byte. byte ≢ 10) bytes → AppendsBeginning old new (line_by program (subject ++ codes ": " ++ text))
+    → PrintsAboutBy program subject old new
 about program subject bytes text old new same one line = (text, subst (All (λ byte. byte ≢ 10)) same one, line)
 
 pub nothing_about : (program subject : List ℕ) (known : Option (List ℕ)) → PrintsAboutBy program subject known known

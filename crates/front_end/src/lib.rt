@@ -5,8 +5,8 @@
 //!   a test keeps in memory. A contract can name the words and bytes of the latter. So what it says of known words and
 //!   bytes shows that the right file is read.
 //! - `Refusal` is why a run has no report: a code, and for a fault of a dump its offset.
-//! - `print_refusal`, `print_line` and `print_about` print a line without an allocation, so that also a refusal for
-//!   want of memory is printed. `print_words_error` prints what clap says of the words, `refuse_bytes` that a word is
+//! - `print_refusal`, `print_line` and `print_about` print a line without an allocation, so that also the refusal of an
+//!   allocation that failed is printed. `print_words_error` prints what clap says of the words, `refuse_bytes` that a word is
 //!   no text.
 #![tactic(auto)]
 

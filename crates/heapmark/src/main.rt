@@ -14,8 +14,7 @@
 //! clauses can say what they do for known words and known bytes, and they can only read a file.
 //!
 //! The headline is defined in `specs/Headline.antt`, what it says of the program in `specs/OfFile.antt`, the refusals
-//! in `front_end`. The README of the repository has them in words, and `docs/ARCHITECTURE.md` says where everything else
-//! is.
+//! in `front_end`. The README of the repository has them in words, and `docs/ARCHITECTURE.md` says where all else is.
 #![tactic(auto)]
 
 ghost use Rattle.std.specs.Prelude.{◌≡◌, ◌-◌, ◌^◌, ◌<◌, IfSome, false};

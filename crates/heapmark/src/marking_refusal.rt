@@ -8,7 +8,8 @@ use crate::causes::Causes;
 use drain::RunFault;
 use front_end::Refusal;
 
-/// Returns the refusal of a run whose marking failed with `fault`. Passes the token of the fault to `rt`, if it has one.
+/// Returns the refusal of a run whose marking failed with `fault`. Passes the token of the fault, if it has one, to
+/// `rt`.
 pub(crate) fn refusal_of_marking<T: Causes>(rt: &T, fault: RunFault) -> Refusal
     ensures value { result ≡ run_refusal fault }
     ensures cause { HasCause (T.causes rt.now) result }

@@ -1,5 +1,6 @@
 -- What the program writes and prints for the two files that the words of its command line name.
-use Rattle.std.specs.Prelude.{IfSome, IsSomeAnd, List, Option, Some, codes, option_and_then, take, ℕ, ◌+◌, ◌↔◌, ◌≡◌, ◌⊎◌}
+use Rattle.std.specs.Prelude.{IfSome, IsSomeAnd, List, Option, Some, codes, option_and_then, take, ℕ}
+use Rattle.std.specs.Prelude.{◌+◌, ◌↔◌, ◌≡◌, ◌⊎◌}
 use Rattle.std.specs.Io.KnownBytes.{Keeps}
 use Rattle.front_end.specs.PrintedLine.{PrintsAboutBy}
 use Rattle.front_end.specs.RefusalCodes.{bad_options_refusal, write_fault}
@@ -30,9 +31,11 @@ OfBoth dump labels P = IfSome dump (λ text. IfSome labels (λ list. P text list
 -- The table of the dump and of the labels was written, and nothing else: the dump is accepted, and the text of the
 -- labels is one.
 abbrev pub WritesTableOf : Option (List ℕ) → Option (List ℕ) → Option (List ℕ) → Option (List ℕ) → Type 0
-WritesTableOf dump labels old new = OfBoth dump labels (λ text list. WritesTable (bytes_of_run text) (bytes_of_labels list) old new)
+WritesTableOf dump labels old new =
+    OfBoth dump labels (λ text list. WritesTable (bytes_of_run text) (bytes_of_labels list) old new)
 
-abbrev pub WritesTableOfFiles : (List ℕ → Option (List ℕ)) → List (List ℕ) → Option (List ℕ) → Option (List ℕ) → Type 0
+abbrev pub WritesTableOfFiles : (List ℕ → Option (List ℕ)) → List (List ℕ) → Option (List ℕ) → Option (List ℕ)
+    → Type 0
 WritesTableOfFiles bytes_at words old new =
     WritesTableOf (bytes_given bytes_at (codes "file") words) (bytes_given bytes_at (codes "labels") words) old new
 

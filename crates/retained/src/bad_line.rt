@@ -1,4 +1,4 @@
-//! What people are told of a text that is no list of labels.
+//! The line at a terminal about a text that is no list of labels.
 
 use std::fmt;
 

@@ -97,7 +97,8 @@ fn explain<E: Write>(err: &mut E, arguments: &Arguments<'_>, reason: &NoTable)
 
 /// Reads all bytes of the file `name`, which has the labels.
 fn read_labels<T: Dumps + AllocGlobal>(rt: &T, name: &str) -> Result<Vec<u8>, NoTable>
-    ensures bytes { IfOk result (λ text. IfSome (T.bytes_at rt.now name.now) (λ bytes. text.items ≡ bytes_of_labels bytes)) }
+    ensures bytes { IfOk result (λ text. IfSome (T.bytes_at rt.now name.now) (λ bytes.
+        text.items ≡ bytes_of_labels bytes)) }
     ensures reason { IfErr result (λ reason.
         (fault_of reason ≡ Fault.ReadFault) ⊎ (fault_of reason ≡ Fault.OutOfMemory)) }
     ensures unread { IfErr result (λ reason. fault_of reason ≡ Fault.ReadFault → T.is_unread rt.now name.now) }

@@ -3,4 +3,5 @@ use Rattle.heapmark.proofs.OfMarking.{known_marking}
 use Rattle.heapmark.proofs.pipeline.report_of_graph.Goals as goal
 
 pub returns-in-Err-clause-known : goal.returns-in-Err-clause-known
-returns-in-Err-clause-known g c = known_marking c.refusal_of_marking.result c.in-Err.fault c.refusal_of_marking.ensures.value
+returns-in-Err-clause-known g c =
+    known_marking c.refusal_of_marking.result c.in-Err.fault c.refusal_of_marking.ensures.value
