@@ -25,8 +25,10 @@ trap 'rm -rf "$room"' EXIT
 
 rustc --edition 2024 -O -o "$room/plain" "$top/bench/plain/main.rs"
 rustc --edition 2024 -O -o "$room/hostile" "$top/bench/hostile.rs"
-# shellcheck disable=SC2046 # a kind is one word
-[ $# -gt 0 ] || set -- $("$room/hostile" || true)
+kinds=$("$room/hostile" || true)
+# shellcheck disable=SC2086 # a kind is one word
+[ $# -gt 0 ] || set -- $kinds
+require_kinds "$kinds" "$@"
 
 # timed NAME PROGRAM [OPTION..]: runs PROGRAM on the dump that was made last, and adds its seconds to `times`.
 timed() {

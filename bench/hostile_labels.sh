@@ -27,8 +27,10 @@ trap 'rm -rf "$room"' EXIT
 rustc --edition 2024 -O -o "$room/plain" "$top/bench/plain/main.rs"
 rustc --edition 2024 -O -o "$room/same_tables" "$top/bench/same_tables.rs"
 rustc --edition 2024 -O -o "$room/hostile" "$top/bench/hostile.rs"
-# shellcheck disable=SC2046 # a kind is one word
-[ $# -gt 0 ] || set -- $("$room/hostile" labels || true)
+kinds=$("$room/hostile" labels || true)
+# shellcheck disable=SC2086 # a kind is one word
+[ $# -gt 0 ] || set -- $kinds
+require_kinds "$kinds" "$@"
 
 # timed NAME PROGRAM [WORD..]: runs PROGRAM on the dump and the labels that were made last. Adds its processor seconds
 # to `times`, and its peak of memory to `peaks`.

@@ -10,8 +10,9 @@
 # - its folder and name, the version of Java that it needs (`17`, or `17-23` if it does not run on later ones), and the
 #   number of its dumps; then, if it needs libraries, the Debian packages that have them and the names of their jars,
 #   with commas between them;
-# - the holder. Between holders of which any is right stands ` | `; `*` stands for any letters. Fields that only
-#   together hold the leak are right, too, if each of them is;
+# - the holder. Holders of which any is right have ` | ` between them; `*` is any letters. Fields that only together
+#   hold the leak are right if each of them is, or if they are those of one holder `together FIELD, FIELD..`, in any
+#   order. After `also`, the holder of another leak, the larger ones first: in leaks.sh, each is to have a line;
 # - after `says`, the words that the output must have, too;
 # - after `ran out`, the name of the thread that runs out of memory, and how its first own method begins.
 # shellcheck shell=bash disable=SC2034 # what is set here is used there
@@ -117,6 +118,13 @@ compile() {
     done
 }
 
+# fields_of FIELDS: prints the fields of `together FIELD, FIELD..`, in the order of the alphabet, or the only field.
+fields_of() {
+    local fields
+    IFS=, read -r -a fields <<< "${1#together }"
+    printf '%s\n' "${fields[@]# }" | sort
+}
+
 # is FIELD HOLDERS: tests whether FIELD is one of HOLDERS. More words may come after the field.
 is() {
     local holders=$2 holder
@@ -128,6 +136,8 @@ is() {
         holder=${holder//\[/\\[}
         # shellcheck disable=SC2053 # a holder is a pattern
         [[ $1 != $holder && $1 != ${holder}[\ :]* ]] || return 0
+        # shellcheck disable=SC2053
+        [[ $1 != 'together '* || $holder != 'together '* || $(fields_of "$1") != $(fields_of "$holder") ]] || return 0
     done
     return 1
 }

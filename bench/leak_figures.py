@@ -1,15 +1,15 @@
 #!/usr/bin/env python3
 """Tests the figures and the path of the first line of tools/leaks by another marker, on two or more dumps.
 
-PLAIN is the plain marker, built as bench/README.md says. heapmark is the binary of crates/heapmark/out, or what the
-variable HEAPMARK names. tools/leaks runs with heapmark. Then copies of the first dump and of the last one are written
-to files: as leaks asks them (weak references, and calls that are running, cut as it says), and without the fields of
-the first line. PLAIN reads the copies, and its totals must give what the line shows: the objects and bytes more, the
-share, and what was held before and after. For each step `A > B` of the line's path, a copy without A must lose no more
-if B is cut, too. Then `held` is asked what hangs by A, in the dump as it is: at least what hangs by B, or a line says
-what hangs by each.
+PLAIN is the plain marker, built as bench/README.md says. heapmark and retained are the binaries of crates/, or what the
+variables HEAPMARK and RETAINED name; tools/leaks runs with these. Then copies of the first dump and of the last one are
+written to files: as leaks asks them (weak references, and calls that are running, cut as it says), and without the
+fields of the first line. PLAIN reads them, and its totals must give what the line shows: the objects and bytes more,
+the share, and what was held before and after. For each step `A > B` of the line's path, a copy without A must lose no
+more if B is cut, too. Then `held` is asked what hangs by A, in the dump as it is: at least what hangs by B, or a line
+says what hangs by each.
 
-Prints a line: `same` or what differs, the first line's field, and how many runs of heapmark it took. Exit status 1 if
+Prints a line: `same` or what differs, the first line's field, and how many runs it took. Exit status 1 if
 a figure or a step of the path is wrong.
 """
 
@@ -27,48 +27,43 @@ from collections.abc import Sequence
 
 TOP = pathlib.Path(__file__).resolve().parent.parent
 sys.dont_write_bytecode = True
-sys.path.insert(0, str(TOP / "tools"))
-os.environ.setdefault("HEAPMARK", str(TOP / "crates/heapmark/out/heapmark"))
+sys.path[:0] = [str(TOP / "dev"), str(TOP / "tools")]
+for NAME in ("heapmark", "retained"):
+    os.environ.setdefault(NAME.upper(), str(TOP / f"crates/{NAME}/out/{NAME}"))
 
+from changed_copy import changes_of, write_copy  # noqa: E402
 from heap_tools.candidates import Candidate, joint_name  # noqa: E402
-from heap_tools.changed_copy import Changes, write_copy  # noqa: E402
 from heap_tools.commands import held  # noqa: E402
 from heap_tools.comparison import Comparison, comparison_of, dumps_of  # noqa: E402
 from heap_tools.console import Progress  # noqa: E402
-from heap_tools.dump_runs import DumpRuns  # noqa: E402
+from heap_tools.dump_side import DumpSide  # noqa: E402
 from heap_tools.faults import Fault  # noqa: E402
 from heap_tools.heapmark import Heapmark  # noqa: E402
 from heap_tools.leak_lines import Answer, Line, answer_of  # noqa: E402
 from heap_tools.leak_options import Options  # noqa: E402
 from heap_tools.probe import GrowthProbe, Probe  # noqa: E402
 from heap_tools.reports import Amount, Report, read_report  # noqa: E402
-from heap_tools.search_progress import SearchProgress  # noqa: E402
 
 #: What a line shows: what was held before and after, and the share of the growth in percent.
 Figures = tuple[Amount, Amount, int]
 
 
-def report_of(plain: str, runs: DumpRuns, changes: Changes) -> Report:
-    """Returns the plain marker's report of a copy of the dump with these changes."""
+def report_of(plain: str, side: DumpSide, candidates: Sequence[Candidate] = ()) -> Report:
+    """Returns the plain marker's report of a copy of the dump as it is asked, without these candidates."""
+    changes = changes_of(side.runs.dump, [*side.cut, *side.places(candidates)])
     with tempfile.NamedTemporaryFile(dir=os.environ.get("TMPDIR")) as file:
-        write_copy(runs.dump, file.fileno(), {**runs.cut, **changes}, runs.roots)
+        write_copy(side.runs.dump, file.fileno(), changes, side.roots)
         ran = subprocess.run([plain, file.name], stdout=subprocess.PIPE, stderr=subprocess.DEVNULL, check=True)
     report = read_report(ran.stdout.splitlines(), plain)
     assert report, f"{plain}: no report"
     return report
 
 
-def changes_of(probe: Probe, candidates: Sequence[Candidate]) -> Changes:
-    """Returns the changes of the dump of `probe` by which these candidates lead nowhere."""
-    return {place: new for each in candidates for place, new in probe.changes(each).items()}
-
-
 def figures(plain: str, probe: GrowthProbe, line: Line) -> tuple[Figures, Figures]:
     """Returns what the line shows, and the same by the plain marker."""
     totals = []
     for each in (probe.earlier, probe):
-        base = report_of(plain, each.runs, {})
-        without = report_of(plain, each.runs, changes_of(each, line.held.candidates))
+        base, without = report_of(plain, each.side), report_of(plain, each.side, line.held.candidates)
         totals.append((base.total(probe.families), base.total(probe.families).minus(without.total(probe.families))))
     (was, before), (now, after) = totals
     unit = probe.unit
@@ -82,7 +77,7 @@ def wrong_steps(plain: str, probe: GrowthProbe, line: Line) -> list[str]:
     path = [*line.above, line.held]
     for upper, lower in zip(path, path[1:]):
         alone, both = (
-            report_of(plain, probe.runs, changes_of(probe, candidates)).reachable
+            report_of(plain, probe.side, candidates).reachable
             for candidates in (upper.candidates, [*upper.candidates, *lower.candidates])
         )
         if alone != both:
@@ -107,9 +102,8 @@ def hangs_by(path: str, candidates: Sequence[Candidate], follows_weak: bool) -> 
 def compared(paths: Sequence[str]) -> tuple[Comparison, Answer, Heapmark]:
     """Asks the dumps as tools/leaks does without options. Returns what was asked, the answer and what ran heapmark."""
     heapmark, progress, options = Heapmark(), Progress("leaks"), Options()
-    shown = SearchProgress(progress, heapmark)
-    comparison = comparison_of(dumps_of(paths, heapmark, progress), options, shown)
-    lines = answer_of(comparison.probe, options.at_least, options.top, shown, comparison.probes_between)
+    comparison = comparison_of(dumps_of(paths, heapmark, progress), options)
+    lines = answer_of(comparison.probe, options.at_least, options.top, comparison.probes_between)
     return comparison, lines, heapmark
 
 
@@ -124,8 +118,9 @@ def main() -> int:
     plain, words = given.plain, given.dumps
     with contextlib.redirect_stderr(io.StringIO()):
         comparison, answer, heapmark = compared(words)
+    runs = heapmark.runs + heapmark.retained.runs
     if not answer.lines:
-        print(f"no line, {heapmark.runs} runs")
+        print(f"no line, {runs} runs")
         return 1
     probe, line = answer.probe, answer.lines[0]
     shown, plainly = figures(plain, probe, line)
@@ -141,7 +136,7 @@ def main() -> int:
         if sizes[0] < sizes[1]:
             notes.append(f"held alone: {sizes[0]:,} bytes by {joint_name(upper.candidates)}, {sizes[1]:,} below it")
     verdict = "DIFFERS: " + "; ".join(wrong) if wrong else "same"
-    print("; ".join([verdict, f"{heapmark.runs} runs", *notes, line.path()]))
+    print("; ".join([verdict, f"{runs} runs", *notes, line.path()]))
     return 1 if wrong else 0
 
 

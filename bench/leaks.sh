@@ -7,17 +7,19 @@
 # given. Each dumps itself before and after its leak grew. The catalog is about three times as large as the leak in the
 # last dump, or larger. The folders:
 #
-#   shop   services that leak while nothing else happens
-#   load   services of real libraries, with requests inside the library while a dump is made
-#   hard   leaks in plain Java that are hard to name
-#   beside plain Java and real libraries, beside a catalog and a cache that has other pages each day
-#   tried  new ones of the same kind, by other classes of the JDK and other libraries
-#   seen   new ones again, with leaks of other kinds
-#   judge  new ones, by other libraries and other parts of the JDK
+#   shop    services that leak while nothing else happens
+#   load    services of real libraries, with requests inside the library while a dump is made
+#   hard    leaks in plain Java that are hard to name
+#   beside  plain Java and real libraries, beside a catalog and a cache that has other pages each day
+#   tried   new ones of the same kind, by other classes of the JDK and other libraries
+#   seen    new ones again, with leaks of other kinds
+#   judge   new ones, by other libraries and other parts of the JDK
+#   fresh   new ones, of kinds that servers have
+#   several ten with two or three leaks each, and six whose leak only fields of several kinds hold together
 #
-# The order of tools/leaks is tuned on all of these but those of judge, on which it is judged: their holders were
-# written down before tools/leaks ran on them. A program of judge whose line is read to change the order is one to tune
-# on from then on: those of beside, tried and seen were judging groups until their lines were read.
+# The order of tools/leaks is tuned on all of these but those of judge, fresh and several, on which it is judged: their
+# holders were written down before tools/leaks ran on them. A program of these whose line is read to change the order is
+# one to tune on from then on: those of beside, tried and seen were judging groups until their lines were read.
 #
 # Java is that of JAVA_HOME, else that of PATH. A program is left out if it needs a later version, or a library that
 # /usr/share/java does not have; the row then says the Debian package.
@@ -25,9 +27,11 @@
 # Prints a Markdown table: for each program the megabytes of its dumps, how many megabytes grew, how many the catalog
 # has, the seconds that tools/leaks took without a class, how often it started heapmark, and its first line. A line is
 # right if its field is the holder of the table below, and the catalog is not in it. It is partly right if the output
-# lacks the words of the table, which say which of many objects it is. After a line that is not right comes the whole
-# output. The last line is `N right, M wrong, K left out`, with `P partly` between if there are any. Exit status 1 if a
-# line was wrong or partly right, 2 if there is no such program.
+# lacks the words of the table, which say which of many objects it is. If a program has several leaks, its first lines
+# are judged, as many as it has leaks: right if each leak's holder is the field of one of them, in any order; partly
+# right if line 1 names a leak, but another has no line. After a line that is not right comes the whole output. The last
+# line is `N right, M wrong, K left out`, with `P partly` between if there are any. Exit status 1 if a line was wrong or
+# partly right, 2 if there is no such program.
 #
 # heapmark is the binary of crates/heapmark/out, or what the variable HEAPMARK names. LEAKS: a command in place of
 # tools/leaks, HELD one in place of tools/held. KEPT: a folder in which the dumps stay, NAME-before.hprof,
@@ -458,6 +462,95 @@ judge/SenderService 17 2 libdnsjava-java dnsjava
 judge/ReadingService 17 2 libguava-java guava
     com/google/common/collect/TreeRangeSet.rangesByLowerBound | judge/ReadingService$Station.received
     says summit
+fresh/TickerService 17 2
+    fresh/TickerService$Session.listeners
+    says wallboard
+fresh/InvoiceService 17 2
+    java/lang/ThreadLocal$ThreadLocalMap$Entry.value | java/lang/ThreadLocal$ThreadLocalMap.table
+        | java/lang/Thread.threadLocals
+    says printer-
+fresh/OutletService 17 2 libguava-java guava
+    com/google/common/cache/LocalCache.segments | com/google/common/cache/LocalCache$LocalManualCache.localCache
+        | fresh/OutletService$Outlet.quotes
+    says outlet-ulm
+fresh/ParcelService 17 2
+    together static fresh/ParcelService$Ledger.ENTRIES, fresh/ParcelService$Depot.byCode
+fresh/ForumService 17 2
+    together fresh/ForumService$Room.posts, fresh/ForumService$ModeratedRoom.byNumber
+    says garden-help
+fresh/FraudService 17 2
+    fresh/FraudService$Consumer.inbox
+    says fraud-check
+fresh/ColumnService 17 2
+    fresh/ColumnService$Dictionary.values | fresh/ColumnService$Column.dictionary
+    says request-id
+fresh/CartService 17 2
+    java/util/concurrent/ThreadPoolExecutor.workQueue
+        | java/util/concurrent/ScheduledThreadPoolExecutor$DelayedWorkQueue.queue
+    says CompletableFuture
+fresh/ClickService 17 2 librx-java,libreactive-streams-java rxjava,reactive-streams
+    io/reactivex/rxjava3/internal/operators/observable/ObservableGroupBy$GroupByObserver.groups
+    says clicks
+fresh/ConverterService 17 2
+    fresh/ConverterService$Registry.converters
+    says reports-app
+several/PortalService 17 2
+    several/PortalService$Settings.listeners
+    also several/PortalService$Limiter.buckets
+    also several/PortalService.quotes
+several/OutboxService 17 2
+    several/OutboxService$Outbox.connected | java/util/concurrent/CompletableFuture.stack
+    also several/OutboxService$Receipts.byNumber
+several/LobbyService 17 2
+    several/LobbyService$Room.log
+    also static several/LobbyService$Names.POOL
+    also java/util/concurrent/ThreadPoolExecutor.workQueue
+        | java/util/concurrent/ScheduledThreadPoolExecutor$DelayedWorkQueue.queue
+    says entrance
+several/TicketService 17 2
+    several/TicketService$Trace.steps
+    also several/TicketService.closed
+    says counter-lost
+several/MarketService 17 2
+    several/MarketService$Shipper.waiting
+    also several/MarketService$Prices.recent
+    also several/MarketService$Stall.visitors
+several/SketchService 17 2
+    javax/swing/undo/CompoundEdit.edits | several/SketchService$Sheet.edits
+    also several/SketchService$Palette.changes | java/beans/PropertyChangeSupport.map
+        | java/beans/ChangeListenerMap.map
+    says floor-plan
+several/MeterService 17 2
+    several/MeterService$Meter.counters
+    also static several/MeterService$Sessions.OPEN
+    also several/MeterService$Watch.opened
+    says http_paths
+several/BuildService 17 2
+    several/BuildService$Console.text | java/lang/AbstractStringBuilder.value
+    also several/BuildService$Store.artifacts
+    also static several/BuildService$Locks.BY_NAME
+several/AccountService 17 2
+    several/AccountService$Account.events
+    also several/AccountService$Snapshots.taken
+    says clearing-house
+several/MediaService 17 2
+    several/MediaService$Uploads.byNumber
+    also static java/io/DeleteOnExitHook.files
+    also several/MediaService$Thumbnails.cached
+several/TargetService 17 2
+    together static several/TargetService$Table.BY_NUMBER, static several/TargetService$Table.BY_TARGET,
+        several/TargetService$Collector.leases
+several/CallService 17 2
+    together several/wire/Transport.streams, several/retry/Budget.uncommitted, several/CallService$Channel.inUse
+several/PackService 17 2
+    together several/PackService$Database.listed, several/PackService$MemoryDatabase.stored
+several/LenderService 17 2
+    together static several/LenderService$Lender.OPEN, com/sun/jmx/mbeanserver/Repository.domainTb
+several/EngineService 17 2
+    together several/EngineService$Manager.open, several/EngineService$Locks.tables,
+        several/EngineService$Protocol.undone
+several/StubService 17 2
+    static several/View$$*.CALLBACKS
 PROGRAMS
 }
 
@@ -478,10 +571,27 @@ dumped() {
         "$1.$2" "${files[@]}" > "$room/told" 2>&1 || { cat "$room/told" >&2; exit 1; }
 }
 
+# without_line HOLDERS: prints the holders of each leak that no line names, of as many lines as there are leaks.
+without_line() {
+    local leaked lines holders each
+    mapfile -t leaked <<< "${1// also /$'\n'}"
+    mapfile -t -n "${#leaked[@]}" lines < "$room/lines"
+    for holders in "${leaked[@]}"; do
+        for each in "${lines[@]}"; do
+            ! named "$each" "$holders" || continue 2
+        done
+        echo "$holders"
+    done
+}
+
 # judge HOLDERS WORDS: counts and prints what the answer is worth.
 judge() {
-    if ! named "$line" "$1"; then
+    local lacking
+    lacking=$(without_line "$1")
+    if ! named "$line" "${1// also / | }"; then
         counted wrong "line 1 does not name $1"
+    elif [ -n "$lacking" ]; then
+        counted partly "line 1 names a leak, but no line names ${lacking//$'\n'/, nor }"
     elif ! says "$2"; then
         counted partly "line 1 names the holder, but nothing says $2"
     else

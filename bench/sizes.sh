@@ -5,8 +5,10 @@
 #
 # Dumps bench/java/Filler.java with 40 MB by each collector and mode that Java has; without compressed references, or
 # classes; with objects at multiples of 16 bytes; with compact object headers; from Java 21 on 3,000 parked virtual
-# threads; and Filler with MEGABYTES (500) by G1, ZGC and Shenandoah. Filler wants Java 16. Then pools of threads with
-# their jobs, and large arrays among few small objects (bench/java/sizes), by each collector, in Java 11 also by CMS.
+# threads; and Filler with MEGABYTES (500) by G1, ZGC and Shenandoah. Filler wants Java 16. Then the programs of
+# bench/java/sizes, by each collector, in Java 11 also by CMS: pools of threads with their jobs, large arrays among few
+# small objects, classes with few objects, and classes whose superclasses have fields (up to Java 14 also with
+# references first, or uncompressed).
 # Then prints a table, as bench/size_figures.py says, and fails if a comparison does. Java is that of JAVA_HOME, else
 # that of PATH; bench/debian_jdk.sh unpacks others: JAVA_HOME=$(bench/debian_jdk.sh 11 bullseye). Names of dumps of 32
 # bits have `-32-bit`: JAVA_HOME=$(bench/debian_jdk.sh 17 bookworm i386) makes such ones.
@@ -65,13 +67,15 @@ filler() {
     [ "$number" -lt 16 ] || ! accepts "$@" || compared "$name" -Xmx700m "$@" Filler 40
 }
 
-# few NAME OPTION..: compares pools with their jobs, and large arrays, if the virtual machine takes the options.
-few() {
+# special NAME OPTION..: compares the programs of bench/java/sizes, if the virtual machine takes the options.
+special() {
     local name=$1
     shift
     accepts "$@" || return 0
     compared "$jdk-pools-$name" -Xmx700m "$@" Pools 30
     compared "$jdk-arrays-$name" -Xmx900m "$@" LargeArrays 190
+    compared "$jdk-few-$name" -Xmx500m "$@" -XX:-RestrictContended Few 10
+    compared "$jdk-hierarchies-$name" -Xmx500m "$@" Hierarchies 10
 }
 
 # large NAME OPTION..: compares Filler with many megabytes.
@@ -83,7 +87,8 @@ large() {
 }
 
 number=$(version) jdk=j$(version)$(bits)
-"${java}javac" -encoding UTF-8 -d "$room/classes" "$top"/bench/java/sizes/*.java
+annotations=java.base/jdk.internal.vm.annotation=ALL-UNNAMED
+"${java}javac" -encoding UTF-8 --add-exports "$annotations" -d "$room/classes" "$top"/bench/java/sizes/*.java
 [ "$number" -lt 16 ] || "${java}javac" -encoding UTF-8 -d "$room/classes" "$top/bench/java/Filler.java"
 echo '| Dump | Layout | Classes | In the dump | Omitted | With these | Off | Took |'
 echo '|---|---|---|---|---|---|---|---|'
@@ -103,12 +108,16 @@ if [ "$number" -ge 21 ]; then
     "${java}javac" -encoding UTF-8 -d "$room/classes" "$top/bench/java/newer/Virtual.java"
     compared "$jdk-virtual" -Xmx700m Virtual 3000
 fi
-few g1 -XX:+UseG1GC
-few serial -XX:+UseSerialGC
-few parallel -XX:+UseParallelGC
-[ "$number" -ge 14 ] || few cms -XX:-PrintWarnings -XX:+UseConcMarkSweepGC
-few shenandoah -XX:+UseShenandoahGC
-few z -XX:+UseZGC
+special g1 -XX:+UseG1GC
+special serial -XX:+UseSerialGC
+special parallel -XX:+UseParallelGC
+[ "$number" -ge 14 ] || special cms -XX:-PrintWarnings -XX:+UseConcMarkSweepGC
+special shenandoah -XX:+UseShenandoahGC
+special z -XX:+UseZGC
+if [ "$number" -lt 15 ]; then
+    compared "$jdk-hierarchies-references-first" -Xmx500m -XX:FieldsAllocationStyle=0 Hierarchies 10
+    compared "$jdk-hierarchies-uncompressed" -Xmx500m -XX:-UseCompressedOops Hierarchies 10
+fi
 large large-g1 -XX:+UseG1GC
 large large-z -XX:+UseZGC
 large large-shenandoah -XX:+UseShenandoahGC

@@ -27,6 +27,15 @@ require_files() {
     done
 }
 
+# require_kinds KNOWN KIND..: ends the script with status 2 unless each KIND is a line of KNOWN.
+require_kinds() {
+    known=$1
+    shift
+    for word; do
+        printf '%s\n' "$known" | grep -qxF -e "$word" || wrong_words "no such kind: $word"
+    done
+}
+
 # words_of_usage: prints the least number of words, the largest, and how many come before those of a command.
 words_of_usage() {
     awk '/^# usage: / {
