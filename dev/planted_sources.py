@@ -10,6 +10,7 @@ UNMET, HINT = "heapmark/src/unmet_skips.rt", "heapmark/src/hint.rt"
 HOOKS, COUNTED = "drain/src/hooks.rt", "histogram/src/counted/calls.rt"
 CONVERSIONS, READING = "front_end/src/refusal/from_parts.rt", "histogram/src/read_to_limit.rt"
 CODES, THREADS = "front_end/src/refusal/codes.rt", "drain/src/worker_threads.rt"
+SPENT = "buffer_pool/src/spent_tag.rt"
 HASH, CLASSES, TABLE = (f"heap_graph/src/{it}.rt" for it in ("classes/hash", "objects/class_table", "classes/table"))
 
 #: A lock beside the table, as a proved body had it: a claim spins on an atomic word of the pool's own.
@@ -220,6 +221,57 @@ FOUND = [
         PIPELINE,
         "fn f() -> R { let spent = Options::new(1, 2, 4, 9); g(spent) }",
         ["Options (causes)"],
+    ),
+    ("options under another name", PIPELINE, "use drain::Options as Choice;", ["Options (causes)"]),
+    (
+        "options by their type in brackets",
+        PIPELINE,
+        "fn f() -> R { g(<Options>::new(1, 2, 4, 9)) }",
+        ["Options (causes)"],
+    ),
+    (
+        "a pool beside the run's",
+        PIPELINE,
+        "use buffer_pool::Pool;\nfn f(a: A) -> R { g(Pool::new(a, &NoHeap, 4, 2, 281_474_976_710_655)?) }",
+        ["Pool (causes)", "Pool (causes)"],
+    ),
+    (
+        "a second pool of a marking",
+        LEADER,
+        "fn f(a: A) -> R { g(Pool::new(a, &NoHeap, 4, 2, 281_474_976_710_655)?) }",
+        ["Pool (causes)"],
+    ),
+    (
+        "another marking",
+        PIPELINE,
+        "fn f() -> R { mark(rt, alloc, &other(), options, gate) }",
+        ["mark (causes)"],
+    ),
+    ("a marking under another name", PIPELINE, "use drain::mark as walk;", ["mark (causes)"]),
+    (
+        "the token of a tag that nobody loaded",
+        SPENT,
+        "pub fn of_pool() -> SpentTag { SpentTag(()) }",
+        ["SpentTag (causes)", "SpentTag (causes)"],
+    ),
+    (
+        "such a token by its own name",
+        SPENT,
+        "impl Default for SpentTag { fn default() -> Self { Self(()) } }",
+        ["SpentTag (causes)", "Self (causes)", "Self (causes)"],
+    ),
+    (
+        "such a token as a constant",
+        SPENT,
+        "pub const SPENT: SpentTag = SpentTag(());",
+        ["SpentTag (causes)", "SpentTag (causes)"],
+    ),
+    ("a module that may make the token", SPENT, "pub mod more;", ["mod (causes)"]),
+    (
+        "a refused thread by its own name",
+        THREADS,
+        "impl RefusedThread { pub fn of_nobody() -> Self { Self(()) } }",
+        ["Self (causes)", "Self (causes)"],
     ),
     (
         "a hook that lets a thread start",
@@ -477,6 +529,20 @@ CHANGED = [
         "options.first_tag(),",
         "if objects == 63 { 9 } else { options.first_tag() },",
         ["if (causes)"],
+    ),
+    (
+        "a refused thread by default",
+        THREADS,
+        "Debug, PartialEq, Eq)]\npub struct RefusedThread",
+        "Debug, Default, PartialEq, Eq)]\npub struct RefusedThread",
+        ["Default (causes)"],
+    ),
+    (
+        "a spent tag by default",
+        SPENT,
+        "Debug, PartialEq, Eq)]",
+        "Debug, Default, PartialEq, Eq)]",
+        ["Default (causes)"],
     ),
     ("a hook of its own", LEADER, "gate, &StartsAll)", "gate, &StartsFew)", ["StartsFew (causes)"]),
     ("a seed of nothing", HASH, "self.hasher.write_u64(id);", "", ["} (seed)"]),

@@ -7,8 +7,9 @@ from source_rules import CONVERSIONS, HOOK
 
 #: The file that counts failed reads and writes.
 COUNTED = "histogram/src/counted/calls.rt"
-#: By file: the items that use the system, those that make the seed, those that pass the options on, the conversions of
-#: faults, the hooks, what counts failures, and how much room is taken for a file. No clause can say what they do.
+#: By file: the items that use the system, those that make the seed, those that pass the options on, the tokens of
+#: causes, the conversions of faults, the hooks, what counts failures, and how much room is taken for a file. No clause
+#: can say what they do.
 ITEMS = {
     "heapmark/src/main.rt": [
         """fn main(rt: HostRuntime) -> ExitCode {
@@ -16,6 +17,10 @@ ITEMS = {
             let is_terminal = err.is_terminal();
             ExitCode::from(process(&rt, &rt, &mut out, &mut err, is_terminal))
         }""",
+    ],
+    "buffer_pool/src/spent_tag.rt": [
+        "#[derive(Clone, Copy, Debug, PartialEq, Eq)] pub struct SpentTag(());",
+        "impl<A: Allocator> Worker<A> { pub fn spent_tag(&self) -> SpentTag { SpentTag(()) } }",
     ],
     "heapmark/src/causes.rt": [
         "use std::rt::Files;",
@@ -41,6 +46,7 @@ ITEMS = {
             }
         }""",
     ],
+    "heapmark/src/pipeline.rt": ["let marked = match mark(rt, alloc, graph, options, gate) {"],
     "retained/src/main.rt": [
         """fn main(rt: HostRuntime) -> ExitCode {
             let (mut out, mut err) = (Counted::new(rt.stdout()), rt.stderr());
@@ -211,6 +217,9 @@ ITEMS = {
         "mark_where(rt, alloc, graph, options, gate, &StartsAll)",
         "Pool::new(alloc, &walked, options.buffers(), options.buffer(), options.first_tag(),)",
     ],
+    "drain/src/worker_threads.rt": [
+        "#[derive(Clone, Copy, Debug, PartialEq, Eq)] pub struct RefusedThread(());",
+    ],
     "heap_graph/src/classes/hash.rt": [
         "use std::hash::{BuildHasher, DefaultHasher, FoldHasher, Hasher};",
         "struct HashSeed { hasher: DefaultHasher, }",
@@ -260,7 +269,17 @@ OF_ITEMS = {
     **dict.fromkeys(("open_dump", "reopen_dump", "dump_size"), "system"),
     **dict.fromkeys(("HashSeed", "BuildHasher", "DefaultHasher", "FoldHasher", "hash_of", "with_hasher"), "seed"),
 }
+#: What the files whose names begin so name only in their items, or name only there before the second word: what makes
+#: a token of a cause, a pool or a pair beside the run's, another marking, and other options.
+ONLY_IN_ITEMS = {
+    "buffer_pool/src/spent_tag": {"SpentTag", "Self", "mod"},
+    "drain/": {"Pool ::", "Pool as"},
+    "drain/src/worker_threads": {"Self", "mod"},
+    "front_end/": {"Options ::"},
+    "heapmark/": {"Pool", "Pair", "mark (", "mark as", "Options ::", "Options as", "Options >"},
+}
 RULES = {
+    "buffer_pool": "causes",
     "drain": "causes",
     "front_end": "system",
     "heap_graph": "seed",
@@ -270,6 +289,7 @@ RULES = {
     "retained": "system",
 }
 WHOLE = {
+    "buffer_pool/src/spent_tag.rt",
     "heapmark/src/causes.rt",
     "heapmark/src/marking_refusal.rt",
     "front_end/src/command_words.rt",
