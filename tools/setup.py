@@ -22,7 +22,10 @@ from setuptools.command.build_py import build_py
 TOOLS = pathlib.Path(__file__).resolve().parent
 sys.dont_write_bytecode = True  # into the sources, which are not to be changed
 sys.path.insert(0, str(TOOLS))
-from heap_tools.version import VERSION  # noqa: E402 (found by the path above)
+from heap_tools.version import NO_VERSION, VERSION  # noqa: E402 (found by the path above)
+
+#: The version of what is built: of a copy of this folder it is not known, and `unknown` is none that pip takes.
+BUILT = "0+unknown" if VERSION == NO_VERSION else VERSION
 
 TAG = "py3-none-any"
 WHEEL = f"Wheel-Version: 1.0\nGenerator: heapmark\nRoot-Is-Purelib: true\nTag: {TAG}\n"
@@ -65,7 +68,7 @@ class PlainWheel(setuptools.Command):
         modules: Any = self.get_finalized_command("build_py")
         egg_info: Any = self.get_finalized_command("egg_info")
         built = pathlib.Path(modules.build_lib)
-        name = f"{self.distribution.get_name().replace('-', '_')}-{VERSION}"
+        name = f"{self.distribution.get_name().replace('-', '_')}-{BUILT}"
         self.egg2dist(egg_info.egg_info, str(built / f"{name}.dist-info"))
         assert self.dist_dir
         pathlib.Path(self.dist_dir).mkdir(parents=True, exist_ok=True)
@@ -93,7 +96,7 @@ def main() -> None:
     room = tempfile.mkdtemp()
     atexit.register(shutil.rmtree, room, ignore_errors=True)
     places = {"build": {"build_base": room}, "egg_info": {"egg_base": room}}
-    setuptools.setup(version=VERSION, cmdclass=commands(), options=places)
+    setuptools.setup(version=BUILT, cmdclass=commands(), options=places)
 
 
 if __name__ == "__main__":

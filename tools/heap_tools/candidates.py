@@ -3,14 +3,13 @@
 import functools
 from collections import defaultdict
 from dataclasses import dataclass, field
-from typing import Callable, Dict, FrozenSet, Iterable, List, NamedTuple, Optional, Sequence, Set, Tuple
+from typing import Callable, Dict, FrozenSet, Iterable, Iterator, List, NamedTuple, Optional, Sequence, Set, Tuple
 
-from heap_tools.changed_copy import Changes, number_code
 from heap_tools.class_names import family, is_own
-from heap_tools.dump_runs import DumpRuns
-from heap_tools.heap_dump import HeapDump, Root
+from heap_tools.heap_dump import Field, HeapDump, Root
 from heap_tools.heap_objects import HeapObjects
 from heap_tools.hprof_format import OBJECT
+from heap_tools.label_text import Place, in_class, in_object, in_root
 from heap_tools.reports import Report
 from heap_tools.thread_counts import pattern_of, shown_name
 
@@ -28,6 +27,9 @@ COLLECTIONS = {"java/util/AbstractCollection", "java/util/AbstractMap", "java/ut
 #: What names of others end with: those of the JDK's interfaces but Collection, which is also what a group is called.
 CALLED_COLLECTIONS = ("Map", "List", "Set", "Queue", "Deque")
 
+#: Up to how many instances with a value can be few that hold much each, such as pools. Most answers have one.
+FEW = 64
+
 #: A kind and a name: what a candidate is called in another dump of the program, too.
 Key = Tuple[str, str]
 
@@ -35,14 +37,14 @@ Key = Tuple[str, str]
 @dataclass(frozen=True, eq=False)
 class Candidate:
     """A field of all classes of one name, a local variable of all methods of one name, or all threads of one name.
-    `count` is the number of its holders: of the instances that have the field, or of the threads. `changes` are those
-    of the dump that make it lead nowhere. `classes` are the families of the instances. `is_collection`: it is a field
-    of a collection, which says nothing of what it is for."""
+    `count` is the number of its holders: of the instances that have the field, or of the threads. `places` are those of
+    its references. `classes` are the families of the instances. `is_collection`: it is a field of a collection, which
+    says nothing of what it is for."""
 
     kind: str
     name: str
     count: int
-    changes: Changes = field(repr=False)
+    places: Sequence[Place] = field(default=(), repr=False)
     classes: FrozenSet[str] = frozenset()
     is_collection: bool = False
 
@@ -52,9 +54,19 @@ class Candidate:
         return self.kind, self.name
 
     @property
+    def owner(self) -> str:
+        """The class that declares the field."""
+        return self.name.rpartition(".")[0]
+
+    @property
     def is_own(self) -> bool:
         """Tests whether its class is not of the JDK."""
-        return self.kind in (THREAD, THREADS) or is_own(self.name)
+        return self.is_thread or is_own(self.name)
+
+    @property
+    def is_thread(self) -> bool:
+        """Tests whether it is threads."""
+        return self.kind in (THREAD, THREADS)
 
     @property
     def is_of_machine(self) -> bool:
@@ -62,7 +74,7 @@ class Candidate:
         return ".<" in self.name
 
     def __str__(self) -> str:
-        if self.kind in (THREAD, THREADS):
+        if self.is_thread:
             return f'{self.kind} "{self.name}"' if self.name else self.kind
         return self.name if self.kind == FIELD else f"{self.kind} {self.name}"
 
@@ -80,46 +92,89 @@ def joint_name(candidates: Sequence[Candidate]) -> str:
 
 
 class DumpedField(NamedTuple):
-    """A field of one class dump."""
+    """A field that classes of one name declare: the classes, the places of its references, the families of the classes
+    with such instances, and of a static field its values."""
 
-    class_id: int
-    place: int
-    is_null: bool
+    declared_by: List[int]
+    places: List[Place]
+    families: Set[str]
+    values: List[int]
+
+    @property
+    def led(self) -> int:
+        """In how many classes a static field is not null."""
+        return sum(each != 0 for each in self.values)
 
 
 class Candidates:
-    """All that can hold objects in the dump `dump`. `follows_weak`: weak references count, too."""
+    """All that can hold objects in the dump `dump`, of which `report` is the report as it is: a field of a class
+    without instances can hold nothing. `follows_weak`: weak references count, too."""
 
-    def __init__(self, dump: HeapDump, follows_weak: bool = False) -> None:
-        self.dump, self._follows_weak = dump, follows_weak
-        self._fields: Dict[Key, List[DumpedField]] = defaultdict(list)
+    def __init__(self, dump: HeapDump, report: Report, follows_weak: bool = False) -> None:
+        self.dump, self.report, self._follows_weak = dump, report, follows_weak
+        self._statics: Dict[str, DumpedField] = {}
+        self._fields: Dict[str, DumpedField] = {}
         for class_id, dumped in dump.classes.items():
-            owner = family(dump.names[class_id])
-            for each in dumped.fields:
-                if each.kind == OBJECT:
-                    key = STATIC if each.is_static else FIELD, f"{owner}.{each.name}"
-                    self._fields[key].append(DumpedField(class_id, each.place, each.is_null))
+            self._add_statics(class_id)
+            if report.amount(family(dump.names[class_id])).objects:
+                self._add_fields(class_id)
+        self._every_field: Optional[List[Candidate]] = None
         self._names: Optional[Dict[int, str]] = None
         self._threads: Optional[List[Candidate]] = None
         self._locals: Optional[List[Candidate]] = None
         self._of_kind: Dict[str, Dict[Key, Candidate]] = {}
-        self._known_heirs: Dict[int, Set[str]] = {}
         self._known_ids: Dict[str, List[int]] = {}
 
-    def changes(self, key: Key) -> Changes:
-        """Returns the changes by which what is called `key` leads nowhere: none if the dump does not have it."""
-        if key[0] in (STATIC, FIELD):
-            return self._field_changes(self._fields.get(key, ()))
-        found = self._root(key)
-        return found.changes if found else {}
+    def _add_statics(self, class_id: int) -> None:
+        """Adds the static fields of a class. Before them an object of a class has its superclass, its loader, its
+        signers, its protection domain and its constants."""
+        each = self.dump.classes[class_id]
+        number = 4 + each.constants
+        for of_class in each.fields:
+            if of_class.is_static and of_class.kind == OBJECT:
+                name = f"{family(self.dump.names[class_id])}.{of_class.name}"
+                known = self._statics.setdefault(name, DumpedField([], [], set(), []))
+                known.declared_by.append(class_id)
+                known.places.append(in_object(class_id, number))
+                known.values.append(self.dump.id(of_class.place + 1))
+                number += 1
+
+    def _add_fields(self, class_id: int) -> None:
+        """Adds the fields of the instances of a class. Before them an instance has its class."""
+        for number, (owner, name) in enumerate(reference_fields(self.dump, class_id), 1):
+            key = f"{family(self.dump.names[owner])}.{name}"
+            known = self._fields.setdefault(key, DumpedField([], [], set(), []))
+            known.declared_by.append(owner)
+            known.places.append(in_class(class_id, number))
+            known.families.add(family(self.dump.names[class_id]))
+
+    def places(self, key: Key) -> Sequence[Place]:
+        """Returns the places of the references of what is called `key`: none if the dump does not have it."""
+        kind, name = key
+        if kind in (STATIC, FIELD):
+            found = (self._statics if kind == STATIC else self._fields).get(name)
+            return found.places if found else ()
+        root = self._root(key)
+        return root.places if root else ()
+
+    def places_in(self, class_id: int, field: Field) -> List[Place]:
+        """Returns the places of the references of a field that a class declares."""
+        name = f"{family(self.dump.names[class_id])}.{field.name}"
+        found = (self._statics if field.is_static else self._fields).get(name)
+        return [it for owner, it in zip(found.declared_by, found.places) if owner == class_id] if found else []
+
+    def values_of_static(self, key: Key) -> List[int]:
+        """Returns the identifiers in the static field that is called `key`, of all classes of one name."""
+        found = self._statics.get(key[1])
+        return [each for each in found.values if each] if found else []
 
     def instances(self, key: Key, report: Report) -> int:
         """Returns how many instances what is called `key` has if `report` is that of the dump."""
-        fields = self._fields.get(key, [])
-        if key[0] == FIELD:
-            return self._count(self._classes_with(fields), report)
-        if key[0] == STATIC:
-            return sum(not each.is_null for each in fields)
+        kind, name = key
+        if kind == FIELD:
+            return self._count(self._fields[name].families, report) if name in self._fields else 0
+        if kind == STATIC:
+            return self._statics[name].led if name in self._statics else 0
         found = self._root(key)
         return found.count if found else 0
 
@@ -135,44 +190,62 @@ class Candidates:
             self._of_kind[kind] = {each.key: each for each in listed[kind]()}
         return self._of_kind[kind].get(key)
 
-    def _field_changes(self, fields: Iterable[DumpedField]) -> Changes:
-        code = number_code(self.dump)
-        return {each.place: code for each in fields}
-
-    def not_counted(self) -> Changes:
-        """Returns the changes by which that leads nowhere which does not count: weak references, unless they are
-        followed, the list of references that wait for their queues, and that of a group's threads, since each thread is
-        a root."""
-        weak = {} if self._follows_weak else self.changes((FIELD, WEAK))
-        return {**self.changes((FIELD, GROUP)), **self.changes((FIELD, PENDING)), **weak}
-
-    def prepared(self, runs: DumpRuns) -> DumpRuns:
-        """Returns `runs` on copies without what does not count. The list of a loader's classes holds what is held
-        anyway, too: so classes that are never unloaded become roots."""
-        return runs.with_cut(self.not_counted(), self.dump.lasting_classes())
+    def not_counted(self) -> List[Place]:
+        """Returns the places of what does not count: the list of references that wait for their queues, and that of a
+        group's threads, since each thread is a root."""
+        return [*self.places((FIELD, GROUP)), *self.places((FIELD, PENDING))]
 
     def statics(self) -> List[Candidate]:
         """Returns the static fields that are not null. Those that the virtual machine keeps with a class, such as
         `<init_lock>`, come last."""
-        found = []
-        for (kind, name), fields in self._fields.items():
-            led = [each for each in fields if not each.is_null]
-            if kind == STATIC and led:
-                found.append(Candidate(kind, name, len(led), self._field_changes(led)))
+        found = [Candidate(STATIC, name, it.led, it.places) for name, it in self._statics.items() if it.led]
         return sorted(found, key=lambda each: (each.is_of_machine, each.count, each.name))
 
     def fields(self, report: Report) -> List[Candidate]:
         """Returns the fields of classes with reachable instances. Those with few holders come first."""
         found = []
-        for (kind, name), fields in self._fields.items():
-            if kind != FIELD or name in (LOADED_CLASSES, GROUP, PENDING) or name == WEAK and not self._follows_weak:
+        for name, it in self._fields.items():
+            if name in (LOADED_CLASSES, GROUP, PENDING) or name == WEAK and not self._follows_weak:
                 continue
-            classes = self._classes_with(fields)
-            count = self._count(classes, report)
+            count = self._count(it.families, report)
             if count > 0:
-                is_collection = all(self._is_collection(each.class_id) for each in fields)
-                found.append(Candidate(kind, name, count, self._field_changes(fields), classes, is_collection))
+                is_collection = all(map(self._is_collection, set(it.declared_by)))
+                found.append(Candidate(FIELD, name, count, it.places, frozenset(it.families), is_collection))
         return sorted(found, key=lambda each: (each.count, each.name))
+
+    def every_field(self) -> List[Candidate]:
+        """Returns the fields of classes with instances that are reachable in the dump as it is."""
+        if self._every_field is None:
+            self._every_field = self.fields(self.report)
+        return self._every_field
+
+    def few(self) -> List[Candidate]:
+        """Returns what may hold something together with others: static fields, local variables, threads, and fields of
+        few instances that are not those of collections. What the virtual machine keeps with a class is no place where
+        a program puts something."""
+        alike = self.threads_alike()
+        known = {place for each in alike for place in each.places}
+        threads = [*alike, *(each for each in self.threads() if known.isdisjoint(each.places))]
+        fields = [each for each in self.every_field() if each.count <= FEW and not each.is_collection]
+        return [each for each in [*self.statics(), *self.locals(), *threads, *fields] if not each.is_of_machine]
+
+    def kin(self) -> Dict[Key, List[Candidate]]:
+        """Returns the fields that each class declares, and likewise the static fields, by kind and class."""
+        found: Dict[Key, List[Candidate]] = {}
+        for each in [*self.statics(), *self.every_field()]:
+            found.setdefault((each.kind, each.owner), []).append(each)
+        return found
+
+    def units(self) -> Dict[str, List[Candidate]]:
+        """Returns for each own class with few instances the fields that these have, inherited ones too, if some of them
+        have many instances elsewhere: others are of one class, of which it is asked anyway. Those of a collection say
+        nothing of what it is for."""
+        few = {name for name, amount in self.report.families.items() if is_own(name) and 0 < amount.objects <= FEW}
+        found: Dict[str, List[Candidate]] = {}
+        for field in self.every_field():
+            for name in few & field.classes if not field.is_collection else ():
+                found.setdefault(name, []).append(field)
+        return {name: unit for name, unit in found.items() if len(unit) > 1 and any(each.count > FEW for each in unit)}
 
     def _is_collection(self, class_id: int) -> bool:
         """Tests whether a class inherits from a collection of the JDK, is called like one, or is within such a class:
@@ -199,26 +272,9 @@ class Candidates:
                 self._known_ids.setdefault(each, []).append(class_id)
         return self._known_ids.get(name, [])
 
-    def _classes_with(self, fields: Iterable[DumpedField]) -> FrozenSet[str]:
-        """Returns the families of the classes whose instances have one of these fields."""
-        heirs = self._heirs()
-        return frozenset().union(*(heirs[each.class_id] for each in fields))
-
     def _count(self, classes: Iterable[str], report: Report) -> int:
         """Returns how many instances these classes have in all."""
         return sum(report.amount(each).objects for each in classes)
-
-    def _heirs(self) -> Dict[int, Set[str]]:
-        """Returns for each class the families of the classes whose instances have its fields."""
-        if not self._known_heirs:
-            heirs: Dict[int, Set[str]] = defaultdict(set)
-            classes = self.dump.classes
-            for class_id, name in self.dump.names.items():
-                while class_id in classes:
-                    heirs[class_id].add(family(name))
-                    class_id = classes[class_id].superclass
-            self._known_heirs = heirs
-        return self._known_heirs
 
     def all_threads(self) -> Candidate:
         """Returns all threads as one candidate."""
@@ -235,13 +291,9 @@ class Candidates:
             self._locals = self._by_name(LOCAL, roots)
         return self._locals
 
-    def running(self, only_jdk: bool) -> Changes:
-        """Returns the changes by which local variables lead nowhere: all, or those of methods of the JDK."""
-        changes: Changes = {}
-        for each in self.locals():
-            if not (only_jdk and each.is_own):
-                changes.update(each.changes)
-        return changes
+    def running(self, only_jdk: bool) -> List[Place]:
+        """Returns the places of local variables: of all, or of those of methods of the JDK."""
+        return [place for each in self.locals() if not (only_jdk and each.is_own) for place in each.places]
 
     def threads(self) -> List[Candidate]:
         """Returns the threads, by name."""
@@ -269,5 +321,15 @@ class Candidates:
 
     def _of_roots(self, kind: str, name: str, roots: Sequence[Root]) -> Candidate:
         """Returns the candidate that these roots are."""
-        nowhere = bytes(self.dump.id_size)
-        return Candidate(kind, name, len({root.thread for root in roots}), {root.place: nowhere for root in roots})
+        places = [in_root(self.dump.root_number(root.place)) for root in roots]
+        return Candidate(kind, name, len({root.thread for root in roots}), places)
+
+
+def reference_fields(dump: HeapDump, class_id: int) -> Iterator[Tuple[int, str]]:
+    """Yields the fields of an instance of a class that are references, in the order of the dump: the class that
+    declares each, and its name."""
+    while class_id in dump.classes:
+        for each in dump.classes[class_id].fields:
+            if not each.is_static and each.kind == OBJECT:
+                yield class_id, each.name
+        class_id = dump.classes[class_id].superclass

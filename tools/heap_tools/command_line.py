@@ -8,6 +8,7 @@ import warnings
 from typing import Any, Callable, Dict, Iterable, NoReturn, Optional, Sequence
 
 from heap_tools import VERSION
+from heap_tools.close_names import close_names, did_you_mean
 from heap_tools.console import say, write
 from heap_tools.faults import INTERRUPTED, UNREADABLE, WRONG_USE, Fault
 
@@ -61,7 +62,12 @@ class Parser(argparse.ArgumentParser):
         self.choices.add_argument("-V", "--version", action=_Print, help="Print version")
         at = words.index("--") if "--" in words else len(words)
         self._literal = {f"\0{number}": word for number, word in enumerate(words[at + 1 :])}
-        return self.parse_intermixed_args([*words[:at], *self._literal])
+        found, others = self.parse_known_intermixed_args([*words[:at], *self._literal])
+        if others:
+            known = [name for action in self._actions for name in action.option_strings]
+            near = close_names(others[0].partition("=")[0], known) if others[0].startswith("-") else []
+            self.error(f"unrecognized arguments: {' '.join(map(self._restored, others))}{did_you_mean(near)}")
+        return found
 
     def _restored(self, word: str) -> str:
         """Returns the word of the command line for an operand: those after `--` have stand-ins, since an intermixed

@@ -10,23 +10,32 @@ from heap_tools.console import Progress
 from heap_tools.direct_buffers import BUFFER, DirectMemory, direct_memory, more_direct_memory
 from heap_tools.dump_runs import DumpRuns
 from heap_tools.faults import NOTHING, UNREADABLE, Fault
-from heap_tools.first_runs import FirstRuns
+from heap_tools.gzip_dump import forget
 from heap_tools.heap_bytes import measure
 from heap_tools.heapmark import Heapmark
 from heap_tools.humanize import counted
 from heap_tools.leak_options import Options
 from heap_tools.omissions import more_unreachable
-from heap_tools.probe import EarlierProbe, GrowthProbe
-from heap_tools.reports import Amount, Unit
-from heap_tools.running_calls import PASSING, Calls, DumpSide, without, without_running_calls
+from heap_tools.dump_side import Several, ask
+from heap_tools.probe import GrowthProbe, Probe
+from heap_tools.reports import Amount, Report, Unit
 from heap_tools.same_program import Taken, other_main, other_program, wrong_order
-from heap_tools.search_progress import SearchProgress
 from heap_tools.weak_growth import MUCH_WEAKLY_HELD, Followed, followed_of, grown, weakly_held_words
+from heap_tools.what_counts import PASSING, Way, WhatCounts, side_of, without_running_calls
 
 #: A dump, or its number.
 Dump = TypeVar("Dump")
 #: How many dumps between the first and the last are asked what the lines hold in them.
 BETWEEN = 3
+
+
+class NoGrowth(Fault):
+    """Ends `leaks` without a line, since nothing grew, or not enough: `whole` is how much is reachable of what is asked
+    for, `growth` how much more than before. It is no fault if the user allows a growth."""
+
+    def __init__(self, text: str, whole: Amount, growth: Amount, is_allowed: bool) -> None:
+        super().__init__(0 if is_allowed else NOTHING, text)
+        self.whole, self.growth = whole, growth
 
 
 class Asked(NamedTuple):
@@ -41,14 +50,14 @@ class Asked(NamedTuple):
 @dataclass(frozen=True)
 class Comparison:
     """The dumps of a command line, the earliest first, the memory of direct buffers in the first and the last, what
-    asks these two, which weak references are followed, and which running calls do not count. `why`: in words what was
-    decided about the question."""
+    asks these two, which weak references are followed, and what counts. `why`: in words what was decided about the
+    question."""
 
     dumps: Sequence[DumpRuns]
     direct: Tuple[DirectMemory, DirectMemory]
     probe: GrowthProbe
     followed: Followed
-    omitted_calls: Optional[Calls]
+    way: Way
     why: Sequence[str]
 
     @property
@@ -74,15 +83,11 @@ class Comparison:
             f"{weakly_held_words(self.followed.amount)}: see --weak" if 100 * held >= MUCH_WEAKLY_HELD * whole else ""
         )
 
-    def probes_between(self) -> List[EarlierProbe]:
-        """Returns what asks some dumps between the first and the last what `probe` asks these: at most `BETWEEN`."""
-        probe, found = self.probe, []
-        sides = self.followed.sides(spread(self.dumps[1:-1], BETWEEN))
-        for side in without(sides, self.omitted_calls) if self.omitted_calls else sides:
-            found.append(
-                EarlierProbe(side.runs, side.candidates, probe.families, probe.unit, probe.before_run, side.base)
-            )
-        return found
+    def probes_between(self, groups: Sequence[Several]) -> List[Probe]:
+        """Returns what knows what `groups` hold in some dumps between the first and the last: at most `BETWEEN`."""
+        sides = [side_of(each, self.way) for each in spread(self.dumps[1:-1], BETWEEN)]
+        ask([(side, groups) for side in sides])
+        return [Probe(side, self.probe.families, self.probe.unit) for side in sides]
 
     def more_unreachable(self) -> Amount:
         """Returns how much more is unreachable in the last dump than in the first."""
@@ -94,18 +99,18 @@ class Comparison:
 
 
 def dumps_of(paths: Sequence[str], heapmark: Heapmark, progress: Progress) -> List[DumpRuns]:
-    """Returns the dumps at `paths`: the records of one are read while heapmark reads others. Those that will not be
-    asked are measured, and have no content then, so that not all are in memory. Raises `Fault` if one cannot be read,
-    if they are the same, not in the order of their times, or seem to be of two programs."""
+    """Returns the dumps at `paths`. Those that will not be asked are measured, and have no content then, so that not
+    all are in memory. Raises `Fault` if one cannot be read, if they are the same, not in the order of their times, or
+    seem to be of two programs."""
     dumps: List[DumpRuns] = []
     asked = {0, *spread(range(1, len(paths) - 1), BETWEEN), len(paths) - 1}
-    with FirstRuns(heapmark, paths, "leaks") as first:
-        for number in range(len(paths)):
-            progress.show(f"reading dump {number + 1} of {len(paths)}")
-            dumps.append(DumpRuns.read(heapmark, first.next()))
-            if number not in asked:
-                measure(dumps[-1].dump)
-                dumps[-1].dump.forget()
+    for number, path in enumerate(paths):
+        progress.show(f"reading dump {number + 1} of {len(paths)}")
+        dumps.append(DumpRuns.of(heapmark, path, "leaks"))
+        if number not in asked:
+            measure(dumps[-1].dump)
+            dumps[-1].dump.forget()
+            forget(path)
     require_one_program(dumps)
     return dumps
 
@@ -125,22 +130,23 @@ def require_one_program(dumps: Sequence[DumpRuns]) -> None:
         raise Fault(UNREADABLE, f"{last.path}: another program? it has {few} of {first.path}")
 
 
-def comparison_of(dumps: Sequence[DumpRuns], options: Options, progress: SearchProgress) -> Comparison:
+def comparison_of(dumps: Sequence[DumpRuns], options: Options) -> Comparison:
     """Returns what asks dumps about the growth. Calls that are running do not count, nor do weak references, unless the
     user follows them or those of one kind alone hold most of the growth."""
-    progress.show()
     ends, unit = (dumps[0], dumps[-1]), options.unit
     families = families_asked(options, dumps[-1])
     direct = direct_memory(ends[0].dump), direct_memory(ends[1].dump)
-    followed, sides = followed_of(ends, families, unit, options.weak)
-    asked = with_growth(sides, with_direct_memory(sides, Asked(families, unit), direct), dumps)
-    growth = grown(sides, asked.families, asked.unit)
+    counts = WhatCounts(ends)
+    followed, reports = followed_of(counts, families, unit, options.weak)
+    require_more([each.total(families) for each in reports], options)
+    asked = with_growth(reports, with_direct_memory(reports, Asked(families, unit), direct), dumps)
+    growth = grown(reports, asked.families, asked.unit)
     # What holds less than at_least percent is no line, and nothing below it is.
     percent = max(PASSING, options.at_least - 1)
-    (first, last), calls = without_running_calls(sides, asked.families, asked.unit, growth, percent)
-    earlier = EarlierProbe(first.runs, first.candidates, asked.families, asked.unit, progress.show, first.base)
-    probe = GrowthProbe(earlier, last.runs, last.candidates, asked.families, asked.unit, progress.show, last.base)
-    return Comparison(dumps, direct, probe, followed, calls, [*filter(None, [followed.why]), *asked.why])
+    way = without_running_calls(counts, followed.follows, reports, asked.families, asked.unit, growth, percent)
+    first, last = counts.sides(way)
+    probe = GrowthProbe(first, last, asked.families, asked.unit)
+    return Comparison(dumps, direct, probe, followed, way, [*filter(None, [followed.why]), *asked.why])
 
 
 def families_asked(options: Options, runs: DumpRuns) -> Optional[List[str]]:
@@ -149,32 +155,44 @@ def families_asked(options: Options, runs: DumpRuns) -> Optional[List[str]]:
     return None if options.of_class is None else [family_of(options.of_class, runs.dump, runs.report)]
 
 
-def with_direct_memory(sides: Sequence[DumpSide], asked: Asked, direct: Tuple[DirectMemory, DirectMemory]) -> Asked:
+def with_direct_memory(reports: Sequence[Report], asked: Asked, direct: Tuple[DirectMemory, DirectMemory]) -> Asked:
     """Returns the question about direct buffers if all is asked for, and the heap grew by less than their memory."""
     before, after = direct
-    growth = grown(sides, asked.families, asked.unit)
+    growth = grown(reports, asked.families, asked.unit)
     if asked.families is not None or asked.unit is not Unit.BYTES or after.bytes - before.bytes <= max(0, growth):
         return asked
     so = f"the heap grew by less; so the shares are of the objects of {BUFFER}"
     return Asked([BUFFER], Unit.OBJECTS, [f"{more_direct_memory(before, after)}: {so}"])
 
 
-def with_growth(sides: Sequence[DumpSide], asked: Asked, dumps: Sequence[DumpRuns]) -> Asked:
+def with_growth(reports: Sequence[Report], asked: Asked, dumps: Sequence[DumpRuns]) -> Asked:
     """Returns the question about the classes of which there are more objects, if what is asked for did not grow. Raises
     `Fault` if there are none."""
     families, unit, why = asked
-    if grown(sides, families, unit) > 0:
+    if grown(reports, families, unit) > 0:
         return asked
     what = families[0] if families else "reachable"
-    was, now = (unit.of(side.base.total(families)) for side in sides)
+    was, now = (unit.of(each.total(families)) for each in reports)
     text = f"{what}: {counted(was, unit.noun)}, then {now:,}: no growth"
-    found = [each.name for each in growths([side.base for side in sides]) if each.amount.objects > 0]
+    found = [each.name for each in growths(reports) if each.amount.objects > 0]
     wanted = families or [name for name in found if name != CLASSES]
     more = [name for name in found if name in wanted]
     if not more:
-        raise Fault(NOTHING, text + (f"; {missing_words(dumps)}" if max(unreachable_growth(dumps)) > 0 else ""))
+        text += f"; {missing_words(dumps)}" if max(unreachable_growth(dumps)) > 0 else ""
+        first, last = (each.total(families) for each in reports)
+        raise NoGrowth(text, last, last.minus(first), is_allowed=False)
     so = f"so the shares are of the objects of {'it' if families else 'the classes that grew'}"
     return Asked(more, Unit.OBJECTS, [*why, f"{text}; {so}"])
+
+
+def require_more(reachable: Sequence[Amount], options: Options) -> None:
+    """Raises `NoGrowth` if the user allows a growth, and what is asked for grew by no more. `reachable` is how much of
+    it is in the first dump, and in the last."""
+    first, last = reachable
+    if options.more_than is not None and last.bytes - first.bytes <= options.more_than:
+        what, grew = options.of_class or "reachable", f"{counted(first.bytes, 'byte')}, then {last.bytes:,}"
+        text = f"{what}: {grew}: not more than {counted(options.more_than, 'byte')} more"
+        raise NoGrowth(text, last, last.minus(first), is_allowed=True)
 
 
 def unreachable_growth(dumps: Sequence[DumpRuns]) -> Amount:

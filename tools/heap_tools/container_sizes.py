@@ -1,12 +1,9 @@
-"""How many elements the containers have that fields lead to: what piles up is in large ones."""
+"""How many elements containers have: what piles up is in large ones."""
 
-from typing import Dict, Iterable, List, Sequence, Set
+from typing import Dict, Iterable, Set
 
 from heap_tools import hprof_format as hprof
-from heap_tools.candidates import Candidate
-from heap_tools.field_values import values_by_field
 from heap_tools.heap_objects import HeapObjects
-from heap_tools.line_order import FEW
 
 #: The number that collections keep of their elements. Of others the length of their array counts.
 SIZE = "size"
@@ -17,14 +14,6 @@ class ContainerSizes:
 
     def __init__(self, objects: HeapObjects) -> None:
         self.objects = objects
-
-    def largest_first(self, fields: Sequence[Candidate]) -> List[Candidate]:
-        """Returns fields of at most `FEW` instances, those first that lead to the largest containers. Walks over all
-        objects three times."""
-        id_at, values = self.objects.dump.id, values_by_field(self.objects, [each.name for each in fields], FEW, 0)
-        targets = {name: {id_at(each.value) for each in found.values} for name, found in values.items()}
-        sizes = self.of({key for keys in targets.values() for key in keys})
-        return sorted(fields, key=lambda each: -max((sizes.get(key, 0) for key in targets[each.name]), default=0))
 
     def of(self, containers: Set[int]) -> Dict[int, int]:
         """Returns how many elements each of the objects with these identifiers has. Walks over all objects twice."""

@@ -33,7 +33,7 @@ def direct_memory(dump: HeapDump) -> DirectMemory:
         return DirectMemory()
     objects, count, size = HeapObjects(dump), 0, 0
     mapped = _mapped_classes(objects)
-    for instance, value in objects.values_of([CAPACITY], kind=hprof.INT):
+    for instance, value, _ in objects.values_of([CAPACITY], kind=hprof.INT):
         if _attachments(objects, instance) == [0] and dump.id(instance + 1) not in mapped:
             count, size = count + 1, size + dump.number(value, 4)
     return DirectMemory(count, size)

@@ -9,6 +9,7 @@ from heap_tools.candidates import Candidate
 from heap_tools.class_growth import ClassGrowth
 from heap_tools.dump_runs import DumpRuns
 from heap_tools.field_list import Entry
+from heap_tools.heap_layout import Layout
 from heap_tools.heap_sizes import ClassSize, HeapSizes
 from heap_tools.probe import Probe, Retained
 from heap_tools.reports import Amount, Report, Unit
@@ -88,6 +89,11 @@ def class_size_entry(each: ClassSize) -> JsonObject:
     return {**name, "reachable": amount_entry(each.reachable), "unreachable": amount_entry(each.unreachable)}
 
 
+def layout_entry(layout: Optional[Layout]) -> Optional[JsonObject]:
+    """Returns a layout, `None` if there is none."""
+    return None if layout is None else {**layout._asdict(), "placing": layout.placing.value}
+
+
 def sizes_fields(
     runs: DumpRuns, sizes: HeapSizes, shown: Sequence[ClassSize], is_by_package: bool, hidden: int
 ) -> JsonObject:
@@ -95,7 +101,7 @@ def sizes_fields(
     others."""
     return {
         "file": dump_entry(runs),
-        "layout": sizes.layout and sizes.layout._asdict(),
+        "layout": layout_entry(sizes.layout),
         "all": amount_entry(sizes.every),
         "reachable": amount_entry(sizes.in_dump.reachable),
         "unreachable": amount_entry(sizes.in_dump.unreachable),

@@ -9,6 +9,7 @@ import os
 from typing import Iterator, NamedTuple, Optional
 
 from heap_tools.faults import UNREADABLE, Fault
+from heap_tools.gzip_dump import unpacked
 from heap_tools.heapmark import opened
 
 
@@ -50,10 +51,15 @@ def unchanged(path: str, state: Optional[FileState]) -> Iterator[None]:
 
 
 def whole_content(path: str, state: Optional[FileState]) -> bytes:
-    """Returns the content of the file `path`, which had the state `state` before heapmark read it. Raises `Fault` if it
-    cannot be read, or if it has changed since then."""
+    """Returns the content of the file `path`, which had the state `state` before heapmark read it; of a compressed one,
+    what heapmark read. Raises `Fault` if it cannot be read, or if it has changed since then."""
     if state is None:
         raise changed(path)
+    packed = unpacked(path)
+    if packed:
+        if FileState.of(packed.status) != state or state_of(path) != state:
+            raise changed(path)
+        return packed.content()
     with opened(path) as file:
         content = file.read(state.length + 1)
         after = FileState.of(os.fstat(file.fileno()))

@@ -5,12 +5,12 @@ import re
 from typing import List, NamedTuple, Optional, Tuple
 
 from heap_tools.candidates import LOCAL, THREAD, THREADS, Candidates, Key
-from heap_tools.changed_copy import Changes, number_code
-from heap_tools.class_lookup import why_unknown
+from heap_tools.class_lookup import why_no_field, why_unknown
 from heap_tools.class_names import families, family, shown, spellings
 from heap_tools.faults import WRONG_USE, Fault
 from heap_tools.heap_dump import HeapDump
 from heap_tools.hprof_format import OBJECT
+from heap_tools.label_text import Place
 from heap_tools.thread_counts import NAMELESS
 
 #: What a line of `holders` calls by these words.
@@ -71,33 +71,30 @@ def classes_named(text: str, dump: HeapDump) -> List[int]:
     return found or [class_id for class_id, name in dump.names.items() if family(name) in wanted]
 
 
-def places_of(entry: str, dump: HeapDump) -> Tuple[List[int], str]:
-    """Returns the places of the types of the fields that `entry` names, and why there are none if there are none. Only
-    static fields count if the entry says so."""
-    name, _, field = field_of(entry).rpartition(".")
+def places_of(entry: str, candidates: Candidates) -> Tuple[List[Place], str]:
+    """Returns the places of the references that `entry` names, and why there are none if there are none."""
+    root = root_of(entry)
+    if root:
+        found = [*candidates.places(root)]
+        return found, "" if found else f"no {NOUNS[root[0]]} of the dump has this name"
+    return _places_of_field(entry, candidates)
+
+
+def _places_of_field(entry: str, candidates: Candidates) -> Tuple[List[Place], str]:
+    """Returns the places of a field, of a static one only if the entry says so, and why there are none if there are
+    none."""
+    dump, (name, _, field) = candidates.dump, field_of(entry).rpartition(".")
     class_ids = classes_named(name, dump)
     wanted = {field, shown(os.fsencode(field))}
-    fields = [each for class_id in class_ids for each in dump.classes[class_id].fields if each.name in wanted]
+    fields = [(it, each) for it in class_ids for each in dump.classes[it].fields if each.name in wanted]
     if entry.startswith(STATIC_WORD):
-        fields = [each for each in fields if each.is_static]
-    places = [each.place for each in fields if each.kind == OBJECT]
-    if places:
-        return places, ""
+        fields = [(it, each) for it, each in fields if each.is_static]
+    if any(each.kind == OBJECT for _, each in fields):
+        return [place for it, each in fields for place in candidates.places_in(it, each)], ""
     if not class_ids:
         known = {family(each) for each in dump.names.values()}
         return [], f"no class of the dump is called {name}: {why_unknown(name, known)}"
     if not fields:
-        return [], f"{name} itself declares no such field: javap -p lists its fields; a superclass may have it"
+        declared = [each.name for class_id in class_ids for each in dump.classes[class_id].fields]
+        return [], why_no_field(name, field, declared)
     return [], "this field holds numbers, no references"
-
-
-def changes_of(entry: str, dump: HeapDump) -> Tuple[Changes, str]:
-    """Returns the changes of the dump by which what `entry` names leads nowhere, and why there are none if there are
-    none."""
-    root = root_of(entry)
-    if root:
-        changes = Candidates(dump).changes(root)
-        return changes, "" if changes else f"no {NOUNS[root[0]]} of the dump has this name"
-    places, why = places_of(entry, dump)
-    code = number_code(dump)
-    return {place: code for place in places}, why

@@ -7,7 +7,7 @@ from heap_tools import hprof_format as hprof
 from heap_tools.heap_dump import Span
 from heap_tools.heap_objects import FEWEST_SEGMENTS, FieldValue, HeapObjects
 from heap_tools.object_records import instances_in
-from heap_tools.parallel import Work
+from heap_tools.parallel import shared
 
 #: From how many different identifiers in a field on no more are looked for: all that is asked is whether it is one.
 SEVERAL = 2
@@ -54,40 +54,27 @@ class FieldValues:
         self._places += others._places[: 2 * self.most - len(self._places)]
 
 
-class ValuesWalk:
-    """A walk over all objects, which begins at once, in processes of its own, for what instances have in each of
-    `fields`, names such as `java/util/HashMap.table`: at most `most` values, and at most `most_null` instances in which
-    it is null. It goes as far as it takes if all fields have more values; then instances in which they are null may be
-    missing."""
-
-    def __init__(self, objects: HeapObjects, fields: Iterable[str], most: int, most_null: int) -> None:
-        dump, names = objects.dump, sorted(set(fields))
-        places = objects.places_in_instances(names, hprof.OBJECT)
-
-        def values_in(segments: List[Span]) -> Dict[str, FieldValues]:
-            found, wanted = {name: FieldValues(most, most_null) for name in names}, dict(places)
-            id_at, data = dump.unpack_id, dump.bytes
-            for at, _, class_id in instances_in(dump, segments, wanted):
-                for name, place in wanted[class_id]:
-                    if found[name].add(at, at + place, id_at(data, at + place)[0]):
-                        _leave_out(name, wanted)
-            return found
-
-        self._every = {name: FieldValues(most, most_null) for name in names}
-        self._work = Work(values_in, dump.segments, FEWEST_SEGMENTS) if places else None
-
-    def values(self) -> Dict[str, FieldValues]:
-        """Returns what was found, by the name of the field."""
-        work, self._work = self._work, None
-        for part in work.results() if work else ():
-            for name, values in part.items():
-                self._every[name].add_all(values)
-        return self._every
-
-
 def values_by_field(objects: HeapObjects, fields: Iterable[str], most: int, most_null: int) -> Dict[str, FieldValues]:
-    """Returns what instances have in each of `fields`, as `ValuesWalk` finds it."""
-    return ValuesWalk(objects, fields, most, most_null).values()
+    """Returns what instances have in each of `fields`, names such as `java/util/HashMap.table`: at most `most` values,
+    and at most `most_null` instances in which it is null. Walks over all objects as far as it takes if all fields have
+    more values; then instances in which they are null may be missing."""
+    dump, names = objects.dump, sorted(set(fields))
+    places = objects.places_in_instances(names, hprof.OBJECT)
+
+    def values_in(segments: List[Span]) -> Dict[str, FieldValues]:
+        found, wanted = {name: FieldValues(most, most_null) for name in names}, dict(places)
+        id_at, data = dump.unpack_id, dump.bytes
+        for at, _, class_id in instances_in(dump, segments, wanted):
+            for name, place in wanted[class_id]:
+                if found[name].add(at, at + place, id_at(data, at + place)[0]):
+                    _leave_out(name, wanted)
+        return found
+
+    every = {name: FieldValues(most, most_null) for name in names}
+    for part in shared(values_in, dump.segments, FEWEST_SEGMENTS) if places else ():
+        for name, values in part.items():
+            every[name].add_all(values)
+    return every
 
 
 def _leave_out(name: str, places: Dict[int, List[Tuple[str, int]]]) -> None:

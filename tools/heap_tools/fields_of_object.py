@@ -6,29 +6,34 @@ alone or with others. What leads to the client does, but they pile up in the cli
 """
 
 from collections import Counter
-from typing import Dict, List, Optional, Sequence, Set
+from typing import List, Optional, Set
 
-from heap_tools.candidates import FIELD, STATIC, Candidate
-from heap_tools.class_names import is_own
+from heap_tools.candidates import FEW, FIELD, STATIC
 from heap_tools.container_sizes import ContainerSizes
+from heap_tools.dump_side import Several, key_of
 from heap_tools.heap_objects import HeapObjects
-from heap_tools.line_order import FEW
+from heap_tools.joint_search import by_amount, needed_of
 from heap_tools.object_parts import FieldUses
-from heap_tools.part_search import Measure
+from heap_tools.object_shares import amounts_of
 from heap_tools.probe import GrowthProbe, Probe, Retained
 from heap_tools.reports import Amount
-from heap_tools.search import Search, Tried
-from heap_tools.search_together import SearchTogether
+from heap_tools.search import Search
 
 
 def find_below(search: Search, upper: Retained, uses: FieldUses) -> List[Retained]:
     """Finds what fields that the instances of one class have, inherited ones too, hold only together, of what `upper`
     holds, if that leads to no container. `uses` may know the values of fields."""
-    if leads_to_container(search.probe, upper, uses):
+    probe = search.probe
+    if leads_to_container(probe, upper, uses):
         return []
-    known = len(search.found)
-    SearchTogether(search).find_of_units(units_below(search.probe, upper))
-    return search.found[known:]
+    units = {key_of(unit): unit for name, unit in probe.candidates.units().items() if name in upper.lost}
+    heavy = [unit for unit in units.values() if probe.share(unit) >= search.at_least]
+    needed = [each for each in (needed_of(probe, search.at_least, unit) for unit in heavy) if each]
+    known = {held.key for held in search.found}
+    every = {key_of(each): by_amount(probe, each) for each in needed if key_of(each) not in known}
+    found = [probe.retained(each)._replace(candidates=each) for each in every.values()]
+    search.found += found
+    return found
 
 
 def leads_to_container(probe: Probe, held: Retained, uses: FieldUses) -> bool:
@@ -45,21 +50,9 @@ def _targets(probe: Probe, held: Retained, uses: FieldUses) -> Set[int]:
     if len(held.candidates) > 1 or held.candidates[0].kind not in (FIELD, STATIC):
         return set()
     field, id_at = held.candidates[0], probe.runs.dump.id
-    places = [each.value for each in uses.of(field).values] if field.kind == FIELD else [it + 1 for it in field.changes]
-    return {id_at(place) for place in places}
-
-
-def units_below(probe: Probe, upper: Retained) -> List[Tried]:
-    """Returns for each class with few instances, of which `upper` holds some, the fields that these have, if some of
-    them have many instances elsewhere, too: others are of one class, of which it is asked anyway. Those of a collection
-    say nothing of what it is for."""
-    few = {name for name in upper.lost if is_own(name) and probe.base.amount(name).objects <= FEW}
-    found: Dict[str, List[Candidate]] = {}
-    for field in probe.candidates.fields(probe.base):
-        for name in few & field.classes if not field.is_collection else ():
-            found.setdefault(name, []).append(field)
-    units = {tuple(each.key for each in unit): unit for unit in found.values()}
-    return [unit for unit in units.values() if len(unit) > 1 and any(each.count > FEW for each in unit)]
+    if field.kind == STATIC:
+        return set(probe.candidates.values_of_static(field.key))
+    return {id_at(each.value) for each in uses.of(field).values}
 
 
 def part_of_one(probe: Probe, held: Retained) -> float:
@@ -73,7 +66,7 @@ def part_of_one(probe: Probe, held: Retained) -> float:
     return probe.unit.of(now.minus(was)) / whole
 
 
-def _of_only_one(probe: Probe, fields: Sequence[Candidate]) -> Optional[Amount]:
+def _of_only_one(probe: Probe, fields: Several) -> Optional[Amount]:
     """Returns what the only object holds by `fields` that has a value in each, nothing if none does, None if several
     do."""
     values = HeapObjects(probe.runs.dump).values_of([each.name for each in fields])
@@ -82,4 +75,4 @@ def _of_only_one(probe: Probe, fields: Sequence[Candidate]) -> Optional[Amount]:
     every = [at for at, number in count.items() if number == len(fields)]
     if len(every) > 1:
         return None
-    return Measure(probe).amount([each for each in values if each.instance in every])
+    return amounts_of(probe, [[each for each in values if each.instance in every]])[0]

@@ -6,12 +6,15 @@ from weakref import WeakKeyDictionary
 from heap_tools.dump_runs import DumpRuns
 from heap_tools.heap_dump import HeapDump
 from heap_tools.heap_layout import UnknownLayout
-from heap_tools.object_sizes import ObjectSizes, RowSizes
+from heap_tools.humanize import plural, size
+from heap_tools.object_sizes import ObjectSizes, RowSizes, Unsure
 from heap_tools.parallel import shared
 from heap_tools.reports import Report
 
 #: No virtual machine writes a dump with fewer objects: of such a one it is not said that its layout is not known.
 FEWEST_OF_HEAP = 3000
+#: The part of the heap from which on it is said that it is not sure what some objects take.
+UNSURE = 0.001
 
 
 #: The sizes in a dump, or why its layout is not known.
@@ -21,7 +24,8 @@ KNOWN: "WeakKeyDictionary[HeapDump, Measured]" = WeakKeyDictionary()
 
 
 class Counted(NamedTuple):
-    """Dumps whose reports are in bytes of one kind, and what there is to say about that, empty if nothing."""
+    """Dumps whose reports are in bytes of one kind, and why these are not those of the heap, empty if they are, or if
+    the user wants others."""
 
     dumps: List[DumpRuns]
     words: str
@@ -43,7 +47,7 @@ def counted_in_heap(dumps: Sequence[DumpRuns], dump_bytes: bool) -> Counted:
             return Counted([*dumps], unknown_words(each.path, each.report, sizes))
         found.append(sizes)
     counted = [each.in_heap(sizes.like(found[-1])) for each, sizes in zip(dumps, found)]
-    return Counted(counted, layout_words(found[-1]))
+    return Counted(counted, doubt_words(found[-1], counted[-1].report))
 
 
 def measure(dump: HeapDump) -> None:
@@ -75,6 +79,19 @@ def layout_words(sizes: Optional[RowSizes]) -> str:
     if sizes is None:
         return ""
     return f"bytes are those of the heap, by its layout ({sizes.layout.words()}); --dump-bytes counts those of the dump"
+
+
+def doubt_words(sizes: Optional[RowSizes], report: Optional[Report]) -> str:
+    """Says of how many bytes of a report in heap bytes it is not sure, unless that is little of it."""
+    return unsure_words(sizes.unsure(report.rows), report.reachable.bytes) if sizes and report else ""
+
+
+def unsure_words(unsure: Unsure, whole: int) -> str:
+    """Says of how many classes it is not sure what they take, unless that is little of `whole` bytes."""
+    if unsure.bytes < UNSURE * whole or not unsure.bytes:
+        return ""
+    what = f"the objects of {unsure.classes:,} {plural(unsure.classes, 'class')} take"
+    return f"it is not sure what {what}, since no neighbour shows it: up to {size(unsure.bytes)} more or less"
 
 
 def unknown_words(path: str, report: Report, why: str) -> str:

@@ -6,6 +6,7 @@ traces, are.
 
 import hashlib
 import struct
+from bisect import bisect_left
 from collections import deque
 from typing import Deque, Dict, Iterable, Iterator, List, NamedTuple, Optional, Set, Tuple
 
@@ -47,11 +48,13 @@ class Field(NamedTuple):
 
 
 class Class(NamedTuple):
-    """A class dump: its superclass, its loader, 0 if that is the virtual machine's own, and its fields."""
+    """A class dump: its superclass, its loader, 0 if that is the virtual machine's own, its fields, and how many of its
+    constants are identifiers."""
 
     superclass: int
     loader: int
     fields: List[Field]
+    constants: int = 0
 
 
 class Root(NamedTuple):
@@ -92,6 +95,8 @@ class HeapDump:
         self.segments: List[Span] = []
         self.classes: Dict[int, Class] = {}
         self.roots: List[Root] = []
+        #: Where the identifiers of all roots are that were read. No others are before or between them.
+        self._root_places: List[int] = []
         self.field_names: Dict[int, str] = {}
         self._read_records()
         self._read_heap(nameless)
@@ -192,8 +197,18 @@ class HeapDump:
         ends_with_object = begins_with_object = False
         while rest and not (knows_all and not classes and ends_with_object):
             _, ends_with_object = self._read_segment(rest.popleft(), classes, threads)
-        while rest and (threads or not begins_with_object):
+        while rest and (threads or not begins_with_object or self._has_roots(rest)):
             begins_with_object, _ = self._read_segment(rest.pop(), classes, threads)
+        self._root_places.sort()
+
+    def _has_roots(self, segments: Iterable[Span]) -> bool:
+        """Tests whether segments that were not read may have roots, by what they begin with: virtual machines write
+        those of threads, of native code and of system classes in one go."""
+        return any(self.bytes[begin] not in hprof.OBJECTS for begin, end in segments if begin < end)
+
+    def root_number(self, place: int) -> int:
+        """Returns the number of the root whose identifier is at `place`, among all roots of the dump."""
+        return bisect_left(self._root_places, place)
 
     def _read_segment(self, segment: Span, classes: Set[int], threads: Set[int]) -> Tuple[bool, bool]:
         """Reads the class dumps and roots in a segment, and takes them from the `classes` and `threads` to be met.
@@ -202,10 +217,8 @@ class HeapDump:
         for at, tag in self.sub_records([segment]):
             if tag == hprof.CLASS_DUMP:
                 classes.discard(self.id(at + 1))
-            elif tag in hprof.THREAD_ROOTS:
-                self._note_root(at, tag)
-                if tag == hprof.THREAD_OBJECT:
-                    threads.discard(self.roots[-1].thread)
+            elif tag not in hprof.OBJECTS:
+                self._note_root(at, tag, threads)
             first, last = first or tag, tag
         return first in hprof.OBJECTS, last in hprof.OBJECTS
 
@@ -237,26 +250,35 @@ class HeapDump:
                     raise UnknownTag(self.path, tag, at)
                 yield begin, tag
 
-    def _note_root(self, at: int, tag: int) -> None:
-        after = at + 1 + self.id_size
-        frame = self.number(after + 4, 4) if tag in hprof.FRAME_ROOTS else None
-        self.roots.append(Root(tag, at + 1, self.number(after, 4), frame))
+    def _note_root(self, at: int, tag: int, threads: Set[int]) -> None:
+        """Notes a root, and takes its thread from the `threads` to be met."""
+        self._root_places.append(at + 1)
+        if tag in hprof.THREAD_ROOTS:
+            after = at + 1 + self.id_size
+            frame = self.number(after + 4, 4) if tag in hprof.FRAME_ROOTS else None
+            self.roots.append(Root(tag, at + 1, self.number(after, 4), frame))
+            if tag == hprof.THREAD_OBJECT:
+                threads.discard(self.roots[-1].thread)
 
     def _read_class(self, begin: int) -> int:
         """Reads the class dump at `begin` and returns where it ends."""
         data, size, sizes = self.bytes, self.id_size, self.value_sizes
-        fields, at = [], begin + 9 + 7 * size
+        fields, constants, at = [], 0, begin + 9 + 7 * size
         for part in ("constants", "statics", "instances"):
             count, at = self.number(at, 2), at + 2
             for _ in range(count):
                 place = at + (2 if part == "constants" else size)
                 kind, name = data[place], at
                 at = place + 1 + (0 if part == "instances" else sizes[kind])
-                if part != "constants":
+                if part == "constants":
+                    constants += kind == hprof.OBJECT
+                else:
                     is_static, text = part == "statics", self._field_name(self.id(name))
                     is_null = is_static and kind == hprof.OBJECT and self.id(place + 1) == 0
                     fields.append(Field(text, kind, is_static, is_null, place))
-        self.classes[self.id(begin + 1)] = Class(self.id(begin + 5 + size), self.id(begin + 5 + 2 * size), fields)
+        self.classes[self.id(begin + 1)] = Class(
+            self.id(begin + 5 + size), self.id(begin + 5 + 2 * size), fields, constants
+        )
         return at
 
     def _field_name(self, text_id: int) -> str:

@@ -8,10 +8,10 @@ objects makes the difference larger, never smaller.
 from collections import Counter
 from itertools import product
 from typing import Counter as Counts
-from typing import Container, Dict, Iterable, List, NamedTuple, Tuple
+from typing import Container, Dict, Iterable, Iterator, NamedTuple, Tuple
 
 from heap_tools import hprof_format as hprof
-from heap_tools.heap_dump import HeapDump
+from heap_tools.field_placing import WORD, Fields, Placing, aligned, end_of
 from heap_tools.heap_sample import Sample
 
 #: The fewest instances, and the fewest arrays, whose neighbours agree on a layout; the least share of both that does;
@@ -21,14 +21,20 @@ FEWEST_NEIGHBOURS, AGREEMENT, MAJORITY = 300, 0.8, 0.5
 OVERLAPPING = 0.01
 #: The class of the stacks of virtual threads that wait: the stack is in it, and the dump does not say how long it is.
 STACK = "jdk/internal/vm/StackChunk"
+#: What is said of the placing of fields, if it is not that of today's virtual machines.
+APART = {
+    Placing.FILLED: "",
+    Placing.REFERENCES_LAST: ", fields begin after those of superclasses",
+    Placing.REFERENCES_FIRST: ", fields begin after those of superclasses, references first",
+}
 #: The headers of instances and of arrays that virtual machines have, by the bytes of an identifier. That of an instance
 #: is one word (compact headers, or 32 bits), a word and a compressed class, or two words; an array has its length after
 #: that, and up to JDK 22 its elements begin at a multiple of 8. The most usual come first: they are taken if as many
 #: agree.
 HEADERS = {4: [(8, 12)], 8: [(12, 16), (8, 12), (16, 20), (16, 24)]}
 REFERENCES = {4: (4,), 8: (4, 8)}
-#: Elements of this many bytes, and the static fields in a class object, begin at a multiple of it.
-WORD = 8
+#: The header of an instance with an identifier of 8 bytes that only virtual machines have which fill what is empty.
+COMPACT = 8
 
 
 class UnknownLayout(Exception):
@@ -37,29 +43,30 @@ class UnknownLayout(Exception):
 
 class Layout(NamedTuple):
     """The bytes of which each size is a multiple, those before the fields of an instance, those of a reference, and
-    those before the elements of an array."""
+    those before the elements of an array; and how fields are placed."""
 
     alignment: int
     header: int
     reference: int
     array_header: int
+    placing: Placing = Placing.FILLED
 
     def aligned(self, size: int) -> int:
         """Returns what an object of `size` bytes takes in the heap."""
-        return -(-size // self.alignment) * self.alignment
+        return aligned(size, self.alignment)
 
     def value(self, kind: int) -> int:
         """Returns the bytes of a value of the type with the code `kind`."""
         return self.reference if kind == hprof.OBJECT else hprof.PRIMITIVE_SIZES[kind]
 
-    def instance(self, fields: "Fields") -> int:
+    def instance(self, fields: Fields) -> int:
         """Returns the bytes of an instance with these fields, before it is aligned."""
-        return self.header + fields.references * self.reference + fields.other
+        return end_of(fields, self.header, self.reference, self.placing)
 
     def array(self, kind: int, length: int) -> int:
         """Returns what an array of `length` elements takes in the heap."""
         element = self.value(kind)
-        begin = -(-self.array_header // WORD) * WORD if element == WORD else self.array_header
+        begin = aligned(self.array_header, WORD) if element == WORD else self.array_header
         return self.aligned(begin + element * length)
 
     def words(self) -> str:
@@ -67,33 +74,8 @@ class Layout(NamedTuple):
         compressed = " (compressed)" if self.reference == 4 and self.header != 8 else ""
         return (
             f"header {self.header} bytes, of an array {self.array_header}, references {self.reference}{compressed}, "
-            f"sizes are multiples of {self.alignment}"
+            f"sizes are multiples of {self.alignment}{APART[self.placing]}"
         )
-
-
-class Fields(NamedTuple):
-    """The fields of an instance: how many references, and the bytes of the others."""
-
-    references: int = 0
-    other: int = 0
-
-    def plus(self, kinds: Counts[int]) -> "Fields":
-        """Returns these fields and others, given by the codes of their types."""
-        other = sum(count * hprof.PRIMITIVE_SIZES[kind] for kind, count in kinds.items() if kind != hprof.OBJECT)
-        return Fields(self.references + kinds[hprof.OBJECT], self.other + other)
-
-
-def fields_by_class(dump: HeapDump) -> Dict[int, Fields]:
-    """Returns the fields of the instances of each class, those of its superclasses included."""
-    found: Dict[int, Fields] = {}
-    for class_id in dump.classes:
-        chain = [class_id]
-        while chain[-1] in dump.classes and chain[-1] not in found:
-            chain.append(dump.classes[chain[-1]].superclass)
-        for each in reversed(chain[:-1]):
-            own = Counter(field.kind for field in dump.classes[each].fields if not field.is_static)
-            found[each] = found.get(dump.classes[each].superclass, Fields()).plus(own)
-    return found
 
 
 class _Votes(NamedTuple):
@@ -114,16 +96,24 @@ def layout_of(sample: Sample, fields: Dict[int, Fields], id_size: int, stacks: C
             instances[fields.get(class_id, Fields()), gap] += count
         elif kind > 0:
             arrays[kind, length, gap] += count
-    alignment = sample.bits & -sample.bits
-    found: List[Tuple[Layout, _Votes, _Votes]] = []
-    for (header, array_header), reference in product(HEADERS[id_size], REFERENCES[id_size]):
-        one = Layout(alignment, header, reference, array_header)
-        of_instances = _votes((one.aligned(one.instance(of)), gap, n) for (of, gap), n in instances.items())
-        of_arrays = _votes((one.array(kind, length), gap, n) for (kind, length, gap), n in arrays.items())
-        found.append((one, of_instances, of_arrays))
+    found = [
+        (
+            one,
+            _votes((one.aligned(one.instance(of)), gap, n) for (of, gap), n in instances.items()),
+            _votes((one.array(kind, length), gap, n) for (kind, length, gap), n in arrays.items()),
+        )
+        for one in _layouts(sample.bits & -sample.bits, id_size)
+    ]
     best = max(found, key=lambda it: it[1].agree + it[2].agree)
     _require_agreement(*best[1:])
     return best[0]
+
+
+def _layouts(alignment: int, id_size: int) -> Iterator[Layout]:
+    """Yields the layouts that a heap may have, the most usual first."""
+    for placing, (header, array_header), reference in product(Placing, HEADERS[id_size], REFERENCES[id_size]):
+        if placing is Placing.FILLED or id_size == 4 or header != COMPACT:
+            yield Layout(alignment, header, reference, array_header, placing)
 
 
 def _votes(sizes: Iterable[Tuple[int, int, int]]) -> _Votes:

@@ -9,6 +9,7 @@ from weakref import WeakKeyDictionary
 from heap_tools import hprof_format as hprof
 from heap_tools.class_names import CLASSES, PRIMITIVES, family
 from heap_tools.heap_dump import Field, HeapDump, Span
+from heap_tools.label_text import Place, in_object
 from heap_tools.object_records import chosen_objects
 from heap_tools.parallel import shared
 from heap_tools.span_order import order_of_segments
@@ -24,10 +25,12 @@ THREAD_NAMES: "WeakKeyDictionary[HeapDump, Dict[int, str]]" = WeakKeyDictionary(
 
 
 class FieldValue(NamedTuple):
-    """The value of a field of an instance: where the instance is, and where the value is."""
+    """A reference by which an object holds something: where the object is, and where the reference is. `holder`: where
+    the object is that has the reference, if it is another one, such as the list of an element."""
 
     instance: int
     value: int
+    holder: int = 0
 
 
 class Referrer(NamedTuple):
@@ -44,6 +47,8 @@ class HeapObjects:
 
     def __init__(self, dump: HeapDump) -> None:
         self.dump = dump
+        #: Which identifier of an instance a reference is, by the class and where it is in the instance.
+        self._numbers: Dict[Tuple[int, int], int] = {}
 
     def thread_names(self) -> Dict[int, str]:
         """Returns the names of the threads by their serial numbers. Walks over all objects up to three times, once for
@@ -162,6 +167,19 @@ class HeapObjects:
                     yield class_id, place, each
                     place += self.dump.value_sizes[each.kind]
             class_id = self.dump.classes[class_id].superclass
+
+    def place_of(self, value: FieldValue) -> Place:
+        """Returns the place of a reference as labels have it: among the identifiers of its object, of which the first
+        is that of the class."""
+        dump, holder = self.dump, value.holder or value.instance
+        begin = holder + 9 + 2 * dump.id_size
+        if dump.bytes[holder] == hprof.OBJECT_ARRAY:
+            return in_object(dump.id(holder + 1), 1 + (value.value - begin) // dump.id_size)
+        key = self.class_of(holder), value.value - holder
+        if key not in self._numbers:
+            fields = self.fields_of(key[0])
+            self._numbers[key] = sum(each.kind == hprof.OBJECT and at <= key[1] for _, at, each in fields)
+        return in_object(dump.id(holder + 1), self._numbers[key])
 
     def values_of(
         self, fields: Iterable[str], targets: Optional[Set[int]] = None, kind: int = hprof.OBJECT

@@ -62,6 +62,12 @@ WITH_ROOM = frozenset(
         "util/concurrent/atomic/Striped64$Cell",
     )
 )
+#: The classes of OpenJDK of which any heap has objects that are longer if fields begin after those of superclasses.
+WITH_FIELDS_APART = frozenset(
+    ("java/lang/reflect/Constructor", "java/security/Permissions", "sun/util/locale/LocaleObjectCache$CacheEntry")
+)
+#: Of the objects of these classes some are always in a sample.
+LOOKED_FOR = WITH_ADDED_FIELDS | WITH_ROOM | WITH_FIELDS_APART
 #: The parts of the file, or ranges of addresses, that are read at most for the sake of special objects; how many class
 #: objects are such; how many objects of a class with added fields are enough; and how many bytes at both ends of the
 #: heap are searched for objects of such a class.
@@ -184,11 +190,10 @@ def _between(classes: List[int], first: List[HeapObject], last: List[HeapObject]
 
 def _special(dump: HeapDump, stretches: Iterable[List[HeapObject]]) -> List[int]:
     """Returns the identifiers of objects of which there are few, which a sample may lack: of class loaders, objects of
-    the other classes to which the virtual machine adds fields if `stretches` do not have enough, some class objects,
-    and threads."""
+    the other classes that are looked for if `stretches` do not have enough, some class objects, and threads."""
     classes, met = sorted(dump.classes), Counter(each[1] for stretch in stretches for each in stretch)
     found = [*{each.loader for each in dump.classes.values() if each.loader}]
-    few = [each for each, name in dump.names.items() if name in WITH_ADDED_FIELDS | WITH_ROOM and met[each] < ENOUGH]
+    few = [each for each, name in dump.names.items() if name in LOOKED_FOR and met[each] < ENOUGH]
     found += some_instances(dump, few, SEARCHED)
     found += [classes[number * len(classes) // SOME_CLASSES] for number in range(SOME_CLASSES) if classes]
     return found + [dump.id(root.place) for root in dump.roots if root.kind == hprof.THREAD_OBJECT]
@@ -221,13 +226,16 @@ def _around(dump: HeapDump, span: Span, wanted: List[int]) -> List[List[HeapObje
 
 def _ranges(dump: HeapDump, stretches: Iterable[List[HeapObject]]) -> Set[int]:
     """Returns ranges of addresses, each as an address without its last bits, that have as many objects as a sample is
-    to have: some of the objects in `stretches`, from the lowest to the highest, and of those that are special."""
+    to have: of those of the objects in `stretches` all, or some from the lowest to the highest; and those of special
+    objects."""
     met = sorted(each for stretch in stretches for each in stretch)
     if not met:
         return set()
     values = sum(length * dump.value_sizes[kind] if kind else length for _, _, kind, length in met)
     count = max(1, SAMPLED * (values // len(met) + HEADER) >> RANGE_BITS)
-    even = {met[number * len(met) // count][0] >> RANGE_BITS for number in range(count)}
+    even = {each[0] >> RANGE_BITS for each in met}
+    if len(even) > count:
+        even = {met[number * len(met) // count][0] >> RANGE_BITS for number in range(count)}
     special = dict.fromkeys(each >> RANGE_BITS for each in _special(dump, []))
     return even | set(list(special)[:MOST_SPECIAL])
 

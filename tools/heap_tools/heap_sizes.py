@@ -6,9 +6,9 @@ from typing import Callable, Dict, List, NamedTuple, Optional
 from heap_tools.class_names import CLASSES, package
 from heap_tools.dump_runs import DumpRuns
 from heap_tools.heap_layout import STACK, Layout, UnknownLayout
-from heap_tools.object_sizes import ObjectSizes
+from heap_tools.object_sizes import ObjectSizes, Unsure
 from heap_tools.object_totals import Total, totals_of
-from heap_tools.reports import Amount, Report
+from heap_tools.reports import Amount, Report, Row
 from heap_tools.unloaded_classes import unloaded_classes
 
 #: The row of a histogram for the class objects, which a report has in two rows.
@@ -36,12 +36,14 @@ class ClassSize(NamedTuple):
 
 class HeapSizes(NamedTuple):
     """The classes of a dump, and the layout by which their sizes were found, or why it is not known. Then bytes are
-    those of the dump. `omitted`: class objects that the heap has and the dump lacks."""
+    those of the dump. `omitted`: class objects that the heap has and the dump lacks. `unsure`: of how much it is not
+    sure."""
 
     classes: List[ClassSize]
     omitted: Amount
     layout: Optional[Layout]
     why_unknown: str
+    unsure: Unsure = Unsure(0, 0)
 
     @property
     def in_dump(self) -> ClassSize:
@@ -71,7 +73,10 @@ def sizes_in(runs: DumpRuns) -> HeapSizes:
     reachable = in_rows_of_histogram(_reachable(runs.report, totals, sizes))
     found = [ClassSize(name, it, it.minus(reachable.get(name, Amount()))) for name, it in taken.items() if it.objects]
     omitted = unloaded_classes(runs.dump, sizes.is_ascending, runs.report.unresolved) if sizes else Amount()
-    return HeapSizes(_sorted(found), omitted, sizes.layout if sizes else None, why)
+    if sizes is None:
+        return HeapSizes(_sorted(found), omitted, None, why)
+    unsure = sizes.rows.unsure(Row(name, amount) for name, amount in taken.items())
+    return HeapSizes(_sorted(found), omitted, sizes.layout, "", unsure)
 
 
 def in_rows_of_histogram(rows: Dict[str, Amount]) -> Dict[str, Amount]:

@@ -12,6 +12,7 @@ from heap_tools.candidates import Candidate
 from heap_tools.container_sizes import ContainerSizes
 from heap_tools.heap_objects import FieldValue
 from heap_tools.line_order import MOST
+from heap_tools.object_shares import amounts_of
 from heap_tools.object_parts import MOST_OBJECTS, FieldUses
 from heap_tools.probe import GrowthProbe, Probe, Retained
 from heap_tools.which_object import PartsOfField
@@ -33,7 +34,7 @@ class Elements:
 
     def amount(self, values: List[FieldValue]) -> int:
         """Returns how much they hold by these values."""
-        return self._unit.of(self._parts.measure.amount(values))
+        return self._unit.of(amounts_of(self._parts.probe, [values])[0])
 
     def size(self, values: List[FieldValue]) -> int:
         """Returns how many elements the containers have together that these values are."""

@@ -2,28 +2,36 @@
 
 from typing import List, NamedTuple, Optional, Sequence
 
-from heap_tools.comparison import Comparison
+from heap_tools.comparison import Comparison, NoGrowth
 from heap_tools.documents import JsonObject, amount_entry, candidates_entry, dump_entry, share_entry
+from heap_tools.dump_runs import DumpRuns
 from heap_tools.humanize import counted
 from heap_tools.leak_lines import Answer, Line, LineObjects
 from heap_tools.leak_notes import Notes
+from heap_tools.leak_options import Options
 from heap_tools.one_dump import HeapAnswer, contents_of
 from heap_tools.one_dump_notes import HeapNotes
 from heap_tools.probe import Probe
-from heap_tools.reports import Row
+from heap_tools.reports import Amount, Row
 from heap_tools.which_object import HoldingObject
 
 
 class Cost(NamedTuple):
-    """What an answer cost: the fields that were tried, the runs of heapmark, and the seconds."""
+    """What an answer cost: the fields that were tried, the runs of heapmark and of retained, and the seconds."""
 
     fields: int
-    runs: int
+    of_heapmark: int
+    of_retained: int
     seconds: float
 
+    @property
+    def runs(self) -> int:
+        """The runs of both programs."""
+        return self.of_heapmark + self.of_retained
+
     def __str__(self) -> str:
-        fields, runs = counted(self.fields, "field"), counted(self.runs, "run")
-        return f"{fields}, {runs} of heapmark, {self.seconds:.1f} s"
+        fields, runs = counted(self.fields, "field"), counted(self.of_heapmark, "run")
+        return f"{fields}, {runs} of heapmark and {self.of_retained} of retained, {self.seconds:.1f} s"
 
 
 def fields_of_one(answer: HeapAnswer, notes: HeapNotes, cost: Cost) -> JsonObject:
@@ -64,6 +72,31 @@ def fields_of_growth(comparison: Comparison, answer: Answer, notes: Notes, cost:
         ],
         "ran_out": [],
         "direct_bytes": [each.bytes for each in comparison.direct],
+        "heap_capacity_bytes": None,
+        **cost_entry(cost),
+    }
+
+
+def fields_of_nothing(
+    dumps: Sequence[DumpRuns], families: Optional[List[str]], options: Options, none: Optional[NoGrowth], cost: Cost
+) -> JsonObject:
+    """Returns the fields of a document without lines: of dumps between which nothing grew (`none`), or of one that has
+    no reachable object of the class."""
+    return {
+        "files": [dump_entry(each) for each in dumps],
+        "unit": options.unit.value,
+        "classes": families,
+        "at_least_percent": options.at_least,
+        "follows_weak": options.weak,
+        "whole": amount_entry(none.whole if none else Amount()),
+        "growth": amount_entry(none.growth) if none else None,
+        "lines": [],
+        "hidden": 0,
+        "objects": None,
+        "contents": [],
+        "more_threads": [],
+        "ran_out": [],
+        "direct_bytes": [],
         "heap_capacity_bytes": None,
         **cost_entry(cost),
     }

@@ -3,20 +3,19 @@
 import dataclasses
 from typing import Callable, List, NamedTuple, Optional, Sequence, Tuple
 
-from heap_tools.candidates import FIELD, Candidate, joint_name
-from heap_tools.container_sizes import ContainerSizes
+from heap_tools.candidates import FEW, FIELD, STATIC, Candidate, joint_name
+from heap_tools.dump_side import Several, key_of
 from heap_tools.fields_of_object import find_below, part_of_one
 from heap_tools.heap_objects import HeapObjects
 from heap_tools.lasting_elements import LastingElements
 from heap_tools.line_features import Features
 from heap_tools.line_order import CHAIN, HARDLY_ANY, MOST, NEARLY, LineOrder, Scoring
 from heap_tools.object_parts import FieldUses
-from heap_tools.probe import EarlierProbe, GrowthProbe, Probe, Retained
-from heap_tools.reference_paths import ReferencePaths
+from heap_tools.joint_search import joint_answers
+from heap_tools.probe import GrowthProbe, Probe, Retained
+from heap_tools.reference_paths import ReferencePaths, is_root
 from heap_tools.reports import Amount
 from heap_tools.search import Search
-from heap_tools.search_progress import SearchProgress
-from heap_tools.search_together import SearchTogether
 from heap_tools.which_object import (
     HoldingObject,
     object_leading_to,
@@ -58,7 +57,7 @@ class Answer(NamedTuple):
     hidden: int
     search: Search
     probe: GrowthProbe
-    between: Sequence[EarlierProbe] = ()
+    between: Sequence[Probe] = ()
 
 
 class Lines:
@@ -69,7 +68,7 @@ class Lines:
         self,
         search: Search,
         probe: Probe,
-        between: Sequence[EarlierProbe] = (),
+        between: Sequence[Probe] = (),
         uses: Optional[FieldUses] = None,
     ) -> None:
         self.search, self.probe, self.between, self.found = search, probe, between, search.found
@@ -147,12 +146,7 @@ class Lines:
         return objects_that_hold(self.probe, held, self.uses)
 
     def _order(self) -> LineOrder:
-        return LineOrder(self.features, self._holds, self.probe.unit.of(self.probe.growth), self.scoring, self._ahead)
-
-    def _ahead(self, pairs: Sequence[Tuple[int, int]]) -> None:
-        """Asks at once of all pairs of lines of which it will be asked whether the first holds the second."""
-        both = [(self.every[upper], self.every[lower]) for upper, lower in pairs]
-        self.probe.ask([[*it.candidates, *of.candidates] for it, of in both if self.probe.is_open(it, of, NEARLY)])
+        return LineOrder(self.features, self._holds, self.probe.unit.of(self.probe.growth), self.scoring)
 
     def _holds(self, upper: int, lower: int) -> bool:
         """Tests whether a line holds nearly all that another one does: a field of a general class, such as a list of a
@@ -200,7 +194,8 @@ class Lines:
         now, was = (self.probe.unit.of(each.amount) for each in (held, self.probe.before(held.candidates)))
         if len(held.candidates) > 1 or was > HARDLY_ANY * now:
             return []
-        kin = kin_of(held.candidates[0], self.probe)
+        only = held.candidates[0]
+        kin = self.probe.candidates.kin().get((only.kind, only.owner), [])
         had = self.probe.unit.of(self.probe.before(kin).amount) if len(kin) > 1 else 0
         return kin if now - had < MOST * (now - was) else []
 
@@ -215,49 +210,59 @@ def uses_of(found: Sequence[Retained], probe: Probe) -> FieldUses:
     return FieldUses(HeapObjects(probe.runs.dump), [held.candidates[0] for held in found if is_field(held)])
 
 
-def kin_of(candidate: Candidate, probe: Probe) -> List[Candidate]:
-    """Returns the fields of the class that declares `candidate`, static ones if it is static."""
-    owner = candidate.name.rpartition(".")[0]
-    every = [*probe.candidates.statics(), *probe.candidates.fields(probe.base)]
-    return [each for each in every if each.kind == candidate.kind and each.name.rpartition(".")[0] == owner]
-
-
 def answer_of(
     probe: GrowthProbe,
     at_least: int,
     top: int,
-    progress: SearchProgress,
-    probes_between: Callable[[], List[EarlierProbe]] = lambda: [],
+    probes_between: Callable[[Sequence[Several]], List[Probe]] = lambda _: [],
 ) -> Answer:
-    """Searches the dumps for what holds `at_least` percent of the growth, and returns the `top` first lines."""
-    search, uses = searched(probe, at_least, progress)
-    between = probes_between() if search.found else []
-    return Answer(*lines_found(search, probe, top, between, uses), search, probe, between)
-
-
-def searched(probe: Probe, at_least: int, progress: SearchProgress) -> Tuple[Search, FieldUses]:
-    """Searches for what holds `at_least` percent of what the probe asks for, alone or together. Returns the search, and
-    what knows the values of the fields that hold it alone: these are read while it goes on."""
-    search, fields = Search(probe, at_least, progress), probe.candidates.fields(probe.base)
-    together = SearchTogether(search, ContainerSizes(HeapObjects(probe.runs.dump)).largest_first)
-    probe.expect([together.statics])
-    search.find_roots()
-    together.expect_statics()
-    search.look_in(fields)
+    """Searches the dumps for what holds `at_least` percent of the growth, and returns the `top` first lines.
+    `probes_between` returns what knows of some groups what they held between the first dump and the last."""
+    search = searched(probe, at_least)
     uses = uses_of(search.found, probe)
-    if any(is_field(held) and held.instances > 1 for held in search.found):
-        uses.begin()
-    together.find_fields(fields)
-    together.find_statics()
-    together.find_roots(fields)
-    return search, uses
+    between = probes_between([held.candidates for held in search.found]) if search.found else []
+    lines, objects, hidden = lines_found(search, probe, top, between, uses)
+    return Answer(lines, objects, hidden, search, probe, between)
+
+
+def searched(probe: Probe, at_least: float) -> Search:
+    """Searches for what holds `at_least` percent of what the probe asks for, alone or together. Of one dump it is not
+    asked what static fields hold only together, unless no root is found: in any dump that is much."""
+    search, few = Search(probe, at_least), probe.candidates.few()
+    search.find()
+    threads = {place for held in search.found for each in held.candidates if each.is_thread for place in each.places}
+    left = [each for each in few if not (each.is_thread and threads.intersection(each.places))]
+    has_statics = isinstance(probe, GrowthProbe)
+    find_joint(search, [each for each in left if each.kind != STATIC or has_statics], few)
+    if not any(map(is_root, search.found)):
+        find_joint(search, roots_of(left), roots_of(few))
+    return search
+
+
+def find_joint(search: Search, candidates: Several, known: Several) -> None:
+    """Adds those of `candidates` that hold enough only together. It was asked what all of `known` hold."""
+    explained = [held.candidates for held in search.found if explains(held)]
+    for group in joint_answers(search.probe, search.at_least, explained, candidates, known):
+        if key_of(group) not in {held.key for held in search.found}:
+            search.found.append(search.probe.retained(group)._replace(candidates=group))
+
+
+def roots_of(candidates: Several) -> Several:
+    """Returns those of some candidates that are no fields of instances."""
+    return [each for each in candidates if each.kind != FIELD]
+
+
+def explains(held: Retained) -> bool:
+    """Tests whether what is found leaves nothing to ask of what it holds: it has few instances. What threads lead to
+    may be held together below."""
+    return held.instances <= FEW and not any(each.is_thread for each in held.candidates)
 
 
 def lines_found(
     search: Search,
     probe: Probe,
     top: int,
-    between: Sequence[EarlierProbe] = (),
+    between: Sequence[Probe] = (),
     uses: Optional[FieldUses] = None,
 ) -> Tuple[List[Line], Optional[LineObjects], int]:
     """Returns the `top` first lines of what a search has found, the objects that gained most of one, and how many more

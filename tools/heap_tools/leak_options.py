@@ -7,8 +7,8 @@ from heap_tools.reports import Unit
 
 class Options(NamedTuple):
     """Of which class it is asked or of all, in which unit, from which percentage on lines are shown, how many of them,
-    whether weak references are followed, whether texts of the dump are shown, and whether bytes are those of the dump.
-    """
+    whether weak references are followed, whether texts of the dump are shown, whether bytes are those of the dump, and
+    of how many bytes a growth is not asked for, or None if of each."""
 
     of_class: Optional[str] = None
     unit: Unit = Unit.BYTES
@@ -17,3 +17,4 @@ class Options(NamedTuple):
     weak: bool = False
     shows_values: bool = True
     dump_bytes: bool = False
+    more_than: Optional[int] = None

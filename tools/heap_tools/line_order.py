@@ -14,7 +14,7 @@ scores.
 import enum
 from typing import Callable, Iterable, List, Optional, Sequence, Tuple
 
-from heap_tools.candidates import FIELD, STATIC, THREAD, THREADS, Candidate
+from heap_tools.candidates import FEW, FIELD, STATIC, THREAD, THREADS, Candidate
 from heap_tools.line_features import Features
 from heap_tools.probe import Retained
 
@@ -24,15 +24,13 @@ MOST = 0.5
 NEARLY = 0.9
 #: The part of the growth that the best score must be: with less, too little of it is in what was there before.
 LASTS = 0.25
-#: Up to how many instances with a value can be few that hold much each, such as pools. Most answers have one.
-FEW = 64
 #: The part of all objects that were gained which a class must have to show that they did not move.
 LARGE_CLASS = 0.1
 #: The part of what a line holds that it may have held before, if it is asked whether that was beside it.
 HARDLY_ANY = 0.1
 #: The part of its instances that a field must hold to be a chain.
 CHAIN = 0.5
-#: Of how many lines below the answer it is asked at most whether one object gained most: each takes some 10 runs.
+#: Of how many lines below the answer it is asked at most whether one object gained most: each takes a run or two.
 MOST_ASKED = 3
 #: What `says` is of a single line of the program, and of several that hold something only together.
 OF_PROGRAM, TOGETHER = 3, 1
@@ -83,7 +81,7 @@ Holds = Callable[[int, int], bool]
 
 class LineOrder:
     """The order of `lines`, of which some are `Features.is_line`: numbers of these, by what `holds` what. `growth` is
-    what shares are of. `ahead` gets pairs of which that will be asked, to ask it of all at once."""
+    what shares are of."""
 
     def __init__(
         self,
@@ -91,9 +89,8 @@ class LineOrder:
         holds: Holds,
         growth: int,
         scoring: Scoring = Scoring.GAIN,
-        ahead: Callable[[List[Tuple[int, int]]], None] = lambda pairs: None,
     ) -> None:
-        self.lines, self.holds, self.growth, self.scoring, self.ahead = lines, holds, growth, scoring, ahead
+        self.lines, self.holds, self.growth, self.scoring = lines, holds, growth, scoring
         self.numbers = sorted((it for it, line in enumerate(lines) if line.is_line), key=lambda it: lines[it].heap)
         self.some_are_steady = any(lines[number].grew_at_each_step for number in self.numbers)
         self.scores = {number: self.score(number) for number in self.numbers}
@@ -121,7 +118,7 @@ class LineOrder:
         if not self.numbers:
             return None
         best = self.best()
-        return self.deepest_with(best, self.numbers, self._with_objects(best)) if self._lasts(best) else self.topmost()
+        return self.deepest_with(best, self.numbers) if self._lasts(best) else self.topmost()
 
     def score(self, number: int) -> float:
         """Returns the score of a line."""
@@ -175,11 +172,10 @@ class LineOrder:
         top = [it for it in steady if not any(self._is_below(it, upper) for upper in steady)]
         return max(top or steady, key=lambda it: (lines[it].is_thread, not lines[it].is_collection, lines[it].gain))
 
-    def deepest_with(self, best: int, numbers: Sequence[int], others: Sequence[int] = ()) -> int:
+    def deepest_with(self, best: int, numbers: Sequence[int]) -> int:
         """Returns the deepest line of `numbers` above or below `best` that has most of its score, of those whose names
-        say most. It will be asked whether `others` are below it, too."""
+        say most."""
         near = [it for it in numbers if self.scores[it] >= MOST * self.scores[best]]
-        self.ahead([self._by_size(it, best) for it in sorted({*near, *others} - {best})])
         path = [it for it in near if self._is_on_path(it, best)]
         for least in NEARLY, MOST:
             near = [it for it in path if self.scores[it] >= least * self.scores[best] and says(self.lines[it])]

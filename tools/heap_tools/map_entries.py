@@ -37,22 +37,22 @@ class MapEntries:
         if last:
             return []
         of_values, id_at = self._references(entries, VALUES), self.objects.dump.id
-        are_shared = 2 * len({id_at(place) for place in of_values}) < len(entries)
-        places = self._references(entries, KEYS) if are_shared else of_values
-        known = self.objects.places_of(map(id_at, places))
-        return [FieldValue(known[key], at) for at, key in zip(places, map(id_at, places)) if key in known]
+        are_shared = 2 * len({id_at(place) for _, place in of_values}) < len(entries)
+        found = [(*each, id_at(each[1])) for each in (self._references(entries, KEYS) if are_shared else of_values)]
+        known = self.objects.places_of(key for _, _, key in found)
+        return [FieldValue(known[key], place, entry) for entry, place, key in found if key in known]
 
     def _next(self, at: int) -> int:
         """Returns the identifier of the entry after the one at `at` in its chain, 0 if there is none."""
         of_nodes = (self.objects.reference(at, owner, "next") for owner, _ in VALUES)
         return next(filter(None, [*of_nodes, self.objects.reference(at, TREE, "first")]), 0)
 
-    def _references(self, entries: Sequence[int], fields: Sequence[Tuple[str, str]]) -> List[int]:
-        """Returns where the references of entries in these fields are, by class and name, which are not null."""
-        return [place for place in self._places(entries, fields) if self.objects.dump.id(place)]
+    def _references(self, entries: Sequence[int], fields: Sequence[Tuple[str, str]]) -> List[Tuple[int, int]]:
+        """Returns entries and where their references in these fields are, by class and name, which are not null."""
+        return [each for each in self._places(entries, fields) if self.objects.dump.id(each[1])]
 
-    def _places(self, entries: Sequence[int], fields: Sequence[Tuple[str, str]]) -> Iterator[int]:
-        """Yields where entries have these fields."""
+    def _places(self, entries: Sequence[int], fields: Sequence[Tuple[str, str]]) -> Iterator[Tuple[int, int]]:
+        """Yields entries and where they have these fields."""
         for at in entries:
             every = (self.objects.place_of_value(at, owner, name, hprof.OBJECT) for owner, name in fields)
-            yield from (place for place in every if place is not None)
+            yield from ((at, place) for place in every if place is not None)

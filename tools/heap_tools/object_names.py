@@ -59,7 +59,8 @@ class ObjectNames:
         wanted = {self.dump.id(at + 1): at for at in places}
         keys: List[Tuple[int, int]] = []
         entries = [(at, at) for at in places if self.thread_locals.is_entry(at)]
-        for node, place in self.objects.values_of([*(value for value, _, _ in MAP_NODES), VALUE_OF_ENTRY], set(wanted)):
+        fields = [*(value for value, _, _ in MAP_NODES), VALUE_OF_ENTRY]
+        for node, place, _ in self.objects.values_of(fields, set(wanted)):
             at = wanted[self.dump.id(place)]
             if self.thread_locals.is_entry(node):
                 entries.append((at, node))

@@ -4,7 +4,7 @@ from typing import Dict, Iterable, List, NamedTuple, Optional, Sequence, Set
 
 from heap_tools import hprof_format as hprof
 from heap_tools.candidates import FIELD, Candidate
-from heap_tools.field_values import FieldValues, ValuesWalk, values_by_field
+from heap_tools.field_values import FieldValues, values_by_field
 from heap_tools.heap_objects import FieldValue, HeapObjects
 from heap_tools.map_entries import MapEntries
 from heap_tools.outer_names import OTHERS
@@ -25,23 +25,15 @@ class Parts(NamedTuple):
 
 class FieldUses:
     """Knows which instances of a dump have a value in a field, of each field some more than may be looked into at most.
-    The values in `fields` are read in one walk over all objects, when one of them is asked for, or which `begin` has
-    begun; those in another field take a walk of their own."""
+    The values in `fields` are read in one walk over all objects, when one of them is asked for; those in another field
+    take a walk of their own."""
 
     def __init__(self, objects: HeapObjects, fields: Iterable[Candidate] = ()) -> None:
         self.objects = objects
         self._together = {each.name for each in fields}
         self._known: Dict[str, FieldValues] = {}
-        self._walk: Optional[ValuesWalk] = None
-
-    def begin(self) -> None:
-        """Begins to read the values in `fields`, in processes beside this one."""
-        self._walk = ValuesWalk(self.objects, self._together, MOST_OBJECTS + 1, OTHERS)
 
     def _values_of(self, field: Candidate) -> FieldValues:
-        if self._walk and field.name in self._together:
-            self._known.update(self._walk.values())
-            self._walk = None
         if field.name not in self._known:
             names = {field.name} | (self._together - self._known.keys())
             self._known.update(values_by_field(self.objects, names, MOST_OBJECTS + 1, OTHERS))
@@ -77,7 +69,7 @@ def elements(objects: HeapObjects, lists: Set[int], most: Optional[int] = None, 
             return Parts([], are_elements=True)
     places = objects.places_of(set(targets))
     found = [(places[each], number) for number, each in enumerate(targets) if each in places]
-    values = [FieldValue(at, objects.element_at(largest, number)) for at, number in found]
+    values = [FieldValue(at, objects.element_at(largest, number), largest) for at, number in found]
     entries = MapEntries(objects, [each.instance for each in values])
     return Parts(entries.elements() or values if entries.are_entries else values, are_elements=True)
 

@@ -2,16 +2,17 @@
 
 from collections import Counter, defaultdict
 from typing import Counter as Counts
-from typing import Dict, List, NamedTuple, Set, Tuple
+from typing import Dict, Iterable, List, Mapping, NamedTuple, Set, Tuple
 
 from heap_tools import hprof_format as hprof
 from heap_tools.added_fields import added_fields, class_object_size
 from heap_tools.class_names import CLASSES, PRIMITIVES
+from heap_tools.field_placing import Fields, fields_by_class
 from heap_tools.heap_dump import HeapDump
-from heap_tools.heap_layout import STACK, Fields, Layout, fields_by_class, layout_of
+from heap_tools.heap_layout import STACK, Layout, layout_of
 from heap_tools.heap_sample import CLASS_OBJECT, Sample, sample_of
 from heap_tools.reports import Amount, Report, Row
-
+from heap_tools.size_doubts import doubts
 
 #: The codes of the elements' types by the names of arrays of primitive values.
 ARRAY_KINDS = {f"{PRIMITIVES[letter]}[]": kind for kind, letter in hprof.LETTERS.items()}
@@ -33,13 +34,22 @@ class Linear(NamedTuple):
         return Amount(amount.objects, round(taken / alignment) * alignment)
 
 
+class Unsure(NamedTuple):
+    """Of how many classes it is not sure what their objects take, and by how many bytes these may be off together."""
+
+    classes: int
+    bytes: int
+
+
 class RowSizes(NamedTuple):
     """What the objects of each row of a report take in a heap with a layout, and what those take of which a report has
-    no rows: the unreachable ones."""
+    no rows: the unreachable ones. `doubts`: by how many bytes an object of a row may be off, without the rows of which
+    it is sure."""
 
     layout: Layout
     rows: Dict[str, Linear]
     others: Linear
+    doubts: Mapping[str, int] = {}
 
     def of(self, name: str, amount: Amount) -> Amount:
         """Returns what the objects of a row take: as much as they do in the report, if the dump has no such class."""
@@ -57,7 +67,12 @@ class RowSizes(NamedTuple):
         a row that is the same in two dumps takes as much in both, though their samples differ."""
         if self.layout != other.layout:
             return self
-        return RowSizes(self.layout, {**self.rows, **other.rows}, other.others)
+        return other._replace(rows={**self.rows, **other.rows}, doubts={**self.doubts, **other.doubts})
+
+    def unsure(self, rows: Iterable[Row]) -> Unsure:
+        """Returns of how many of these rows it is not sure what they take."""
+        off = [amount.objects * self.doubts[name] for name, amount in rows if name in self.doubts]
+        return Unsure(len(off), sum(off))
 
 
 class ObjectSizes:
@@ -74,7 +89,10 @@ class ObjectSizes:
         of_class = next((each for each, name in dump.names.items() if name == "java/lang/Class"), 0)
         self.class_object = class_object_size(sample, statics, self.layout, self._plain(of_class))
         rows = {**self._rows_of_instances(sample), **self._rows_of_arrays(lengths_in(sample))}
-        self.rows = RowSizes(self.layout, {**rows, CLASSES: self._row_of_classes()}, self._mean_of(sample))
+        rows[CLASSES] = self._row_of_classes()
+        unsure = doubts(sample, self.fields, self.layout, self.stacks, self.instance)
+        of_rows = {dump.names[class_id]: off for class_id, off in sorted(unsure.items(), key=lambda it: it[1])}
+        self.rows = RowSizes(self.layout, rows, self._mean_of(sample), of_rows)
 
     def _plain(self, class_id: int) -> int:
         return self.layout.instance(self.fields.get(class_id, Fields())) + self.added.get(class_id, 0)

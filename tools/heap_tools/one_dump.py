@@ -5,20 +5,16 @@ from typing import List, NamedTuple, Optional
 
 from heap_tools.class_objects import require_objects
 from heap_tools.comparison import families_asked
-from heap_tools.container_sizes import ContainerSizes
 from heap_tools.dump_runs import DumpRuns
 from heap_tools.heap_dump import HeapDump
-from heap_tools.heap_objects import HeapObjects
-from heap_tools.leak_lines import Line, LineObjects, lines_found
+from heap_tools.leak_lines import Line, LineObjects, lines_found, searched
 from heap_tools.leak_notes import shown_objects
 from heap_tools.leak_options import Options
 from heap_tools.probe import Probe, Retained
 from heap_tools.reports import Row, Unit
-from heap_tools.running_calls import PASSING, DumpSide, without_running_calls
 from heap_tools.search import Search
-from heap_tools.search_progress import SearchProgress
-from heap_tools.search_together import SearchTogether
 from heap_tools.weak_growth import Followed, followed_of
+from heap_tools.what_counts import PASSING, WhatCounts, without_running_calls
 
 #: The share from which on a line is shown: something else that holds a fifth may be a second suspect.
 AT_LEAST = 20
@@ -52,29 +48,22 @@ class HeapAnswer:
     contents: List[Row]
 
 
-def question_of(runs: DumpRuns, options: Options, progress: SearchProgress) -> HeapQuestion:
+def question_of(runs: DumpRuns, options: Options) -> HeapQuestion:
     """Returns what asks a dump. Calls that are running do not count, nor do weak references, unless the user follows
     them or they hold most. Shares are of all that is reachable."""
-    families = families_asked(options, runs)
-    followed, (side,) = followed_of([runs], families, options.unit, options.weak)
+    families, unit, counts = families_asked(options, runs), options.unit, WhatCounts([runs])
+    followed, (base,) = followed_of(counts, families, unit, options.weak)
     if families:
-        require_objects(families[0], runs, side.base)
-    whole, percent = options.unit.of(side.base.total(families)), max(PASSING, options.at_least - 1)
-    (side,), _ = without_running_calls([side], families, options.unit, whole, percent)
-    of = runs.report.total(families)
-    probe = Probe(side.runs, side.candidates, families, options.unit, progress.show, side.base, of)
-    return HeapQuestion(runs, probe, followed)
+        require_objects(families[0], runs, base)
+    whole, percent = unit.of(base.total(families)), max(PASSING, options.at_least - 1)
+    (side,) = counts.sides(without_running_calls(counts, followed.follows, [base], families, unit, whole, percent))
+    return HeapQuestion(runs, Probe(side, families, unit, runs.report.total(families)), followed)
 
 
-def answer_of_one(question: HeapQuestion, options: Options, progress: SearchProgress) -> HeapAnswer:
-    """Searches a dump for what holds much of what is asked for. It is not asked what static fields hold only together:
-    in any dump that is nearly everything."""
+def answer_of_one(question: HeapQuestion, options: Options) -> HeapAnswer:
+    """Searches a dump for what holds much of what is asked for."""
     probe = question.probe
-    search, fields = Search(probe, options.at_least, progress), probe.candidates.fields(probe.base)
-    search.find(fields)
-    together = SearchTogether(search, ContainerSizes(HeapObjects(probe.runs.dump)).largest_first)
-    together.find_fields(fields)
-    together.find_roots(fields)
+    search = searched(probe, options.at_least)
     lines, objects, hidden = lines_found(search, probe, options.top)
     objects = shown_objects(objects, options.shows_values)
     contents = contents_of(lines[0].held, probe.unit) if lines else []

@@ -4,7 +4,16 @@ from heap_tools import page
 from heap_tools.leak_lines import Line
 from heap_tools.one_dump import HeapAnswer
 from heap_tools.one_dump_notes import HeapNotes
-from heap_tools.page_content import dump_of, fields_of, layout_sentence, object_of, program_of, sentence_of, steps_from
+from heap_tools.page_content import (
+    dump_of,
+    fields_of,
+    layout_sentence,
+    object_of,
+    program_of,
+    sentence_of,
+    share_entries,
+)
+from heap_tools.page_content import steps_from
 from heap_tools.probe import Probe
 from heap_tools.reports import Amount
 
@@ -30,6 +39,7 @@ def page_of_one(answer: HeapAnswer, notes: HeapNotes, making: page.Making, shows
         weak=sentence_of(notes.weak) if notes.weak else None,
         layout=layout_sentence(question.runs),
         capacity=notes.capacity,
+        shares=share_entries(answer.lines),
     )
 
 

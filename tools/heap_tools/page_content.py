@@ -52,7 +52,23 @@ def content_of(
         notes=[sentence_of(text) for text in (*comparison.why, *notes.sentences) if text != comparison.followed.why],
         weak=weak_sentence(comparison),
         layout=layout_sentence(comparison.last),
+        contents=contents_of_growth(answer.lines[0], probe) if answer.lines else [],
+        shares=share_entries(answer.lines),
     )
+
+
+def contents_of_growth(line: Line, probe: GrowthProbe) -> List[page.GrownClass]:
+    """Returns the classes of what a line holds, with what it held of each and what it holds now: those that grew most
+    come first."""
+    was, now, unit = probe.before(line.held.candidates).lost, line.held.lost, probe.unit
+    found = [page.GrownClass(name, [was.get(name, Amount()), now.get(name, Amount())]) for name in {**was, **now}]
+    return sorted(found, key=lambda it: (-unit.of(it.growth), -unit.other.of(it.growth), it.name))
+
+
+def share_entries(lines: Sequence[Line]) -> List[page.ShareEntry]:
+    """Returns the parts of the heap that lines hold. They must be disjoint: so only the first line counts, since others
+    may be above it or below it."""
+    return [page.ShareEntry(fields_of(line.held.candidates), line.held.lost) for line in lines[:1]]
 
 
 def sentence_of(text: str) -> str:

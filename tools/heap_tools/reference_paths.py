@@ -4,7 +4,7 @@ thread."""
 from typing import List, Sequence
 
 from heap_tools.candidates import FIELD, LOCAL, STATIC
-from heap_tools.probe import Probe, Retained, key_of
+from heap_tools.probe import Probe, Retained
 
 
 def is_root(held: Retained) -> bool:
@@ -27,7 +27,7 @@ def depth_of(held: Retained) -> int:
 
 def share_candidates(upper: Retained, lower: Retained) -> bool:
     """Tests whether one of several that hold something together is one of the others, too: then neither is above."""
-    return not key_of(upper).isdisjoint(key_of(lower))
+    return not upper.key.isdisjoint(lower.key)
 
 
 class ReferencePaths:
@@ -51,15 +51,8 @@ class ReferencePaths:
         return [each for each in path if is_root(each)] if is_root(held) else path
 
     def _all_above(self, held: Retained) -> List[Retained]:
-        """Returns what holds all that `held` does, from the top down. It is asked for from there up, and first whether
-        it holds what is next below it: mostly it does, and then all below that, too."""
-        found = [held]
-        for each in reversed(self.found):
-            if each.heap.objects > held.heap.objects and len(found) > 1:
-                self._is_above(each, found[-1])
-            if self._is_above(each, held):
-                found.append(each)
-        return found[:0:-1]
+        """Returns what holds all that `held` does, from the top down."""
+        return [each for each in self.found if self._is_above(each, held)]
 
     def _is_above(self, upper: Retained, lower: Retained) -> bool:
         """Tests whether `upper` holds all that `lower` does, and more."""

@@ -7,7 +7,8 @@ from typing import Dict, List, NamedTuple, Sequence, Tuple
 from heap_tools.class_names import CLASSES
 from heap_tools.dump_runs import read_dump
 from heap_tools.faults import UNREADABLE, Fault
-from heap_tools.heap_bytes import layout_words, unknown_words
+from heap_tools.gzip_dump import forget
+from heap_tools.heap_bytes import doubt_words, unknown_words
 from heap_tools.heap_layout import UnknownLayout
 from heap_tools.heap_sizes import CLASS_OBJECTS
 from heap_tools.object_totals import shapes_of
@@ -22,9 +23,9 @@ JOINED = {CLASSES: CLASS_OBJECTS, "[Ljdk/internal/vm/FillerElement;": "int[]"}
 
 
 def in_common_bytes(snapshots: Sequence[Snapshot], dump_bytes: bool) -> Tuple[List[Snapshot], str]:
-    """Returns files whose bytes can be compared, and what there is to say about them. Dumps are in bytes of the heap,
-    but not with a saved report beside them, not if the layout of one is not known, and not if `dump_bytes` is set.
-    Raises `Fault` if histograms, whose bytes are the heap's, are among others that are not."""
+    """Returns files whose bytes can be compared, and what there is to say about them. Dumps
+    are in bytes of the heap, but not beside a saved report, not if the layout of one is not known, and not if
+    `dump_bytes` is set. Raises `Fault` if histograms, whose bytes are the heap's, are among others that are not."""
     found, words = [*snapshots], ""
     if not dump_bytes and all(each.kind != "report" for each in snapshots):
         found, words = _in_heap(snapshots)
@@ -59,12 +60,14 @@ def _in_heap(snapshots: Sequence[Snapshot]) -> Tuple[List[Snapshot], str]:
             return [*snapshots], unknown_words(each.path, each.report, str(unknown))
     last = found[dumps[-1].path].sizes if dumps else None
     counted = [_counted(each, found[each.path], last) if last and each in dumps else each for each in snapshots]
-    return counted, layout_words(last)
+    reports = [each.report for each in counted if each.kind == "dump"]
+    return counted, doubt_words(last, reports[-1] if reports else None)
 
 
 def _measured(snapshot: Snapshot, beside_histogram: bool) -> _Measured:
     """Returns what a dump has in the heap. Beside a histogram, which has the sizes of all objects, all are read."""
     dump = read_dump(snapshot.path, snapshot.state, snapshot.report)
+    forget(snapshot.path)
     sizes = ObjectSizes(dump)
     if not beside_histogram:
         return _Measured(sizes.rows, Amount())

@@ -5,6 +5,7 @@ from typing import List, NamedTuple, Optional, Sequence
 
 from heap_tools.dump_file import FileState, state_of, unchanged
 from heap_tools.faults import UNREADABLE, WRONG_USE, Fault
+from heap_tools.gzip_dump import beginning, forget
 from heap_tools.heapmark import Heapmark
 from heap_tools.hprof_format import HEADER_SIZE, MAGIC, TIME_AT
 from heap_tools.reports import Report, read_text
@@ -37,12 +38,12 @@ class SnapshotReader:
             return self._dump(path, ", and only dumps may come from what is no plain file")
         state = state_of(path)
         try:
-            with open(path, "rb") as file:
-                header = file.read(HEADER_SIZE)
-                if not header.startswith(MAGIC):
+            header = beginning(path, HEADER_SIZE)
+            if not header.startswith(MAGIC):
+                with open(path, "rb") as file:
                     found = read_text(file, path)
-                    why = ", no whole report, and no whole histogram"
-                    return Snapshot(path, *found) if found else self._dump(path, why)
+                why = ", no whole report, and no whole histogram"
+                return Snapshot(path, *found) if found else self._dump(path, why)
         except PermissionError:
             header = b""  # heapmark says so
         time = int.from_bytes(header[TIME_AT:], "big") if len(header) == HEADER_SIZE else None
@@ -50,9 +51,11 @@ class SnapshotReader:
 
     def _plain_dump(self, path: str, time: Optional[int], state: Optional[FileState]) -> Snapshot:
         """Runs heapmark on a dump in a plain file, which had the state `state` before it was opened. Raises `Fault` if
-        it has changed since then."""
+        it has changed since then. What was unpacked is not kept: there may be many files."""
         with unchanged(path, state):
-            return self._dump(path)._replace(time=time, state=state)
+            found = self._dump(path)._replace(time=time, state=state)
+        forget(path)
+        return found
 
     def _dump(self, path: str, why: str = "") -> Snapshot:
         """Runs heapmark on a dump."""

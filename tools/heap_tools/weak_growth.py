@@ -1,71 +1,66 @@
 """What grew and is held by soft, weak, final or phantom references alone: it is not reachable if these are cut."""
 
-from typing import List, NamedTuple, Optional, Sequence, Tuple
+from typing import List, NamedTuple, Optional, Sequence, Tuple, Union
 
 from heap_tools.dump_runs import DumpRuns
 from heap_tools.humanize import counted, more_are, size
-from heap_tools.reports import Amount, Unit
-from heap_tools.running_calls import Calls, DumpSide, asked, prepared, sides_of, with_calls
+from heap_tools.reports import Amount, Report, Unit
 from heap_tools.weak_kinds import WeakKind, WeakReferences
+from heap_tools.what_counts import USUAL, Way, Weak, WhatCounts
 
 #: The share of the growth, in percent, from which on it is said what is held by weak references alone.
 MUCH_WEAKLY_HELD = 5
 
 
 class Followed(NamedTuple):
-    """Which weak references are followed: none, those of one kind, or all. `amount`: what is held more by those alone
-    that are not. `why`: a sentence on it, if not the user wants it."""
+    """Which weak references are followed. `amount`: what is held more by those alone that are not. `why`: a sentence on
+    it, if not the user wants it."""
 
-    is_any: bool
-    kind: Optional[WeakKind] = None
+    follows: Union[Weak, WeakKind] = Weak.NONE
     amount: Amount = Amount()
     why: str = ""
 
-    def sides(self, dumps: Sequence[DumpRuns]) -> List[DumpSide]:
-        """Returns dumps in which only these references lead somewhere."""
-        cuts = [WeakReferences(each.dump).without_others(self.kind) for each in dumps] if self.kind else []
-        return prepared(dumps, self.is_any, cuts)
+    @property
+    def is_any(self) -> bool:
+        """Tests whether some are followed."""
+        return self.follows is not Weak.NONE
 
 
 def followed_of(
-    runs: Sequence[DumpRuns], families: Optional[List[str]], unit: Unit, wants_all: bool = False
-) -> Tuple[Followed, List[DumpSide]]:
-    """Returns which weak references are to be followed in the first and the last of some dumps, or in one, and the
-    dumps with these: all if the user wants that, else those of a kind that alone hold most of what grew then, or of
+    counts: WhatCounts, families: Optional[List[str]], unit: Unit, wants_all: bool = False
+) -> Tuple[Followed, List[Report]]:
+    """Returns which weak references are to be followed in the first and the last of some dumps, or in one, and their
+    reports with these: all if the user wants that, else those of a kind that alone hold most of what grew then, or of
     what is reachable in one dump. Soft ones never are by themselves: what they hold is a cache. If they hold little,
-    and running calls do, the dumps are without these, too."""
+    and running calls do, the reports are without these, too."""
     if wants_all:
-        return Followed(True), Followed(True).sides(runs)
-    every = sides_of(runs, False)
-    quiet = asked([side.without(Calls.ALL) for side in every])
-    if is_little_lost(runs, quiet, families, unit, grown(quiet, families, unit)):
-        return Followed(False), quiet
-    cut = with_calls(every, quiet)
+        return Followed(Weak.ALL), counts.reports(Way(Weak.ALL))
+    dumps, quiet = counts.dumps, counts.reports(USUAL)
+    if is_little_lost(dumps, quiet, families, unit, grown(quiet, families, unit)):
+        return Followed(), quiet
+    cut = counts.reports(Way())
     growth = grown(cut, families, unit)
-    if is_little_lost(runs[-1:], cut[-1:], families, unit, growth):
-        return Followed(False), cut
-    whole = weak_growth(cut, prepared(runs, follows_weak=True), families)
+    if is_little_lost(dumps[-1:], cut[-1:], families, unit, growth):
+        return Followed(), cut
+    whole = weak_growth(cut, counts.reports(Way(Weak.ALL)), families)
     if not is_most(unit.of(whole), growth):
-        return Followed(False, amount=whole), cut
-    best, sides = Followed(False, amount=whole), cut
-    for kind in (kind for kind in WeakKind if kind is not WeakKind.SOFT):
-        followed = Followed(True, kind)
-        of_kind = followed.sides(runs)
-        amount = weak_growth(cut, of_kind, families)
-        is_better = best.kind is None or unit.of(amount) > unit.of(best.amount)
-        if is_better and is_most(unit.of(amount), growth):
-            best, sides = followed._replace(amount=amount), of_kind
-    if best.kind:
-        best = best._replace(amount=Amount(), why=why_followed(best.kind, best.amount, runs))
-    return best, sides
+        return Followed(amount=whole), cut
+    best = Followed(amount=whole)
+    for kind in (WeakKind.FINAL, WeakKind.PHANTOM, WeakKind.WEAK):
+        amount = weak_growth(cut, counts.reports(Way(kind)), families)
+        if is_most(unit.of(amount), growth) and (not best.is_any or unit.of(amount) > unit.of(best.amount)):
+            best = Followed(kind, amount)
+    if isinstance(best.follows, WeakKind):
+        best = Followed(best.follows, why=why_followed(best.follows, best.amount, dumps))
+    return best, counts.reports(Way(best.follows))
 
 
 def is_little_lost(
-    dumps: Sequence[DumpRuns], cut: Sequence[DumpSide], families: Optional[List[str]], unit: Unit, growth: int
+    dumps: Sequence[DumpRuns], cut: Sequence[Report], families: Optional[List[str]], unit: Unit, growth: int
 ) -> bool:
     """Tests whether so little is not reachable in any of the dumps without what is cut that it does not matter: less
     than half of what would be said, of the growth with it or without."""
-    both = [(runs.report.total(families), side.base.total(families)) for runs, side in zip(dumps, cut)]
+    both = [(runs.report.total(families), less.total(families)) for runs, less in zip(dumps, cut)]
     lost = max(unit.of(whole) - unit.of(left) for whole, left in both)
     return 200 * lost < MUCH_WEAKLY_HELD * (growth - lost)
 
@@ -75,18 +70,18 @@ def is_most(part: int, rest: int) -> bool:
     return part + rest > 0 and part > rest and part > 0
 
 
-def weak_growth(cut: Sequence[DumpSide], followed: Sequence[DumpSide], families: Optional[List[str]]) -> Amount:
+def weak_growth(cut: Sequence[Report], followed: Sequence[Report], families: Optional[List[str]]) -> Amount:
     """Returns how much more of these families, or of all if they are None, only weak references hold in the last dump
-    than in the first, or in one dump at all: `cut` are the dumps without such references, `followed` the same with
+    than in the first, or in one dump at all: `cut` are the reports without such references, `followed` those with
     them."""
-    *before, last = (weak.base.total(families).minus(side.base.total(families)) for side, weak in zip(cut, followed))
+    *before, last = (weak.total(families).minus(less.total(families)) for less, weak in zip(cut, followed))
     return last.minus(*before[:1] or [Amount()])
 
 
-def grown(sides: Sequence[DumpSide], families: Optional[List[str]], unit: Unit) -> int:
+def grown(reports: Sequence[Report], families: Optional[List[str]], unit: Unit) -> int:
     """Returns how much more the last dump has of these families than the first, or one dump at all; or of all that is
     reachable if they are None."""
-    *before, last = (unit.of(side.base.total(families)) for side in sides)
+    *before, last = (unit.of(each.total(families)) for each in reports)
     return last - sum(before[:1])
 
 

@@ -3,13 +3,12 @@
 import collections
 import enum
 from collections import defaultdict
-from typing import Counter, Dict, List, Optional
+from typing import Counter, Dict, Optional
 
 from heap_tools.candidates import WEAK
-from heap_tools.changed_copy import Changes
 from heap_tools.class_names import is_own
 from heap_tools.heap_dump import HeapDump
-from heap_tools.heap_objects import FieldValue, HeapObjects
+from heap_tools.heap_objects import HeapObjects
 from heap_tools.thread_counts import method_of
 
 #: How many methods of a thread are said.
@@ -35,33 +34,27 @@ class WeakKind(enum.Enum):
 HANDLERS = {WeakKind.FINAL: "Finalizer", WeakKind.PHANTOM: "Common-Cleaner"}
 
 
+def weak_kind_of(dump: HeapDump, class_id: int) -> Optional[WeakKind]:
+    """Returns the kind of the references of a class, None if it is of no kind."""
+    kinds = {each.value: each for each in WeakKind}
+    while class_id in dump.classes:
+        if dump.names[class_id] in kinds:
+            return kinds[dump.names[class_id]]
+        class_id = dump.classes[class_id].superclass
+    return None
+
+
 class WeakReferences:
     """The references of a dump that have a referent, by their kind. Walks over all objects."""
 
     def __init__(self, dump: HeapDump) -> None:
         self.dump, objects = dump, HeapObjects(dump)
-        self._by_kind: Dict[Optional[WeakKind], List[FieldValue]] = defaultdict(list)
         self._classes: Dict[Optional[WeakKind], Counter[str]] = defaultdict(collections.Counter)
         for each in objects.values_of([WEAK]):
             if dump.id(each.value):
                 class_id = objects.class_of(each.instance)
-                kind = self._kind_of(class_id)
-                self._by_kind[kind].append(each)
+                kind = weak_kind_of(dump, class_id)
                 self._classes[kind][dump.names[class_id]] += 1
-
-    def _kind_of(self, class_id: int) -> Optional[WeakKind]:
-        """Returns the kind of the references of a class, None if it is of no kind."""
-        kinds = {each.value: each for each in WeakKind}
-        while class_id in self.dump.classes:
-            if self.dump.names[class_id] in kinds:
-                return kinds[self.dump.names[class_id]]
-            class_id = self.dump.classes[class_id].superclass
-        return None
-
-    def without_others(self, kind: WeakKind) -> Changes:
-        """Returns the changes by which references of all other kinds lead nowhere."""
-        nowhere = bytes(self.dump.id_size)
-        return {each.value: nowhere for other, values in self._by_kind.items() if other is not kind for each in values}
 
     def usual_class(self, kind: WeakKind) -> str:
         """Returns the class that most references of a kind are of, or the kind's own if there are none."""

@@ -1,13 +1,13 @@
 """Which objects of many hold most of what a field holds, or gained most of what it gained, and what names them."""
 
-from typing import Dict, FrozenSet, Iterator, List, NamedTuple, Optional, Sequence, Set
+from typing import Dict, Iterator, List, NamedTuple, Optional, Sequence, Set
 
 from heap_tools.candidates import FIELD, STATIC, Candidate
 from heap_tools.heap_objects import FieldValue, HeapObjects
 from heap_tools.naming import Name, alone_in
 from heap_tools.object_names import ObjectNames
 from heap_tools.object_parts import MOST_OBJECTS, FieldUses, elements
-from heap_tools.part_search import OF_ONE, Holding, Measure, PartSearch
+from heap_tools.object_shares import OF_ONE, Holding, ObjectShares, shares_of
 from heap_tools.probe import GrowthProbe, Probe, Retained
 from heap_tools.reports import Amount
 
@@ -75,19 +75,19 @@ class PartsOfField:
         most: Optional[int] = None,
     ) -> None:
         self.probe, self.held = probe, held
-        self.objects, self.measure = HeapObjects(probe.runs.dump), Measure(probe)
+        self.objects = HeapObjects(probe.runs.dump)
+        self._shares: Optional[ObjectShares] = None
         field, uses = held.candidates[0], uses or FieldUses(self.objects)
         if as_elements:
             lists = {uses.only_target(field)} if field.kind == FIELD else self._values_of_static(field)
             self.parts = elements(self.objects, lists, most, probe.runs.report.unresolved)
         else:
             self.parts = uses.of(field)
-            self.measure.know(self.parts.values, held.amount)
         self.names = ObjectNames(self.objects.dump)
 
     def _values_of_static(self, field: Candidate) -> Set[int]:
         """Returns the identifiers in a static field of all classes of its name."""
-        return {self.objects.dump.id(place + 1) for place in self.probe.changes(field)}
+        return set(self.probe.candidates.values_of_static(field.key))
 
     @property
     def is_question(self) -> bool:
@@ -100,14 +100,19 @@ class PartsOfField:
     @property
     def together(self) -> Amount:
         """What they hold together: elements may hold less than the field, if something else leads to them, too."""
-        return self.measure.amount(self.parts.values) if self.parts.are_elements else self.held.amount
+        return self.shares.together if self.parts.are_elements else self.held.amount
 
-    def search(self, whole: Amount) -> PartSearch:
-        """Returns a search among them for those that hold much of `whole`. One may hold another if without the field
-        some of the instances that have it are unreachable."""
-        classes: FrozenSet[str] = frozenset() if self.parts.are_elements else self.held.candidates[0].classes
-        are_nested = any(self.held.lost.get(name, Amount()).objects > 0 for name in classes)
-        return PartSearch(self.measure, self.parts.values, self.together, whole, are_nested)
+    @property
+    def shares(self) -> ObjectShares:
+        """What each of them holds."""
+        if not self._shares:
+            ask_for_shares([self])
+        assert self._shares
+        return self._shares
+
+    def learn(self, shares: ObjectShares) -> None:
+        """Notes what each of them holds."""
+        self._shares = shares
 
     @property
     def count(self) -> int:
@@ -145,6 +150,13 @@ class PartsOfField:
         ]
 
 
+def ask_for_shares(every: Sequence[PartsOfField]) -> None:
+    """Asks in one run what each of the objects of several fields holds, all of one dump."""
+    if every:
+        for parts, shares in zip(every, shares_of(every[0].probe, [each.parts.values for each in every])):
+            parts.learn(shares)
+
+
 def ways(probe: Probe, held: Retained, uses: Optional[FieldUses]) -> Iterator[PartsOfField]:
     """Yields the objects to look among: the instances that have the field of a line, then the elements of its list. A
     line with several fields, a local variable or threads has none."""
@@ -160,7 +172,7 @@ def objects_that_hold(probe: Probe, held: Retained, uses: Optional[FieldUses] = 
     nothing if many hold a little each, or if it is no question about some of many objects. `uses` may know the values
     of the field."""
     for parts in ways(probe, held, uses):
-        found = parts.search(held.amount).find(OF_ALL)
+        found = parts.shares.heaviest(held.amount)
         if sum(probe.unit.percent(each.amount, held.amount) for each in found) >= OF_ALL:
             return [it._replace(least_gain=it.percent) for it in parts.described(found, held.amount)]
     return []
@@ -207,7 +219,7 @@ class GrownParts:
     def find(self) -> List[HoldingObject]:
         """Returns the objects that gained most. What one held before is at most what all did; the earlier dump is asked
         what each held only if that leaves it open, and what its heaviest held only if some are not found there."""
-        found = self.now.search(self.gain).find(OF_ALL)
+        found = self.now.shares.heaviest(self.gain)
         if sum(self.percent(each.amount) for each in found) < OF_ALL:
             return []
         certain = self._grown(found)
@@ -215,11 +227,9 @@ class GrownParts:
             return self._described(certain)
         earlier = PartsOfField(self.probe.earlier, self.before, self.now.parts.are_elements)
         same = same_objects(self.now, [each.value.instance for each in found], earlier)
-        self.known = {at: earlier.measure.amount([value]) for at, value in same.items()}
-        if len(self.known) < len(found):
-            search = earlier.search(self.gain)
-            search.find()
-            self.most_before = min(self.most_before, search.most)
+        if same or earlier.parts.values and len(earlier.parts.values) <= MOST_OBJECTS:
+            self.known = {at: earlier.shares.amount(value) for at, value in same.items()}
+            self.most_before = min(self.most_before, earlier.shares.most(self.gain))
         grown = self._grown(found)
         gains = [self.least_gain(each) for each in grown]
         if sum(gains) < OF_ALL:

@@ -5,11 +5,11 @@ from typing import List
 
 from heap_tools.candidates import FIELD, GROUP, LOADED_CLASSES, LOCAL, PENDING, STATIC, THREAD, THREADS, WEAK, Candidate
 from heap_tools.candidates import Candidates, joint_name
-from heap_tools.dump_runs import DumpRuns
 from heap_tools.heap_dump import HeapDump
-from heap_tools.heapmark import Heapmark
 from heap_tools.reports import Amount, Report, Row
+from heap_tools.what_counts import Way, Weak, side_of
 from tests.support.dump_writer import BYTE, DumpWriter, word
+from tests.support.marked import marked
 
 #: The tags of roots that name a thread. Only the first names a frame.
 JAVA_FRAME, NATIVE_STACK, THREAD_BLOCK, THREAD_OBJECT = 0x03, 0x04, 0x06, 0x08
@@ -45,8 +45,9 @@ class CandidatesTest(unittest.TestCase):
     """The candidates of a dump."""
 
     def candidates(self, dump: DumpWriter, follows_weak: bool = False) -> Candidates:
-        """Returns what can hold objects in a dump."""
-        return Candidates(HeapDump(dump.bytes()), follows_weak)
+        """Returns what can hold objects in a dump with an object of each class."""
+        found = HeapDump(dump.bytes())
+        return Candidates(found, self.report(found), follows_weak)
 
     def named(self, candidates: List[Candidate]) -> List[str]:
         """Returns the names of candidates."""
@@ -79,8 +80,8 @@ class CandidatesTest(unittest.TestCase):
         known = self.candidates(Application())
         (local,), (thread,) = known.locals(), known.threads()
         self.assertEqual((str(local), str(thread)), ("local shop/Order.sell", 'thread "seller"'))
-        self.assertEqual((len(local.changes), len(thread.changes)), (1, 4))
-        self.assertEqual(known.all_threads().changes, thread.changes)
+        self.assertEqual((len(local.places), len(thread.places)), (1, 4))
+        self.assertEqual(known.all_threads().places, thread.places)
         frames = {root.kind: root.frame for root in known.dump.roots}
         self.assertEqual(frames, {JAVA_FRAME: 0, NATIVE_STACK: None, THREAD_BLOCK: None, THREAD_OBJECT: None})
 
@@ -108,9 +109,9 @@ class CandidatesTest(unittest.TestCase):
         dump.local(2, 0, 300)
         known = self.candidates(dump)
         self.assertEqual(self.named(known.locals()), ["local java/lang/Object.wait", "local shop/Order.sell"])
-        of_jdk, of_order = (each.changes for each in known.locals())
+        of_jdk, of_order = (each.places for each in known.locals())
         self.assertEqual(known.running(only_jdk=True), of_jdk)
-        self.assertEqual(known.running(only_jdk=False), {**of_jdk, **of_order})
+        self.assertEqual(known.running(only_jdk=False), [*of_jdk, *of_order])
 
     def test_holders(self) -> None:
         """Of static fields those that are not null hold, of fields the instances of the class and of those below it."""
@@ -192,7 +193,7 @@ class CandidatesTest(unittest.TestCase):
 
     def test_joint_name(self) -> None:
         """Of many names the first ones are shown; never only one more."""
-        candidates = [Candidate(STATIC, f"A.{name}", 1, {}) for name in "edcba"]
+        candidates = [Candidate(STATIC, f"A.{name}", 1) for name in "edcba"]
         for count, wanted in (
             (1, "static A.e"),
             (2, "together static A.e, static A.d"),
@@ -201,19 +202,39 @@ class CandidatesTest(unittest.TestCase):
         ):
             self.assertEqual(joint_name(candidates[:count]), wanted)
 
-    def test_prepared(self) -> None:
-        """The lists of a group's threads and of references that wait for their queues are cut by name, as weak
-        references are unless they are followed."""
-        for follows_weak in (False, True):
-            known = self.candidates(Application(), follows_weak)
-            runs = known.prepared(DumpRuns(Heapmark(), "dump", Report(), known.dump, {}, ()))
-            group, pending, weak = (known.changes((FIELD, name)) for name in (GROUP, PENDING, WEAK))
-            self.assertEqual((len(group), len(pending), len(weak)), (1, 1, 1))
-            self.assertEqual(runs.cut, {**group, **pending, **({} if follows_weak else weak)})
-            self.assertEqual(runs.roots, known.dump.lasting_classes())
-            self.assertIn(5, runs.roots)
+    def test_places(self) -> None:
+        """A place is that of the reference among those of the object: after the class, in the order of the dump, first
+        the fields of the class, then those of the superclass; of a class after its superclass, loader, signers and
+        domain; of a root among all roots."""
+        dump = Application()
+        dump.of_class(7, "shop/Rush", {"LAST": 301}, fields=["int_minutes", "until"], superclass=5)
+        known = self.candidates(dump)
+        for key, wanted in (
+            ((FIELD, "shop/Order.next"), ["class 5 1", "class 7 2"]),
+            ((FIELD, "shop/Rush.until"), ["class 7 1"]),
+            ((FIELD, WEAK), ["class 6 1"]),
+            ((FIELD, PENDING), ["class 6 2"]),
+            ((STATIC, "shop/Order.NONE"), ["object 5 5"]),
+            ((STATIC, "shop/Rush.LAST"), ["object 7 4"]),
+            ((LOCAL, "shop/Order.sell"), ["root 1"]),
+            ((THREAD, "seller"), ["root 0", "root 1", "root 2", "root 3"]),
+        ):
+            self.assertEqual(known.places(key), wanted, key)
         for kind in (STATIC, FIELD, LOCAL, THREAD):
-            self.assertEqual(known.changes((kind, "other")), {})
+            self.assertEqual(known.places((kind, "other")), ())
+        self.assertEqual(known.values_of_static((STATIC, "shop/Order.FIRST")), [300])
+
+    def test_side(self) -> None:
+        """The lists of a group's threads and of references that wait for their queues are cut, as weak references are
+        unless they are followed. Classes that are never unloaded are roots."""
+        for follows in Weak:
+            dump = Application()
+            dump.instance(302, 6, 0, 0)
+            dump.root(302)
+            side = side_of(marked(dump), Way(follows))
+            self.assertEqual(side.cut, ["class 1 1", "class 6 2", *["class 6 1"] * (follows is Weak.NONE)])
+            self.assertEqual(side.roots, side.runs.dump.lasting_classes())
+            self.assertIn(5, side.roots)
 
     def test_names(self) -> None:
         """Of two LOAD CLASS records for one class, the first names it."""

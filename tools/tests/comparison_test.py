@@ -2,11 +2,10 @@
 
 import os
 import unittest
-from typing import Any, List, Optional, Tuple
+from typing import Any, List, Tuple
 from unittest import mock
 
 from heap_tools.candidates import FIELD, WEAK, Candidates
-from heap_tools.changed_copy import Changes
 from heap_tools.comparison import BETWEEN, Comparison, dumps_of, require_one_program, spread
 from heap_tools.console import Progress
 from heap_tools.direct_buffers import DirectMemory
@@ -14,11 +13,12 @@ from heap_tools.dump_runs import DumpRuns
 from heap_tools.faults import Fault
 from heap_tools.heap_dump import HeapDump
 from heap_tools.heapmark import Heapmark
+from heap_tools.label_text import Place
 from heap_tools.reports import Unit
-from heap_tools.running_calls import Calls
 from heap_tools.weak_growth import Followed
+from heap_tools.what_counts import Calls, Way, Weak
 from tests.support.dump_writer import DumpWriter
-from tests.support.marker import MarkedRuns
+from tests.support.marked import MarkedRuns
 from tests.support.services import of_main, running
 from tests.support.tool_test import HEAPMARK, ToolTest
 
@@ -52,27 +52,29 @@ class BetweenTest(unittest.TestCase):
         references are followed there as in the others."""
         dump = running(50)
         dump.of_class(10, "java/lang/ref/Reference", fields=["referent"])
+        dump.instance(9000, 10, 0)
+        dump.root(9000)
         dump.of_class(11, "java/util/Queue")
         dump.thread(8, 708, [(11, "take")])
         dump.local(8, 0, 5000)
         between = self.runs(dump)
-        known = Candidates(between.dump)
-        every, of_jdk, weak = known.running(False), known.running(True), known.changes((FIELD, WEAK))
+        known = Candidates(between.dump, between.report)
+        every, of_jdk, weak = known.running(False), known.running(True), list(known.places((FIELD, WEAK)))
         self.assertEqual((len(every), len(of_jdk), len(weak)), (2, 1, 1))
-        cases: List[Tuple[Optional[Calls], bool, Changes]] = [
-            (Calls.ALL, False, {**every, **weak}),
-            (Calls.OF_JDK, False, {**of_jdk, **weak}),
-            (None, False, weak),
-            (Calls.ALL, True, every),
-            (None, True, {}),
+        cases: List[Tuple[Way, List[Place]]] = [
+            (Way(Weak.NONE, Calls.ALL), [*weak, *every]),
+            (Way(Weak.NONE, Calls.OF_JDK), [*weak, *of_jdk]),
+            (Way(Weak.NONE), weak),
+            (Way(Weak.ALL, Calls.ALL), every),
+            (Way(Weak.ALL), []),
         ]
-        for calls, follows_weak, cut in cases:
+        for way, cut in cases:
             probe: Any = mock.Mock(families=["shop/Order"], unit=Unit.BYTES)
             dumps: Any = [None, between, None]
             none = DirectMemory(), DirectMemory()
-            comparison = Comparison(dumps, none, probe, Followed(follows_weak), calls, [])
-            (found,) = comparison.probes_between()
-            self.assertEqual(found.runs.cut, cut, (calls, follows_weak))
+            comparison = Comparison(dumps, none, probe, Followed(way.follows), way, [])
+            (found,) = comparison.probes_between([known.statics()])
+            self.assertEqual(found.side.cut, cut, way)
             self.assertEqual((found.families, found.unit), (["shop/Order"], Unit.BYTES))
 
     def test_other_main(self) -> None:

@@ -22,6 +22,7 @@ class Maybe(NamedTuple):
 AMOUNT = {"objects": int, "bytes": int}
 HEAD = {"format": int, "tool": {"grown", "held", "holders", "leaks", "sizes"}, "version": str, "notes": [str]}
 UNIT = {"objects", "bytes"}
+PLACING = {"filled", "references last", "references first"}
 FILE = {
     "path": str,
     "kind": {"dump", "report", "histogram"},
@@ -100,7 +101,7 @@ FORMS: Dict[str, Dict[str, Any]] = {
     "sizes": {
         **HEAD,
         "file": FILE,
-        "layout": Maybe({"alignment": int, "header": int, "reference": int, "array_header": int}),
+        "layout": Maybe({"alignment": int, "header": int, "reference": int, "array_header": int, "placing": PLACING}),
         "all": AMOUNT,
         "reachable": AMOUNT,
         "unreachable": AMOUNT,
@@ -197,7 +198,8 @@ class DocumentsTest(ToolTest):
         """Classes, and packages, with and without a layout."""
         shop().written().write("shop.hprof")
         found = self.document("sizes", "--top", "1", "shop.hprof")
-        self.assertEqual(found["layout"], {"alignment": 8, "header": 12, "reference": 4, "array_header": 16})
+        sizes = {"alignment": 8, "header": 12, "reference": 4, "array_header": 16}
+        self.assertEqual(found["layout"], {**sizes, "placing": "filled"})
         (first,) = found["classes"]
         self.assertEqual(first["all"], {"objects": 400, "bytes": 9600})
         self.assertEqual((first["unreachable"]["bytes"], found["hidden"] > 0), (7200, True))
@@ -301,6 +303,24 @@ class DocumentsTest(ToolTest):
             found = self.document("leaks", *paths, "--top", "1")
             self.assertEqual((found["hidden"], found["lines"]), (len(every["lines"]) - 1, every["lines"][:1]), paths)
 
+    def test_no_growth(self) -> None:
+        """At status 3 there is a document without lines, too, and so if no more grew than the user allows."""
+        for number, minutes in ((20, 10), (80, 20), (80, 30)):
+            cache(number, minutes=minutes).write(f"{minutes}.hprof")
+        found = self.document("leaks", "20.hprof", "30.hprof", status=3)
+        self.assertEqual((found["lines"], found["growth"]), ([], {"objects": 0, "bytes": 0}))
+        self.assertEqual((found["whole"]["bytes"], found["classes"]), (6508, None))
+        self.assertEqual(found["notes"], ["reachable: 6,508 bytes, then 6,508: no growth"])
+        found = self.document("leaks", "--class", "shop.Order", "20.hprof", "30.hprof", status=3)
+        self.assertEqual((found["classes"], found["whole"]), (["shop/Order"], {"objects": 80, "bytes": 640}))
+        found = self.document("leaks", "--more-than", "2160", "10.hprof", "20.hprof")
+        self.assertEqual((found["lines"], found["growth"]), ([], {"objects": 120, "bytes": 2160}))
+        found = self.document("leaks", "--more-than", "2159", "10.hprof", "20.hprof", status=3)
+        self.assertEqual((len(found["lines"]), found["growth"]["bytes"]), (3, 2160))
+        DUMPS["shop"].write("shop.hprof")
+        found = self.document("leaks", "shop.hprof", "--class", "Ghost", status=3)
+        self.assertEqual((found["lines"], found["whole"], found["growth"]), ([], {"objects": 0, "bytes": 0}, None))
+
     def test_nothing(self) -> None:
         """Where no line is printed because nothing could be found, no document is."""
         DUMPS["shop"].write("shop.hprof")
@@ -308,7 +328,7 @@ class DocumentsTest(ToolTest):
             (["held", "shop.hprof", "Order.none"], 6),
             (["held", "none.hprof", "A.x"], 1),
             (["leaks", "shop.hprof", "shop.hprof"], 1),
-            (["leaks", "shop.hprof", "--class", "Ghost"], 3),
+            (["leaks", "shop.hprof", "--class", "None"], 6),
         ):
             ended = self.ran("--json", *words[1:], tool=words[0])
             self.assertEqual((ended.status, ended.out), (status, ""))

@@ -2,12 +2,11 @@
 
 import unittest
 from typing import List, Sequence
-from unittest import mock
 
 from heap_tools.fields_of_object import leads_to_container, part_of_one
 from heap_tools.heap_objects import HeapObjects
 from heap_tools.leak_lines import answer_of
-from heap_tools.line_order import FEW
+from heap_tools.candidates import FEW
 from heap_tools.object_parts import FieldUses
 from tests.support.dump_writer import BYTE, DumpWriter, word
 from tests.support.marked import growth_of, held_by, probe_of
@@ -62,7 +61,7 @@ class BelowTest(unittest.TestCase):
 
     def paths(self, before: DumpWriter, after: DumpWriter) -> List[str]:
         """Returns the paths of the lines about what grew."""
-        answer = answer_of(growth_of(before, after), 30, 8, mock.Mock())
+        answer = answer_of(growth_of(before, after), 30, 8)
         self.assertIsNone(answer.objects)
         return [line.path() for line in answer.lines]
 

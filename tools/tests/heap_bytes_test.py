@@ -11,14 +11,14 @@ from heap_tools import heap_bytes, heap_sample
 from heap_tools.class_growth import growths
 from heap_tools.dump_file import state_of
 from heap_tools.faults import Fault
-from heap_tools.heap_bytes import counted_in_heap, measure
+from heap_tools.heap_bytes import counted_in_heap, layout_words, measure
 from heap_tools.heap_layout import Layout
 from heap_tools.reports import Amount, Report, Row, Unit
 from heap_tools.snapshot_bytes import in_common_bytes
 from heap_tools.snapshots import Snapshot
 from tests.support.dump_writer import BYTE
 from tests.support.laid_out_heap import LaidOutHeap
-from tests.support.marker import MarkedRuns
+from tests.support.marked import MarkedRuns
 
 COMPRESSED = Layout(8, 12, 4, 16)
 
@@ -38,18 +38,20 @@ class DumpsTest(unittest.TestCase):
     """Dumps of leaks, holders and held."""
 
     def test_heap(self) -> None:
-        """Bytes are those of the heap, which is said, unless the user wants those of the dump."""
+        """Bytes are those of the heap, about which nothing is said, unless the user wants those of the dump."""
         runs = MarkedRuns(heap(8).read())
         found = counted_in_heap([runs], False)
         self.assertEqual(found.dump.report.amount("shop/Order"), Amount(400, 9600))
         self.assertTrue(found.dump.report.in_heap)
+        self.assertEqual(found.words, "")
         words = (
             "bytes are those of the heap, by its layout (header 12 bytes, of an array 16, references 4 (compressed), "
         )
-        self.assertEqual(found.words, f"{words}sizes are multiples of 8); --dump-bytes counts those of the dump")
+        self.assertEqual(
+            layout_words(found.dump.sizes), f"{words}sizes are multiples of 8); --dump-bytes counts those of the dump"
+        )
         self.assertEqual(counted_in_heap([runs], True), ([runs], ""))
-        self.assertEqual(found.dump.counted(runs.report).rows, found.dump.report.rows)
-        self.assertIs(found.dump.with_cut({}).sizes, found.dump.sizes)
+        self.assertEqual((found.dump.written, found.dump.path), (runs.report, runs.path))
 
     def test_unknown(self) -> None:
         """If the layout of one dump is not known, bytes are those of the dumps, which is said of those that a virtual
@@ -67,7 +69,8 @@ class DumpsTest(unittest.TestCase):
         """What is the same in two dumps takes the same, though the padding of the arrays in their samples differs."""
         first, last = MarkedRuns(heap(1).read()), MarkedRuns(heap(7).read())
         found = counted_in_heap([first, last], False).dumps
-        self.assertEqual(found[0].counted(last.report).rows, found[1].report.rows)
+        assert found[0].sizes
+        self.assertEqual(found[0].sizes.report(last.report).rows, found[1].report.rows)
 
     def test_measured_before(self) -> None:
         """A dump whose content is forgotten has the sizes that it had, or none."""
@@ -80,6 +83,18 @@ class DumpsTest(unittest.TestCase):
             self.assertEqual(found[0].words, found[1].words)
             self.assertEqual([each.dumps[0].report.in_heap for each in found], [is_known] * 2)
             self.assertEqual(*(each.dumps[0].report.rows for each in found))
+
+    def test_unsure(self) -> None:
+        """It is said of how many of the reachable bytes it is not sure."""
+        for reachable in (3, 1, 0):
+            it = heap(8)
+            rare = it.of_class("shop/Rare", 2)
+            it.dump.root(*[it.instance(rare, 48) for _ in range(3)][:reachable])
+            it.values(BYTE, 8)
+            words = "it is not sure what the objects of 1 class take, since no neighbour shows it: up to "
+            words += f"{48 * reachable} bytes more or less"
+            found = counted_in_heap([MarkedRuns(it.read())], False)
+            self.assertEqual(found.words, words if reachable else "")
 
     def test_two_layouts(self) -> None:
         """Dumps with two layouts have their own sizes each."""
@@ -113,7 +128,7 @@ class FilesTest(unittest.TestCase):
         """Dumps count bytes of the heap, but not beside a report, not from a pipe, and not if the user says so."""
         (found, _), words = in_common_bytes([self.dump, self.dump], False)
         self.assertEqual(found.report.amount("shop/Order"), Amount(400, 9600))
-        self.assertIn("header 12 bytes", words)
+        self.assertEqual(words, "")
         pipe = self.dump._replace(path="/dev/null")
         for files, dump_bytes in (
             ([self.dump] * 2, True),

@@ -1,13 +1,11 @@
-"""Reads small dumps, of which it is known what they have, and writes copies with changes."""
+"""Reads small dumps, of which it is known what they have."""
 
 import os
-import tempfile
 import unittest
-from typing import Any, Callable, List, Union
+from typing import Callable, List, Union
 from unittest import mock
 
 from heap_tools import heap_dump, hprof_format, parallel
-from heap_tools.changed_copy import NEAR, number_code, write_copy
 from heap_tools.dump_file import whole_content, state_of
 from heap_tools.dump_runs import DumpRuns
 from heap_tools.faults import UNREADABLE, Fault
@@ -36,18 +34,11 @@ SHRUNK = "dump: it changed while it was read"
 
 
 class HprofTest(unittest.TestCase):
-    """A test that reads and copies dumps."""
+    """A test that reads dumps."""
 
     def read(self, dump: DumpWriter, nameless: bool = False) -> heap_dump.HeapDump:
         """Returns what is read of a dump."""
         return heap_dump.HeapDump(dump.bytes(), nameless)
-
-    def copied(self, found: heap_dump.HeapDump, *changes: Any) -> bytes:
-        """Returns a copy of a dump that was read, with changes."""
-        with tempfile.TemporaryDirectory() as folder, open(f"{folder}/copy", "wb") as copy:
-            write_copy(found, copy.fileno(), *changes)
-            with open(f"{folder}/copy", "rb") as file:
-                return file.read()
 
 
 class Service(DumpWriter):
@@ -352,39 +343,36 @@ class RunsTest(ToolTest):
             self.assertEqual((raised.exception.status, str(raised.exception)), (UNREADABLE, SHRUNK), length)
 
 
-class CopyTest(HprofTest):
-    """Copies with changes."""
+class RootsTest(HprofTest):
+    """Which number each root has among all roots."""
 
-    def test_changes(self) -> None:
-        """Changes near each other and far apart are written where they are."""
-        dump = Service()
-        dump.values(400, BYTE, bytes(3 * NEAR))
-        found, content = self.read(dump), dump.bytes()
-        self.assertEqual(self.copied(found, {}), content)
-        end = len(content)
-        changes = {100: b"ab", 103: b"c", 40: b"d", end - 2: b"ef", end - NEAR - 9: b"g"}
-        wanted = bytearray(content)
-        for place, new in changes.items():
-            wanted[place : place + len(new)] = new
-        self.assertEqual(self.copied(found, changes), bytes(wanted))
-
-    def test_roots(self) -> None:
-        """Further roots come first in the first record of the heap, whose length says so."""
-        for is_cut in (False, True):
-            dump, other = Service(), Service()
-            other.heap = b"\xff" + other.form.spell([300]) + other.heap
-            for each in (dump, other):
-                each.objects(300)
-                if is_cut:
-                    each.cut()
-                    each.objects(301)
-            self.assertEqual(self.copied(self.read(dump), {}, [300]), other.bytes())
-
-    def test_number_code(self) -> None:
-        """A field that leads nowhere becomes a number as long as an identifier, so that the fields after it stay."""
-        for id_size, code in ((4, hprof_format.INT), (8, hprof_format.LONG)):
-            self.assertEqual(number_code(self.read(Service(id_size))), bytes([code]))
-            self.assertEqual(hprof_format.PRIMITIVE_SIZES[code], id_size)
+    def test_numbers(self) -> None:
+        """Roots are numbered in the order of the file, also those of no thread, wherever they are."""
+        for where in ("first", "last", "between"):
+            dump = Service()
+            dump.root(1)
+            if where == "first":
+                dump.thread(1, 300)
+                dump.local(1, 0, 301)
+                dump.root(2)
+            dump.objects(300)
+            dump.cut()
+            if where == "between":
+                dump.root(3)
+                dump.thread(1, 300)
+                dump.local(1, 0, 301)
+            dump.objects(301)
+            dump.cut()
+            dump.objects(302)
+            if where == "last":
+                dump.root(3)
+                dump.thread(1, 300)
+                dump.local(1, 0, 301)
+            found = self.read(dump)
+            every = [at + 1 for at, tag in found.sub_records(found.segments) if tag in (0xFF, 0x03, 0x08)]
+            numbers = [found.root_number(root.place) for root in found.roots]
+            self.assertEqual(numbers, [every.index(root.place) for root in found.roots], where)
+            self.assertEqual(len(numbers), 2)
 
 
 class ProcessesTest(unittest.TestCase):

@@ -7,8 +7,9 @@ from typing import Callable, List
 from unittest import mock
 
 from heap_tools import heap_sample, object_records
+from heap_tools.field_placing import Placing, fields_by_class
 from heap_tools.heap_dump import HeapDump
-from heap_tools.heap_layout import Layout, UnknownLayout, fields_by_class, layout_of
+from heap_tools.heap_layout import Layout, UnknownLayout, layout_of
 from heap_tools.heap_sample import sample_of
 from heap_tools.object_records import heap_objects, short_spans
 from tests.support.dump_writer import BYTE, DumpWriter
@@ -57,6 +58,21 @@ class LayoutTest(WithLayout):
                     dump = heap.read(shuffled)
                     self.assertEqual(sample_of(dump).is_ascending, not shuffled)
                     self.assertEqual(found_in(dump), layout)
+
+    def test_placing(self) -> None:
+        """How fields are placed is found, if there are instances of which it is not all the same. For references of 8
+        bytes it is the same whether these come first."""
+        layouts = [COMPRESSED._replace(placing=each) for each in Placing]
+        for layout in (*layouts, Layout(8, 16, 8, 24, Placing.REFERENCES_LAST)):
+            for shuffled in (False, True):
+                heap = LaidOutHeap(layout)
+                heap.mixed(200)
+                flag = heap.of_class("shop/Flag", has_byte=True)
+                flags = heap.of_class("shop/Flags", 0, 0, flag, has_byte=True)
+                pair = heap.of_class("shop/Pair", 2, has_long=True)
+                for each in (flags, heap.of_class("shop/Link", 0, 1, pair), pair, flag):
+                    heap.instance(each)
+                self.assertEqual(found_in(heap.read(shuffled)), layout)
 
     def test_holes(self) -> None:
         """Holes make distances larger, so that fewer objects agree, but not on another layout."""
@@ -133,12 +149,18 @@ class LayoutTest(WithLayout):
 
     def test_words(self) -> None:
         """A layout in words: references of 4 bytes are compressed, unless the header is that of 32 bits."""
-        for layout, header, references in (
-            (COMPRESSED, "12 bytes, of an array 16", "4 (compressed)"),
-            (Layout(8, 12, 8, 16), "12 bytes, of an array 16", "8"),
-            (Layout(8, 8, 4, 12), "8 bytes, of an array 12", "4"),
+        for layout, header, references, more in (
+            (COMPRESSED, "12 bytes, of an array 16", "4 (compressed)", ""),
+            (Layout(8, 12, 8, 16), "12 bytes, of an array 16", "8", ""),
+            (Layout(8, 8, 4, 12), "8 bytes, of an array 12", "4", ""),
+            (
+                COMPRESSED._replace(placing=Placing.REFERENCES_LAST),
+                "12 bytes, of an array 16",
+                "4 (compressed)",
+                ", fields begin after those of superclasses",
+            ),
         ):
-            text = f"header {header}, references {references}, sizes are multiples of 8"
+            text = f"header {header}, references {references}, sizes are multiples of 8{more}"
             self.assertEqual(layout.words(), text)
 
 
@@ -205,6 +227,17 @@ class SampleTest(WithLayout):
             self.assertGreater(sum(sample_of(dump).neighbours.values()), 5000)
             with mock.patch.object(heap_sample, "ENOUGH_SAMPLED", 1):
                 self.require_unknown(dump, "too few objects have a neighbour")
+
+    def test_all_ranges(self) -> None:
+        """If a sample has room for all objects, those that are alone in their range of addresses are in it."""
+        heap = LaidOutHeap(COMPRESSED)
+        heap.mixed(1000)
+        heap.at += 1 << 20
+        rare = heap.of_class("shop/Rare", 3)
+        for _ in range(2):
+            heap.instance(rare)
+        sample = sample_of(heap.read(shuffled=True))
+        self.assertEqual(sum(n for each, n in sample.neighbours.items() if each.class_id == rare), 1)
 
     def test_few_of_a_kind(self) -> None:
         """A class loader and instances of a class with added fields are in the sample, whatever it is of."""

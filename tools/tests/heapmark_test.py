@@ -4,17 +4,14 @@ import contextlib
 import errno
 import os
 import pathlib
-import re
 import signal
 import sys
 import unittest
-from typing import List, Tuple
 from unittest import mock
 
-from heap_tools.child_process import Children
 from heap_tools.faults import NO_HEAPMARK, UNREADABLE, Fault
-from heap_tools.heapmark import Copy, Heapmark, LaterFault
-from heap_tools.reports import Report
+from heap_tools.heapmark import Heapmark
+from heap_tools.proved_program import LaterFault
 from tests.support.tool_test import ToolTest, report
 
 
@@ -25,13 +22,6 @@ class HeapmarkTest(ToolTest):
         """Returns a heapmark that is a shell script."""
         with mock.patch.dict(os.environ, HEAPMARK=self.program(text)):
             return Heapmark()
-
-    def later(self, heapmark: Heapmark, *copies: Copy) -> List[Tuple[int, Report]]:
-        """Returns the numbers and the reports of runs on copies, all at once, in the order in which they end."""
-        with Children() as children:
-            runs = {run.child: run for run in (heapmark.later_run(copy, children, 1) for copy in copies)}
-            ended = [children.next_ended() for _ in copies]
-        return [(runs[child].number, runs[child].report(ran)) for child, ran in ended]
 
     def test_report(self) -> None:
         """A report is read, and its run is counted; the environment asks for huge pages."""
@@ -53,7 +43,7 @@ class HeapmarkTest(ToolTest):
                 self.heapmark(text).first_report("dump")
             self.assertEqual(raised.exception.status, status, text)
         with self.assertRaises(LaterFault):
-            self.later(self.heapmark("cat > all; exit 1"), Copy("dump", 0, feed=lambda pipe: None))
+            self.heapmark("exit 1").first_report("dump")
         with mock.patch.dict(os.environ, HEAPMARK="/no/where"), self.assertRaises(Fault) as raised:
             Heapmark().first_report("dump")
         self.assertEqual(raised.exception.status, NO_HEAPMARK)
@@ -101,56 +91,6 @@ class HeapmarkTest(ToolTest):
         pathlib.Path("report").write_text(report(*rows))
         pathlib.Path("dump").write_bytes(bytes(43 * 20_001))
         self.assertEqual(len(self.heapmark("cat report").first_report("dump").rows), 20_001)
-
-    def test_feed(self) -> None:
-        """What is fed arrives whole, also if it is more than a pipe holds. If it is not read, the status says why."""
-        heapmark = self.heapmark(f"cat > all\ncat << 'END'\n{report((1, 8, 'A'))}END")
-        content = bytes(range(256)) * 20_000
-
-        def feed(pipe: int) -> None:
-            rest = memoryview(content)
-            while rest:
-                rest = rest[os.write(pipe, rest) :]
-
-        self.later(heapmark, Copy("dump", 0, feed=feed))
-        self.assertEqual(pathlib.Path("all").read_bytes(), content)
-        with self.assertRaisesRegex(LaterFault, "run 1 on dump failed: status 3"):
-            self.later(self.heapmark("exit 3"), Copy("dump", 0, feed=feed))
-
-    def test_at_once(self) -> None:
-        """Runs that go on at the same time are numbered as they begin. All that they print is read as it comes: none
-        waits at a full pipe while another goes on."""
-        long = "".join(f"1 8  {number:08}A\n" for number in range(20_000))
-        pathlib.Path("long").write_text(long + report((1, 8, "A")))
-        waits = "for _ in $(seq 300); do [ $(ls printed.* | wc -l) -lt 3 ] || exit 0; sleep 0.1; done; exit 3"
-        heapmark = self.heapmark(f"cat long; head -c 200000 /dev/zero | tr '\\0' x >&2; touch printed.$$\n{waits}")
-        with open("long", "rb") as file, mock.patch("heap_tools.heapmark.say") as say:
-            found = self.later(heapmark, *[Copy("dump", 1 << 20, file.fileno())] * 3)
-        self.assertEqual(sorted(number for number, _ in found), [1, 2, 3])
-        self.assertEqual([len(each.rows) for _, each in found], [20_001] * 3)
-        self.assertEqual((heapmark.runs, say.call_count), (3, 3))
-        self.assertEqual(len(list(pathlib.Path().glob("printed.*"))), 3)
-
-    def test_failed_at_once(self) -> None:
-        """What failed is said with the number of its run and the path of its dump, whatever ends first. The others are
-        ended."""
-        both = "for _ in $(seq 300); do [ $(wc -l < pids) -lt 2 ] || break; sleep 0.1; done"
-        pathlib.Path("sleeps").write_text("exec sleep 50")
-        pathlib.Path("fails").write_text(f"{both}; exit 3")
-        for number, names in ((1, ("fails", "sleeps")), (2, ("sleeps", "fails"))):
-            heapmark = self.heapmark("echo $$ >> pids; . /dev/stdin")
-            with contextlib.ExitStack() as stack:
-                copies = [Copy(name, 0, stack.enter_context(open(name, "rb")).fileno()) for name in names]
-                runs = stack.enter_context(Children())
-                begun = [heapmark.later_run(copy, runs, 2) for copy in copies]
-                child, ran = runs.next_ended()
-                self.assertIs(child, begun[number - 1].child)
-            ended = "status 3" + ": is it heapmark?" * (number == 1)
-            with self.assertRaisesRegex(LaterFault, f": run {number} on fails failed: {re.escape(ended)}$"):
-                begun[number - 1].report(ran)
-            for pid in pathlib.Path("pids").read_text().split():
-                self.assertFalse(os.path.exists(f"/proc/{pid}"))
-            os.remove("pids")
 
     def test_signals(self) -> None:
         """heapmark heeds the signals that end a tool, and none that ends it for the size of a file."""

@@ -5,7 +5,6 @@ import pathlib
 import shutil
 import unittest
 
-from heap_tools.runs_at_once import workers
 from tests.support.dump_writer import INT, LONG, DumpWriter
 from tests.support.held_objects import threads
 from tests.support.services import finalizers, handler, running
@@ -255,22 +254,19 @@ class HeldTest(ToolTest):
         self.check_wrong_words([], right[:1], [*right, VALUE], ["--number", *right], [*right, "--more-than"])
         self.check_help("Shows what some fields of a heap dump retain: ")
 
-    def test_heapmark(self) -> None:
-        """heapmark runs on the dump and on a pipe. It may end early, or be missing."""
-        reads = "case $* in *stdin) cat > /dev/null ;; esac"
-        other = self.program(f"{reads}\ncat <<'END'\n{report((1, 8, 'A'))}END")
-        huge = {"GLIBC_TUNABLES": "glibc.malloc.hugetlb=1"}
-        said = "held: nothing is retained by *"
-        self.expect(["cache.hprof", VALUE], said=said, heapmark=other, variables=huge)
-        on_copy = f"--workers={workers()} -- /dev/stdin"
-        words = (f"--skip={VALUE} -- /dev/null", "-- cache.hprof", *[on_copy] * 2)
-        asked = "".join(f"glibc.malloc.hugetlb=1 {each}\n" for each in words)
+    def test_programs(self) -> None:
+        """heapmark reads the dump, and then retained. Each may end early, or be missing."""
+        other = self.program('exec HEAPMARK "$@"')
+        self.expect(["cache.hprof", VALUE], self.BY_VALUE, heapmark=other, variables={"GLIBC_TUNABLES": "a=1"})
+        asked = "".join(f"a=1 {each}\n" for each in (f"--skip={VALUE} -- /dev/null", "-- cache.hprof"))
         self.assertEqual(pathlib.Path("runs").read_text(), asked)
-        other = self.program('case $* in *stdin) exit 1 ;; esac\nexec HEAPMARK "$@"')
-        said = "held: cache.hprof: not read a second time: */other: run 2 on cache.hprof failed: status 1"
-        self.expect(["cache.hprof", VALUE], said=said, status=1, heapmark=other)
+        later = {"RETAINED": self.program('cat "$3" > /dev/null\nexit 1')}
+        said = "held: */other: run 1 on cache.hprof failed: status 1: is it retained?"
+        self.expect(["cache.hprof", VALUE], said=said, status=5, variables=later)
         said = "held: /nowhere cannot be run: No such file or directory: the variable HEAPMARK names it"
         self.expect(["cache.hprof", VALUE], said=said, status=5, heapmark="/nowhere")
+        said = "held: /nowhere cannot be run: No such file or directory: the variable RETAINED names it"
+        self.expect(["cache.hprof", VALUE], said=said, status=5, variables={"RETAINED": "/nowhere"})
         self.check_interrupt("cache.hprof", VALUE)
 
     def test_output(self) -> None:

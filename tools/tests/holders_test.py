@@ -19,7 +19,7 @@ def line(objects: int, size: int, share: int, holders: int, text: str) -> str:
 def without_statics(rest: int, whole: Union[int, str], what: str, fields: str = "*") -> str:
     """Returns a pattern for the last message."""
     hold = f"threads or the virtual machine hold {rest} of {whole} {what} without any static field"
-    return f"holders: {hold}; {fields} of heapmark"
+    return f"holders: {hold}; {fields} of heapmark and * of retained"
 
 
 class HoldersTest(ToolTest):
@@ -262,38 +262,46 @@ class HoldersTest(ToolTest):
         self.expect(["shop.hprof", "shop4.hprof"], said=why, status=2)
         self.check_help("Shows what holds the objects of a class in a heap dump: ")
 
-    def test_heapmark(self) -> None:
-        """A heapmark that is missing, that ends early, or that is another program; and dumps that change."""
-        later = '[ "$(wc -l < runs)" -lt 3 ] || '
+    def test_programs(self) -> None:
+        """A heapmark or a retained that is missing, that ends early, or that is another program; and dumps that
+        change."""
         for text, ended in (
-            (f"{later}exit 0\nexec HEAPMARK $@", "run 3 on shop.hprof failed: no report"),
-            (f"{later}exit 1\nexec HEAPMARK $@", "run 3 on shop.hprof failed: status 1"),
-            (f"{later}kill -9 $$\nexec HEAPMARK $@", "run 3 on shop.hprof failed: signal 9"),
             ("kill -15 $$", "run 1 on shop.hprof failed: signal 15"),
             ("echo 1 2 3", "run 1 on shop.hprof failed: no report: is it heapmark?"),
             ("printf '\\377\\n'", "run 1 on shop.hprof failed: no report: is it heapmark?"),
             ("exit 1", "run 1 on shop.hprof failed: status 1: is it heapmark?"),
         ):
             self.expect(["shop.hprof"], said=f"holders: *: {ended}", status=5, heapmark=self.program(text))
+        later = 'cat "$3" > text\n[ "$(wc -l < runs)" -lt 2 ] || '
+        for text, ended in (
+            (f"{later}exit 0\nexec RETAINED -- $2 text", "run 2 on shop.hprof failed: no table"),
+            (f"{later}kill -9 $$\nexec RETAINED -- $2 text", "run 2 on shop.hprof failed: signal 9"),
+            ("exit 1", "run 1 on shop.hprof failed: status 1: is it retained?"),
+            ("exec yes", "run 1 on shop.hprof failed: no table: is it retained?"),
+        ):
+            self.expect(
+                ["shop.hprof"], said=f"holders: *: {ended}", status=5, variables={"RETAINED": self.program(text)}
+            )
         self.expect(["shop.hprof"], said="holders: /nowhere cannot be run: No such *", status=5, heapmark="/nowhere")
         no_program = os.path.abspath("shop.hprof")
         self.expect(["shop.hprof"], said="holders: *shop.hprof cannot be run: *", status=5, heapmark=no_program)
-        long = shop()
-        long.record(0x77, bytes(3000000))  # more than a pipe has room for
-        long.write("short.hprof")
-        shorter = self.program(f"{later}truncate -s 100 short.hprof\nexec HEAPMARK $@")
-        self.expect(["short.hprof"], self.WHOLE, "holders: short.hprof has changed since *", heapmark=shorter)
         shop().write("short.hprof")
-        changed = self.program("HEAPMARK $@; truncate -s 1000 short.hprof")
-        self.expect(["short.hprof"], said="holders: *it changed while it was read", status=1, heapmark=changed)
+        for variables in (
+            {"HEAPMARK": self.program("HEAPMARK $@; truncate -s 1000 short.hprof")},
+            {"RETAINED": self.program("truncate -s 1000 short.hprof; exec RETAINED $@")},
+        ):
+            shop().write("short.hprof")
+            self.expect(["short.hprof"], said="holders: *it changed while it was read", status=1, variables=variables)
 
     def test_environment(self) -> None:
         """Huge pages are set only if GLIBC_TUNABLES is not; and the folder for temporary files is missing."""
-        other, said = self.program("exec HEAPMARK $@"), "* without any static field; *"
+        said = "* without any static field; *"
         for value in ("glibc.malloc.hugetlb=1", ""):
-            self.expect(["shop.hprof"], self.WHOLE, said, heapmark=other, variables={"GLIBC_TUNABLES": value})
-            asked = f"^{value} --workers=[1-4] -- /dev/stdin$"
-            self.assertRegex(pathlib.Path("runs").read_text().split("\n")[-2], asked)
+            for name in ("HEAPMARK", "RETAINED"):
+                variables = {"GLIBC_TUNABLES": value, name: self.program(f"exec {name} $@")}
+                self.expect(["shop.hprof"], self.WHOLE, said, variables=variables)
+                asked = "-- shop.hprof" + " /dev/stdin" * (name == "RETAINED")
+                self.assertEqual(pathlib.Path("runs").read_text().split("\n")[-2], f"{value} {asked}")
         self.expect(["shop.hprof"], self.WHOLE, said, variables={"TMPDIR": "/nowhere"})
 
     def test_interrupt(self) -> None:
@@ -305,11 +313,11 @@ class HoldersTest(ToolTest):
         self.check_output(["shop.hprof", "Order"], self.ORDERS)
 
     def test_terminal(self) -> None:
-        """A terminal shows how far the search is and what was found, and at the end nothing of that; and heads."""
+        """A terminal shows how far the tool is, and at the end nothing of that; and heads."""
         ended, seen = self.on_terminal("shop.hprof", "Order")
         parts = seen.split("\r")
         self.assertEqual((ended.status, ended.out, parts[0]), (0, self.ORDERS, "holders: reading the dump"))
-        self.assertTrue(any(" fields left; found static Shop.CACHE, 80%" in part for part in parts), seen)
+        self.assertTrue(any("holders: asking what each field holds" in part for part in parts), seen)
         self.assertTrue(parts[-2].isspace(), seen)
         self.assertTrue(parts[-1].startswith("holders: threads or the virtual machine hold 5 of 25 objects of Order"))
         _, seen = self.on_terminal("shop.hprof", "Order", stream="stdout")

@@ -12,18 +12,21 @@ import unittest
 from typing import List, Optional, Tuple
 
 from heap_tools import VERSION
+from heap_tools.__main__ import COMMANDS, commands_text
 from tests.support.services import cache
-from tests.support.tool_test import HEAPMARK, TOOLS, ToolTest
+from tests.support.tool_test import HEAPMARK, RETAINED, TOOLS, ToolTest
 
 NAMES = ("leaks", "grown", "holders", "held", "sizes")
 #: The version of Python that the tools need, and the version of setuptools that reads pyproject.toml.
 NEEDED, SETUPTOOLS = (3, 7), 61
+#: Runs the package by itself.
+RUN = "runpy.run_module('heap_tools', run_name='__main__')"
 
 
 def ran(*words: str, status: int = 0) -> str:
     """Runs a program outside of the repository's environment, and returns what it printed."""
     kept = {key: value for key, value in os.environ.items() if not key.startswith(("PYTHON", "PIP_"))}
-    environment = {**kept, "HEAPMARK": HEAPMARK, "PIP_DISABLE_PIP_VERSION_CHECK": "1"}
+    environment = {**kept, "HEAPMARK": HEAPMARK, "RETAINED": RETAINED, "PIP_DISABLE_PIP_VERSION_CHECK": "1"}
     ended = subprocess.run(
         words,
         env=environment,
@@ -72,12 +75,16 @@ class InstallTest(ToolTest):
         self.answer = self.ran("monday", "friday").out
         self.assertIn("shop/Service.CACHE", self.answer)
 
-    def test_pip(self) -> None:
-        """pip installs four commands into a fresh environment, and they run."""
+    def require_setuptools(self) -> None:
+        """Skips a test if there is no setuptools that reads pyproject.toml."""
         found = importlib.util.find_spec("setuptools")
         version = ran(sys.executable, "-c", "import setuptools; print(setuptools.__version__)") if found else "0"
         if int(version.split(".")[0]) < SETUPTOOLS:
             self.skipTest(f"setuptools {SETUPTOOLS} is not here")
+
+    def test_pip(self) -> None:
+        """pip installs four commands into a fresh environment, and they run."""
+        self.require_setuptools()
         ran(sys.executable, "-m", "venv", "--system-site-packages", "fresh")
         ran("fresh/bin/python3", "-m", "pip", "install", "--no-build-isolation", "--no-index", str(TOOLS))
         for name in NAMES:
@@ -85,6 +92,24 @@ class InstallTest(ToolTest):
         self.assertEqual(ran("fresh/bin/leaks", "monday", "friday"), self.answer)
         ran("fresh/bin/leaks", "--html", "page.html", "monday", "friday")
         self.assertIn("</html>", pathlib.Path("page.html").read_text(encoding="utf-8"))
+
+    def test_pip_of_copy(self) -> None:
+        """pip installs a copy of the folder, too: its version is not known, and its commands run."""
+        self.require_setuptools()
+        shutil.copytree(TOOLS, "copy", ignore=shutil.ignore_patterns("__pycache__", "tests"))
+        ran(sys.executable, "-m", "venv", "--system-site-packages", "fresh")
+        ran("fresh/bin/python3", "-m", "pip", "install", "--no-build-isolation", "--no-index", "./copy")
+        self.assertEqual(ran("fresh/bin/sizes", "--version"), "sizes unknown\n")
+        self.assertIn("\nVersion: 0+unknown\n", ran("fresh/bin/python3", "-m", "pip", "show", "heapmark-tools"))
+        self.assertEqual(ran("fresh/bin/python3", "-m", "heap_tools"), commands_text().replace(VERSION, "unknown"))
+
+    def test_list(self) -> None:
+        """The package, run by itself, lists the commands."""
+        self.assertEqual(list(COMMANDS), list(NAMES))
+        ended = ran(sys.executable, "-c", f"import sys, runpy; sys.path[:0] = [{str(TOOLS)!r}]; {RUN}")
+        self.assertEqual(ended, commands_text())
+        for name in NAMES:
+            self.assertIn(f"\n  {name} ", ended)
 
     def test_copy(self) -> None:
         """A copy without the sources of heapmark has no version, but runs."""

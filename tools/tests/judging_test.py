@@ -56,9 +56,9 @@ class JudgingTest(unittest.TestCase):
         (self.room / name).chmod(0o755)
 
     def ended(self, script: str, *words: str, line: str = "", told: str = "", **variables: str) -> tuple[int, str]:
-        """Runs a script of bench/ on the dumps, where leaks prints a line and says something. Returns its status and
-        what it printed."""
-        (self.room / "lines").write_text(f"{FIGURES}{line}\n" if line else "")
+        """Runs a script of bench/ on the dumps, where leaks prints the lines of `line` and says something. Returns its
+        status and what it printed."""
+        (self.room / "lines").write_text("".join(f"{FIGURES}{each}\n" for each in line.splitlines()))
         (self.room / "told").write_text(told)
         given = {"HEAPMARK": "heapmark", "LEAKS": "leaks", "HELD": "held", "DUMPED": "dumps"}
         run = subprocess.run(
@@ -126,16 +126,46 @@ class JudgingTest(unittest.TestCase):
             self.assertIn("| 2 | `", out)
 
     def test_together(self) -> None:
-        """Fields that only together hold the leak are right if each is."""
-        self.dump("JournalService-before", "JournalService-after")
-        journal, screen = "shop/JournalService$Journal.events", "shop/JournalService$Screen.shown"
-        for line, right in (
-            (f"together static {journal}, static {screen}", 1),
-            (f"together static {journal}, static shop/Other.shown", 0),
+        """Fields that only together hold the leak are right if each is, or if they are those of a holder."""
+        self.dump("JournalService-before", "JournalService-after", "LogbackService-before", "LogbackService-after")
+        journal, screen = "static shop/JournalService$Journal.events", "static shop/JournalService$Screen.shown"
+        cache = "ch/qos/logback/classic/LoggerContext.loggerCache"
+        root = "ch/qos/logback/classic/LoggerContext.root"
+        children = "ch/qos/logback/classic/Logger.childrenList"
+        for name, line, right in (
+            ("JournalService", f"together {journal}, {screen}", 1),
+            ("JournalService", f"shop/Screen.old > together {screen}, {journal}", 1),
+            ("JournalService", journal, 0),
+            ("JournalService", f"together {journal}, static shop/Other.shown", 0),
+            ("JournalService", f"together {journal}, {screen}, static shop/Other.shown", 0),
+            ("LogbackService", f"together {children}, {cache}", 1),
+            ("LogbackService", f"together {root}, {cache}", 1),
+            ("LogbackService", f"together {root}, {children}", 0),
         ):
-            status, out = self.ended("leaks.sh", "JournalService", line=line)
+            status, out = self.ended("leaks.sh", name, line=line)
             self.assertIn(f"{right} right, {1 - right} wrong, ", out)
             self.assertEqual(status, 1 - right)
+
+    def test_several(self) -> None:
+        """Each of several leaks has to have one of the first lines, in any order."""
+        self.dump("LobbyService-before", "LobbyService-after")
+        log, pool = "several/LobbyService$Room.log", "static several/LobbyService$Names.POOL"
+        queue = "java/util/concurrent/ThreadPoolExecutor.workQueue"
+        named, other = 'leaks: room "entrance"', "static several/Other.ROOMS"
+        for lines, told, verdict in (
+            (f"{log}\n{pool}\n{queue}", named, "1 right, 0 wrong"),
+            (f"{queue}\n{other} > {log}\n{pool}\n{other}", named, "1 right, 0 wrong"),
+            (f"{log}\n{pool}\n{queue}", "", "0 right, 1 partly, 0 wrong"),
+            (f"{log}\n{pool}", named, "0 right, 1 partly, 0 wrong"),
+            (f"{log}\n{other}\n{pool}\n{queue}", named, "0 right, 1 partly, 0 wrong"),
+            (f"{log}\n{log}\n{pool}", named, "0 right, 1 partly, 0 wrong"),
+            (f"{other}\n{log}\n{pool}\n{queue}", named, "0 right, 1 wrong"),
+            ("", named, "0 right, 1 wrong"),
+        ):
+            status, out = self.ended("leaks.sh", "LobbyService", line=lines, told=told)
+            self.assertIn(f"{verdict}, 0 left out\n", out)
+            self.assertEqual(status, 0 if verdict.startswith("1 right") else 1)
+        self.assertIn(f"no line names {pool}, nor {queue} | ", self.ended("leaks.sh", "LobbyService", line=log)[1])
 
     def test_library(self) -> None:
         """The row of a program that needs libraries is read as another is."""

@@ -15,7 +15,7 @@ from heap_tools.which_object import HoldingObject
 from tests.support.told_probe import Things, ToldGains, field
 
 ROOT, INBOX, TEXT = (
-    Candidate(STATIC, "shop/A.ALL", 1, {}),
+    Candidate(STATIC, "shop/A.ALL", 1),
     field("shop/Tenant.inbox", 500),
     field("shop/Mail.text", 900),
 )
@@ -35,12 +35,12 @@ class NearlyAllTest(unittest.TestCase):
     """Whether a line counts as above another one."""
 
     def test_holds_part(self) -> None:
-        """It is above one that has up to a tenth of its objects elsewhere, unless they lead to more together."""
-        for elsewhere, both, is_above in ((10, 0, True), (11, 0, False), (10, 1, False)):
-            things: Things = [([["A.a"], ["L.list"]], 90), ([["L.list"]], elsewhere), ([["A.a", "L.list"]], both)]
+        """It is above one that has up to a tenth of its objects elsewhere."""
+        for elsewhere, is_above in ((10, True), (11, False)):
+            things: Things = [([["A.a"], ["L.list"]], 90), ([["L.list"]], elsewhere)]
             probe = ToldGains([], things)
             upper, lower = (probe.retained([field(name)]) for name in ("A.a", "L.list"))
-            self.assertEqual(probe.holds_part(upper, lower, NEARLY), is_above, (elsewhere, both))
+            self.assertEqual(probe.holds_part(upper, lower, NEARLY), is_above, elsewhere)
 
 
 class LinesTest(unittest.TestCase):
@@ -48,25 +48,12 @@ class LinesTest(unittest.TestCase):
 
     def lines(self, found: Sequence[Candidate], earlier: Things, things: Things, before: int = 0) -> Lines:
         """Returns the lines about `found`, each of which had `before` instances, and has a value in all."""
-        probe = ToldGains(earlier, things)
-        probe.runs = mock.Mock()
+        probe = ToldGains(earlier, things, FIELDS)
         uses = mock.Mock(count=lambda each: each.count)
-        probe.candidates = mock.Mock(**{"statics.return_value": [], "fields.return_value": FIELDS})
-        probe.base = mock.Mock()
         search = mock.Mock(found=[probe.retained([each]) for each in found], steady=[])
         with mock.patch.object(type(probe.earlier), "instances", return_value=before):
             with mock.patch("heap_tools.leak_lines.FieldUses", return_value=uses):
                 return Lines(search, probe, [])
-
-    def test_asked_at_once(self) -> None:
-        """Whether the lines that may be on the path of the best one are on it is asked of all at once, and once. Then
-        it is asked whether one of the two others is below the other."""
-        things: Things = [([[each.name] for each in FIELDS], 100), *(([[each.name]], 5) for each in FIELDS)]
-        lines = self.lines(FIELDS, [], things)
-        with mock.patch("heap_tools.probe.reports_of", return_value=[]) as asked:
-            found = lines.sorted()
-            self.assertEqual((len(found), asked.call_count), (3, 2))
-            self.assertEqual((lines.sorted(), asked.call_count), (found, 2))
 
     def asked(self, objects: Sequence[List[HoldingObject]]) -> Tuple[Optional[LineObjects], List[str], int]:
         """Asks of the mails which objects gained most: `objects` are what is found, of one line after another. Returns
@@ -90,7 +77,7 @@ class LinesTest(unittest.TestCase):
     def leading(self, answer: Candidate, named: bool) -> Tuple[Optional[LineObjects], List[int]]:
         """Returns what leads to the answer `answer`, the object 77, below fields of 24 and of 9 instances, and how many
         instances have the fields that are asked which of them does: it has a name if `named`."""
-        above = [field("shop/Topic.feed", 24), field("shop/Feed.store", 9), Candidate(STATIC, "shop/A.ALL", 1, {})]
+        above = [field("shop/Topic.feed", 24), field("shop/Feed.store", 9), Candidate(STATIC, "shop/A.ALL", 1)]
         things: Things = [([[each.name] for each in [answer, *above]], 100), ([["shop/A.ALL"], [above[0].name]], 5)]
         lines = self.lines([*above, answer], [], things, before=1)
         lines.uses = mock.Mock(**{"of.return_value": Parts([FieldValue(77, 78)])})
@@ -110,7 +97,7 @@ class LinesTest(unittest.TestCase):
         self.assertEqual((str(found.held.candidates[0]), asked), ("shop/Feed.store", [9]))
         self.assertEqual(self.leading(field("shop/Store.events"), False), (None, [9, 24]))
         self.assertEqual(self.leading(field("shop/Store.events", 2), True), (None, []))
-        self.assertEqual(self.leading(Candidate(STATIC, "shop/Store.EVENTS", 1, {}), True), (None, []))
+        self.assertEqual(self.leading(Candidate(STATIC, "shop/Store.EVENTS", 1), True), (None, []))
 
     def test_elements(self) -> None:
         """A field that came with new instances is the answer if elements of what was the answer gained most by it."""
@@ -137,26 +124,26 @@ class LinesTest(unittest.TestCase):
             earlier: Things = [([["shop/S.green"]], before), ([["shop/S.blue"]], 90)]
             lines = self.lines([green], earlier, [([["shop/S.blue"], ["shop/S.green"]], 100)], before=1)
             assert isinstance(lines.probe, ToldGains)
-            asked = ["shop/S.blue", "shop/S.green"] in lines.probe.earlier.asked
+            asked = ["shop/S.blue", "shop/S.green"] in lines.probe.asked("before")
             self.assertEqual(asked, is_asked, before)
 
     def test_chain(self) -> None:
         """A field that holds more than half of its own instances is a chain."""
         for held, is_chain in ((100, False), (101, True)):
-            follower = Candidate(FIELD, "shop/Thing.next", 200, {}, frozenset(["shop/Thing"]))
+            follower = Candidate(FIELD, "shop/Thing.next", 200, classes=frozenset(["shop/Thing"]))
             lines = self.lines([follower], [], [([["shop/Thing.next"]], held)])
             self.assertEqual(lines.features[0].is_chain, is_chain, held)
 
-    def test_kin_asked(self) -> None:
-        """What the fields of a class hold now is asked only if they held more than half of it before: else it cannot
-        show that they gained little."""
+    def test_kin_of_which(self) -> None:
+        """What the fields of a class hold counts only if they held more than half of it before: else it cannot show
+        that they gained little."""
         _, green, _ = FIELDS
         for before, is_asked in ((50, False), (51, True)):
             things: Things = [([["shop/S.blue"], ["shop/S.green"]], 100)]
             lines = self.lines([green], [([["shop/S.blue"]], before)], things, before=1)
             assert isinstance(lines.probe, ToldGains)
-            self.assertEqual(["shop/S.blue", "shop/S.green"] in lines.probe.asked, is_asked)
-            self.assertIn(["shop/S.blue", "shop/S.green"], lines.probe.earlier.asked)
+            self.assertEqual(len(lines.others), is_asked)
+            self.assertIn(["shop/S.blue", "shop/S.green"], lines.probe.asked("before"))
 
 
 if __name__ == "__main__":

@@ -1,16 +1,17 @@
 """Tests what leaks says beside its lines."""
 
 import unittest
-from typing import Any, List
+from typing import Any, Dict, List
 from unittest import mock
 
 from heap_tools.candidates import FIELD, Candidate
 from heap_tools.direct_buffers import DirectMemory
 from heap_tools.leak_lines import Answer, Line, LineObjects
-from heap_tools.leak_notes import PATTERNS, Notes, captured_words, notes_of, objects_words, shown_objects
+from heap_tools.leak_notes import PATTERNS, Notes, captured_words, notes_of, notes_words, objects_words
+from heap_tools.leak_notes import own_classes_words, shown_objects
 from heap_tools.naming import Name
 from heap_tools.probe import Retained
-from heap_tools.reports import Amount, Unit
+from heap_tools.reports import Amount, Report, Row, Unit
 from heap_tools.thread_counts import ThreadCount
 from heap_tools.which_object import HoldingObject
 
@@ -18,7 +19,7 @@ from heap_tools.which_object import HoldingObject
 def line(name: str, holders: int, share: float = 90.0, before: int = 9) -> Line:
     """Returns a line about a field with so many holders: nine hold 90 bytes now, and as many as there were held ten
     bytes each before, or none."""
-    held = Retained([Candidate(FIELD, name, holders, {})], Amount(9, 90), Amount(9, 90), {})
+    held = Retained([Candidate(FIELD, name, holders)], Amount(9, 90), Amount(9, 90), {})
     was = Amount(before, 10 * before) if before < 9 else Amount()
     return Line(held, was, share, [], before)
 
@@ -63,11 +64,32 @@ class LeakNotesTest(unittest.TestCase):
         """Of many patterns of threads only the first ones are said."""
         counts = [ThreadCount(f"pool-{letter}-*", 1, 9, []) for letter in "abcdefgh"]
         with mock.patch("heap_tools.leak_notes.grown_thread_counts", return_value=counts):
-            comparison = mock.Mock(direct=(DirectMemory(), DirectMemory()))
+            comparison = mock.Mock(direct=(DirectMemory(), DirectMemory()), dumps=[])
             comparison.weak_words = ""
             comparison.first.dump.classes = comparison.last.dump.classes = {}
             found = notes_of(comparison, self.answer(), shows_values=True)
         self.assertEqual((found, PATTERNS), (Notes(None, counts[:3], []), 3))
+
+    def test_own_classes(self) -> None:
+        """The own classes of which there are most objects more, those first that grew at each step; in one sentence."""
+
+        def reports(*steps: Dict[str, int]) -> List[Report]:
+            rows = [[Row(name, Amount(count, 9 * count)) for name, count in step.items()] for step in steps]
+            return [Report(each) for each in rows]
+
+        before = {"shop/Job": 5, "shop/Task": 9, "java/lang/String": 1, "byte[]": 1, "<class>": 1}
+        after = {"shop/Job": 6005, "shop/Task": 9, "java/lang/String": 70, "byte[]": 70, "<class>": 70}
+        said = "own classes that grew: 6,000 shop/Job"
+        self.assertEqual(own_classes_words(reports(before, after)), said)
+        self.assertEqual(own_classes_words(reports(after, before)), "")
+        more = {**after, "A$$Lambda$1+0x0a": 2, "A$$Lambda$2+0x0b": 2, "B": 3, "[LC;": 2, "D": 1}
+        said = "own classes that grew: 6,000 shop/Job, 4 A$$Lambda, 3 B, and 2 classes more: see grown --own"
+        self.assertEqual(own_classes_words(reports(before, more)), said)
+        middle = {**before, "shop/Job": 6005, "B": 1}
+        said = "own classes that grew: 3 B, 6,000 shop/Job, 4 A$$Lambda, and 2 classes more: see grown --own"
+        self.assertEqual(own_classes_words(reports(before, middle, more)), said)
+        found = Notes(None, [], ["the end"], own_classes="own classes that grew: 3 B")
+        self.assertEqual(notes_words(found), ["own classes that grew: 3 B", "the end"])
 
 
 if __name__ == "__main__":

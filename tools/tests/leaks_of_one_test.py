@@ -33,7 +33,7 @@ class LeaksOfOneTest(ToolTest):
             "leaks: 18.0 kB are reachable, in 1,010 objects",
             "leaks: line 1 holds 400 byte[[]] (8.0 kB), 400 shop/Order (3.2 kB), 1 [[]Ljava/lang/Object; (3.2 kB)",
             SECOND,
-            "leaks: * fields, * runs of heapmark, * s",
+            "leaks: * fields, * run of heapmark and * of retained, * s",
         ]
         self.expect(["cache.hprof"], self.TABLE + self.CACHE + self.TEXT, "\n".join(said))
         more = f"{said[0]}\n{said[1]}\nleaks: 2 more hold 20% or more: see --top\n*"

@@ -59,7 +59,7 @@ class LeaksTest(ToolTest):
     """leaks on services."""
 
     tool = "leaks"
-    COST = "leaks: * fields, * runs of heapmark, * s"
+    COST = "leaks: * fields, * runs of heapmark and * of retained, * s"
     CUT = "leaks: cut: ends too early: still being written, or cut (refused 3 Truncated at [0-9]*)"
     PATH = "static shop/Service.CACHE > shop/Cache.table"
     FINALIZER = "static java/lang/ref/Finalizer.unfinalized"
@@ -86,7 +86,8 @@ class LeaksTest(ToolTest):
         self.assertNotIn("Catalog", lines)
         rows = self.found(cache(20, id_size=4), cache(80, id_size=4))
         self.assertEqual([rows[0][0], rows[0][1], rows[0][6]], ["120", "1680", self.PATH])
-        self.assertEqual(self.ran("monday", "friday").said.count("\n"), 1)
+        (classes, _) = self.ran("monday", "friday").said.splitlines()
+        self.assertEqual(classes, "leaks: own classes that grew: 60 shop/Order")
         first = self.ran("--top=1", "monday", "friday")
         self.assertEqual(first.out, lines.splitlines(True)[0])
         self.assertIn("leaks: 2 more hold 30% or more: see --top\n", first.said)
@@ -374,6 +375,24 @@ class LeaksTest(ToolTest):
         more = "1 object more, 500 bytes more are unreachable: *waiting virtual threads hold them*: see grown *"
         self.expect(["friday", "lost"], said=f"{said}; {more}", status=3)
 
+    def test_more_than(self) -> None:
+        """A growth that the user allows has no line, and status 0; more has its lines, and status 3."""
+        lines = self.ran("monday", "friday").out
+        self.assertNotEqual(lines, "")
+        self.expect(["--more-than", "2159", "monday", "friday"], lines, self.COST, status=3)
+        said = "leaks: reachable: 4,348 bytes, then 6,508: not more than 2,160 bytes more"
+        self.expect(["--more-than", "2160", "--html", "page.html", "monday", "friday"], said=said)
+        self.assertFalse(os.path.exists("page.html"))
+        cache(80, minutes=15).write("later")
+        said = "leaks: reachable: 6,508 bytes, then 6,508: not more than 0 bytes more"
+        self.expect(["--more-than", "0", "friday", "later"], said=said)
+        said = "leaks: shop.Order: 160 bytes, then 640: not more than 480 bytes more"
+        self.expect(["--more-than", "480", "--class", "shop.Order", "monday", "friday"], said=said)
+        first = self.ran("--more-than", "479", "--class", "shop.Order", "monday", "friday")
+        self.assertEqual((first.status, first.out.splitlines()[0].split()[0]), (3, "60"))
+        said = "leaks: --more-than: one dump shows no growth: a later one does"
+        self.expect(["--more-than", "0", "friday"], said=said, status=2)
+
     def test_nothing_found(self) -> None:
         """What grew are roots themselves: no line, and which option may help. More is unreachable than grew: so it is
         said, too."""
@@ -496,10 +515,11 @@ class LeaksTest(ToolTest):
         self.assertFalse(os.path.exists("page.html"))
 
     def test_heapmark(self) -> None:
-        """A heapmark that fails later."""
-        later = self.program('[ "$(wc -l < runs)" -lt 6 ] || kill -9 $$\nexec HEAPMARK "$@"')
-        said = "leaks: *: run [5-7] on * failed: signal 9"  # three begin at once
-        self.expect(["--html", "page.html", "monday", "friday"], said=said, status=5, heapmark=later)
+        """A retained that fails later, and programs that are missing."""
+        later = self.program('[ "$(wc -l < runs)" -lt 3 ] || kill -9 $$\nexec RETAINED "$@"')
+        said = "leaks: *: run [34] on * failed: signal 9"  # two begin at once
+        words = ["--html", "page.html", "monday", "friday"]
+        self.expect(words, said=said, status=5, variables={"RETAINED": later})
         self.assertFalse(os.path.exists("page.html"))
         said = "leaks: /nowhere cannot be run: No such file or directory: the variable HEAPMARK names it"
         self.expect(["monday", "friday"], said=said, status=5, heapmark="/nowhere")
@@ -523,7 +543,7 @@ class LeaksTest(ToolTest):
         _, seen = self.on_terminal("monday", "friday")
         parts = seen.split("\r")
         self.assertEqual(parts[0], "leaks: reading dump 1 of 2")
-        self.assertTrue(any(" fields left; found static shop/Service.CACHE, 100%" in part for part in parts), seen)
+        self.assertTrue(any("asking what each field holds" in part for part in parts), seen)
         self.assertTrue(parts[-1].startswith("leaks: "), seen)
 
 

@@ -9,10 +9,11 @@ from dataclasses import replace
 from typing import Any, Dict, List, NamedTuple, Sequence, Set, Tuple
 
 from heap_tools import line_order
-from heap_tools.candidates import FIELD, LOCAL, STATIC, THREAD, THREADS
+from heap_tools.candidates import FEW, FIELD, LOCAL, STATIC, THREAD, THREADS
 from heap_tools.commands import leaks
 from heap_tools.line_features import Features
-from heap_tools.line_order import FEW, LASTS, MOST, MOST_ASKED, NEARLY, LineOrder, Scoring, part_gained
+from heap_tools.line_order import LASTS, MOST, MOST_ASKED, NEARLY, LineOrder, Scoring, part_gained
+from tests.support.tool_test import TOP
 
 GROWTH = 1000
 #: What words in parentheses mean. `moved`: what gained nothing, and is no line; `other`: it gained what others lost.
@@ -293,14 +294,16 @@ class LineOrderTest(unittest.TestCase):
             upper = replace(found, gains={"shop/Moved": moved, "shop/Less": 50})
             self.assertEqual(part_gained(lower, upper), part, moved)
 
-    def test_help(self) -> None:
-        """The help of leaks quotes the order."""
+    def test_page(self) -> None:
+        """docs/LEAK.md quotes the order, which the help of leaks says in short, without scores."""
         quoted = " ".join((line_order.__doc__ or "").partition("\n\n")[2].split())
-        self.assertIn(quoted, " ".join(leaks.NOTES.split()))
+        self.assertIn(quoted, (TOP / "docs/LEAK.md").read_text(encoding="utf-8"))
         self.assertEqual(quoted.count(". ") + 1, 5)
+        self.assertIn("the accumulation point", leaks.NOTES)
+        self.assertNotIn("score", leaks.NOTES)
 
     def test_numbers(self) -> None:
-        """The numbers that README and the help have."""
+        """The numbers that docs/LEAK.md has."""
         self.assertEqual((MOST, NEARLY, LASTS, FEW, MOST_ASKED), (0.5, 0.9, 0.25, 64, 3))
 
 

@@ -25,8 +25,8 @@ class UsesTest(unittest.TestCase):
         for number, values in enumerate(((7, 8), (0, 8))):
             dump.instance(1000 + number, 1, *values)
         dump.instance(2000, 2, 9)
-        mails = [Candidate(FIELD, f"shop/Mail.{name}", 2, {}) for name in ("cc", "text")]
-        every, room = (Candidate(kind, f"shop/Chat.{name}", 1, {}) for kind, name in ((STATIC, "ALL"), (FIELD, "room")))
+        mails = [Candidate(FIELD, f"shop/Mail.{name}", 2) for name in ("cc", "text")]
+        every, room = (Candidate(kind, f"shop/Chat.{name}", 1) for kind, name in ((STATIC, "ALL"), (FIELD, "room")))
         found = read(dump)
         uses = FieldUses(HeapObjects(found), mails)
         with mock.patch.object(object_parts, "values_by_field", side_effect=values_by_field) as walk:
@@ -34,11 +34,7 @@ class UsesTest(unittest.TestCase):
             self.assertEqual([uses.count(each) for each in mails], [1, 2])
             self.assertEqual(([uses.only_target(each) for each in mails], walk.call_count), ([0, 8], 1))
             self.assertEqual(([uses.only_target(room), uses.count(room)], walk.call_count), ([9, 1], 2))
-            begun = FieldUses(HeapObjects(found), mails)
-            begun.begin()
-            self.assertEqual(([begun.count(each) for each in [*mails, *mails]], walk.call_count), ([1, 2, 1, 2], 2))
-            self.assertEqual((begun.count(room), walk.call_count), (1, 3))
-        ((instance, value),), (other,) = uses.of(mails[0]).values, uses.of(mails[0]).others
+        ((instance, value, _),), (other,) = uses.of(mails[0]).values, uses.of(mails[0]).others
         self.assertEqual([found.id(at) for at in (instance + 1, value, other + 1)], [1000, 7, 1001])
 
 

@@ -19,9 +19,10 @@ COMPACT = Layout(8, 8, 4, 12)
 REAL = pathlib.Path(__file__).parent / "../../bench/real"
 
 
-def sizes_of(heap: LaidOutHeap, shuffled: bool = False) -> ObjectSizes:
-    """Returns the sizes in a heap to which some hundreds of other objects are added."""
-    heap.mixed(200)
+def sizes_of(heap: LaidOutHeap, shuffled: bool = False, hole: int = 0) -> ObjectSizes:
+    """Returns the sizes in a heap to which some hundreds of other objects are added, with a hole of `hole` bytes after
+    every ninth."""
+    heap.mixed(200, hole)
     return ObjectSizes(heap.read(shuffled))
 
 
@@ -29,16 +30,16 @@ class AddedFieldsTest(unittest.TestCase):
     """What the virtual machine adds."""
 
     def sizes(
-        self, added: Sequence[int], name: str = "shop/Order", count: int = 1, shuffled: bool = False
+        self, added: Sequence[int], name: str = "shop/Order", count: int = 1, shuffled: bool = False, hole: int = 0
     ) -> List[int]:
         """Returns the sizes that are found of classes with one reference and one int, which have 20 bytes, if `count`
-        objects of each have so many more."""
+        objects of each have so many more. The heap has holes of `hole` bytes."""
         heap = LaidOutHeap(COMPRESSED)
         classes = [heap.of_class(f"{name}{at or ''}", 1, 1) for at in range(len(added))]
         for _ in range(count):
             for each, more in zip(classes, added):
                 heap.instance(each, more)
-        found = sizes_of(heap, shuffled)
+        found = sizes_of(heap, shuffled, hole)
         return [found.instance(each) for each in classes]
 
     def test_too_small_for_an_object(self) -> None:
@@ -50,6 +51,28 @@ class AddedFieldsTest(unittest.TestCase):
         """What is as large as an object counts if four objects show it, but not if garbage may have been there."""
         for count, shuffled, size in ((3, False, 24), (4, False, 40), (9, True, 24)):
             self.assertEqual(self.sizes([16], count=count, shuffled=shuffled), [size], (count, shuffled))
+        for hole in (16, 24):
+            self.assertEqual(self.sizes([16], count=9, hole=hole), [24], hole)
+
+    def test_a_word(self) -> None:
+        """Of classes to which OpenJDK adds one word, that is taken if no object shows how much it is."""
+        cases: List[Tuple[str, List[int], int]] = [
+            ("java/lang/Module", [], 32),
+            ("java/lang/Module", [300], 32),
+            ("java/lang/Module", [8], 32),
+            ("java/lang/Module", [16, 16], 40),
+            ("java/lang/Module", [0], 24),
+            ("java/lang/ClassLoader", [], 32),
+            ("java/lang/Thread", [], 24),
+        ]
+        for name, added, size in cases:
+            heap = LaidOutHeap(COMPRESSED)
+            of_class = heap.of_class(name, 1, 1)
+            subclass = heap.of_class("shop/Heir", 0, 0, of_class)
+            for more in added:
+                heap.instance(of_class, more)
+            found = sizes_of(heap)
+            self.assertEqual([found.instance(each) for each in (of_class, subclass)], [size] * 2, (name, added))
 
     def test_classes_of_the_virtual_machine(self) -> None:
         """Of classes to which the virtual machine adds fields two objects show how many."""
@@ -59,9 +82,12 @@ class AddedFieldsTest(unittest.TestCase):
                 self.assertEqual(found, [size], (count, shuffled))
 
     def test_room(self) -> None:
-        """Two objects show room around fields that several threads write."""
-        for count, size in ((1, 24), (2, 280)):
-            self.assertEqual(self.sizes([256], count=count, shuffled=True), [size])
+        """One object shows room around fields that several threads write; more are needed if there are holes as long
+        as that after one of ten others."""
+        for count, hole, size in ((1, 0, 280), (1, 24, 280), (1, 256, 24), (4, 256, 280)):
+            for shuffled in (False, True):
+                found = self.sizes([256], count=count, shuffled=shuffled, hole=hole)
+                self.assertEqual(found, [size], (count, hole, shuffled))
 
     def test_two_that_agree(self) -> None:
         """Of classes to which the virtual machine adds fields, and of room, two objects count that have the same, and
@@ -207,6 +233,44 @@ class AddedFieldsTest(unittest.TestCase):
         heap.instance(express, 4)
         found = sizes_of(heap)
         self.assertEqual([found.instance(each) for each in (order, express)], [24, 32])
+
+
+class DoubtsTest(unittest.TestCase):
+    """Of which classes it is not sure what their objects take."""
+
+    def test_holes(self) -> None:
+        """Of those whose objects are all farther from the next than they are long, if that is no addition."""
+        cases: List[Tuple[List[int], Dict[str, int]]] = [([], {}), ([0, 48], {}), ([48, 64], {"shop/Order": 48})]
+        cases += [([8], {}), ([48] * 4, {})]
+        for added, off in cases:
+            heap = LaidOutHeap(COMPRESSED)
+            order = heap.of_class("shop/Order", 2, 1)  # 24 bytes
+            for more in added:
+                heap.instance(order, more)
+            found = sizes_of(heap)
+            self.assertEqual(found.rows.doubts, off, added)
+            rows = [Row("shop/Order", Amount(5, 1)), Row("shop/Other", Amount(9, 1))]
+            self.assertEqual(found.rows.unsure(rows), (len(off), 5 * off.get("shop/Order", 0)))
+
+    def test_smallest_of_cms(self) -> None:
+        """What is smaller than any object is no hole."""
+        heap = LaidOutHeap(COMPRESSED)
+        for name in ("shop/Box", "shop/Case"):
+            heap.instance(heap.of_class(name, 0, 1), 8)
+        self.assertEqual(sizes_of(heap).rows.doubts, {})
+
+    def test_placing(self) -> None:
+        """Of those without a neighbour, if their fields may be placed in another way: less than four objects show that
+        they are not, or others have the size that they then would have."""
+        for instances, of_three in (([0] * 3, 8), ([0] * 4, 0), ([0] * 8 + [8] * 2, 0), ([0] * 7 + [8] * 2, 8)):
+            heap = LaidOutHeap(COMPRESSED)
+            flag = heap.of_class("shop/Flag", has_byte=True)
+            flags = heap.of_class("shop/Flags", 0, 0, flag, has_byte=True)
+            three = heap.of_class("shop/Three", 0, 0, flags, has_byte=True)
+            for more in instances:
+                heap.instance(flags, more)
+            found = sizes_of(heap)
+            self.assertEqual((found.instance(three), found.rows.doubts.get("shop/Three", 0)), (16, of_three), instances)
 
 
 class RowsTest(unittest.TestCase):

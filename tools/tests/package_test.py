@@ -23,7 +23,8 @@ RETAINED = TOP / "crates/retained/out/retained"
 #: The programs that are built.
 BUILT: dict[str, str | pathlib.Path] = {"heapmark": BINARY, "retained": RETAINED}
 TOOLS = ("leaks", "grown", "holders", "held", "sizes")
-DOCUMENTS = ("README.md", "docs/LEAK.md", "docs/JSON.md", "docs/HISTOGRAM.md", "docs/FORMAT.md", "docs/LABELS.md")
+PAGES = ("LEAK", "OPTIONS", "JSON", "HISTOGRAM", "FORMAT", "LABELS")
+DOCUMENTS = ("README.md", *(f"docs/{name}.md" for name in PAGES))
 #: The headings of the help, and those of a manual page.
 HEADINGS = {"Usage: ": "", **{f"{head}:": head.upper() for head in ("Arguments", "Options", "Exit status", "Example")}}
 HEADINGS["Examples:"] = "EXAMPLE"
@@ -59,8 +60,9 @@ def words_of(text: str) -> Counter[str]:
 
 
 def refusals() -> list[list[str]]:
-    """Returns the rows of the README's table of refusals, without links: the codes with their names, and what to do."""
-    text = (TOP / "README.md").read_text(encoding="utf-8")
+    """Returns the rows of the table of refusals in docs/OPTIONS.md, without links: the codes with their names, and what
+    to do."""
+    text = (TOP / "docs/OPTIONS.md").read_text(encoding="utf-8")
     (table,) = re.findall(r"^\| Refusal .*\n\|[-|]+\n((?:\|.*\n)+)", text, re.M)
     rows = [line.strip("|").split("|") for line in re.sub(r"\[([^]]*)\]\([^)]*\)", r"\1", table).splitlines()]
     return [[cell.strip() for cell in row] for row in rows]
@@ -170,7 +172,7 @@ class PackageTest(unittest.TestCase):
                 self.assertEqual(part in plain, name != "retained", name)
 
     def test_refusals(self) -> None:
-        """The README's refusals are those of FORMAT."""
+        """The refusals of OPTIONS are those of FORMAT."""
         of_format = (TOP / "docs/FORMAT.md").read_text(encoding="utf-8")
         found = [pair for cell, _ in refusals() for pair in re.findall(r"([0-9]+) `([A-Za-z]+)`", cell)]
         self.assertGreater(len(found), 5)

@@ -11,10 +11,12 @@ from typing import List, Sequence, Tuple
 from heap_tools.class_names import shown
 from heap_tools import page
 from heap_tools.page import templates
+from heap_tools.page.chart_lines import series_of, time_places
+from heap_tools.page.words import bare
 from tests.support import page_sample
 from tests.support.dump_writer import DumpWriter
 from tests.support.hostile_names import HOSTILE_CLASSES, SCRIPT, hostile_leak, hostile_one_dump
-from tests.support.in_browser import CUT, LOW_CONTRAST, SCROLLING, InBrowser
+from tests.support.in_browser import COVERED, CUT, ENDS, LOW_CONTRAST, SCROLLING, SMALL, InBrowser
 from tests.support.picture import picture_of
 from tests.support.services import cache
 from tests.support.tool_test import ToolTest
@@ -221,12 +223,54 @@ class BrowserTest(InBrowser):
                 self.assertLess(max(map(len, empty.split("x"))) / scale, 80, width)
             self.assertEqual(len(heights), 1)
 
-    def test_wide_table_scrolls(self) -> None:
-        """Between the two widths a table may be wider than its place: then a shadow shows that it scrolls."""
+    def test_each_width(self) -> None:
+        """In a window of each width from 390 to 1,280 pixels all text has at least 11, and no column is cut."""
+        every: List[page.Content] = [page_sample.full_leak(), page_sample.one_dump(), page_sample.sizes()]
+        for it in every:
+            self.open_page_of(it)
+            for width in 390, 520, 640, 641, 768, 900, 1040, 1041, 1160, 1280:
+                with self.subTest(width):
+                    self.browser.show(width)
+                    self.check_shown(width)
+                    self.assertEqual(self.browser.value(SMALL), [])
+
+    def test_numbers_of_the_chart(self) -> None:
+        """The first and the last number of each line are beside it, whatever the lines do, and nothing covers a number:
+        on wide, middle and narrow screens and on paper."""
+        heaps = [
+            ((5, 1, 0), (60, 55, 0)),
+            ((60, 58, 2), (61, 59, 40)),
+            ((9, 8, 7), (60, 3, 59)),
+            ((3, 0, 0), (9, 9, 9)),
+        ]
+        every = [page_sample.full_leak(), *(page_sample.leak_from(first, last) for first, last in heaps)]
+        for it in every:
+            self.open_page_of(it)
+            series = series_of(it, time_places(it.dumps))
+            wanted = [[bare(line.numbers[at], it.by) for line in series] for at in (0, -1)]
+            for width, media in (
+                (390, "screen"),
+                (641, "screen"),
+                (1040, "screen"),
+                (1280, "screen"),
+                (A4_WIDTH, "print"),
+            ):
+                with self.subTest(width=width, lines=wanted):
+                    self.browser.show(width, media=media)
+                    self.assertEqual(self.browser.value(COVERED), [])
+                    self.assertEqual(self.browser.value(ENDS), wanted)
+
+    def test_wide_tables(self) -> None:
+        """In a window of middle width each row of a wide table is a card. Should a table still be wider than its place,
+        a shadow shows that it scrolls."""
         self.open_page_of(page_sample.full_leak())
-        self.browser.show(660)
-        self.assertLessEqual(self.browser.value("document.documentElement.scrollWidth"), 660)
-        self.assertIn("dumps", self.browser.value(SCROLLING))
+        heads = "[...document.querySelectorAll('.cards thead')].map(it => it.getBoundingClientRect().height > 1)"
+        for width, has_heads in ((1041, True), (1040, False), (641, False), (640, False)):
+            self.browser.show(width)
+            self.assertEqual(self.browser.value(heads), [has_heads] * 4)
+        cells = "[...document.querySelectorAll('#holders .holders tr:first-child td')].map(it => it.offsetTop)"
+        self.browser.show(768)
+        self.assertEqual(len(set(self.browser.value(cells)[:5])), 1)
         style = self.browser.value("getComputedStyle(document.querySelector('.scroll')).backgroundAttachment")
         self.assertEqual(sorted(set(style.split(", "))), ["local", "scroll"])
 
@@ -285,6 +329,20 @@ class BrowserTest(InBrowser):
         self.assertIn(SCRIPT, self.texts("#holders .contents tbody th"))
         self.assertEqual(self.browser.value("document.images.length + document.links.length"), 7)
 
+    def test_names_from_right_to_left(self) -> None:
+        """A name that is written from right to left does not turn what is around it: the steps of a path are in their
+        order, and the bytes of a group come after its name."""
+        name = "\u05d7\u05d1\u05e8\u05d4/\u05de\u05d8\u05de\u05d5\u05df"
+        above = [page_sample.step(f"{name}.\u05d0{number}") for number in range(3)]
+        first = dataclasses.replace(page_sample.holders()[0], above=above, fields=[page_sample.field(f"{name}.\u05d0")])
+        shares = [page_sample.share(f"{name}.\u05d0", {"byte[]": (9, 19_000_000)})]
+        self.open_page_of(page_sample.full_leak(holders=[first], shares=shares))
+        for selector in "header .path li", "svg.treemap.wide .group-name:first-of-type tspan":
+            places = f"[...document.querySelectorAll('{selector}')].map(it => it.getBoundingClientRect()).slice(0, 2)"
+            (before, after) = self.browser.value(f"{places}.map(it => [it.left, it.right])")
+            self.assertGreater(before[1], before[0] + 20)
+            self.assertGreaterEqual(after[0], before[1] - 1, selector)
+
     def test_screen_reader(self) -> None:
         """The parts that a screen reader finds have names, on narrow screens, too."""
         self.open_page_of(page_sample.leak())
@@ -329,12 +387,16 @@ class BrowserTest(InBrowser):
                 self.assertEqual(self.browser.value(REFUSED % (tag, attributes)), rule)
 
     def test_the_browser_sees_what_is_wrong(self) -> None:
-        """These tests would see a page that fetches, runs, overflows, is cut or is pale."""
+        """These tests would see a page that fetches, runs, overflows, is cut, is pale, or has a chart with a small text
+        or one that a line crosses."""
         pale = "<p style='color: #999; width: 2000px'>pale"
         cut = f"<div class=scroll style='width: 50px; overflow: auto'><table class=wide><td>{'x' * 200}</table></div>"
+        line = "<svg class=lines width=300 height=60><polyline points='0,50 300,50'/></svg>"
+        texts = "<text x=10 y=54 font-size=10>crossed</text><text x=9 y=20>one</text><text x=12 y=24>two</text>"
+        chart = f"<svg class=chart width=300 height=60>{line}{texts}</svg>"
         with tempfile.TemporaryDirectory() as room:
             file = pathlib.Path(room, "wrong.html")
-            file.write_text(f"{pale}<img src='http://127.0.0.1:9/x'><script>alert(1)</script></p>{cut}")
+            file.write_text(f"{pale}<img src='http://127.0.0.1:9/x'><script>alert(1)</script></p>{cut}{chart}")
             self.browser.open(file.as_uri())
         self.assertIn("http://127.0.0.1:9/x", self.browser.fetched())
         self.assertGreaterEqual(len(self.browser.logged()), 2)
@@ -342,6 +404,8 @@ class BrowserTest(InBrowser):
         self.assertGreater(self.browser.value("document.documentElement.scrollWidth"), 1280)
         self.assertEqual(self.browser.value(SCROLLING), ["wide"])
         self.assertEqual(self.browser.value(CUT), ["x" * 40])
+        self.assertEqual(self.browser.value(SMALL), ["crossed"])
+        self.assertEqual(self.browser.value(COVERED), ["crossed", "one", "two"])
 
 
 if __name__ == "__main__":

@@ -2,11 +2,13 @@
 
 import unittest
 from typing import List, Tuple
+from unittest import mock
 
 from heap_tools.candidates import FIELD, STATIC, THREADS, Candidate
 from heap_tools.leak_lines import Line
-from heap_tools.page_content import command_line, growth_entries, steps_from
-from heap_tools.probe import Retained
+from heap_tools import page
+from heap_tools.page_content import command_line, contents_of_growth, growth_entries, share_entries, steps_from
+from heap_tools.probe import GrowthProbe, Retained
 from heap_tools.reports import Amount, Report, Row, Unit
 
 
@@ -36,11 +38,28 @@ class ContentTest(unittest.TestCase):
             self.assertEqual(of_a.amounts, [Amount(1, 8), Amount(), Amount(4, 32)])
             self.assertEqual(of_a.growth, Amount(3, 24))
 
+    def test_what_line_1_holds(self) -> None:
+        """The classes of what it holds in the last dump and what it held in the first: those that grew most first."""
+        static = Candidate(STATIC, "shop/Cache.ALL", 1, ())
+        now = {"A": Amount(5, 50), "B": Amount(9, 40), "C": Amount(1, 1)}
+        was = Retained([static], Amount(), Amount(), {"A": Amount(4, 40), "B": Amount(1, 10), "D": Amount(1, 2)})
+        held = Retained([static], Amount(15, 91), Amount(15, 91), now)
+        it = Line(held, Amount(6, 52), 100.0, [], 1)
+        for unit, wanted in ((Unit.BYTES, "BACD"), (Unit.OBJECTS, "BACD")):
+            probe = mock.create_autospec(GrowthProbe, instance=True, unit=unit)
+            probe.before.return_value = was
+            found = contents_of_growth(it, probe)
+            self.assertEqual("".join(each.name for each in found), wanted)
+            self.assertEqual(found[0].amounts, [Amount(1, 10), Amount(9, 40)])
+            self.assertEqual(found[3].amounts, [Amount(1, 2), Amount()])
+        self.assertEqual(share_entries([it, it]), [page.ShareEntry([page.FieldEntry(STATIC, "shop/Cache.ALL")], now)])
+        self.assertEqual(share_entries([]), [])
+
     def test_steps(self) -> None:
         """Commands on the first line and the first own class; held has no word for all threads."""
-        static = Candidate(STATIC, "shop/Cache.ALL", 1, {})
-        field = Candidate(FIELD, "shop/Cache$Node.next", 7, {})
-        every = Candidate(THREADS, "", 9, {})
+        static = Candidate(STATIC, "shop/Cache.ALL", 1)
+        field = Candidate(FIELD, "shop/Cache$Node.next", 7)
+        every = Candidate(THREADS, "", 9)
         classes = ["java/lang/String", "shop/Order"]
         cases: List[Tuple[List[Line], List[str], List[str]]] = [
             ([line(static), line(field)], classes, ["held -- -d 'static shop/Cache.ALL'", "holders -- -d shop/Order"]),

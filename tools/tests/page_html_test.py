@@ -158,6 +158,22 @@ class PageOfTwoTest(HtmlOfPage):
         wanted = "these gained most by it", "shares are of what all of them gained."
         self.check_texts(dataclasses.replace(it, objects=gained), *wanted)
 
+    def test_what_line_1_holds(self) -> None:
+        """The classes of what the first line holds, with how much more of each it holds; those that hardly grew are not
+        shown."""
+        self.check_texts(
+            full_leak(),
+            "What line 1 holds All that would be unreachable without it, in the first dump and in the last.",
+            "byte[] +10.3 MB +52,940 objects 22,030 to 74,970 1.1 MB to 11.4 MB",
+            "com/acme/shop/metrics/MetricsService$Meter +2.3 MB +52,957 objects 22,010 to 74,967 968 kB to 3.3 MB",
+        )
+        little = [page_sample.grown(f"a/C{number}", (1, 8), (2, 16)) for number in range(5)]
+        shrunk = page_sample.grown("a/Shrunk", (9, 99), (1, 11))
+        text = self.check_texts(full_leak(contents=[*page_sample.contents(), *little]), "Not shown: 5 classes more.")
+        self.assertNotIn("a/C0", text)
+        self.check_texts(full_leak(contents=[shrunk]), "a/Shrunk −88 bytes −8 objects 9 to 1 99 bytes to 11 bytes")
+        self.assertNotIn("What line 1 holds", self.outline(leak()).text())
+
     def test_line_numbers(self) -> None:
         """The lines have the numbers by which the objects and the terminal name them."""
         outline = self.outline(full_leak())
@@ -249,6 +265,7 @@ class PageOfTwoTest(HtmlOfPage):
                 "threads": full_leak(threads=it.threads),
                 "notes": full_leak(notes=it.notes, weak=it.weak, layout=it.layout, omitted=it.omitted),
                 "classes": full_leak(grown=[page_sample.grown(name, (1, 1), (2, 1000000))] * 3, last=it.last),
+                "parts": full_leak(contents=it.contents, shares=it.shares),
                 "dumps": full_leak(dumps=[it.dumps[0], *full_leak().dumps[1:]]),
                 "rest": full_leak(making=it.making, program=it.program, of_class=name),
             }.items():

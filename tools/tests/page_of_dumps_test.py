@@ -39,6 +39,10 @@ class PageOfDumpsTest(ToolTest):
         """Returns the text of a page between the head of a section and that of another."""
         return Outline(html).text().rpartition(f" {begin} ")[2].partition(f" {end} ")[0]
 
+    def charts(self, html: str) -> str:
+        """Returns the lines of the charts of a page, without those of the legend."""
+        return "".join(re.findall(r'<svg class="lines".*?</svg>', html, re.S))
+
     def test_what_dumps_do_not_show(self) -> None:
         """If more is unreachable in the last dump, the page says so and why, also if that is little."""
         after = cache(160, 12)
@@ -52,20 +56,31 @@ class PageOfDumpsTest(ToolTest):
         said = self.texts(self.page_of(cache(40), cache(160, 12)), "What dumps do not show", "Terms")
         self.assertTrue(said.startswith("Memory outside of the heap: "), said)
 
+    def test_what_line_1_holds(self) -> None:
+        """What line 1 holds is said class by class, and a part of the picture of the last heap by itself, with its
+        arrays."""
+        html = self.page_of(cache(40), cache(160, 12))
+        holds = self.texts(html, "What line 1 holds", "Next").replace("\u00a0", " ")
+        self.assertIn("byte[] +2.4 kB +120 objects 40 to 160 800 bytes to 3.2 kB shop/Order +960 bytes", holds)
+        made_of = self.texts(html, "Part of the heap Objects Bytes Share of the heap", "All reachable")
+        wanted = "held by shop/Cache.table 321 5.8 kB 61% byte[] 160 3.2 kB 34% shop/Order 160 1.3 kB 14% "
+        self.assertTrue(made_of.replace("\u00a0", " ").startswith(wanted), made_of)
+        self.assertIn(" arrays of numbers 100 2.0 kB 21% byte[] 100 2.0 kB 21% shop 102 1.6 kB 17% ", made_of)
+
     def test_dumps_between(self) -> None:
         """What line 1 holds is drawn as it was measured in a dump between: not as the line from the first to the
         last. Of more dumps than are asked its dots are those that were."""
         dumps = [noisy(count, 100, minutes) for minutes, count in enumerate((20, 30, 80))]
         html = self.page_of(*dumps)
-        for points in re.findall(r'<g class="line held">\s*<polyline points="([^"]*)"', html):
+        for points in re.findall(r'<g class="line held"><polyline points="([^"]*)"', self.charts(html)):
             (_, first), (_, middle), (_, last) = [map(float, point.split(",")) for point in points.split()]
             self.assertAlmostEqual((first - middle) / (first - last), 10 / 60, delta=0.02)
-        self.assertEqual(html.count('<g class="line held">'), 3)
+        self.assertEqual(self.charts(html).count('<g class="line held">'), 3)
         self.assertNotIn("measured at the dots", html)
         dumps = [noisy(20 + 10 * minutes, 100, minutes) for minutes in range(7)]
         html = self.page_of(*dumps)
-        groups = re.findall(r'<g class="line held partial">(.*?)</g>', html, re.S)
-        self.assertEqual([group.count("<circle") for group in groups], [5] * 3)
+        dots = re.findall(r'<g class="dots held">((?:<rect[^>]*/>)+)</g>\n', html)
+        self.assertEqual([group.count("<rect") for group in dots], [5] * 3)
         self.assertIn("measured at the dots", html)
 
     def test_weak_references(self) -> None:

@@ -1,5 +1,6 @@
 """The style of the page: its colours, and that it fetches nothing."""
 
+import itertools
 import re
 import unittest
 
@@ -11,10 +12,13 @@ TEXTS = [(text, ground) for text in ("ink", "soft", "calm", "accent") for ground
     ("ink", "faint"),
     ("accent", "accent-faint"),
     ("ink", "accent-faint"),
+    *(("ink", f"line-{number}") for number in range(treemap_picture.LINE_COLOURS)),
     *(("ink", f"own-{number}") for number in range(treemap_picture.OWN_COLOURS)),
     *(("ink", f"jdk-{number}") for number in range(treemap_picture.JDK_COLOURS)),
     ("ink", "rest"),
 ]
+#: The colours of the lines of the chart.
+MARKS = ["of-reachable", "of-held", "of-unreachable"]
 
 
 class StyleTest(unittest.TestCase):
@@ -35,9 +39,21 @@ class StyleTest(unittest.TestCase):
             for text, ground in TEXTS:
                 with self.subTest(f"{text} on {ground}"):
                     self.assertGreaterEqual(contrast(colours[text], colours[ground]), 4.5)
-            for graphic in "accent", "calm", "before":
+            for graphic in "accent", "calm", "before", *MARKS:
                 with self.subTest(graphic):
                     self.assertGreaterEqual(contrast(colours[graphic], colours["paper"]), 3)
+
+    def test_lines_differ_in_grey(self) -> None:
+        """The lines of the chart, and the parts of the bar of one heap, differ in how light they are: in print without
+        colours, and for those who see no red or green."""
+        style = (templates.FOLDER / "page.css").read_text(encoding="utf-8")
+        for block in re.findall(r":root {(.*?)}", style, re.S):
+            colours = dict(re.findall(r"--([\w-]+): (#\w{6});", block))
+            for one, other in itertools.combinations(MARKS, 2):
+                with self.subTest(f"{one} and {other}"):
+                    self.assertGreaterEqual(contrast(colours[one], colours[other]), 1.45)
+        widths = re.findall(r"^g\.line\.?(\w*) polyline {[^}]*?stroke-width: (\d)px", style, re.M)
+        self.assertEqual(dict(widths), {"": "2", "held": "3"})
 
 
 def contrast(*colours: str) -> float:

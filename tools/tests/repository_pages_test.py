@@ -18,6 +18,9 @@ import crate_list
 #: The numbers below twenty, and the tens, in words.
 ONES = "zero one two three four five six seven eight nine ten eleven twelve thirteen fourteen fifteen sixteen seventeen"
 TENS = "- - twenty thirty forty fifty sixty seventy eighty ninety"
+#: The sections of README, in the order in which a stranger needs them, and the most lines of the page.
+SECTIONS = ["Install", "One dump", "Two dumps", "In a build", "The report", "The guarantee", "Licence"]
+MOST_LINES = 120
 
 
 def read(name: str) -> str:
@@ -95,3 +98,28 @@ class PagesTest(unittest.TestCase):
         measured = [float(it) for it in re.findall(r"\*\*([0-9.]+)\*\*", section("docs/GATE.md", "## The first build"))]
         span = f"{math.floor(min(measured))} to {math.ceil(max(measured))} minutes"
         self.assertIn(f"`tools/build` takes {span}", read("README.md"))
+
+    def test_readme(self) -> None:
+        """README is short, has its sections in their order, and links each page that tools/package installs with it."""
+        page = read("README.md")
+        self.assertLessEqual(page.count("\n"), MOST_LINES)
+        self.assertEqual(re.findall(r"^## (.*)$", page, re.M), SECTIONS)
+        for name in ("LEAK", "OPTIONS", "JSON", "HISTOGRAM", "LABELS", "PERFORMANCE", "PROOFS", "ASSUMPTIONS", "GATE"):
+            self.assertIn(f"](docs/{name}.md", page)
+        self.assertIn("](FORMAT.md", read("docs/OPTIONS.md"))
+
+    def test_options(self) -> None:
+        """OPTIONS has the options of heapmark's help, each with its default."""
+        (help_text,) = re.findall(r'HELP: &str = "\\\n(.*?)";', read("crates/heapmark/src/tests/texts.rt"), re.S)
+        of_help = re.findall(r"^ +--([a-z-]+) <[A-Z]+>(.*?)(?=^ +-)", help_text, re.M | re.S)
+        defaults = {name: re.findall(r"\[default: (\d+)\]", text) or ["none"] for name, text in of_help}
+        of_page = re.findall(
+            r"^    --([a-z-]+) [A-Z]+ .*\(([\d,]+|none)\)$", section("docs/OPTIONS.md", "## Options"), re.M
+        )
+        self.assertEqual({name: [default.replace(",", "")] for name, default in of_page}, defaults)
+        self.assertEqual(len(of_page), 5)
+
+    def test_logic(self) -> None:
+        """PROOFS names the logic that the programs print with their version."""
+        (logic,) = re.findall(r"^rattle logic (\w+)", read("crates/common_line/src/version.rt"), re.M)
+        self.assertIn(f"logic `{logic}`", read("docs/PROOFS.md"))

@@ -140,9 +140,9 @@ class ScriptsTest(unittest.TestCase):
 
     def test_each_command_is_found(self) -> None:
         """What runs something when it is started can be run, and has a first line by which it is found. unittest runs
-        the tests, and pip setup.py."""
+        the tests, pip setup.py, and python -m a package."""
         for path in (it for folder in FOLDERS for it in (self.copy / folder).rglob("*")):
-            is_run_by_others = path.name.endswith("_test.py") or path.name == "setup.py"
+            is_run_by_others = path.name.endswith("_test.py") or path.name in ("setup.py", "__main__.py")
             if path.is_file() and path.suffix in ("", ".py", ".sh") and not is_run_by_others:
                 text = path.read_text(encoding="utf-8")
                 runs = is_script(path) or 'if __name__ == "__main__"' in text

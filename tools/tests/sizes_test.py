@@ -12,7 +12,7 @@ from heap_tools.heap_sizes import ClassSize, sizes_by_package, sizes_in, unreach
 from heap_tools.reports import Amount
 from tests.support.dump_writer import BYTE
 from tests.support.laid_out_heap import LaidOutHeap
-from tests.support.marker import MarkedRuns
+from tests.support.marked import MarkedRuns
 from tests.support.page_sample import one_dump
 from tests.support.services import cache
 from tests.support.tool_test import ToolTest
@@ -120,6 +120,27 @@ class SizesTest(ToolTest):
         self.assertEqual(ended.said.splitlines()[-1], f"{why}the dump's")
         self.assertEqual(lines(ended.out)["byte[]"][:2], ["105", "2100"])
 
+    def test_unsure(self) -> None:
+        """It is said of how many classes it is not sure what their objects take, if that is a thousandth of the heap:
+        it may be 48 bytes more, after which nothing is in the dump."""
+        for orders, said in (
+            (400, "1 class take, since no neighbour shows it: up to 144 bytes more or less"),
+            (6000, ""),
+        ):
+            heap = LaidOutHeap(Layout(8, 12, 4, 16))
+            order, rare = heap.of_class("shop/Order", 2), heap.of_class("shop/Rare", 2)
+            for number in range(orders):
+                heap.instance(order)
+                heap.values(BYTE, 8)
+                if number in (10, 20, 30):
+                    heap.instance(rare)
+                    heap.place(48)
+            heap.written().write("unsure.hprof")
+            ended = self.ran("unsure.hprof")
+            self.assertEqual(lines(ended.out)["shop/Rare"][:2], ["3", "72"])
+            lines_of = [line for line in ended.said.splitlines() if "not sure" in line]
+            self.assertEqual(lines_of, [f"sizes: it is not sure what the objects of {said}"] if said else [], orders)
+
     def test_stacks(self) -> None:
         """What the stacks of virtual threads that wait take is said."""
         heap = shop()
@@ -151,6 +172,8 @@ class SizesTest(ToolTest):
         text = pathlib.Path("page.html").read_text(encoding="utf-8")
         self.assertIn("that the dump omits.", text)
         self.assertIn(words[1:].partition("'")[0], text)
+        self.assertIn("lines more: see --top\n", ended.said)
+        self.assertNotIn("see --top", text)
 
     def test_on_terminal(self) -> None:
         """On a terminal the columns have heads."""

@@ -11,11 +11,12 @@ import signal
 import subprocess
 import sys
 import unittest
-from typing import Callable, Dict, Iterator, List, NamedTuple, Optional, Sequence
+from typing import Callable, Dict, Iterator, List, NamedTuple, Optional, Sequence, Set
 
+from heap_tools.heapmark import Heapmark
 from tests.support.dump_writer import BYTE
 from tests.support.services import cache
-from tests.support.tool_test import HEAPMARK, TOOLS, Ended, ToolTest, report
+from tests.support.tool_test import HEAPMARK, RETAINED, TOOLS, Ended, ToolTest, report
 
 #: Command lines of all tools, the last dump of which is `friday`.
 COMMANDS = (
@@ -30,21 +31,21 @@ COMMANDS = (
 CHANGES = (": > friday", "truncate -s 3000 friday", "cat other > friday")
 #: What is said of that.
 CHANGED = "friday: it changed while it was read"
-#: A stand-in for heapmark that changes the dump before it is read, after it was read, or when a copy is.
+#: A stand-in for a program that changes the dump before it is read, or after it was.
 CHANGING = """case "$*" in
-*friday) BEFORE; HEAPMARK "$@"; status=$?; AFTER; exit $status ;;
-*stdin) LATER ;;
+*friday*) BEFORE; PROGRAM "$@"; status=$?; AFTER; exit $status ;;
 esac
-exec HEAPMARK "$@"
+exec PROGRAM "$@"
 """
+#: The tools that run retained.
+ASKING = ("leaks", "holders", "held")
 #: Refuses what the tests lack: put before the modules of a tool are read.
 LACKING = {
     "processes of its own": "os.fork = lacking(BlockingIOError(errno.EAGAIN, os.strerror(errno.EAGAIN)))",
     "processes": "subprocess.Popen = lacking(BlockingIOError(errno.EAGAIN, os.strerror(errno.EAGAIN)))",
-    "threads": 'threading.Thread.start = lacking(RuntimeError("can\'t start new thread"))',
 }
 #: A tool without that.
-WITHOUT = """import errno, os, runpy, subprocess, sys, threading
+WITHOUT = """import errno, os, runpy, subprocess, sys
 def lacking(fault):
     def fails(*_, **__):
         raise fault
@@ -63,9 +64,15 @@ class Lack(NamedTuple):
     values: Sequence[int]
 
 
-#: The fewest open files, and bytes of memory, with which a tool gets something done, and many more.
+#: The fewest open files with which a tool gets something done, and many more.
 FILES = Lack(resource.RLIMIT_NOFILE, range(5, 24, 6))
-MEMORY = Lack(resource.RLIMIT_AS, [megabytes << 20 for megabytes in (24, 32, 40, 56, 384)])
+#: The tenths of the memory that it takes which a program gets, and those with which it has enough.
+TENTHS, ENOUGH = range(1, 10), 15
+#: The program that runs the tools, as the system names it.
+PYTHON = os.path.realpath(sys.executable)
+#: Stand-ins for heapmark with as much memory as it wants, though the tool is limited, and with a limit of its own.
+AS_MUCH = 'ulimit -S -v unlimited\nexec HEAPMARK "$@"'
+LIMITED = 'ulimit -v KILOBYTES\nexec HEAPMARK "$@"'
 
 
 class StressTest(ToolTest):
@@ -78,9 +85,9 @@ class StressTest(ToolTest):
         shutil.copy("friday", "whole")
         self.right: Dict[str, Ended] = {}
 
-    def of_tool(self, words: Sequence[str], heapmark: str = HEAPMARK) -> Ended:
-        """Runs a tool."""
-        return self.ran(*words[1:], tool=words[0], heapmark=heapmark)
+    def of_tool(self, words: Sequence[str], **programs: str) -> Ended:
+        """Runs a tool, with stand-ins for `HEAPMARK` or `RETAINED`."""
+        return self.ran(*words[1:], tool=words[0], variables=programs)
 
     def rightly(self, words: Sequence[str]) -> str:
         """Returns what a tool prints if nothing happens."""
@@ -104,65 +111,88 @@ class StressTest(ToolTest):
         for words, change, moment in itertools.product(commands, CHANGES, ("BEFORE", "AFTER")):
             with self.subTest(words=words, change=change, moment=moment):
                 shutil.copy2("whole", "friday")
-                self.require_line(self.of_tool(words, self.changing(moment, change)), words, [1], CHANGED)
+                heapmark = self.changing("HEAPMARK", moment, change)
+                self.require_line(self.of_tool(words, HEAPMARK=heapmark), words, [1], CHANGED)
 
     def test_changed_later(self) -> None:
-        """What becomes of a dump after it was read does not matter. If heapmark reads copies then, that is said."""
-        for words, change in itertools.product(COMMANDS, CHANGES):
-            with self.subTest(words=words, change=change):
+        """So is one that changes before retained reads it, or while it does; it does not matter to other tools."""
+        for words, change, moment in itertools.product(COMMANDS, CHANGES, ("BEFORE", "AFTER")):
+            with self.subTest(words=words, change=change, moment=moment):
                 shutil.copy2("whole", "friday")
                 whole = self.rightly(words)
-                ended = self.of_tool(words, self.changing("LATER", change))
-                self.assertEqual((ended.status, ended.out), (0, whole), ended.said)
-                of_copy = " -- /dev/stdin" in pathlib.Path("runs").read_text()
-                said = f"{words[0]}: friday has changed since it was read: all that is said is of what it was\n"
-                self.assertEqual(said in ended.said, of_copy)
+                ended = self.of_tool(words, RETAINED=self.changing("RETAINED", moment, change))
+                if words[0] in ASKING:
+                    self.require_line(ended, words, [1], CHANGED)
+                else:
+                    self.assertEqual((ended.status, ended.out), (0, whole), ended.said)
 
     def test_gone(self) -> None:
         """A dump that is gone before the tool has read it takes a line, too."""
         for words in COMMANDS:
             shutil.copy2("whole", "friday")
-            self.require_line(self.of_tool(words, self.changing("AFTER", "rm friday")), words, [1], CHANGED)
+            heapmark = self.changing("HEAPMARK", "AFTER", "rm friday")
+            self.require_line(self.of_tool(words, HEAPMARK=heapmark), words, [1], CHANGED)
 
-    def changing(self, moment: str, change: str) -> str:
-        """Returns a stand-in for heapmark that changes the dump at a moment."""
-        text = CHANGING.replace(moment, change)
-        return self.program(re.sub("BEFORE|AFTER|LATER", ":", text))
+    def changing(self, program: str, moment: str, change: str) -> str:
+        """Returns a stand-in for a program that changes the dump at a moment."""
+        text = CHANGING.replace(moment, change).replace("PROGRAM", program)
+        return self.program(re.sub("BEFORE|AFTER", ":", text))
 
-    def with_less(self, lack: Lack) -> Iterator[Ended]:
-        """Yields how each tool ends with less and less, and tests that it ends rightly, or with a line."""
-        for words in COMMANDS:
-            whole = self.rightly(words)
-            for value in reversed(lack.values):
-                with self.subTest(words=words, value=value):
-                    ended = self.limited(words, lack.limit, value)
-                    if (ended.status, ended.out) != (0, whole):
-                        self.require_line(ended, words, [1, 5])
-                    yield ended
+    def with_less(self, words: Sequence[str], lack: Lack, heapmark: str = HEAPMARK) -> Iterator[Ended]:
+        """Yields how a tool ends with less and less, and tests that it ends rightly, or with a line."""
+        whole = self.rightly(words)
+        for value in reversed(lack.values):
+            with self.subTest(words=words, value=value):
+                ended = limited(words, lack.limit, value, heapmark)
+                self.require_right_or_line(ended, words, whole)
+                yield ended
 
-    def limited(self, words: Sequence[str], limit: int, value: int) -> Ended:
-        """Runs a tool with a limit."""
-        return ended_of([str(TOOLS / words[0]), *words[1:]], limit=lambda: resource.setrlimit(limit, (value, value)))
+    def require_right_or_line(self, ended: Ended, words: Sequence[str], whole: str) -> None:
+        """Tests that a tool printed `whole`, or ended with a line."""
+        if (ended.status, ended.out) != (0, whole):
+            self.require_line(ended, words, [1, 5])
 
     def test_files(self) -> None:
         """With few open files."""
-        said = {ended.said for ended in self.with_less(FILES) if ended.status}
+        said = {ended.said for words in COMMANDS for ended in self.with_less(words, FILES) if ended.status}
         self.assertTrue(
             all(each.endswith(" cannot be run: Too many open files: see ulimit -n\n") for each in said), said
         )
         self.assertTrue(said)
 
-    def test_memory(self) -> None:
-        """With little memory: the tool, its processes, or heapmark has too little, for a dump of 10 MB."""
-        for name in ("monday", "friday"):
-            dump = cache(20 if name == "monday" else 80, 0 if name == "monday" else 12)
+    def with_large_arrays(self) -> None:
+        """Writes dumps of 10 MB."""
+        for name, count, minutes in (("monday", 20, 0), ("friday", 80, 12)):
+            dump = cache(count, minutes)
             for number in range(10):
                 dump.values(100_000 + number, BYTE, bytes(1_000_000))
             dump.root(*range(100_000, 100_010))
             dump.write(name)
-        every = list(self.with_less(MEMORY))
-        self.assertTrue(any(ended.said.endswith(": out of memory\n") for ended in every))
-        self.assertEqual({ended.status for ended in every} - {0, 1, 5}, set())
+
+    def test_memory(self) -> None:
+        """With each tenth of the memory that it takes besides what Python does, for a dump of 10 MB: the tool or its
+        processes have too little, heapmark has enough."""
+        self.with_large_arrays()
+        heapmark, least = self.program(AS_MUCH), peak_memory(["-c", "pass"])
+        for words in COMMANDS:
+            more = peak_memory([str(TOOLS / words[0]), *words[1:]]) - least
+            lack = Lack(resource.RLIMIT_AS, [least + more * tenth // 10 for tenth in (*TENTHS, ENOUGH)])
+            ends = list(self.with_less(words, lack, heapmark))
+            self.assertEqual(ends[0].status, 0, ends[0].said)
+            said = {ended.said.splitlines()[-1] for ended in ends if ended.status}
+            self.assertEqual({each for each in said if not each.endswith((": out of memory", ", and memory"))}, set())
+            self.assertIn(f"{words[0]}: out of memory", said)
+
+    def test_memory_of_heapmark(self) -> None:
+        """With each tenth of the memory that heapmark takes for a dump of 10 MB: it has too little, the tool enough."""
+        self.with_large_arrays()
+        most = memory_of_heapmark("friday")
+        for words, tenth in itertools.product(COMMANDS, (*TENTHS, ENOUGH)):
+            with self.subTest(words=words, tenth=tenth):
+                kilobytes = most * tenth // 10 // 1024
+                ended = self.of_tool(words, HEAPMARK=self.program(LIMITED.replace("KILOBYTES", str(kilobytes))))
+                self.require_right_or_line(ended, words, self.rightly(words))
+                self.assertEqual(ended.status == 0 or tenth < ENOUGH, True, ended.said)
 
     def lacking(self, what: str, words: Sequence[str]) -> Ended:
         """Runs a tool to which the system gives none of something."""
@@ -171,21 +201,20 @@ class StressTest(ToolTest):
     def test_processes(self) -> None:
         """Without further processes, a tool does all by itself; without heapmark it cannot do anything."""
         for words in COMMANDS:
-            for what in ("processes of its own", "threads"):
-                ended = self.lacking(what, words)
-                self.assertEqual((ended.status, ended.out), (0, self.rightly(words)), ended.said)
+            ended = self.lacking("processes of its own", words)
+            self.assertEqual((ended.status, ended.out), (0, self.rightly(words)), ended.said)
             ended = self.lacking("processes", words)
             self.require_line(ended, words, [5], " cannot be run: Resource temporarily unavailable: see ulimit -u\n")
 
     def test_no_proc(self) -> None:
-        """Without /proc, heapmark cannot read copies."""
+        """Without /proc, retained cannot read what it gets."""
         apart = ["unshare", "--mount", "sh", "-c", 'mount -t tmpfs none /proc && exec "$@"', "sh"]
         if not shutil.which("unshare") or subprocess.run([*apart, "true"], stderr=subprocess.DEVNULL).returncode:
             self.skipTest("/proc cannot be hidden")
         for words in COMMANDS:
             ended = ended_of([str(TOOLS / words[0]), *words[1:]], apart)
             if ended.status:
-                self.require_line(ended, words, [1, 5], ": it reads copies by /dev/stdin, which needs /proc\n")
+                self.require_line(ended, words, [1, 5], ": it reads by /dev/stdin, which needs /proc\n")
             else:
                 self.assertEqual(ended.out, self.rightly(words))
 
@@ -200,11 +229,11 @@ class StressTest(ToolTest):
                 "exec yes no",
                 "exec tr '\\0' 1 < /dev/zero",
             ):
-                ended = self.of_tool(words, heapmark=self.program(prints))
+                ended = self.of_tool(words, HEAPMARK=self.program(prints))
                 self.require_line(ended, words, [5], "failed: no report: is it heapmark?\n")
-            if words[0] in ("leaks", "holders", "held"):
-                later = "case $* in *stdin) exec yes '  2  8  A' ;; esac\nexec HEAPMARK \"$@\""
-                self.require_line(self.of_tool(words, heapmark=self.program(later)), words, [1, 5])
+            for prints in ("exec yes '  2  8  -  A'", "exec yes no") if words[0] in ASKING else ():
+                ended = self.of_tool(words, RETAINED=self.program(prints))
+                self.require_line(ended, words, [5], "failed: no table: is it retained?\n")
 
     def test_signals(self) -> None:
         """A signal that comes while the modules of a tool are read ends it as one does later; one that is ignored does
@@ -220,11 +249,72 @@ class StressTest(ToolTest):
                     self.assertEqual((ended.status, ended.said), (status, said), (tool, name))
 
 
-def ended_of(words: Sequence[str], before: Sequence[str] = (), limit: Optional[Callable[[], object]] = None) -> Ended:
+def limited(words: Sequence[str], limit: int, value: int, heapmark: str) -> Ended:
+    """Runs a tool with a limit, which it may lift."""
+    tool = [str(TOOLS / words[0]), *words[1:]]
+    most = resource.getrlimit(limit)[1]
+    return ended_of(tool, limit=lambda: resource.setrlimit(limit, (value, most)), heapmark=heapmark)
+
+
+def memory_of_heapmark(dump: str) -> int:
+    """Returns how many bytes of memory heapmark needs for a dump, up to twice as many."""
+    for power in itertools.count(20):
+        words = ["sh", "-c", f'ulimit -v {1 << power - 10} && exec "$@"', "sh", HEAPMARK, dump]
+        if not subprocess.run(words, env=Heapmark().environment, capture_output=True, check=False).returncode:
+            return 1 << power
+    raise AssertionError
+
+
+def peak_memory(words: Sequence[str]) -> int:
+    """Returns how many bytes of memory Python asks the system for when it runs these words, or the one of its processes
+    that asks for most."""
+    most = 0
+    known: Set[int] = set()
+    none = subprocess.DEVNULL
+    with subprocess.Popen(
+        [sys.executable, *words], stdin=none, stdout=none, stderr=none, env=environment(HEAPMARK)
+    ) as it:
+        while it.poll() is None:
+            known = {it.pid, *(child for each in known for child in children_of(each))}
+            most = max(most, *map(peak_of, known))
+    return most
+
+
+def children_of(process: int) -> List[int]:
+    """Returns the processes that a process has started and that have not ended."""
+    try:
+        tasks = pathlib.Path(f"/proc/{process}/task").glob("*/children")
+        return [int(number) for each in tasks for number in each.read_text().split()]
+    except OSError:
+        return []
+
+
+def peak_of(process: int) -> int:
+    """Returns the bytes of memory that a process of Python had at its peak, 0 if it has ended."""
+    try:
+        if os.readlink(f"/proc/{process}/exe") != PYTHON:
+            return 0
+        found = re.search(r"^VmPeak:\s+(\d+) kB$", pathlib.Path(f"/proc/{process}/status").read_text(), re.M)
+    except OSError:
+        return 0
+    return int(found[1]) << 10 if found else 0
+
+
+def environment(heapmark: str) -> Dict[str, str]:
+    """Returns the variables of a tool that runs the program `heapmark`."""
+    return {**os.environ, "HEAPMARK": heapmark}
+
+
+def ended_of(
+    words: Sequence[str],
+    before: Sequence[str] = (),
+    limit: Optional[Callable[[], object]] = None,
+    heapmark: str = HEAPMARK,
+) -> Ended:
     """Runs Python with these words, after others, and with a limit. Returns how it ended."""
     ran = subprocess.run(
         [*before, sys.executable, *words],
-        env={**os.environ, "HEAPMARK": HEAPMARK},
+        env={**os.environ, "HEAPMARK": heapmark, "RETAINED": RETAINED},
         stdin=subprocess.DEVNULL,
         stdout=subprocess.PIPE,
         stderr=subprocess.PIPE,
@@ -240,9 +330,11 @@ class RefusalTest(ToolTest):
     tool = "sizes"
 
     def test_reasons(self) -> None:
-        """It is heapmark that lacks memory or threads, and no option is named that tools lack."""
+        """It is heapmark that lacks memory or threads, and no option is named that tools lack. Of a dump that is too
+        large it is said what serves larger heaps."""
         cache(5).write("dump")
         hint = "heapmark: dump: takes its own size in memory and more for each object: free some memory, or try "
+        larger = "; grown compares two outputs of `jcmd PID GC.class_histogram`, which serve heaps of any size"
         cases: List[Sequence[str]] = [
             (
                 f"heapmark: refused 15 OutOfMemory\n{hint}--workers 1, which takes the least",
@@ -258,6 +350,14 @@ class RefusalTest(ToolTest):
             ),
             ("heapmark: refused 19 ReadFault", "heapmark cannot read it (refused 19 ReadFault)"),
             ("heapmark: refused 5 BadSubTag at 49", "no dump that heapmark accepts (refused 5 BadSubTag at 49)"),
+            (
+                "heapmark: refused 14 TooLarge at 1073741824",
+                f"no dump that heapmark accepts{larger} (refused 14 TooLarge at 1073741824)",
+            ),
+            (
+                "heapmark: refused 14 TooLarge at 9\nheapmark: dump: more than 16,777,216 objects: dump a smaller heap",
+                f"more than 16,777,216 objects: dump a smaller heap{larger} (refused 14 TooLarge at 9)",
+            ),
         ]
         for lines, said in cases:
             program = self.program(f"cat >&2 << 'END'\n{lines}\nEND\nexit 1")

@@ -114,12 +114,12 @@ class ThreadCountsTest(unittest.TestCase):
         dump = self.read(threads(["main", *(f"report-{number}" for number in range(600))]))
         walks, decoded = mock.Mock(wraps=chosen_objects), mock.Mock(wraps=shown_by_dump)
         with mock.patch.object(heap_objects, "chosen_objects", walks), mock.patch.object(heap_dump, "shown", decoded):
-            candidates = Candidates(dump)
+            candidates = Candidates(dump, Report())
             for _ in range(3):
                 self.assertEqual(len(candidates.threads()), 601)
                 self.assertEqual([each.count for each in candidates.threads_alike()], [600])
                 self.assertEqual(len(grown_thread_counts(self.read(threads(["main"])), dump)), 1)
-                self.assertEqual(Candidates(dump).instances((THREADS, "report-*"), Report()), 600)
+                self.assertEqual(Candidates(dump, Report()).instances((THREADS, "report-*"), Report()), 600)
         self.assertEqual(sum(call[0][0] is dump for call in walks.call_args_list), 3)
         self.assertLess(decoded.call_count, 20)
 

@@ -1,16 +1,16 @@
 """Tests which weak references are followed: those of a kind that alone hold most of what grew, but never soft ones."""
 
 import unittest
-from typing import Dict, List, Tuple
-from unittest import mock
+from typing import Dict, List, Tuple, Union
 
 from heap_tools.dump_runs import DumpRuns
 from heap_tools.heap_dump import HeapDump
 from heap_tools.reports import Amount, Unit
 from heap_tools.weak_growth import Followed, followed_of, is_most
 from heap_tools.weak_kinds import WeakKind, WeakReferences
+from heap_tools.what_counts import Way, Weak, WhatCounts, side_of
 from tests.support.dump_writer import BYTE, DumpWriter
-from tests.support.marker import MarkedRuns
+from tests.support.marked import RETAINED, MarkedRuns
 
 KINDS = {"soft": 11, "weak": 12, "final": 13, "phantom": 14}
 
@@ -48,9 +48,13 @@ class FollowedTest(unittest.TestCase):
     """followed_of"""
 
     def followed(self, *both: DumpRuns) -> Followed:
-        """Returns what is followed in two dumps: the dumps are those with that, and their reports are known."""
-        found, sides = followed_of(both, None, Unit.BYTES)
-        self.assertEqual([side.base.rows for side in sides], [side.base.rows for side in found.sides(both)])
+        """Returns what is followed in two dumps: the reports are those with that."""
+        found, reports = followed_of(WhatCounts(both), None, Unit.BYTES)
+        sides = [side_of(each, Way(found.follows)) for each in both]
+        for side, report in zip(sides, reports):
+            assert isinstance(side.runs, MarkedRuns)
+            whole = side.runs.report_of(side.runs.reachable(side.cut, side.roots))
+            self.assertEqual((report.families, report.reachable), (whole.families, whole.reachable))
         return found
 
     def test_kinds(self) -> None:
@@ -67,7 +71,9 @@ class FollowedTest(unittest.TestCase):
         for counts, grown, is_any, amount in cases:
             found = self.followed(referring(1000, {}), referring(1000 + grown, counts))
             self.assertEqual((found.is_any, found.amount.bytes), (is_any, amount), counts)
-            self.assertEqual(found.kind and found.kind.noun, next(iter(counts)) if is_any else None, counts)
+            if is_any:
+                assert isinstance(found.follows, WeakKind)
+                self.assertEqual(found.follows.noun, next(iter(counts)), counts)
 
     def test_shrunk(self) -> None:
         """Where the heap shrank, a little that weak references hold more is not most of the growth."""
@@ -90,25 +96,21 @@ class FollowedTest(unittest.TestCase):
         )
 
     def test_asked_once(self) -> None:
-        """Each dump is asked once without weak references, and once with all if much is lost without them. If that is
-        most, each is asked once with each of three kinds. What is followed is not asked again."""
-        for kept, counts, runs in ((20_000, {"soft": 2}, 2), (1500, {"soft": 2}, 4), (1500, {"final": 30}, 4 + 6)):
-            both = referring(1000, {}), referring(kept, counts)
-            with mock.patch.object(MarkedRuns, "without", autospec=True, side_effect=MarkedRuns.without) as asked:
-                followed_of(both, None, Unit.BYTES)
-            self.assertEqual(asked.call_count, runs, counts)
+        """Each dump is asked once without weak references, and once for all ways if much is lost without them."""
+        for kept, counts, runs in ((20_000, {"soft": 2}, 2), (1500, {"soft": 2}, 4), (1500, {"final": 30}, 4)):
+            both, before = (referring(1000, {}), referring(kept, counts)), RETAINED.runs
+            followed_of(WhatCounts(both), None, Unit.BYTES)
+            self.assertEqual(RETAINED.runs - before, runs, counts)
 
-    def test_side(self) -> None:
+    def test_ways(self) -> None:
         """Only the references of the kind lead somewhere, in any dump."""
         runs = referring(9, {"soft": 2, "weak": 3, "final": 4, "phantom": 5})
-        for followed, arrays in (
-            (Followed(False), 0),
-            (Followed(True), 14),
-            (Followed(True, WeakKind.WEAK), 3),
-            (Followed(True, WeakKind.FINAL), 4),
-        ):
-            held = followed.sides([runs])[0].base.amount("byte[]").minus(Amount(2, 18))
-            self.assertEqual(held, Amount(arrays, 100 * arrays), followed)
+        cases: List[Tuple[Union[Weak, WeakKind], int]]
+        cases = [(Weak.NONE, 0), (Weak.ALL, 14), (WeakKind.WEAK, 3), (WeakKind.FINAL, 4)]
+        for follows, arrays in cases:
+            (report,) = WhatCounts([runs]).reports(Way(follows))
+            held = report.amount("byte[]").minus(Amount(2, 18))
+            self.assertEqual(held, Amount(arrays, 100 * arrays), follows)
         self.assertEqual(WeakReferences(runs.dump).usual_class(WeakKind.SOFT), "java/lang/ref/SoftReference")
 
 

@@ -10,7 +10,7 @@ from typing import Dict, List, Optional, Sequence, Tuple
 from heap_tools.heap_objects import HeapObjects
 from heap_tools.map_entries import LONGEST_CHAIN
 from heap_tools.object_parts import FieldUses
-from heap_tools.part_search import MOST_RUNS, OF_ONE, PartSearch
+from heap_tools.object_shares import OF_ONE
 from heap_tools.reports import Amount
 from heap_tools.which_object import (
     OF_ALL,
@@ -24,7 +24,7 @@ from heap_tools.which_object import (
     tell_apart,
 )
 from tests.support.dump_writer import BYTE, OBJECT, DumpWriter
-from tests.support.marked import growth_of, held_by, probe_of
+from tests.support.marked import RETAINED, growth_of, held_by, probe_of
 from tests.support.queues import Chains, Folders, Queues
 from tests.support.random_heaps import random_pair
 from tests.support.thread_locals import buffers
@@ -38,13 +38,6 @@ def said(field: str, found: Sequence[HoldingObject]) -> str:
     return sentence(field, found) if found else ""
 
 
-def search(dump: DumpWriter, field: str = CONTENT) -> PartSearch:
-    """Returns a search for the instances that hold what the field holds."""
-    probe = probe_of(dump)
-    held = held_by(probe, field)
-    return PartsOfField(probe, held).search(held.amount)
-
-
 class HoldsTest(unittest.TestCase):
     """A search in one dump."""
 
@@ -54,15 +47,12 @@ class HoldsTest(unittest.TestCase):
         return objects_that_hold(probe, held_by(probe, field))
 
     def test_one(self) -> None:
-        """One of many is found by its size, in few runs, and is named by its text."""
+        """One of many is found by its size, and is named by its text."""
         for id_size in (4, 8):
             dump = Queues([5] * 300 + [90_000] + [5] * 200, id_size)
             (found,) = self.holding(dump)
             self.assertEqual((found.class_name, found.named_by), ("shop/Queue", 'its field name "queue 300"'))
             self.assertEqual((found.amount, round(found.percent), found.of), ((1, 90_000), 97, 501))
-            asked = search(dump)
-            asked.find()
-            self.assertLessEqual(asked.measure.runs, 2 * 9 + 1)
 
     def test_few(self) -> None:
         """Several that hold much are found, the heaviest first."""
@@ -84,22 +74,19 @@ class HoldsTest(unittest.TestCase):
             self.assertEqual([each.amount.bytes for each in found], wanted)
 
     def test_spread(self) -> None:
-        """Where many hold a little each, none is named, and few runs say so."""
-        asked = search(Queues([100] * 64))
-        self.assertEqual(asked.find(), [])
-        self.assertLessEqual(asked.measure.runs, 14)
+        """Where many hold a little each, none is named."""
         self.assertEqual(self.holding(Queues([100] * 64)), [])
-        asked = search(Queues([100] * 64))
-        self.assertEqual(asked.find(OF_ALL), [])
-        self.assertLessEqual(asked.measure.runs, 6)
 
-    def test_most_runs(self) -> None:
-        """A search of many that hold much of what one dump gained ends at the bound of runs."""
-        probe = probe_of(Queues([100] * 400))
-        held = held_by(probe, CONTENT)
+    def test_one_run(self) -> None:
+        """What each of many holds is one run, and exact: of the field's objects in the heap or in the class asked."""
+        sizes = [100 + number for number in range(400)]
+        probe = probe_of(Queues(sizes))
+        held, runs = held_by(probe, CONTENT), RETAINED.runs
         parts = PartsOfField(probe, held)
-        found = parts.search(Amount(1, 300)).find()
-        self.assertEqual((parts.measure.runs, bool(found)), (MOST_RUNS, True))
+        self.assertEqual([parts.shares.amount(each).bytes for each in parts.parts.values[::40]], sizes[::40])
+        self.assertEqual([each.amount.bytes for each in parts.shares.heaviest(Amount(1, 400 * 5))], sizes[:-33:-1])
+        self.assertAlmostEqual(parts.shares.most(Amount(1, 998)), 50)
+        self.assertEqual(RETAINED.runs, runs + 1)
 
     def test_others(self) -> None:
         """The names of an object are compared with those of others, though these hold nothing."""
@@ -129,8 +116,7 @@ class HoldsTest(unittest.TestCase):
             self.assertEqual(objects_that_hold(probe, probe.retained(group)), [])
 
     def test_one_value(self) -> None:
-        """If only one of several instances has a value in the field, it is named without a run, by what the others do
-        not have."""
+        """If only one of several instances has a value in the field, it is named, by what the others do not have."""
         dump = Queues([7] * 5)
         dump.of_class(20, "shop/Channel", {"ALL": 600}, fields=["name", "host", "unsent"])
         dump.of_class(21, "[Lshop/Channel;")
@@ -143,10 +129,9 @@ class HoldsTest(unittest.TestCase):
         dump.root(20)
         probe = probe_of(dump)
         held = held_by(probe, "shop/Channel.unsent")
-        runs = probe.runs.heapmark.runs
         words = said("shop/Channel.unsent", objects_that_hold(probe, held))
         wanted = '1 of 5 shop/Channel.unsent holds most: shop/Channel (its field name "channel 603"): 100%'
-        self.assertEqual((words, probe.runs.heapmark.runs), (wanted, runs))
+        self.assertEqual(words, wanted)
 
     def test_elements(self) -> None:
         """Of a list that one static field or one instance has, the elements are looked at: also of a list's array."""
@@ -170,9 +155,9 @@ class HoldsTest(unittest.TestCase):
         dump.root(20)
         probe = probe_of(dump)
         held = held_by(probe, "shop/Queues.ALL")
-        runs = probe.runs.heapmark.runs
+        runs = RETAINED.runs
         self.assertEqual(objects_that_hold(probe, held._replace(amount=Amount(1, 90_000))), [])
-        self.assertEqual(probe.runs.heapmark.runs, runs + 1)
+        self.assertEqual(RETAINED.runs, runs + 1)
 
     def test_map(self) -> None:
         """The elements of a map are what it has under its keys, wherever in a chain and whatever else leads to the
@@ -248,11 +233,11 @@ class HoldsTest(unittest.TestCase):
         dump = Queues([7, 9_000, 8], sharing=[0, 2])
         probe = probe_of(dump)
         held = held_by(probe, CONTENT)
-        places, runs = HeapObjects(probe.runs.dump).places_of([200, 30_000, 30_001]), probe.runs.heapmark.runs
+        places, runs = HeapObjects(probe.runs.dump).places_of([200, 30_000, 30_001]), RETAINED.runs
         found = object_leading_to(probe, held, places[30_001], Amount(1, 9_000))
         assert found
         self.assertEqual(str(found), 'shop/Queue (its field name "queue 1"): 100%')
-        self.assertEqual((found.amount, found.of, probe.runs.heapmark.runs), (Amount(1, 9_000), 3, runs))
+        self.assertEqual((found.amount, found.of, RETAINED.runs), (Amount(1, 9_000), 3, runs))
         for number in (200, 30_000):
             self.assertIsNone(object_leading_to(probe, held, places[number], Amount(1, 9_000)))
         only = probe_of(Queues([9_000]))

@@ -68,7 +68,7 @@ Example:
 def parser() -> Parser:
     """Returns the options and operands."""
     it = Parser("grown", "[OPTIONS] <BEFORE> <AFTER>...", ABOUT, NOTES)
-    kinds = "A heap dump, or a file with a report of heapmark or the output of `jcmd PID GC.class_histogram`"
+    kinds = "A heap dump, gzipped or not, or a report of heapmark or output of `jcmd PID GC.class_histogram` in a file"
     it.operand("before", kinds)
     it.operand("after", "One or more later ones of the same program, the earliest first", nargs="+")
     it.flag("--bytes", "Sort by the growth in bytes, not in objects")

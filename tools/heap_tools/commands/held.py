@@ -4,19 +4,21 @@ import sys
 from typing import List, NamedTuple, NoReturn, Optional, Sequence, Tuple
 
 from heap_tools import command_line
-from heap_tools.candidates import WEAK, Candidates
-from heap_tools.changed_copy import Changes
+from heap_tools.candidates import WEAK
 from heap_tools.class_growth import ClassGrowth, growths, lines_to_print
 from heap_tools.command_line import Parser, number
 from heap_tools.console import is_terminal, say, write
 from heap_tools.documents import document, dump_entry, held_fields
 from heap_tools.dump_runs import DumpRuns
-from heap_tools.faults import MORE, NO_SUCH_NAME, UNREADABLE, WRONG_USE, Fault
-from heap_tools.field_list import Entry, changes_of, entries_of, field_of, root_of
+from heap_tools.dump_side import DumpSide, ask_places
+from heap_tools.faults import MORE, NO_SUCH_NAME, WRONG_USE, Fault
+from heap_tools.field_list import Entry, entries_of, field_of, places_of, root_of
 from heap_tools.heap_bytes import counted_in_heap
-from heap_tools.heapmark import Heapmark, LaterFault
+from heap_tools.heapmark import Heapmark
+from heap_tools.label_text import Place
 from heap_tools.plain_dumps import is_dump
 from heap_tools.reports import Amount, Report, Unit
+from heap_tools.what_counts import Way, Weak, side_of
 
 ABOUT = """
 Shows what some fields of a heap dump retain: for each class, how many objects
@@ -31,11 +33,10 @@ it ends with: `static A.x` means only a static field, `together static A.x, B.y`
 both fields, `A.x > B.y` means B.y, `local A.f` the local variables of a method,
 and `thread "NAME"` or `threads "NAME-*"` all that threads of such names hold.
 
-It runs heapmark on DUMP, and on DUMP with these fields declared as numbers, so
-that they lead nowhere, and shows where the reports differ, as grown does
-between two dumps; grown --help says how names are shown and which heapmark
-runs. The roots of local variables and threads are null in their place. A line
-on standard error says if an entry of FIELDS names no field, or FIELDS retain
+It runs heapmark on DUMP, then retained, which finds what is not reachable
+without these fields, and shows that as grown does between two dumps; grown
+--help says how names are shown, holders --help which programs run. A line on
+standard error says if an entry of FIELDS names no field, or FIELDS retain
 nothing. A name that begins with a hyphen goes after `--`.
 
 As for holders and leaks, soft, weak, final and phantom references lead nowhere,
@@ -44,14 +45,14 @@ the list of a group's threads (JDK 17), which are roots themselves, and that of
 references that are not in their queues yet. Classes that are never unloaded
 are roots.
 
-Counts of objects are those of heapmark, which are proved for each dump. Bytes
+Counts of objects are those of retained, which are proved for each dump. Bytes
 are those of the heap, with headers and padding of objects: sizes --help says
 how they are found, which is not proved.
 
-Calls that are running do not count: both reports are also made without the
-local variables that FIELDS does not name, and if FIELDS retain more then, that
-is shown. What only local variables lead to, such as those of `main`, the FIELDS
-in it retain as they are.
+Calls that are running do not count: it is also found what FIELDS retain without
+the local variables that they do not name, and if that is more, it is shown.
+What only local variables lead to, such as those of `main`, the FIELDS in it
+retain as they are.
 
 Which fields hold much: see leaks and holders.
 
@@ -61,7 +62,7 @@ Exit status:
   2  the command line is wrong, or FIELDS is no list of fields
   3  with --more-than: a class has more than N such objects
   4  the output cannot be written
-  5  heapmark cannot be run, or was ended by a signal
+  5  heapmark or retained cannot be run, or a run failed; nothing was printed
   6  an entry of FIELDS names no field of DUMP that holds references; what the
      others retain was printed
 
@@ -73,7 +74,7 @@ Example:
 def parser() -> Parser:
     """Returns the options and operands."""
     it = Parser("held", "[OPTIONS] <DUMP> <FIELDS>", ABOUT, NOTES)
-    it.operand("dump", "A heap dump, in a plain file: it is read several times")
+    it.operand("dump", "A heap dump, gzipped or not, in a plain file: it is read more than once")
     it.operand("fields", "The fields, 1 to 64 of the form Class.field with commas between; static fields, too")
     it.flag("--bytes", "Sort by bytes, not by objects")
     text = "Show only classes with more than N such objects; if there are any, the exit status is 3"
@@ -119,36 +120,26 @@ def difference(path: str, text: str, follows_weak: bool = False, dump_bytes: boo
     if fields:
         heapmark.check_fields(",".join(fields))
     dumps = counted_in_heap([DumpRuns.of(heapmark, path, "held")], dump_bytes)
-    runs = dumps.dump
-    candidates = Candidates(runs.dump, follows_weak or any(each.endswith(WEAK) for each in fields))
-    runs = candidates.prepared(runs)
-    changes: Changes = {}
-    entries = []
-    for word in words:
-        found, problem = changes_of(word, runs.dump)
-        changes.update(found)
-        entries.append(Entry(word, problem))
-    if not changes:
-        return Difference(runs, None, runs.report, entries, dumps.words)
-    try:
-        return Difference(runs, *largest(runs, changes), entries, dumps.words)
-    except LaterFault as fault:
-        raise Fault(UNREADABLE, f"{path}: not read a second time: {fault}") from None
+    follows = Weak.ALL if follows_weak or any(each.endswith(WEAK) for each in fields) else Weak.NONE
+    side = side_of(dumps.dump, Way(follows))
+    found = [places_of(word, side.candidates) for word in words]
+    entries = [Entry(word, problem) for word, (_, problem) in zip(words, found)]
+    places = [place for of_entry, _ in found for place in of_entry]
+    if all(each.problem for each in entries):
+        return Difference(dumps.dump, None, dumps.dump.report, entries, dumps.words)
+    return Difference(dumps.dump, *largest(side, places), entries, dumps.words)
 
 
-def largest(runs: DumpRuns, changes: Changes) -> Tuple[Report, Report]:
-    """Returns the report of the dump with `changes` and the one without them, or both without the local variables that
-    are not in `changes` if these make the larger difference then. A call that runs hides what others hold, by its local
-    variables; but fields below the local variables of a call, such as those of a server in `main`, hold nothing without
-    it."""
-    plain = runs.without(changes), runs.base()
-    every = Candidates(runs.dump).running(only_jdk=False)
-    calls = {place: new for place, new in every.items() if place not in changes}
-    if not calls:
-        return plain
-    idle = runs.with_cut(calls)
-    silent = idle.without(changes), idle.base()
-    return max(plain, silent, key=lambda pair: pair[1].reachable.minus(pair[0].reachable))
+def largest(side: DumpSide, places: Sequence[Place]) -> Tuple[Report, Report]:
+    """Returns the report of the dump without the references at `places` and the one with them, or both without the
+    local variables that are not among these if that makes the larger difference. A call that runs hides what others
+    hold, by its local variables; but fields below the local variables of a call, such as those of a server in `main`,
+    hold nothing without it."""
+    calls = [each for each in side.candidates.running(only_jdk=False) if each not in places]
+    (table,) = ask_places([(side, [places, calls, [*places, *calls]])])
+    without, idle, silent = (side.report_without(table, label) for label in range(3))
+    pairs = (without, side.base), (silent, idle)
+    return max(pairs, key=lambda pair: pair[1].reachable.objects - pair[0].reachable.objects)
 
 
 def lines_of_held(found: Difference, classes: Sequence[ClassGrowth], unit: Unit) -> str:

@@ -17,15 +17,14 @@ from heap_tools.faults import WRONG_USE, Fault
 from heap_tools.heap_bytes import counted_in_heap
 from heap_tools.heapmark import Heapmark
 from heap_tools.humanize import counted
+from heap_tools.leak_lines import find_joint
 from heap_tools.line_order import by_share
 from heap_tools.omissions import WHY_UNREACHABLE
 from heap_tools.plain_dumps import is_dump
 from heap_tools.probe import Probe, Retained
 from heap_tools.reports import Unit
-from heap_tools.running_calls import prepared, without_running_calls
 from heap_tools.search import Search
-from heap_tools.search_progress import SearchProgress
-from heap_tools.search_together import SearchTogether
+from heap_tools.what_counts import Way, Weak, WhatCounts, without_running_calls
 
 ABOUT = """
 Shows what holds the objects of a class in a heap dump: for each field, static
@@ -47,23 +46,21 @@ that of an array class and of the whole heap one of bytes. A line on standard
 error says how much threads or the virtual machine hold without any static
 field.
 
-Each line is the difference of two reports of heapmark: of the dump, and of the
-dump in which the field is a number, so that it leads nowhere; of a local
-variable or a thread the roots are null. Three lists hold only what is held
-anyway, and do not count: the classes of a loader, the threads of a group, and
-the references that are not in their queues yet.
+One run of retained finds what each field, local variable and thread holds: what
+is not reachable without it. Three lists hold only what is held anyway, and do
+not count: the classes of a loader, the threads of a group, and the references
+that are not in their queues yet.
 
 Calls that are running do not count: their local variables lead into containers
 that fields hold. So local variables lead nowhere if at most 5% of what is asked
 for is lost by that; else those of methods of the JDK, if that loses no more.
 
-heapmark gets a copy of the dump in memory, or by a pipe if there is no room for
-one; no file is written. The heapmark that runs is what the variable HEAPMARK
-names, else the one beside this tool, else the one built in this repository,
-else that of PATH. If SIGINT, SIGTERM or SIGHUP ends this tool, the exit status
-is 130.
+No file is written. The heapmark that runs is what the variable HEAPMARK names,
+else the one beside this tool, else the one built in this repository, else that
+of PATH; retained is found likewise, by the variable RETAINED. If SIGINT,
+SIGTERM or SIGHUP ends this tool, the exit status is 130.
 
-Counts of objects are those of heapmark, which are proved for each dump. Bytes
+Counts of objects are those of retained, which are proved for each dump. Bytes
 are those of the heap, with headers and padding of objects: sizes --help says
 how they are found, which is not proved.
 
@@ -76,7 +73,7 @@ Exit status:
   2  the command line is wrong
   3  no object of CLASS is reachable; nothing was printed
   4  the output cannot be written
-  5  heapmark cannot be run, or a later run failed; nothing was printed
+  5  heapmark or retained cannot be run, or a run failed; nothing was printed
   6  no class of DUMP has the name CLASS; nothing was printed
   7  only soft, weak, final or phantom references hold the objects of CLASS;
      nothing was printed
@@ -91,7 +88,7 @@ MUCH_UNREACHABLE = 10
 def parser() -> Parser:
     """Returns the options and operands."""
     it = Parser("holders", "[OPTIONS] <DUMP> [<CLASS>]", ABOUT, NOTES)
-    it.operand("dump", "A heap dump, in a plain file: it is read many times")
+    it.operand("dump", "A heap dump, gzipped or not, in a plain file: it is read more than once")
     text = "A class as heapmark, grown or jmap shows it; without it, the bytes of the whole heap count"
     it.operand("class", text, nargs="?")
     text = "Show what holds P percent or more, 1 to 100 [default: 10, and 20 without CLASS]"
@@ -137,16 +134,17 @@ def find_holders(options: Namespace, name: Optional[str]) -> Found:
         families = None if name is None else [family_of(name, runs.dump, runs.report)]
         in_bytes = options.bytes or not families or is_array(families[0])
         unit = Unit.BYTES if in_bytes else Unit.OBJECTS
-        shown = SearchProgress(progress, heapmark)
-        shown.show()
-        (side,) = prepared([runs], options.weak)
+        progress.show("asking what each field holds")
+        counts, follows = WhatCounts([runs]), Weak.ALL if options.weak else Weak.NONE
+        (base,) = counts.reports(Way(follows))
         if families:
-            require_objects(families[0], runs, side.base)
-        (side,), _ = without_running_calls([side], families, unit, unit.of(side.base.total(families)))
-        probe = Probe(side.runs, side.candidates, families, unit, shown.show, side.base)
-        search = Search(probe, options.at_least or (10 if families else 20), shown)
-        search.find(side.candidates.fields(side.base))
-        SearchTogether(search).find_statics()
+            require_objects(families[0], runs, base)
+        whole = unit.of(base.total(families))
+        (side,) = counts.sides(without_running_calls(counts, follows, [base], families, unit, whole))
+        probe = Probe(side, families, unit)
+        search, statics = Search(probe, options.at_least or (10 if families else 20)), side.candidates.statics()
+        search.find()
+        find_joint(search, [each for each in statics if not each.is_of_machine], statics)
     finally:
         progress.clear()
     return Found(search, by_share(search.found, probe.share), options.top, dumps.words)
@@ -170,7 +168,7 @@ def holder_lines(found: Found) -> str:
 def why_none(search: Search) -> str:
     """Returns why nothing was found, if that is known, or which option may help."""
     candidates, probe = search.probe.candidates, search.probe
-    every = [*candidates.statics(), candidates.all_threads(), *candidates.fields(probe.base)]
+    every = [*candidates.statics(), candidates.all_threads(), *candidates.every_field()]
     if probe.whole.objects and probe.retained(every).amount.objects == 0:
         return ": they are roots themselves, or a root of the virtual machine leads to them without a field"
     return ": see --at-least" if search.at_least > 1 else ""
@@ -196,7 +194,10 @@ def holders_sentences(found: Found) -> List[str]:
     if not probe.families and 100 * unreachable >= MUCH_UNREACHABLE * probe.whole.bytes and unreachable:
         notes.append(f"{counted(unreachable, 'byte')} more are unreachable: {WHY_UNREACHABLE}")
     notes += filter(None, [found.bytes_words])
-    cost = f"{counted(search.all, 'field')}, {counted(probe.runs.heapmark.runs, 'run')} of heapmark"
+    heapmark, retained = probe.runs.heapmark, probe.runs.heapmark.retained
+    cost = (
+        f"{counted(search.all, 'field')}, {counted(heapmark.runs, 'run')} of heapmark and {retained.runs} of retained"
+    )
     rest = f"threads or the virtual machine hold {without_statics(probe):,} of {what} without any static field"
     return [*notes, *probe.runs.changed_words(), f"{rest}; {cost}"]
 

@@ -1,24 +1,24 @@
 """leaks: which fields, static fields, local variables and threads hold what grew between dumps of one program."""
 
+import contextlib
 import sys
 import time
-from typing import List, NamedTuple, NoReturn, Optional, Sequence
+from typing import Iterator, List, NamedTuple, NoReturn, Optional, Sequence
 
 from heap_tools import command_line
 from heap_tools.command_line import Parser, number
-from heap_tools.comparison import Comparison, comparison_of, dumps_of
+from heap_tools.comparison import Comparison, NoGrowth, comparison_of, dumps_of, families_asked
 from heap_tools.console import Progress, is_terminal, say, write
 from heap_tools.documents import document
 from heap_tools.dump_runs import DumpRuns
-from heap_tools.faults import WRONG_USE, Fault
+from heap_tools.faults import MORE, NOTHING, WRONG_USE, Fault
 from heap_tools.heap_bytes import counted_in_heap
 from heap_tools.heapmark import Heapmark
 from heap_tools.humanize import counted, duration, size
-from heap_tools.leak_documents import Cost, fields_of_growth, fields_of_one
+from heap_tools.leak_documents import Cost, fields_of_growth, fields_of_nothing, fields_of_one
 from heap_tools.leak_lines import Answer, Line, answer_of
 from heap_tools.leak_notes import notes_of, notes_words
 from heap_tools.leak_options import Options
-from heap_tools.memory_copy import give_back
 from heap_tools.one_dump import AT_LEAST, answer_of_one, question_of
 from heap_tools.one_dump_notes import notes_of_one, sentences_of
 from heap_tools.one_dump_output import lines_of_one
@@ -27,8 +27,6 @@ from heap_tools.page import Making
 from heap_tools.page_content import content_of, making_of, require_place, write_page
 from heap_tools.probe import GrowthProbe
 from heap_tools.reports import Unit
-from heap_tools.search import Search
-from heap_tools.search_progress import SearchProgress
 
 ABOUT = """
 Shows what holds the objects that grew between heap dumps of one program: for
@@ -45,31 +43,15 @@ field. A static field has one instance; those of a local variable are the
 threads in its method. Fields above a field, from a static field, a local
 variable or a thread down, stand before it: in `A > B`, A holds all that B does.
 
-A line's score is what it gained without what came with new instances (unless
-one object gained most, or elements that the answer had before), without what
-was above it, below it or in a field of its class before, and nothing if it did
-not grow at each step between dumps. If no score is a quarter of the growth,
-nothing that lasts holds what grew: the answer is the topmost line, a thread
-before others. Else the answer is the deepest line on the path of the best score
-(of those with nine tenths of it, of the line whose name says most), above or
-below it, that has half of that score: the accumulation point. A collection,
-several of the JDK or with a thread together, a variable of a lambda or a thread
-is the answer only if no other line on that path has nine tenths of that score,
-or half of it below; of fields, own ones, and those of which one object gained
-most, come before the JDK's in the same way. The other lines follow by their
-scores.
+Line 1 is the accumulation point: the last place on the path where most of the
+growth is still together, in objects that both dumps have. On one path, fields
+of your own come before collections and fields of the JDK. The others follow by
+what they gained in objects that both dumps have. What did not grow at each step
+between several dumps comes last. If only new objects hold what grew, line 1 is
+the topmost one, such as a thread.
 
-Collections are classes that inherit from those of the JDK, classes whose names
-end with Map, List, Set, Queue or Deque, and classes within these. Below an
-answer that leads to none, the fields of another class with few objects are
-tried together, inherited ones too: several by which one object gained most
-count as one field. An object of many is named by a text in it, its key in a
-map, the thread that has it by a thread-local, or by those of what leads to it.
-
-Calls that are running do not count: their local variables lead into containers
-that fields hold. So local variables lead nowhere if less than P percent of the
-growth is lost by that in each dump (or 5%, if P is less); else those of methods
-of the JDK, if that loses no more.
+Calls that are running do not count, if nearly all of the growth is held without
+them: their local variables lead into containers that fields hold.
 
 The growth is that of the reachable bytes, or of the objects and bytes of CLASS.
 If no more bytes are reachable than before, it is that of the objects of all
@@ -79,22 +61,18 @@ Soft, weak, final and phantom references lead nowhere without --weak. But if
 those of one kind alone hold most of the growth, these are followed, and a
 message says so; soft ones never are.
 
-Counts of objects are those of heapmark, which are proved for each dump. Bytes
+Counts of objects are those of retained, which are proved for each dump. Bytes
 are those of the heap, with headers and padding of objects: sizes --help says
 how they are found, which is not proved.
 
-Names of the last dump are looked up in the first one: hidden classes, such as
-those of lambdas, by what is common to them. Up to three dumps between the first
-and the last are asked what the lines held; of others only the reports are used.
-
 Of one dump, the columns are the objects and bytes that are held, their share of
-all that is reachable, and the number of instances. The score of a line is what
-it holds; of a field that has a value in more than 64 instances, what one of
-these holds if that is most of it, else nothing. If an own line is beside the
-first, neither above nor below it, the best such one is second: it may leak,
-too. Messages say how full the heap is, which object holds most, what is in it,
-and in which methods memory ran out: of an unlucky thread, which need not be the
-cause.
+all that is reachable, and the number of instances. Line 1 is what holds most in
+few objects. If an own line is beside it, neither above nor below, the best such
+one is line 2: it may leak, too. Messages say how full the heap is, which object
+holds most, what is in it, and in which methods memory ran out: of an unlucky
+thread, which need not be the cause.
+
+How lines are ordered, rule by rule: see docs/LEAK.md.
 
 How it is found, and what holds a class in one dump, from a share of 10% on: see
 holders. All that a field holds: see held. Which classes grew: see grown. What
@@ -105,9 +83,10 @@ Exit status:
   1  a dump cannot be read, was refused, or does not go with the others; nothing
      was printed
   2  the command line is wrong
-  3  nothing grew, or no object of CLASS is reachable; nothing was printed
+  3  nothing grew, or no object of CLASS is reachable: there is no line, and of
+     --json a document without one; with --more-than, more than BYTES grew
   4  the output or FILE cannot be written
-  5  heapmark cannot be run, or a later run failed; nothing was printed
+  5  heapmark or retained cannot be run, or a run failed; nothing was printed
   6  no class of the last dump has the name CLASS; nothing was printed
   7  of one dump, only weak references hold the objects of CLASS: see --weak
 
@@ -124,14 +103,16 @@ AT_LEAST_OF_GROWTH = 30
 def parser() -> Parser:
     """Returns the options and operands."""
     it = Parser("leaks", "[OPTIONS] <DUMP> [<AFTER>...]", ABOUT, NOTES)
-    it.operand("dump", "A heap dump, in a plain file: it is read many times")
-    it.operand("after", "Later ones of the same program, the earliest first", nargs="*")
+    it.operand("dump", "A heap dump, gzipped or not, in a plain file: it is read more than once")
+    it.operand("after", "Later ones of the same program, the earliest first", nargs="*", default=[])
     text = "Show what holds the objects of a class, as heapmark, grown or jmap shows it, not the whole heap"
     it.option("--class", "CLASS", text, dest="of_class")
     it.flag("--objects", "Take shares of objects, not of bytes")
     text = "Show what holds P percent or more, 1 to 100 [default: 30 of the growth, 20 of the heap of one dump]"
     it.option("--at-least", "P", text, type=number(1, 100))
     it.option("--top", "N", "Show at most N lines [default: 4]", type=number(1), default=4)
+    text = "Show it only if more than BYTES bytes more are reachable; the exit status is then 3, else 0"
+    it.option("--more-than", "BYTES", text, type=number())
     it.option("--html", "FILE", "Also write a page for a browser, with charts, to FILE")
     it.flag("--weak", "Follow soft, weak, final and phantom references, too")
     it.flag("--no-values", "Show no text or number that the dump has in fields, except the names of threads")
@@ -150,9 +131,9 @@ class Output(NamedTuple):
     is_json: bool
     page: Optional[str]
 
-    def cost(self, search: Search) -> Cost:
-        """Returns what a search has cost."""
-        return Cost(search.all, self.heapmark.runs, time.time() - self.began)
+    def cost(self, fields: int) -> Cost:
+        """Returns what it has cost to try so many fields."""
+        return Cost(fields, self.heapmark.runs, self.heapmark.retained.runs, time.time() - self.began)
 
     def making(self) -> Making:
         """Returns what the page says of how its figures were found."""
@@ -196,9 +177,6 @@ def remainder(answer: Answer, comparison: Comparison) -> List[str]:
     if answer.hidden:
         hold = "holds" if answer.hidden == 1 else "hold"
         found.append(f"{answer.hidden} more {hold} {search.at_least}% or more: see --top")
-    if search.omitted:
-        omitted = counted(search.omitted, "field")
-        found.append(f"{omitted} not tried, after {probe.questions} questions: see --at-least")
     if not answer.lines:
         more = ": see --at-least" * (search.at_least > 1)
         found.append(f"no field, local variable or thread alone holds {search.at_least}% of the growth{more}")
@@ -207,21 +185,34 @@ def remainder(answer: Answer, comparison: Comparison) -> List[str]:
     return found
 
 
+@contextlib.contextmanager
+def nothing_too(dumps: Sequence[DumpRuns], options: Options, output: Output) -> Iterator[None]:
+    """Prints a document if the block ends since there is nothing that grew, or no object of the class."""
+    try:
+        yield
+    except Fault as fault:
+        if output.is_json and fault.status in (0, NOTHING):
+            cost = output.cost(0)
+            none, families = fault if isinstance(fault, NoGrowth) else None, families_asked(options, dumps[-1])
+            write(document("leaks", fields_of_nothing(dumps, families, options, none, cost), [str(fault)]))
+        raise
+
+
 def print_growth(paths: Sequence[str], options: Options, output: Output) -> None:
     """Prints what holds the growth between two dumps or more."""
     progress = Progress("leaks")
-    shown = SearchProgress(progress, output.heapmark)
     try:
         dumps = counted_in_heap(dumps_of(paths, output.heapmark, progress), options.dump_bytes)
-        comparison = comparison_of(dumps.dumps, options, shown)
-        answer = answer_of(comparison.probe, options.at_least, options.top, shown, comparison.probes_between)
+        progress.show("asking what each field holds")
+        with nothing_too(dumps.dumps, options, output):
+            comparison = comparison_of(dumps.dumps, options)
+        answer = answer_of(comparison.probe, options.at_least, options.top, comparison.probes_between)
         notes = notes_of(comparison, answer, options.shows_values)
-        give_back([each.memory for each in dumps.dumps if each.memory])
     finally:
         progress.clear()
     has_heads = is_terminal(sys.stdout) and answer.lines
     above = lines_above(comparison, answer.probe, width_of(answer.lines)) if has_heads else ""
-    cost = output.cost(answer.search)
+    cost = output.cost(answer.search.all)
     sentences = [*comparison.why, *notes_words(notes), *remainder(answer, comparison)]
     changed = [words for each in dumps.dumps for words in each.changed_words()]
     sentences += [*filter(None, [dumps.words]), *changed, str(cost)]
@@ -240,13 +231,15 @@ def print_one(path: str, options: Options, output: Output) -> None:
     progress = Progress("leaks")
     try:
         progress.show("reading the dump")
-        shown = SearchProgress(progress, output.heapmark)
         dumps = counted_in_heap([DumpRuns.of(output.heapmark, path, "leaks")], options.dump_bytes)
-        answer = answer_of_one(question_of(dumps.dump, options, shown), options, shown)
+        progress.show("asking what each field holds")
+        with nothing_too(dumps.dumps, options, output):
+            question = question_of(dumps.dump, options)
+        answer = answer_of_one(question, options)
         notes = notes_of_one(answer)
     finally:
         progress.clear()
-    cost = output.cost(answer.search)
+    cost = output.cost(answer.search.all)
     changed = dumps.dump.changed_words()
     sentences = [*sentences_of(answer, notes), *filter(None, [dumps.words]), *changed, str(cost)]
     write(document("leaks", fields_of_one(answer, notes, cost), sentences) if output.is_json else lines_of_one(answer))
@@ -261,19 +254,20 @@ def main(words: Sequence[str]) -> int:
     options = parser().read(words)
     if 1 + len(options.after) > MOST_FILES:
         raise Fault(WRONG_USE, f"{1 + len(options.after)} dumps: at most {MOST_FILES}")
+    if options.more_than is not None and not options.after:
+        raise Fault(WRONG_USE, "--more-than: one dump shows no growth: a later one does")
     if options.html is not None:
         require_place(options.html)
     at_least = options.at_least or (AT_LEAST_OF_GROWTH if options.after else AT_LEAST)
     unit = Unit.OBJECTS if options.objects else Unit.BYTES
-    asked = Options(
-        options.of_class, unit, at_least, options.top, options.weak, not options.no_values, options.dump_bytes
-    )
+    bounds = at_least, options.top, options.weak, not options.no_values, options.dump_bytes, options.more_than
+    asked = Options(options.of_class, unit, *bounds)
     output = Output(words, Heapmark(), time.time(), options.json, options.html)
     if options.after:
         print_growth([options.dump, *options.after], asked, output)
     else:
         print_one(options.dump, asked, output)
-    return 0
+    return 0 if options.more_than is None else MORE
 
 
 def run() -> NoReturn:

@@ -12,6 +12,7 @@ from heap_tools.command_line import Parser, number
 from heap_tools.console import Progress, is_terminal, say, write
 from heap_tools.documents import document, sizes_fields
 from heap_tools.dump_runs import DumpRuns
+from heap_tools.heap_bytes import unsure_words
 from heap_tools.heap_sizes import ClassSize, HeapSizes, sizes_by_package, sizes_in, unreachable_first
 from heap_tools.heapmark import Heapmark
 from heap_tools.humanize import counted, size
@@ -66,7 +67,7 @@ Example:
 def parser() -> Parser:
     """Returns the options and operands."""
     it = Parser("sizes", "[OPTIONS] <DUMP>", ABOUT, NOTES)
-    it.operand("dump", "A heap dump, in a plain file: it is read several times")
+    it.operand("dump", "A heap dump, gzipped or not, in a plain file: it is read several times")
     it.flag("--packages", "Show packages in place of classes")
     it.flag("--unreachable", "Show only classes that have unreachable objects, those with most bytes of these first")
     it.option("--top", "N", "Show at most N lines, besides the totals at the end", type=number(1))
@@ -102,11 +103,14 @@ def size_line(each: ClassSize, whole: int) -> str:
     return f"{objects:10} {taken:14} {mean:10.1f} {share:4.1f}% {each.unreachable.bytes:14}  {each.name}\n"
 
 
-def size_notes(sizes: HeapSizes, hidden: int) -> List[str]:
+def hidden_note(hidden: int) -> List[str]:
+    """Returns how many lines are not printed, nothing if all are. The page has no lines, and does not say it."""
+    return [f"{counted(hidden, 'line')} more: see --top"] if hidden else []
+
+
+def size_notes(sizes: HeapSizes) -> List[str]:
     """Returns what the lines do not say."""
     notes = []
-    if hidden:
-        notes.append(f"{counted(hidden, 'line')} more: see --top")
     if sizes.in_dump.unreachable.objects:
         notes.append(f"{counted(sizes.in_dump.unreachable.objects, 'object')} are unreachable: {WHY_UNREACHABLE}")
     if sizes.layout is None:
@@ -118,7 +122,8 @@ def size_notes(sizes: HeapSizes, hidden: int) -> List[str]:
     if sizes.stacks.objects:
         what = f"{counted(sizes.stacks.bytes, 'byte')} in {counted(sizes.stacks.objects, 'object')}"
         notes.append(f"the stacks of virtual threads that wait take {what}")
-    return [*notes, f"the layout that neighbours show: {sizes.layout.words()}"]
+    unsure = unsure_words(sizes.unsure, sizes.every.bytes)
+    return [*notes, *([unsure] if unsure else []), f"the layout that neighbours show: {sizes.layout.words()}"]
 
 
 def content_of_sizes(
@@ -163,14 +168,15 @@ def main(words: Sequence[str]) -> int:
         progress.clear()
     every = sizes_shown(sizes, options)
     shown = every[: options.top]
-    notes = [*size_notes(sizes, len(every) - len(shown)), *runs.changed_words()]
+    notes, hidden = [*size_notes(sizes), *runs.changed_words()], len(every) - len(shown)
+    said = [*hidden_note(hidden), *notes]
     if options.json:
-        write(document("sizes", sizes_fields(runs, sizes, shown, options.packages, len(every) - len(shown)), notes))
+        write(document("sizes", sizes_fields(runs, sizes, shown, options.packages, hidden), said))
     else:
         write(size_lines(shown, sizes, "package" if options.packages else "class"))
     if options.html is not None:
         write_page(options.html, content_of_sizes(runs, sizes, notes, words, began))
-    for note in notes:
+    for note in said:
         say(f"sizes: {note}")
     return 0
 

@@ -2,10 +2,10 @@
 
 `model.py` has what the tools fill. `comparison_page.py` is the page of two or more dumps, `dump_page.py` that of one,
 and `sizes_page.py` that of `sizes`;
-`sections.py` has what both have. The parts of the first are `top.py`, `chart.py` with `chart_labels.py`, `holders.py`
-and `classes.py`, those of the other `fullness.py` and `suspects.py`. `objects.py`, `treemap.py`, `treemap_picture.py`
-and `tables.py` are of both. `templates.py` escapes and fills, `names.py` and `words.py` spell; `page.html` has all
-templates, `page.css` the style.
+`sections.py` has what both have. The parts of the first are `top.py`, `chart.py` with `chart_lines.py` and
+`chart_labels.py`, `small_lines.py`, `holders.py` and `classes.py`, those of the other `fullness.py` and `suspects.py`.
+`objects.py`, `made_of.py`, `treemap.py`, `treemap_picture.py` and `tables.py` are of both. `templates.py` escapes and
+fills, `names.py` and `words.py` spell; `page.html` has all templates, `page.css` the style.
 """
 
 import contextlib
@@ -18,7 +18,7 @@ from heap_tools.candidates import FIELD, LOCAL, STATIC, THREAD, THREADS
 from heap_tools.page import comparison_page, dump_page, sizes_page
 from heap_tools.page.model import DumpEntry, FieldEntry, GrownClass, HeldShare, HolderEntry, Leak, Limits, Making
 from heap_tools.page.model import NameEntry, NextStep, ObjectEntry, OneDump, ProgramEntry, RanOutEntry, StepEntry
-from heap_tools.page.model import SuspectEntry, ThreadGroupEntry
+from heap_tools.page.model import ShareEntry, SuspectEntry, ThreadGroupEntry
 from heap_tools.page.sizes_page import Sizes
 from heap_tools.reports import Amount, Row, Unit
 
@@ -42,6 +42,7 @@ __all__ = [
     "RanOutEntry",
     "Row",
     "STATIC",
+    "ShareEntry",
     "Sizes",
     "StepEntry",
     "SuspectEntry",
@@ -62,6 +63,7 @@ LIMITS = [
     Limits(name=240, holders=20, steps=6, grown=30, groups=8, parts=9, dumps=40, sentences=30),
     Limits(name=120, holders=12, steps=5, grown=20, groups=8, parts=6, dumps=20, sentences=20),
     Limits(name=60, holders=10, steps=4, grown=10, groups=6, parts=4, dumps=10, sentences=10),
+    Limits(name=40, holders=8, steps=3, grown=8, groups=2, parts=2, dumps=8, sentences=8),
 ]
 
 

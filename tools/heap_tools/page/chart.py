@@ -1,73 +1,77 @@
-"""The pictures of amounts over the dumps, as SVG: the chart of the heap, and a small line for each class."""
+"""The chart of the heap over the dumps, as SVG: `chart_lines.py` has its lines, `chart_labels.py` where texts are."""
 
 import math
 from dataclasses import dataclass
-from typing import Dict, Iterable, List, Sequence, Tuple, TypeVar
+from typing import Dict, Iterable, List, NamedTuple, Sequence
 
-from heap_tools.page.chart_labels import DIGIT, FEW_POINTS, anchor_of, points_with_number, labels_of
+from heap_tools.page.chart_labels import ASCENT, BESIDE, DESCENT, DIGIT, FEW_POINTS, Label, labels_between
+from heap_tools.page.chart_labels import labels_of_ends, labels_of_times, points_with_number
+from heap_tools.page.chart_lines import HELD, REACHABLE, UNREACHABLE, Point, Series, description_of, legend_order
+from heap_tools.page.chart_lines import series_of, time_places
 from heap_tools.page.model import DumpEntry, Leak, Limits
 from heap_tools.page.names import names_of
 from heap_tools.page.templates import Html, escaped, fill, joined
-from heap_tools.page.words import bare, clock, full, moment
+from heap_tools.page.words import bare, clock, moment
 from heap_tools.reports import Unit
 
-#: The chart is drawn three times, for wide and for narrow screens and for paper: name, width, height of each.
-CHARTS = [("wide", 800, 260), ("narrow", 360, 220), ("paper", 520, 140)]
-#: The most points of a line, and the size of a small line.
-MOST_POINTS, SMALL_WIDTH, SMALL_HEIGHT = 60, 120, 28
-#: The room around the chart's lines: right, top and bottom. The room at the left is for the numbers of the axis.
-RIGHT, TOP, BOTTOM = 30, 26, 26
-#: The width of a letter.
-LETTER = 7.2
-#: The lines of the chart: what is known of each dump, and what is measured in some only.
-REACHABLE, UNREACHABLE, HELD = "reachable", "unreachable", "held"
 
-#: A place between 0 and 1 along the time, and a number.
-Point = Tuple[float, int]
-Spaced = TypeVar("Spaced")
-
-
-@dataclass(frozen=True)
-class Series:
-    """A line of the chart: which one it is, and its points. `is_partial`: it was not measured in each dump."""
+class ChartSize(NamedTuple):
+    """A drawing of the chart: where it is shown, the least width that it has there, its height, whether the lines of
+    its grid have numbers, and whether the name of a line is below the number of its end, not beside it."""
 
     kind: str
-    points: List[Point]
-    is_partial: bool = False
+    width: float
+    height: float
+    has_axis: bool
+    is_stacked: bool
+
+
+#: The chart is drawn three times, for wide and for narrow screens and for paper. Places are parts of its width, and
+#: only heights are in pixels: so texts are as large in a window of any width, and no closer than at the least one.
+CHARTS = [
+    ChartSize("wide", 540, 260, True, False),
+    ChartSize("narrow", 300, 240, False, True),
+    ChartSize("paper", 530, 150, True, False),
+]
+#: The room above and below the chart's lines, and beside the numbers of the axis.
+TOP, BOTTOM, GAP = 26, 26, 10
+#: The width of a letter, and the height of a text.
+LETTER, TEXT_HEIGHT = 7.2, ASCENT + DESCENT
+#: The width of the lines' own coordinates, which are stretched to the width of the chart.
+STRETCHED = 1000
 
 
 @dataclass(frozen=True)
 class Scale:
-    """How places and numbers become coordinates of the chart. `left`: the room for the numbers of the axis."""
+    """How places and numbers become coordinates of a chart that has its least width. `left` and `right`: the room
+    beside the lines."""
 
-    width: float
-    height: float
+    size: ChartSize
     left: float
+    right: float
     most: float
+
+    @property
+    def width(self) -> float:
+        """The width of the lines."""
+        return self.size.width - self.left - self.right
+
+    @property
+    def floor(self) -> float:
+        """The coordinate of 0."""
+        return self.y(0)
 
     def x(self, place: float) -> float:
         """Returns the coordinate of a place between 0 and 1."""
-        return self.left + place * (self.width - self.left - RIGHT)
+        return place * self.width
 
     def y(self, number: float) -> float:
         """Returns the coordinate of a number."""
-        return self.height - BOTTOM - number / max(1, self.most) * (self.height - TOP - BOTTOM)
+        return self.size.height - BOTTOM - number / max(1, self.most) * (self.size.height - TOP - BOTTOM)
 
-
-def sampled(items: Sequence[Spaced]) -> List[Spaced]:
-    """Returns `items`, or evenly chosen ones if they are too many, the first and the last among them."""
-    last = len(items) - 1
-    if last < MOST_POINTS:
-        return list(items)
-    return [items[round(number * last / (MOST_POINTS - 1))] for number in range(MOST_POINTS)]
-
-
-def time_places(dumps: Sequence[DumpEntry]) -> List[float]:
-    """Returns the places of the dumps between 0 and 1: by their times if these rise, else evenly."""
-    times = [dump.time for dump in dumps if dump.time is not None]
-    if len(times) == len(dumps) and all(before < after for before, after in zip(times, times[1:])):
-        return [(time - times[0]) / max(1, times[-1] - times[0]) for time in times]
-    return [number / max(1, len(dumps) - 1) for number in range(len(dumps))]
+    def part(self, x: float) -> str:
+        """Returns a coordinate as a part of the width."""
+        return f"{100 * x / self.width:.2f}%"
 
 
 def step_of(most: int) -> float:
@@ -83,56 +87,103 @@ def grid_numbers(most: int) -> List[int]:
     return [int(number * step) for number in range(int(most // step) + 1)]
 
 
+def scale_of(lines: Sequence[Series], grid: Sequence[int], size: ChartSize, unit: Unit) -> Scale:
+    """Returns the scale of a drawing, with as much room beside the lines as their texts need."""
+    first = max(len(bare(series.numbers[0], unit)) for series in lines)
+    axis = GAP + LETTER * max(len(bare(number, unit)) for number in grid) if size.has_axis else 0
+    right = max(width_of_end(series, size, unit) for series in lines)
+    most = max(number for series in lines for number in series.numbers)
+    return Scale(size, math.ceil(BESIDE + DIGIT * first + axis), math.ceil(BESIDE + right), most)
+
+
+def width_of_end(series: Series, size: ChartSize, unit: Unit) -> float:
+    """Returns the width of what is beside the end of a line: its last number, and its name."""
+    number, name = DIGIT * len(bare(series.numbers[-1], unit)), LETTER * len(series.kind)
+    return max(number, name) if size.is_stacked else number + LETTER + name
+
+
 def grid_of(scale: Scale, numbers: Iterable[int], unit: Unit) -> Html:
-    """Returns the lines across the chart with their numbers."""
-    lines = []
+    """Returns the lines across the chart with their numbers, or only that of 0."""
+    if not scale.size.has_axis:
+        return fill("grid", y=f"{scale.floor:.1f}", left=0, number=Html())
+    axis, lines = GAP + LETTER * max(len(bare(number, unit)) for number in numbers), []
     for number in numbers:
-        at = {"y": f"{scale.y(number):.1f}", "left": f"{scale.left:.1f}", "right": scale.width - RIGHT / 2}
-        lines.append(fill("grid", text=bare(number, unit), label=f"{scale.left - 8:.1f}", **at))
+        at = {"y": f"{scale.y(number):.1f}", "left": f"{axis - scale.left:.1f}"}
+        text = fill("grid_number", text=bare(number, unit), x=f"{axis - scale.left - GAP:.1f}", y=at["y"])
+        lines.append(fill("grid", number=text, **at))
     return joined(lines)
 
 
 def line_of(series: Series, scale: Scale) -> Html:
-    """Returns a line of the chart, with a dot at each point if there are few. Only what is reachable is an area."""
-    points = [(scale.x(place), scale.y(number)) for place, number in series.points]
-    texts = [f"{x:.1f},{y:.1f}" for x, y in points]
-    is_few = len(points) <= 2 * FEW_POINTS
-    dots = joined(fill("dot", x=f"{x:.1f}", y=f"{y:.1f}") for x, y in points) if is_few else Html()
+    """Returns a line of the chart, in coordinates that are stretched. Only what is reachable is an area."""
+    texts = [f"{STRETCHED * point.place:.1f},{scale.y(point.number):.1f}" for point in series.points]
     area = Html()
     if series.kind == REACHABLE:
-        floor = f"{scale.y(0):.1f}"
-        corners = [f"{points[0][0]:.1f},{floor}", *texts, f"{points[-1][0]:.1f},{floor}"]
-        area = fill("area", points=" ".join(corners))
-    kind = f"{series.kind} partial" if series.is_partial else series.kind
-    return fill("series", kind=kind, area=area, points=" ".join(texts), dots=dots)
+        area = fill("area", points=f"0,{scale.floor:.1f} {' '.join(texts)} {STRETCHED},{scale.floor:.1f}")
+    return fill("series", kind=style_of(series), area=area, points=" ".join(texts))
 
 
-def numbers_of(lines: Sequence[Series], scale: Scale, unit: Unit) -> Html:
-    """Returns the numbers at the points of the lines."""
-    points = [[(scale.x(place), scale.y(number)) for place, number in series.points] for series in lines]
-    texts = []
-    for series in lines:
-        values = [value for _, value in series.points]
-        wanted = set(points_with_number(values))
-        texts.append([bare(value, unit) if at in wanted else "" for at, value in enumerate(values)])
-    shown = []
-    for label in labels_of(points, texts, scale.y(0)):
-        at = {"x": f"{label.x:.1f}", "y": f"{label.y:.1f}", "anchor": label.anchor}
-        shown.append(fill("chart_label", kind=lines[label.line].kind, text=label.text, **at))
+def style_of(series: Series) -> str:
+    """Returns the classes of style of a line."""
+    return f"{series.kind} partial" if series.is_partial else series.kind
+
+
+def dots_of(series: Series, scale: Scale) -> Html:
+    """Returns the dots of a line, which are of a form that no other line has: at all points if they are few, else at
+    its ends."""
+    points = series.points if len(series.points) <= 2 * FEW_POINTS else [series.points[0], series.points[-1]]
+    dots = (dot(series.kind, f"{100 * point.place:.2f}%", scale.y(point.number)) for point in points)
+    return fill("dots", kind=series.kind, dots=joined(dots))
+
+
+def dot(kind: str, x: str, y: float) -> Html:
+    """Returns a dot: of what is held a square, of all else a circle, which is hollow for what is unreachable."""
+    return fill("square" if kind == HELD else "circle", x=x, y=f"{y:.1f}")
+
+
+def labels_of(lines: Sequence[Series], scale: Scale, unit: Unit) -> Html:
+    """Returns the numbers at the points of the lines, and their names at the end."""
+    points = [[(scale.x(point.place), scale.y(point.number)) for point in series.points] for series in lines]
+    texts = [numbers_of(series.points, unit) for series in lines]
+    gap = 2 * TEXT_HEIGHT if scale.size.is_stacked else TEXT_HEIGHT
+    ends = labels_of_ends(points, texts, gap, ASCENT + 2, scale.floor)
+    between = labels_between(points, texts, ends, scale.floor)
+    shown = [label_of(label, lines[label.line], scale) for label in [*ends[: len(lines)], *between]]
+    for label, series in zip(ends[len(lines) :], lines):
+        shown.append(label_of(label, series, scale, name_of_line(label, series, scale)))
     return joined(shown)
 
 
+def numbers_of(points: Sequence[Point], unit: Unit) -> List[str]:
+    """Returns the numbers of points as texts, empty for those that are to have none."""
+    wanted = {0, len(points) - 1, *points_with_number([point.number for point in points])}
+    return [bare(point.number, unit) if at in wanted else "" for at, point in enumerate(points)]
+
+
+def label_of(label: Label, series: Series, scale: Scale, name: Html = Html()) -> Html:
+    """Returns a number of a line, with a name if it is the last one."""
+    return fill("chart_label", kind=series.kind, text=label.text, name=name, **place_of_text(label, scale))
+
+
+def place_of_text(label: Label, scale: Scale) -> Dict[str, str]:
+    """Returns the place of a text as the attributes of an element."""
+    places = {"x": scale.part(label.x), "y": f"{label.y:.1f}", "shift": f"{label.shift:.1f}"}
+    return {**places, "anchor": label.anchor}
+
+
+def name_of_line(label: Label, series: Series, scale: Scale) -> Html:
+    """Returns the name of a line, beside its last number or below it."""
+    if not scale.size.is_stacked:
+        return fill("name_beside", text=series.kind)
+    return fill("name_below", text=series.kind, x=scale.part(label.x), shift=f"{label.shift:.1f}", height=TEXT_HEIGHT)
+
+
 def ticks_of(places: Sequence[float], texts: Sequence[str], scale: Scale) -> Html:
-    """Returns the times below the chart for which there is room: the last, the first, then those between."""
-    last, shown = len(places) - 1, []
-    taken: List[Tuple[float, float]] = []
-    for number in dict.fromkeys([last, 0, *range(1, last)]):
-        x, anchor, width = scale.x(places[number]), anchor_of(number, last), DIGIT * len(texts[number])
-        left = x - {"start": 0.0, "middle": 0.5, "end": 1.0}[anchor] * width
-        if all(left + width + DIGIT <= begin or end + DIGIT <= left for begin, end in taken):
-            taken.append((left, left + width))
-            at = {"x": f"{x:.1f}", "y": f"{scale.height - 6:.1f}", "anchor": anchor}
-            shown.append(fill("tick", text=texts[number], **at))
+    """Returns the times below the chart for which there is room."""
+    xs, edges = [scale.x(place) for place in places], (-scale.left, scale.width + scale.right)
+    shown = []
+    for label in labels_of_times(xs, texts, scale.size.height - 6, edges):
+        shown.append(fill("tick", text=label.text, **place_of_text(label, scale)))
     return joined(shown)
 
 
@@ -142,92 +193,35 @@ def times_of(dumps: Sequence[DumpEntry]) -> List[str]:
     return [*texts[:-1], f"{texts[-1]} UTC"] if moment(dumps[-1].time) else texts
 
 
-def held_line(leak: Leak, places: Sequence[float]) -> Series:
-    """Returns the line of what the first holder holds: in the first dump and the last, and in those between in which
-    that was measured."""
-    first, unit, last = leak.holders[0], leak.by, len(leak.dumps) - 1
-    amounts = {0: first.before.amount, **first.between, last: first.after.amount}
-    points = [(places[number], unit.of(amounts[number])) for number in sorted(amounts)]
-    return Series(HELD, points, is_partial=len(points) < len(leak.dumps))
-
-
-def series_of(leak: Leak, places: Sequence[float]) -> List[Series]:
-    """Returns the lines of the chart: what is reachable, what is held by the first holder, and what is unreachable if
-    that is much."""
-    unit = leak.by
-    reachable = [unit.of(dump.reachable) for dump in leak.dumps]
-    unreachable = [unit.of(dump.unreachable) for dump in leak.dumps]
-    found = [Series(REACHABLE, sampled(list(zip(places, reachable))))]
-    if leak.holders and leak.is_of_all:
-        found.append(held_line(leak, places))
-    if max(unreachable) > max(reachable) / 50:
-        found.append(Series(UNREACHABLE, sampled(list(zip(places, unreachable)))))
-    return found
-
-
-def description_of(leak: Leak) -> str:
-    """Returns the chart in words."""
-    numbers = [full(leak.by.of(dump.reachable), leak.by) for dump in leak.dumps]
-    texts = [f"{text} in dump {number}" for number, text in enumerate(numbers, 1)]
-    return f"Reachable {leak.by.value}: " + ", ".join(sampled(texts)) + "."
-
-
 def legend(lines: Sequence[Series], leak: Leak, limits: Limits) -> Html:
-    """Returns what the lines of the chart are."""
+    """Returns what the lines of the chart are, each with a piece of it."""
     texts: Dict[str, Html] = {kind: escaped(f"{kind} {leak.by.value}") for kind in (REACHABLE, UNREACHABLE)}
     if leak.holders:
         ends = ", measured at the dots" if any(series.is_partial for series in lines) else ""
         texts[HELD] = joined(["held by ", names_of(leak.holders[0].fields, limits), ends])
-    keys = [(it.kind, f"{it.kind} partial" if it.is_partial else it.kind) for it in lines]
-    keys.sort(key=lambda key: key[0] == HELD)  # the longest text is the last
-    return joined((fill("legend", kind=key, text=texts[kind]) for kind, key in keys), "\n")
+    keys = []
+    for series in legend_order(lines):
+        sample = fill("sample", kind=style_of(series), of=series.kind, dot=dot(series.kind, "50%", 6))
+        keys.append(fill("legend", kind=series.kind, sample=sample, text=texts[series.kind]))
+    return joined(keys, "\n")
 
 
 def chart(leak: Leak, limits: Limits) -> Html:
     """Returns the chart of the heap over the dumps, for each width, with its legend."""
     places, texts = time_places(leak.dumps), times_of(leak.dumps)
     lines = series_of(leak, places)
-    most = max(number for series in lines for _, number in series.points)
-    grid = grid_numbers(most)
-    left = 14 + LETTER * max(len(bare(number, leak.by)) for number in grid)
+    grid = grid_numbers(max(number for series in lines for number in series.numbers))
+    about = {"description": description_of(lines, leak, limits)}
     pictures = []
-    for kind, width, height in CHARTS:
-        scale = Scale(width, height, left, most)
+    for size in CHARTS:
+        scale = scale_of(lines, grid, size, leak.by)
         parts: Dict[str, object] = {
             "grid": grid_of(scale, grid, leak.by),
             "lines": joined(line_of(series, scale) for series in lines),
-            "labels": numbers_of(lines, scale, leak.by),
+            "dots": joined(dots_of(series, scale) for series in lines),
+            "labels": labels_of(lines, scale, leak.by),
             "ticks": ticks_of(places, texts, scale),
         }
-        pictures.append(fill("chart", kind=kind, width=width, height=height, description=description_of(leak), **parts))
+        room = {"left": scale.left, "right": scale.right, "stretched": STRETCHED}
+        pictures.append(fill("chart", kind=size.kind, height=size.height, **room, **about, **parts))
     return fill("figure_of", picture=joined(pictures, "\n"), caption=legend(lines, leak, limits))
-
-
-def lowest_and_highest(classes: Iterable[Sequence[int]]) -> Tuple[int, int]:
-    """Returns by how much the numbers of any class are below its first one at most, and above it."""
-    changes = [number - numbers[0] for numbers in classes for number in numbers]
-    return min(changes), max(changes)
-
-
-def small_line(places: Sequence[float], numbers: Sequence[int], scale: Tuple[int, int], unit: Unit) -> Html:
-    """Returns the small line of a class over the dumps at `places`, which rises by what there was more than in the
-    first dump. `scale`: by how much any class fell and rose at most."""
-    lowest, highest = scale
-    room, floor = SMALL_HEIGHT - 8, SMALL_HEIGHT - 4
-    shown = []
-    for place, value in sampled(list(zip(places, numbers))):
-        part = (value - numbers[0] - lowest) / max(1, highest - lowest)
-        shown.append((4 + place * (SMALL_WIDTH - 8), floor - part * room))
-    x, y = shown[-1]
-    first, last, most = (full(number, unit) for number in (numbers[0], numbers[-1], max(numbers)))
-    return fill(
-        "small_line",
-        points=" ".join(f"{x:.1f},{y:.1f}" for x, y in shown),
-        description=f"From {first} to {last}, at most {most}",
-        width=SMALL_WIDTH,
-        height=SMALL_HEIGHT,
-        x=f"{x:.1f}",
-        y=f"{y:.1f}",
-        first=f"{shown[0][0]:.1f}",
-        floor=floor,
-    )

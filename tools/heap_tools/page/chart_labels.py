@@ -1,4 +1,5 @@
-"""Where the numbers of a chart are: each beside its point, clear of the lines and of each other."""
+"""Where the texts of a chart are: the numbers of the ends of lines beside these, those between the ends next to their
+points, clear of the lines and of each other, and the times below."""
 
 from dataclasses import dataclass
 from typing import Iterable, List, Sequence, Tuple
@@ -11,6 +12,8 @@ ABOVE, BELOW, FAR_BELOW = -9.0, 17.0, 28.0
 CLEAR = 8.0
 #: How many points of a line are few: of these each has a number, as far as there is room.
 FEW_POINTS = 8
+#: How far the number of an end is from its point, and how far below the point its foot is.
+BESIDE, MIDDLE = 10.0, 4.0
 
 #: A point of the picture.
 At = Tuple[float, float]
@@ -18,18 +21,21 @@ At = Tuple[float, float]
 
 @dataclass(frozen=True)
 class Label:
-    """A text of the chart: its foot, which end of it is there, and the number of the line that it is of."""
+    """A text of the chart: its foot, which end of it is there, and the number of the line that it is of. It is `shift`
+    to the right of the point at `x`."""
 
     line: int
     text: str
     x: float
     y: float
     anchor: str
+    shift: float = 0.0
 
     @property
     def left(self) -> float:
         """Where the text begins."""
-        return self.x - {"start": 0.0, "middle": 0.5, "end": 1.0}[self.anchor] * DIGIT * len(self.text)
+        part = {"start": 0.0, "middle": 0.5, "end": 1.0}[self.anchor]
+        return self.x + self.shift - part * DIGIT * len(self.text)
 
     @property
     def right(self) -> float:
@@ -54,43 +60,88 @@ class Label:
         return False
 
 
-def anchor_of(number: int, last: int) -> str:
-    """Returns which end of a text is at point `number` of a line that ends with `last`."""
-    return "end" if number == last else "start" if number == 0 else "middle"
-
-
-def label_places(number: int, last: int) -> List[Tuple[str, float]]:
-    """Returns where the number of a point may be, the best place first: which end of it is at the point, and how far
-    below it. Beside a point between the ends it may also be on the side from which the line does not come."""
-    anchor = anchor_of(number, last)
-    return [
-        (each, shift)
-        for shift in (ABOVE, BELOW, FAR_BELOW)
-        for each in (["middle", "end", "start"] if anchor == "middle" else [anchor])
-    ]
-
-
-def points_with_number(values: Sequence[int]) -> Iterable[int]:
-    """Returns which points of a line are to have a number, the ends first: all of few, of many also the highest."""
-    last = len(values) - 1
-    return dict.fromkeys([last, 0, *(range(1, last) if last < FEW_POINTS else [values.index(max(values))])])
-
-
-def labels_of(lines: Sequence[Sequence[At]], texts: Sequence[Sequence[str]], floor: float) -> List[Label]:
-    """Returns the numbers of lines for which there is room above or below their points, those of the first line
-    first. `texts` are those of each point, empty where none is to be. None is below `floor`."""
-    found: List[Label] = []
-    for line, points in enumerate(lines):
-        last = len(points) - 1
-        for number in dict.fromkeys([last, 0, *range(last)]):
-            text, (x, y) = texts[line][number], points[number]
-            labels = (Label(line, text, x, y + shift, anchor) for anchor, shift in label_places(number, last))
-            free = (label for label in labels if text and is_free(label, lines, found, floor))
-            found += list(free)[:1]
+def moved_apart(heights: Sequence[float], gap: float, least: float, most: float) -> List[float]:
+    """Returns places for texts that are to be at `heights`: as near to these as can be, in the same order, at least
+    `gap` apart, and between `least` and `most`, if there is room."""
+    order = sorted(range(len(heights)), key=lambda number: heights[number])
+    groups: List[List[float]] = []
+    for place, number in enumerate(order):
+        groups.append([heights[number] - gap * place])
+        while len(groups) > 1 and mean(groups[-2]) > mean(groups[-1]):
+            groups[-2:] = [groups[-2] + groups[-1]]
+    shifts = [mean(group) for group in groups for _ in group]
+    last, found = len(order) - 1, list(heights)
+    for place, (number, shift) in enumerate(zip(order, shifts)):
+        found[number] = min(max(shift + gap * place, least + gap * place), most - gap * (last - place))
     return found
 
 
+def mean(numbers: Sequence[float]) -> float:
+    """Returns the mean of numbers."""
+    return sum(numbers) / len(numbers)
+
+
+def labels_of_ends(
+    lines: Sequence[Sequence[At]], texts: Sequence[Sequence[str]], gap: float, top: float, floor: float
+) -> List[Label]:
+    """Returns the numbers of the first points of lines, then of the last ones, each beside its point, where no line is:
+    all lines begin at one time and end at one. A text that has the place of another one is moved up or down, so none is
+    lost. `gap`: how far apart the last ones are, which may have a second line."""
+    found: List[Label] = []
+    for at, anchor, shift, apart in ((0, "end", -BESIDE, ASCENT + DESCENT), (-1, "start", BESIDE, gap)):
+        wanted = [points[at][1] + MIDDLE for points in lines]
+        heights = moved_apart(wanted, apart, top, floor + MIDDLE - (apart - ASCENT - DESCENT))
+        for line, (points, height) in enumerate(zip(lines, heights)):
+            found.append(Label(line, texts[line][at], points[at][0], height, anchor, shift))
+    return found
+
+
+def points_with_number(values: Sequence[int]) -> Iterable[int]:
+    """Returns which points of a line between its ends are to have a number: all of few, of many the highest."""
+    last = len(values) - 1
+    return range(1, last) if last < FEW_POINTS else [values.index(max(values))]
+
+
+def labels_between(
+    lines: Sequence[Sequence[At]], texts: Sequence[Sequence[str]], ends: Sequence[Label], floor: float
+) -> List[Label]:
+    """Returns the numbers between the `ends` of lines for which there is room above or below their points, or at a side
+    from which the line does not come. `texts` are those of each point, empty where none is to be. None is below
+    `floor`."""
+    found = list(ends)
+    for line, points in enumerate(lines):
+        for number in range(1, len(points) - 1):
+            text, (x, y) = texts[line][number], points[number]
+            places = ((shift, anchor) for shift in (ABOVE, BELOW, FAR_BELOW) for anchor in ("middle", "end", "start"))
+            labels = (Label(line, text, x, y + shift, anchor) for shift, anchor in places)
+            free = (label for label in labels if text and is_free(label, lines, found, floor))
+            found += list(free)[:1]
+    return found[len(ends) :]
+
+
 def is_free(label: Label, lines: Sequence[Sequence[At]], others: Sequence[Label], floor: float) -> bool:
-    """Tests whether a text is above `floor`, and clear of the lines and of other texts."""
+    """Tests whether a text is above `floor`, between the ends of the lines, and clear of these and of other texts."""
     is_clear = all(label.is_clear_of(other) for other in others)
-    return is_clear and label.y + DESCENT < floor - CLEAR and not any(label.is_crossed_by(points) for points in lines)
+    is_between = lines[0][0][0] <= label.left and label.right <= lines[0][-1][0]
+    is_above = label.y + DESCENT < floor - CLEAR
+    return is_clear and is_between and is_above and not any(label.is_crossed_by(points) for points in lines)
+
+
+def labels_of_times(xs: Sequence[float], texts: Sequence[str], y: float, edges: Tuple[float, float]) -> List[Label]:
+    """Returns the times below the chart for which there is room: the last, the first, then those between. Each is in
+    the middle below its point, or at an edge of the picture if it has no room there."""
+    last = len(xs) - 1
+    found: List[Label] = []
+    for number in dict.fromkeys([last, 0, *range(1, last)]):
+        places = [("middle", 0.0)]
+        if number in (0, last):
+            places.append(("end", edges[1] - xs[number]) if number == last else ("start", edges[0] - xs[number]))
+        labels = (Label(0, texts[number], xs[number], y, anchor, shift) for anchor, shift in places)
+        free = [it for it in labels if is_within(it, edges) and all(it.is_clear_of(other) for other in found)]
+        found += free[:1]
+    return found
+
+
+def is_within(label: Label, edges: Tuple[float, float]) -> bool:
+    """Tests whether a text is between two edges."""
+    return edges[0] <= label.left + 0.1 and label.right - 0.1 <= edges[1]

@@ -1,18 +1,16 @@
-"""The sections of the classes: which grew, and what a heap is made of."""
+"""The section of the classes that grew, and the tables of what the first line holds."""
 
-from typing import List, Mapping, Sequence
+from typing import List, Sequence
 
-from heap_tools import humanize
-from heap_tools.page.chart import lowest_and_highest, small_line, time_places
+from heap_tools.page.chart_lines import time_places
 from heap_tools.page.model import GrownClass, Leak, Limits
-from heap_tools.page.names import breakable, name_of
+from heap_tools.page.names import name_of
 from heap_tools.page.sections import Section
+from heap_tools.page.small_lines import lowest_and_highest, small_line
 from heap_tools.page.tables import amount_cells, bar, body, left_out, table
-from heap_tools.page.templates import Html, fill, joined, plain
-from heap_tools.page.treemap import Group, Part, groups_of, total_of
-from heap_tools.page.treemap_picture import colours_of, name_in_full, treemap
+from heap_tools.page.templates import Html, fill, joined
 from heap_tools.page.words import figure, figure_in, from_to, with_sign
-from heap_tools.reports import Amount, Row
+from heap_tools.reports import Row, Unit
 
 #: The part of the growth of the heap from which on a class is shown, and how many classes are shown anyway.
 SHOWN_GROWTH, FEWEST_GROWN = 1 / 100, 3
@@ -28,16 +26,20 @@ def grown_classes(leak: Leak, limits: Limits) -> Section:
 def shown_of(leak: Leak, limits: Limits) -> List[GrownClass]:
     """Returns the classes that grew by enough to be shown. Where the heap did not grow, enough is a part of what the
     class that grew most did."""
-    growths = [leak.by.of(it.growth) for it in leak.grown]
-    least = SHOWN_GROWTH * max(leak.by.of(leak.rise), *growths)
-    number = max(FEWEST_GROWN, sum(growth >= least for growth in growths))
-    return leak.grown[: min(number, limits.grown)]
+    return grown_enough(leak.grown, leak.by.of(leak.rise), leak.by)[: limits.grown]
+
+
+def grown_enough(classes: Sequence[GrownClass], rise: int, unit: Unit) -> List[GrownClass]:
+    """Returns those of `classes` that grew by a hundredth of the `rise` or of what one of them did, and some anyway."""
+    growths = [unit.of(it.growth) for it in classes]
+    least = SHOWN_GROWTH * max(rise, *growths)
+    return list(classes[: max(FEWEST_GROWN, sum(growth >= least for growth in growths))])
 
 
 def grown_table(leak: Leak, limits: Limits) -> Html:
     """Returns the table of the classes that grew, with a small line for each if there are more than two dumps."""
     shown, has_lines = shown_of(leak, limits), len(leak.dumps) > 2
-    rows = body(grown_row(it, leak, shown, limits) for it in shown)
+    rows = body(grown_row(it, leak, shown, limits, has_lines) for it in shown)
     about = f"Classes that have more objects or bytes in the last dump. Bars show {leak.by.value}."
     if has_lines:
         about = (
@@ -51,11 +53,11 @@ def grown_table(leak: Leak, limits: Limits) -> Html:
     return joined([*parts, left_out(len(leak.grown) - len(shown), "class", "that grew by less")])
 
 
-def grown_row(it: GrownClass, leak: Leak, shown: List[GrownClass], limits: Limits) -> Html:
-    """Returns the row of a class that grew, one of those `shown`."""
+def grown_row(it: GrownClass, leak: Leak, shown: List[GrownClass], limits: Limits, has_line: bool) -> Html:
+    """Returns the row of a class that grew, one of those `shown`, with a small line of its amounts or without."""
     unit, first, last = leak.by, it.amounts[0], it.amounts[-1]
     line = Html()
-    if len(leak.dumps) > 2:
+    if has_line:
         scale = lowest_and_highest([[unit.of(amount) for amount in each.amounts] for each in shown])
         numbers = [unit.of(amount) for amount in it.amounts]
         line = fill("line_cell", line=small_line(time_places(leak.dumps), numbers, scale, unit))
@@ -64,58 +66,30 @@ def grown_row(it: GrownClass, leak: Leak, shown: List[GrownClass], limits: Limit
         name=name_of(it.name, limits.name),
         growth=figure_in(unit.of(it.growth), unit, is_difference=True),
         also=with_sign(unit.other.of(it.growth), unit.other),
-        bar=bar(unit.of(it.growth), max(unit.of(each.growth) for each in shown), "growth"),
+        bar=bar(unit.of(it.growth), max(0, *(unit.of(each.growth) for each in shown)), "growth"),
         line=line,
         objects=from_to(figure(first.objects, "object"), figure(last.objects, "object")),
         bytes=from_to(figure(first.bytes, "byte"), figure(last.bytes, "byte")),
     )
 
 
-def made_of(
-    classes: Mapping[str, Amount], which: str, limits: Limits, place: str = "last", every: str = "All reachable"
-) -> Section:
-    """Returns the section of what a heap is made of. `which`: the words for the heap, such as `the last heap`; `place`:
-    what the section is called in an address; `every`: what all `classes` together are called."""
-    whole = total_of(classes.values())
-    groups, total = groups_of(classes, limits.groups, limits.parts), max(1, whole.bytes)
-    head, label = f"What {which} is made of", f"{which[0].upper()}{which[1:]}"
-    if not groups:
-        text = "The dump has no reachable objects."
-        return Section(place, label, head, fill("paragraph", text=text))
-    number, colours = humanize.counted(len(classes), "class"), colours_of(groups)
-    caption = (
-        f"{number}. Each colour is a package, and each box a class, as large as its bytes. Grey and blue are the JDK "
-        "and arrays of numbers; the other colours are the program and its libraries."
-    )
-    picture = fill("figure_of", picture=treemap(groups, place), caption=caption) if whole.bytes else Html()
-    about = fill("about", text="Packages and classes as a table. Small ones are added together.")
-    heads = {"Package and class": "name", "Objects": "number", "Bytes": "number", "Share of the heap": "shares"}
-    parts = [group_rows(colour, it, total, limits) for colour, it in zip(colours, groups)]
-    parts.append(fill("total", name=every, cells=amount_cells(whole, total)))
-    rows = table("last", f"{label} by package and class", heads, parts, place)
-    return Section(place, label, head, joined([picture, about, rows], "\n"))
-
-
-def group_rows(colour: str, group: Group, total: int, limits: Limits) -> Html:
-    """Returns the rows of a package."""
-    return fill(
-        "last_group",
-        colour=colour,
-        name=breakable(plain(group.name or "other packages", limits.name)),
-        rows=joined((class_row(part, total, limits) for part in group.parts), "\n"),
-        cells=amount_cells(group.amount, total),
-    )
-
-
-def class_row(part: Part, total: int, limits: Limits) -> Html:
-    """Returns the row of a class, or of several small ones."""
-    name = name_of(part.name, limits.name) if part.name else name_in_full(part)
-    return fill("last_row", name=name, cells=amount_cells(part.amount, total))
+def contents_table(leak: Leak, limits: Limits) -> Html:
+    """Returns the table of what the first holder holds, class by class, and how much more that is than before."""
+    if not leak.contents:
+        return Html()
+    gain = leak.holders[0].after.amount.minus(leak.holders[0].before.amount)
+    shown = grown_enough(leak.contents, leak.by.of(gain), leak.by)[: limits.parts]
+    rows = body(grown_row(it, leak, shown, limits, has_line=False) for it in shown)
+    about = f"All that would be unreachable without it, in the first dump and in the last. Bars show {leak.by.value}."
+    heads = {"Class": "name", "Growth": "growth", "Objects": "number", "Bytes": "number"}
+    parts = [fill("subhead", text="What line 1 holds"), fill("about", text=about)]
+    parts.append(table("grown", "What line 1 holds, by class", heads, [rows], "contents"))
+    return joined([*parts, left_out(len(leak.contents) - len(shown), "class")], "\n")
 
 
 def class_table(contents: Sequence[Row], total: int, limits: Limits) -> Html:
     """Returns the table of classes with their objects and bytes, and their share of `total` bytes."""
     cells = ((name_of(it.name, limits.name), amount_cells(it.amount, total)) for it in contents)
-    rows = body(fill("last_row", name=name, cells=amounts) for name, amounts in cells)
+    rows = body(fill("last_row", kind=Html(), name=name, cells=amounts) for name, amounts in cells)
     heads = {"Class": "name", "Objects": "number", "Bytes": "number", "Share": "shares"}
     return table("contents", "What line 1 holds, by class", heads, [rows])

@@ -1,8 +1,9 @@
 """The page of two or more dumps: what holds what grew between them."""
 
 from heap_tools.page.chart import chart
-from heap_tools.page.classes import grown_classes, made_of
+from heap_tools.page.classes import grown_classes
 from heap_tools.page.holders import holders
+from heap_tools.page.made_of import made_of
 from heap_tools.page.model import Leak, Limits
 from heap_tools.page.sections import Section, making, omitted, terms, what_bytes_are, whole_page
 from heap_tools.page.templates import Html, fill, joined
@@ -23,7 +24,7 @@ def page_of_dumps(leak: Leak, limits: Limits) -> Html:
         heap(leak, limits),
         holders(leak, limits),
         grown_classes(leak, limits),
-        made_of(leak.last, "the last heap", limits),
+        made_of(leak.last, "the last heap", limits, shares=leak.shares),
         omitted(leak.omitted, leak.dumps, leak.layout, limits),
         terms(),
         making(leak.making, leak.dumps, limits),

@@ -2,8 +2,8 @@
 
 from typing import List
 
-from heap_tools.page.classes import made_of
 from heap_tools.page.fullness import fullness
+from heap_tools.page.made_of import made_of
 from heap_tools.page.model import Limits, OneDump, RanOutEntry
 from heap_tools.page.names import in_java, name_of, names_of, subject_of, thread_words, verb_of
 from heap_tools.page.sections import Section, Top, facts, making, notes, omitted, terms, whole_page
@@ -84,7 +84,7 @@ def page_of_dump(dump: OneDump, limits: Limits) -> Html:
     if dump.ran_out:
         sections.append(ran_out(dump, limits))
     sections += [
-        made_of(dump.classes, "the heap", limits),
+        made_of(dump.classes, "the heap", limits, shares=dump.shares),
         omitted(dump.omitted, [dump.dump], dump.layout, limits),
         terms(),
         making(dump.making, [dump.dump], limits),

@@ -1,5 +1,7 @@
-"""The section of what holds the growth: the holders, the objects and threads among them, and what to do next."""
+"""The section of what holds the growth: the holders, the objects and threads among them, what the first one holds, and
+what to do next."""
 
+from heap_tools.page.classes import contents_table
 from heap_tools.page.model import HolderEntry, Leak, Limits, ThreadGroupEntry
 from heap_tools.page.names import kind_of, names_of, path_row, thread_name
 from heap_tools.page.objects import frames, object_table
@@ -14,7 +16,7 @@ def holders(leak: Leak, limits: Limits) -> Section:
     """Returns the section of what holds the growth."""
     parts = [fill("paragraph", text="No field, local variable or thread alone holds much of what grew.")]
     if leak.holders:
-        parts = [holder_table(leak, limits), object_table(leak.objects, limits)]
+        parts = [holder_table(leak, limits), object_table(leak.objects, limits), contents_table(leak, limits)]
     parts += [thread_table(leak, limits), next_steps(leak.next_steps)]
     return Section("holders", "What holds it", "What holds what grew", joined(filter(None, parts), "\n"))
 

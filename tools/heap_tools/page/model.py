@@ -119,6 +119,16 @@ class ObjectEntry:
 
 
 @dataclass(frozen=True)
+class ShareEntry:
+    """A part of a heap: what `fields` hold, alone or together. `classes`: how much of each class is right in it, and in
+    none of its `parts`, which are held by other fields in it. No object is in two parts."""
+
+    fields: List[FieldEntry]
+    classes: Dict[str, Amount]
+    parts: List["ShareEntry"] = field(default_factory=list)
+
+
+@dataclass(frozen=True)
 class ThreadGroupEntry:
     """The threads of a name. `pattern`: the name, with `*` for what differs. `before` and `now`: how many there are in
     the first and in the last dump. `frames`: the methods that they are in, the innermost first."""
@@ -166,7 +176,9 @@ class Leak:
     these dumps do not show. `by`: which figure counts. `of_class`: the class whose objects the holders hold, if only
     these count. `is_of_grown`: only the classes that grew count. `notes`: sentences on the growth that the holders do
     not hold. `weak`: a sentence on the weak references, if they are followed. `layout`: a sentence on the sizes of
-    objects, if the bytes are those of the heap and not those of the dumps."""
+    objects, if the bytes are those of the heap and not those of the dumps. `contents`: the classes of what the first
+    holder holds, with their amounts in the first dump and in the last, in the order in which they are shown. `shares`:
+    parts of the last heap by what holds them, as far as that is known; all else is shown by package."""
 
     dumps: List[DumpEntry]
     grown: List[GrownClass]
@@ -185,6 +197,8 @@ class Leak:
     notes: List[str] = field(default_factory=list)
     weak: Optional[str] = None
     layout: Optional[str] = None
+    contents: List[GrownClass] = field(default_factory=list)
+    shares: List[ShareEntry] = field(default_factory=list)
 
     @property
     def is_of_all(self) -> bool:
@@ -233,6 +247,7 @@ class OneDump:
     weak: Optional[str] = None
     layout: Optional[str] = None
     capacity: Optional[int] = None
+    shares: List[ShareEntry] = field(default_factory=list)
 
     @property
     def whole(self) -> str:

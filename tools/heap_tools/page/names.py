@@ -121,18 +121,26 @@ def verb_of(fields: Sequence[FieldEntry]) -> str:
     return KINDS[fields[0].kind].verb
 
 
-def step_words(field: FieldEntry, limits: Limits) -> str:
-    """Returns a field of a path in words."""
-    name = plain(field.name, limits.name)
+def step_words(field: FieldEntry, longest: int) -> str:
+    """Returns a field of a path in words, with at most `longest` characters of its name."""
+    name = plain(field.name, longest)
     if field.kind in (THREAD, THREADS):
         return f'{field.kind} "{name}"' if name else f"{field.kind} {NAMELESS}"
     return name if field.kind == FIELD else f"{field.kind} {name}"
 
 
+def names_in_words(fields: Sequence[FieldEntry], longest: int) -> str:
+    """Returns the names of fields as plain text, for where no HTML can be, at most `longest` characters of each."""
+    shown = [step_words(field, longest) for field in fields[:SHOWN_TOGETHER]]
+    if len(fields) > len(shown):
+        shown.append(f"{len(fields) - len(shown):,} more")
+    return f"{', '.join(shown[:-1])} and {shown[-1]}" if len(shown) > 1 else "".join(shown)
+
+
 def step_name(fields: Sequence[FieldEntry], limits: Limits) -> Html:
     """Returns a step of a path: a field, or the fields that lead there only together."""
     number = len(fields) if len(fields) <= SHOWN_TOGETHER else SHOWN_TOGETHER - 1
-    shown = [breakable(step_words(field, limits)) for field in fields[:number]]
+    shown = [breakable(step_words(field, limits.name)) for field in fields[:number]]
     if len(fields) > number:
         shown.append(escaped(f"{len(fields) - number:,} more"))
     return joined([listed(shown), " together" if len(fields) > 1 else ""])

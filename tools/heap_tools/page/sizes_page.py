@@ -3,7 +3,7 @@
 from dataclasses import dataclass
 from typing import Dict, List
 
-from heap_tools.page.classes import made_of
+from heap_tools.page.made_of import made_of
 from heap_tools.page.model import DumpEntry, Limits, Making, ProgramEntry
 from heap_tools.page.sections import Top, facts, making, notes, whole_page
 from heap_tools.page.templates import Html, fill, joined

@@ -18,11 +18,16 @@ def share(part: float, kind: str) -> Html:
     return fill("share", bar=bar(part, 100, kind), percent=percent(part))
 
 
+#: The tables that are wider than a window of middle width: there each row is a card.
+WIDE = {"holders", "grown", "dumps"}
+
+
 def table(kind: str, caption: str, heads: Dict[str, str], parts: Iterable[Html], place: Optional[str] = None) -> Html:
     """Returns a table of this kind. `heads`: the heads of its columns, each the kind of the column by its text.
     `place`: what it is called in an address, if that is not its kind."""
     shown = joined((fill("head", text=text, kind=of_column) for text, of_column in heads.items()), "\n")
-    return fill("table", kind=kind, place=place or kind, caption=caption, heads=shown, body=joined(parts, "\n"))
+    words = {"kind": f"{kind} cards" if kind in WIDE else kind, "place": place or kind, "caption": caption}
+    return fill("table", heads=shown, body=joined(parts, "\n"), **words)
 
 
 def body(rows: Iterable[Html]) -> Html:

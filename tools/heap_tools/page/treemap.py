@@ -1,17 +1,22 @@
-"""What a heap is made of, by package and class, and the rectangles of its picture."""
+"""What a heap is made of: the parts of it that something is known to hold, then all else by package, and of both the
+classes; and the rectangles of its picture."""
 
 import functools
 from collections import defaultdict
-from dataclasses import dataclass
-from typing import DefaultDict, Iterable, List, Mapping, Optional, Sequence
+from dataclasses import dataclass, field
+from typing import DefaultDict, Dict, Iterable, Iterator, List, Mapping, Optional, Sequence, Union
 
 from heap_tools import class_names
+from heap_tools.page.model import FieldEntry, ShareEntry
 from heap_tools.page.names import in_java
 from heap_tools.reports import Amount, Row
 
 #: How many parts of a package's name make a group.
 DEPTH = 3
-#: A package or class of less than this part of the heap is added to others: its box would have no room for a name.
+#: How many parts are shown in what a line holds. Parts of these are not: their boxes would be too small.
+WITHIN = 3
+#: A package, a class or what a field holds of less than this part of the heap is added to others: its box would have no
+#: room for a name.
 SMALL = 1 / 100
 
 
@@ -26,17 +31,37 @@ class Part:
 
 @dataclass(frozen=True)
 class Group:
-    """The classes of a package, the largest first. `name` is None if it is all smaller packages. `is_own`: the classes
-    are those of the program and of its libraries."""
+    """The classes of a package, or of what `fields` hold, and groups within these, each the largest first. `name` is
+    that of the package, None if it is all smaller packages. `is_own`: the classes of a package are those of the program
+    and of its libraries."""
 
     name: Optional[str]
     parts: List[Part]
     is_own: bool = False
+    fields: List[FieldEntry] = field(default_factory=list)
+    groups: List["Group"] = field(default_factory=list)
 
     @property
     def amount(self) -> Amount:
-        """The objects and bytes of its classes."""
-        return total_of(part.amount for part in self.parts)
+        """The objects and bytes of all that is in it."""
+        return total_of(each.amount for each in self.every())
+
+    def every(self) -> List[Union[Part, "Group"]]:
+        """Returns its parts and groups."""
+        return [*self.parts, *self.groups]
+
+    def children(self) -> List[Union[Part, "Group"]]:
+        """Returns its parts and groups that have bytes, the largest first."""
+        return sorted((each for each in self.every() if each.amount.bytes > 0), key=lambda each: -each.amount.bytes)
+
+
+@dataclass(frozen=True)
+class Most:
+    """How many groups and parts of a group there are at most, and of which size on they are by themselves."""
+
+    groups: int
+    parts: int
+    least: float
 
 
 @dataclass(frozen=True)
@@ -48,10 +73,9 @@ class Box:
     width: float
     height: float
 
-    def within(self, edge: float, head: float) -> "Box":
-        """Returns the box without an `edge` on each side and a `head`."""
-        width, height = self.width - 2 * edge, self.height - 2 * edge - head
-        return Box(self.x + edge, self.y + edge + head, max(0, width), max(0, height))
+    def below(self, head: float) -> "Box":
+        """Returns the box without a `head`."""
+        return Box(self.x, self.y + head, self.width, max(0, self.height - head))
 
 
 def total_of(amounts: Iterable[Amount]) -> Amount:
@@ -87,29 +111,85 @@ def number_alone(sizes: Sequence[int], most: int, least: float) -> int:
     return len(sizes) if len(sizes) <= min(most, large + 1) else min(most - 1, large)
 
 
-def parts_of(classes: Sequence[Row], most: int, least: float) -> List[Part]:
-    """Returns at most `most` parts of `classes`. The last holds the others."""
+def parts_of(classes: Iterable[Row], most: Most) -> List[Part]:
+    """Returns the parts of `classes`. The last holds the others."""
     classes = sorted(classes, key=lambda it: (-it.amount.bytes, -it.amount.objects, it.name))
-    number = number_alone([each.amount.bytes for each in classes], most, least)
+    number = number_alone([each.amount.bytes for each in classes], most.parts, most.least)
     return [part_of([it]) for it in classes[:number]] + ([part_of(classes[number:])] if classes[number:] else [])
 
 
-def groups_of(classes: Mapping[str, Amount], most_groups: int, most_parts: int) -> List[Group]:
-    """Returns the classes of a report, with their amounts, by package, the largest first. Small packages are one group
+def rows_of(classes: Mapping[str, Amount]) -> Iterator[Row]:
+    """Returns classes with their amounts as rows."""
+    return (Row(name, amount) for name, amount in classes.items())
+
+
+def every_class(share: ShareEntry) -> Iterator[Row]:
+    """Yields the classes of what something holds, with those of its parts: a class that is in several parts comes
+    several times."""
+    yield from rows_of(share.classes)
+    for part in share.parts:
+        yield from every_class(part)
+
+
+def size_of(share: ShareEntry) -> int:
+    """Returns the bytes of what something holds."""
+    return sum(each.amount.bytes for each in every_class(share))
+
+
+def shown_shares(shares: Sequence[ShareEntry], number: int, least: float) -> List[ShareEntry]:
+    """Returns the shares that are shown by themselves, at most `number`, the largest first."""
+    large = [each for each in shares if size_of(each) >= max(1, least)]
+    return sorted(large, key=size_of, reverse=True)[:number]
+
+
+def rest_of(classes: Mapping[str, Amount], shares: Iterable[ShareEntry]) -> Dict[str, Amount]:
+    """Returns what of `classes` none of `shares` has."""
+    rest = dict(classes)
+    for share in shares:
+        for row in every_class(share):
+            left = rest.pop(row.name, Amount()).minus(row.amount)
+            if left.objects > 0:
+                rest[row.name] = Amount(left.objects, max(0, left.bytes))
+    return rest
+
+
+def group_of(share: ShareEntry, most: Most, within: int = WITHIN) -> Group:
+    """Returns what something holds as a group, with at most `within` groups in it. The classes of all other parts are
+    among its own."""
+    shown = shown_shares(share.parts, within, most.least)
+    classes = dict(share.classes)
+    for part in share.parts:
+        for row in every_class(part) if part not in shown else ():
+            classes[row.name] = classes.get(row.name, Amount()).plus(row.amount)
+    groups = [group_of(part, most, within=0) for part in shown]
+    return Group(None, parts_of(rows_of(classes), most), fields=share.fields, groups=groups)
+
+
+def groups_of(
+    classes: Mapping[str, Amount], most_groups: int, most_parts: int, shares: Sequence[ShareEntry] = ()
+) -> List[Group]:
+    """Returns the classes of a report, with their amounts, in groups: first those that are known to be held by
+    something, if there are `shares`, then all else by package; of both the largest first. Small packages are one group
     at the end."""
+    most = Most(most_groups, most_parts, SMALL * total_of(classes.values()).bytes)
+    shown = shown_shares(shares, most.groups, most.least)
+    return [group_of(share, most) for share in shown] + packages_of(rest_of(classes, shown), most)
+
+
+def packages_of(classes: Mapping[str, Amount], most: Most) -> List[Group]:
+    """Returns classes by package, the largest first. Small packages are one group at the end."""
     packages: DefaultDict[str, List[Row]] = defaultdict(list)
-    least = SMALL * total_of(classes.values()).bytes
-    for name, amount in classes.items():
-        packages[package_of(name)].append(Row(name, amount))
+    for row in rows_of(classes):
+        packages[package_of(row.name)].append(row)
     sizes = {name: total_of(each.amount for each in packages[name]).bytes for name in packages}
     order = sorted(packages, key=lambda name: (-sizes[name], name))
-    number = number_alone([sizes[name] for name in order], most_groups, least)
+    number = number_alone([sizes[name] for name in order], most.groups, most.least)
     groups = []
     for name in order[:number]:
         is_own = any(class_names.is_own(each.name) for each in packages[name])
-        groups.append(Group(name, parts_of(packages[name], most_parts, least), is_own))
+        groups.append(Group(name, parts_of(packages[name], most), is_own))
     rest = [it for name in order[number:] for it in packages[name]]
-    return groups + ([Group(None, parts_of(rest, most_parts, least))] if rest else [])
+    return groups + ([Group(None, parts_of(rest, most))] if rest else [])
 
 
 def worst_ratio(areas: Sequence[float], side: float) -> float:

@@ -62,6 +62,13 @@ def hostile_objects(names: List[str]) -> List[page.ObjectEntry]:
     ]
 
 
+def hostile_shares(names: List[str]) -> List[page.ShareEntry]:
+    """Returns parts of a heap that have these names for fields and classes, with parts of their own."""
+    fields, classes = hostile_fields(names), {name: page.Amount(10**5, 3 * 10**6) for name in names[:3]}
+    parts = [page.ShareEntry([field], classes) for field in fields[1:3]]
+    return [page.ShareEntry(fields, classes, parts), page.ShareEntry(fields[:1], classes, parts)]
+
+
 def hostile_leak(names: List[str] = HOSTILE, odd: List[str] = ODD) -> page.Leak:
     """Returns a leak all of whose names are hostile."""
     first, last = page_sample.amounts((1, 1), (10**18, 10**18))
@@ -88,6 +95,8 @@ def hostile_leak(names: List[str] = HOSTILE, odd: List[str] = ODD) -> page.Leak:
         notes=every * 3,
         weak=odd[0],
         layout=odd[0],
+        contents=[page.GrownClass(name, [first, last]) for name in every],
+        shares=hostile_shares(names),
     )
 
 
@@ -114,4 +123,5 @@ def hostile_one_dump(names: List[str] = HOSTILE, odd: List[str] = ODD) -> page.O
         weak=odd[0],
         layout=odd[0],
         capacity=2**63,
+        shares=leak.shares,
     )

@@ -18,7 +18,7 @@ LOW_CONTRAST = """
     return 0.2126 * r + 0.7152 * g + 0.0722 * b;
   };
   const ground = element => {
-    const box = element.closest('svg.cell') || element.closest('g.group');
+    const box = element.closest('svg.cell') || element.closest('svg.group');
     if (box) return numbers(getComputedStyle(box.querySelector('rect')).fill);
     for (let at = element; at; at = at.parentElement) {
       const colour = numbers(getComputedStyle(at).backgroundColor);
@@ -50,11 +50,49 @@ CUT = """
     const range = document.createRange();
     range.selectNodeContents(element);
     const box = range.getBoundingClientRect();
-    const clip = (element.closest('.scroll, svg.chart') || document.documentElement).getBoundingClientRect();
+    const clip = (element.closest('.scroll, figure') || document.documentElement).getBoundingClientRect();
     if (box.left < clip.left - 1 || box.right > clip.right + 1) cut.push(text.slice(0, 40));
   }
   return cut;
 })()
+"""
+#: Returns the texts that are smaller than 11 pixels as they are drawn.
+SMALL = """
+[...document.querySelectorAll('body *')].filter(element => {
+  const text = [...element.childNodes].filter(it => it.nodeType === 3).map(it => it.data).join('').trim();
+  if (!text || !element.getClientRects().length || element.closest('.aside, caption, title, desc')) return false;
+  const drawn = element instanceof SVGGraphicsElement ? element.getScreenCTM() : {a: 1, b: 0};
+  return parseFloat(getComputedStyle(element).fontSize) * Math.hypot(drawn.a, drawn.b) < 11;
+}).map(element => element.textContent.slice(0, 40))
+"""
+#: Returns the texts of the chart that is shown which another one or a line of it is on.
+COVERED = """
+(() => {
+  const chart = [...document.querySelectorAll('svg.chart')].find(it => it.clientWidth > 0);
+  const boxes = [...chart.querySelectorAll(':scope > text')].map(it => [it.textContent, it.getBoundingClientRect()]);
+  const points = [...chart.querySelectorAll('.lines polyline')].flatMap(line => {
+    const drawn = line.getScreenCTM(), ends = [...line.points].map(it => it.matrixTransform(drawn));
+    const parts = [...Array(101).keys()].map(it => it / 100);
+    const between = (a, b) => parts.map(at => [a.x + at * (b.x - a.x), a.y + at * (b.y - a.y)]);
+    return ends.slice(1).flatMap((end, at) => between(ends[at], end));
+  });
+  const isIn = ([x, y], box) => x > box.left + 1 && x < box.right - 1 && y > box.top + 3 && y < box.bottom - 3;
+  const isOn = (one, other) => one.left < other.right - 1 && other.left < one.right - 1
+    && one.top < other.bottom - 3 && other.top < one.bottom - 3;
+  return boxes.filter(([text, box], number) => points.some(point => isIn(point, box))
+    || boxes.some(([_, other], at) => at !== number && isOn(box, other))).map(([text]) => text);
+})()
+"""
+#: Returns the numbers at the ends of the lines of the chart that is shown: the first ones, then the last.
+ENDS = """
+(chart => ['end', 'start'].map(anchor => [...chart.querySelectorAll(`.label[text-anchor=${anchor}][dx^="${
+  anchor === 'end' ? '-10' : '10'}"]`)].map(it => it.firstChild.data)))(
+  [...document.querySelectorAll('svg.chart')].find(it => it.clientWidth > 0))
+"""
+#: Returns how many pictures each figure shows that has some.
+PICTURES = """
+[...document.querySelectorAll('figure')].map(it => [...it.querySelectorAll('svg.chart, svg.treemap')])
+  .filter(it => it.length).map(it => it.filter(picture => picture.clientWidth > 0).length)
 """
 #: Returns the texts of the boxes of a treemap that reach out of their box.
 OUT_OF_BOX = """
@@ -113,7 +151,7 @@ class InBrowser(unittest.TestCase):
     def check_screens(self, may_scroll: bool = False) -> None:
         """Requires that the page fits into each window, that all text has contrast, and that one of the pictures that
         show the same is shown. `may_scroll`: its tables need not fit."""
-        for width, dark in (1280, False), (1280, True), (390, False), (390, True):
+        for width, dark in (1280, False), (1280, True), (768, False), (390, False), (390, True):
             with self.subTest(width=width, dark=dark):
                 self.browser.show(width, dark)
                 self.check_shown(width, may_scroll)
@@ -125,12 +163,8 @@ class InBrowser(unittest.TestCase):
         self.assertEqual(self.browser.value(OUT_OF_BOX), [])
         if not may_scroll:
             self.assertEqual((self.browser.value(SCROLLING), self.browser.value(CUT)), ([], []))
-        for kind in "chart", "treemap":
-            pictures = f"[...document.querySelectorAll('svg.{kind}')].map(it => it.clientWidth > 0)"
-            shown = self.browser.value(pictures)
-            # Each picture is drawn for three widths, one after the other.
-            each = [shown[at : at + 3] for at in range(0, len(shown), 3)]
-            self.assertTrue(all(sorted(three) == [False, False, True] for three in each), (kind, shown))
+        shown = self.browser.value(PICTURES)
+        self.assertEqual(shown, [1] * len(shown))
 
     def texts(self, selector: str) -> List[str]:
         """Returns the texts of the elements that a selector names, with plain blanks."""

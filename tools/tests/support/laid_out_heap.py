@@ -1,8 +1,9 @@
 """Heap dumps whose identifiers are the addresses of objects in a heap with a known layout."""
 
 import random
-from typing import Callable, Dict, List, Sequence, Tuple
+from typing import Callable, Dict, List, Sequence
 
+from heap_tools.field_placing import Fields, OwnFields
 from heap_tools.heap_dump import HeapDump
 from heap_tools.heap_layout import Layout
 from tests.support.dump_writer import BYTE, INT, LONG, VALUE_SIZE, DumpWriter
@@ -18,7 +19,7 @@ class LaidOutHeap:
 
     def __init__(self, layout: Layout, id_size: int = 8) -> None:
         self.layout, self.dump, self.at = layout, DumpWriter(id_size), FIRST
-        self.classes: Dict[int, Tuple[int, int, int]] = {}
+        self.classes: Dict[int, Fields] = {}
         self._writers: List[Callable[[], None]] = []
 
     def of_class(
@@ -31,13 +32,15 @@ class LaidOutHeap:
         loader: int = 0,
         number: int = 0,
         has_byte: bool = False,
+        has_long: bool = False,
     ) -> int:
         """Writes a class with these fields besides those of its superclass, and returns its identifier. Its object is
         outside of the heap, unless `number` says where."""
         number = number or FIRST_CLASS + 4096 * len(self.classes)
-        inherited = self.classes.get(superclass, (0, 0, 0))
-        self.classes[number] = inherited[0] + references, inherited[1] + ints, inherited[2] + has_byte
-        fields = [f"field{at}" for at in range(references)] + [f"int{at}" for at in range(ints)] + ["coder"] * has_byte
+        own = OwnFields(references, int(has_long), ints, 0, int(has_byte))
+        self.classes[number] = self.classes.get(superclass, Fields()).plus(own)
+        fields = [f"field{at}" for at in range(references)] + [f"int{at}" for at in range(ints)]
+        fields += ["pid"] * has_long + ["coder"] * has_byte
         self.dump.of_class(number, name, {each: 0 for each in statics}, fields, superclass, loader)
         return number
 
@@ -48,11 +51,9 @@ class LaidOutHeap:
 
     def instance(self, of_class: int, added: int = 0) -> int:
         """Puts an instance in the heap, with `added` bytes that the dump does not show. Returns its identifier."""
-        references, ints, bytes_of_fields = self.classes[of_class]
-        number = self.place(
-            self.layout.header + references * self.layout.reference + 4 * ints + bytes_of_fields + added
-        )
-        values = [0] * references + [bytes(4)] * ints + [bytes(1)] * bytes_of_fields
+        fields = self.classes[of_class]
+        number = self.place(self.layout.instance(fields) + added)
+        values = [0] * fields.references + [bytes(fields.other)]
         self._writers.append(lambda: self.dump.instance(number, of_class, *values))
         return number
 

@@ -7,6 +7,7 @@ from heap_tools import page
 
 NOON = 1_795_780_800_000
 MINUTE = 60_000
+MEGABYTE = 1_000_000
 OWN, MAP = "com/acme/shop/metrics/MetricsService", "java/util/concurrent/ConcurrentHashMap"
 #: How much more is reachable in the last dump of the sample.
 GROWTH = page.Amount(602_801, 17_076_437)
@@ -58,6 +59,12 @@ def holder(text: str, instances: int, before: page.HeldShare, after: page.HeldSh
     """Returns a holder, with its share of the growth of the sample."""
     share = 100 * (after.amount.bytes - before.amount.bytes) / GROWTH.bytes
     return page.HolderEntry([field(text)], instances, before, after, share, [step(each) for each in above])
+
+
+def share(text: str, classes: Dict[str, Tuple[int, int]], *parts: Tuple[str, int]) -> page.ShareEntry:
+    """Returns what a field holds, class by class, and in it for each of `parts` so many bytes in 100 arrays."""
+    within = [page.ShareEntry([field(name)], {"byte[]": page.Amount(100, size)}) for name, size in parts]
+    return page.ShareEntry([field(text)], {name: page.Amount(*amount) for name, amount in classes.items()}, within)
 
 
 def classes() -> Dict[str, page.Amount]:
@@ -122,6 +129,30 @@ def holders() -> List[page.HolderEntry]:
     ]
 
 
+def contents() -> List[page.GrownClass]:
+    """Returns the classes of what the first holder holds."""
+    return [
+        grown("byte[]", (22_030, 1_100_000), (74_970, 11_428_004)),
+        grown(f"{OWN}$Meter", (22_010, 968_440), (74_967, 3_298_548)),
+        grown(f"{MAP}$Node", (22_031, 616_308), (74_979, 2_099_412)),
+        grown("java/lang/String", (22_012, 528_240), (74_967, 1_799_208)),
+        grown("[Ljava/util/HashMap$Node;", (21, 798_232), (21, 1_799_928)),
+    ]
+
+
+def shares() -> List[page.ShareEntry]:
+    """Returns parts of the last heap: what the first holder holds, with the arrays of its texts by themselves, and what
+    two others do."""
+    held_now = {it.name: tuple(it.amounts[-1]) for it in contents()}
+    texts = page.ShareEntry([field("java/lang/String.value")], {"byte[]": page.Amount(*held_now.pop("byte[]"))})
+    classes_now = {name: page.Amount(*amount) for name, amount in held_now.items()}
+    return [
+        page.ShareEntry([field(f"static {OWN}.METERS")], classes_now, [texts]),
+        share("static com/acme/shop/catalog/Catalog.ALL", {"com/acme/shop/catalog/Product": (60_000, 4_320_000)}),
+        share("thread http-nio-8080-exec-1", {"byte[]": (12, 1_200_000)}),
+    ]
+
+
 def leak(**changes: Any) -> page.Leak:
     """Returns a leak over three dumps, as `leaks` finds it, with `changes`."""
     found = page.Leak(
@@ -167,8 +198,23 @@ def full_leak(**changes: Any) -> page.Leak:
         "objects": objects,
         "threads": threads,
         "notes": ["1,204,332 bytes more are held by weak or final references alone."],
+        "contents": contents(),
+        "shares": shares(),
     }
     return leak(**{**every, **changes})
+
+
+def leak_from(first: Tuple[int, int, int], last: Tuple[int, int, int]) -> page.Leak:
+    """Returns a leak between two dumps: in each so many megabytes are reachable, held, and unreachable."""
+    before, _, after = leak().dumps
+    dumps = [
+        dataclasses.replace(
+            each, reachable=page.Amount(1, MEGABYTE * reachable), unreachable=page.Amount(1, MEGABYTE * unreachable)
+        )
+        for each, (reachable, _, unreachable) in ((before, first), (after, last))
+    ]
+    ends = [held(1, MEGABYTE * size, 1.0) for _, size, _ in (first, last)]
+    return leak(dumps=dumps, holders=[holder("static a/B.c", 1, ends[0], ends[1])])
 
 
 def uneven(times: Sequence[int]) -> page.Leak:
@@ -221,6 +267,7 @@ def one_dump(**changes: Any) -> page.OneDump:
             )
         ],
         capacity=60_000_000,
+        shares=[share(tenants, {"byte[]": (301_442, 21_033_107), "[Ljava/lang/Object;": (60_733, 5_335_557)})],
     )
     return dataclasses.replace(found, **changes)
 
@@ -228,7 +275,7 @@ def one_dump(**changes: Any) -> page.OneDump:
 def bare_dump(**changes: Any) -> page.OneDump:
     """Returns one dump without what may be missing, and with `changes`."""
     nothing: Dict[str, Any] = {"suspects": [], "classes": {}, "objects": [], "contents": [], "ran_out": []}
-    nothing.update({"next_steps": [], "capacity": None, "program": page.ProgramEntry()})
+    nothing.update({"next_steps": [], "capacity": None, "program": page.ProgramEntry(), "shares": []})
     return one_dump(**{**nothing, **changes})
 
 

@@ -19,6 +19,7 @@ from tests.support.waiting import wait_until
 TOOLS = pathlib.Path(__file__).resolve().parent.parent.parent
 TOP = TOOLS.parent
 HEAPMARK = os.path.realpath(os.environ.get("HEAPMARK") or TOP / "crates/heapmark/out/heapmark")
+RETAINED = os.path.realpath(os.environ.get("RETAINED") or TOP / "crates/retained/out/retained")
 #: The signals that end a tool.
 ENDING = (signal.SIGINT, signal.SIGTERM, signal.SIGHUP)
 
@@ -56,7 +57,7 @@ class ToolTest(unittest.TestCase):
         **more: Any,
     ) -> Ended:
         """Runs the tool with these words, and returns how it ended."""
-        environment = {**os.environ, "HEAPMARK": heapmark, **(variables or {})}
+        environment = {**os.environ, "HEAPMARK": heapmark, "RETAINED": RETAINED, **(variables or {})}
         kept: Dict[str, Any] = {
             "stdin": subprocess.DEVNULL,
             "stdout": subprocess.PIPE,
@@ -77,10 +78,11 @@ class ToolTest(unittest.TestCase):
             self.assertNotIn("Traceback", ended.said)
 
     def program(self, text: str) -> str:
-        """Makes a program to run in place of heapmark, and returns its path. It notes each run in the file `runs`."""
+        """Makes a program to run in place of heapmark or retained, and returns its path. It notes each run in the file
+        `runs`."""
         path = pathlib.Path("other")
         note = 'echo "${GLIBC_TUNABLES-unset} $*" >> runs'
-        path.write_text(f"#!/bin/sh\n{note}\n{text.replace('HEAPMARK', HEAPMARK)}\n")
+        path.write_text(f"#!/bin/sh\n{note}\n{text.replace('HEAPMARK', HEAPMARK).replace('RETAINED', RETAINED)}\n")
         path.chmod(0o755)
         with contextlib.suppress(FileNotFoundError):
             os.remove("runs")

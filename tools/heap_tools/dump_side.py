@@ -1,0 +1,133 @@
+"""A dump as it is asked: which references do not count, and what groups of candidates hold then."""
+
+import contextlib
+from typing import Dict, FrozenSet, Iterable, List, NamedTuple, Optional, Sequence, Tuple
+
+from heap_tools.candidates import Candidate, Candidates, Key
+from heap_tools.class_names import family
+from heap_tools.dump_file import unchanged
+from heap_tools.dump_runs import DumpRuns
+from heap_tools.held_table import HeldTable
+from heap_tools.label_text import Labels, Place
+from heap_tools.reports import Amount, Report, Row
+from heap_tools.retained_program import LabelledDump
+
+#: What may hold something together.
+Several = Sequence[Candidate]
+#: The name of a group, which does not depend on its order, nor on the dump.
+GroupKey = FrozenSet[Key]
+
+
+def key_of(group: Iterable[Candidate]) -> GroupKey:
+    """Returns the name of a group."""
+    return frozenset(each.key for each in group)
+
+
+class Held(NamedTuple):
+    """How much is held of each family, and of the whole heap."""
+
+    families: Dict[str, Amount]
+    heap: Amount
+
+
+class GroupTable(NamedTuple):
+    """A table, and the label of each group that it knows."""
+
+    table: HeldTable
+    labels: Dict[GroupKey, int]
+
+    def sets(self, key: GroupKey) -> FrozenSet[int]:
+        """Returns the sets of the lines that a group holds."""
+        return self.table.sets_with(self.labels[key])
+
+    def sets_of_any(self, keys: Iterable[GroupKey]) -> FrozenSet[int]:
+        """Returns the sets of the lines that one of some groups holds alone."""
+        return frozenset().union(*map(self.sets, keys))
+
+
+class DumpSide:
+    """A dump in which the references at `cut` are not followed, and the objects `roots` are roots, too. It keeps each
+    table that it got."""
+
+    def __init__(
+        self, runs: DumpRuns, candidates: Candidates, cut: Sequence[Place] = (), roots: Sequence[int] = ()
+    ) -> None:
+        self.runs, self.candidates, self.cut, self.roots = runs, candidates, list(dict.fromkeys(cut)), roots
+        self.tables: List[GroupTable] = []
+        self._base: Optional[Report] = None
+        #: What is reachable of each class, in bytes of the dump.
+        self.written: Dict[str, Amount] = {}
+
+    @property
+    def base(self) -> Report:
+        """The report of the dump as it is asked. Nothing is known before something was asked."""
+        assert self._base
+        return self._base
+
+    def labels(self, places: Sequence[Sequence[Place]]) -> Labels:
+        """Returns the text by which these places are asked for."""
+        return Labels(self.cut, self.roots, places)
+
+    def places(self, group: Several) -> List[Place]:
+        """Returns the places of the references of a group: those of the same names in this dump."""
+        return [place for each in group for place in self.candidates.places(each.key)]
+
+    def learn(self, table: HeldTable) -> None:
+        """Notes what is reachable, by the first table."""
+        if self._base is None:
+            self.written = table.whole()
+            self._base = self._report(self.written)
+
+    def _report(self, written: Dict[str, Amount]) -> Report:
+        """Returns the report of which this is reachable of each class, in bytes of the dump."""
+        rows = [Row(name, amount) for name, amount in written.items() if amount.objects]
+        reachable = Amount(*(sum(row.amount[part] for row in rows) for part in (0, 1)))
+        report = Report(rows, reachable, self.runs.written.unreachable, self.runs.written.unresolved)
+        return self.runs.sizes.report(report) if self.runs.sizes else report
+
+    def knows(self, *keys: GroupKey) -> Optional[GroupTable]:
+        """Returns the last table that knows all these groups, None if there is none."""
+        return next((it for it in reversed(self.tables) if all(key in it.labels for key in keys)), None)
+
+    def held(self, table: HeldTable, sets: Iterable[int]) -> Held:
+        """Returns what the lines with some sets have, in the bytes that count: what the report has less without it."""
+        families: Dict[str, Amount] = {}
+        objects = size = 0
+        for name, amount in table.amounts(sets).items():
+            if self.runs.sizes:
+                whole = self.written[name]
+                sizes = self.runs.sizes
+                amount = sizes.of(name, whole).minus(sizes.of(name, whole.minus(amount)))
+            known = families.get(family(name))
+            families[family(name)] = known.plus(amount) if known else amount
+            objects, size = objects + amount.objects, size + amount.bytes
+        return Held(families, Amount(objects, size))
+
+    def report_without(self, table: HeldTable, label: int) -> Report:
+        """Returns the report of the dump without what a label holds."""
+        lost = table.held(label)
+        return self._report({name: amount.minus(lost.get(name, Amount())) for name, amount in self.written.items()})
+
+
+def ask_places(questions: Sequence[Tuple[DumpSide, Sequence[Sequence[Place]]]]) -> List[HeldTable]:
+    """Returns a table for each question, which are asked at once: what the references at each list of places hold.
+    Raises `Fault` if the file of a dump has changed since it was read."""
+    dumps = [
+        LabelledDump(side.runs.path, side.runs.dump.size, side.labels(places), bool(side.runs.report.reachable.objects))
+        for side, places in questions
+    ]
+    with contextlib.ExitStack() as stack:
+        for side, _ in questions:
+            stack.enter_context(unchanged(side.runs.path, side.runs.state))
+        tables = questions[0][0].runs.heapmark.retained.tables(dumps) if questions else []
+    for (side, _), table in zip(questions, tables):
+        side.learn(table)
+    return tables
+
+
+def ask(questions: Sequence[Tuple[DumpSide, Sequence[Several]]]) -> None:
+    """Asks sides at once what groups hold, each in one run."""
+    every = [list({key_of(group): group for group in groups}.values()) for _, groups in questions]
+    asked = [(side, [side.places(group) for group in groups]) for (side, _), groups in zip(questions, every)]
+    for (side, _), groups, table in zip(questions, every, ask_places(asked)):
+        side.tables.append(GroupTable(table, {key_of(group): number for number, group in enumerate(groups)}))

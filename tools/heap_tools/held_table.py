@@ -1,0 +1,153 @@
+"""The table that `retained` prints: how many objects of each class are reachable only by which labels.
+
+A table has up to a million lines, and its sets share their parts: so lines and sets are columns of numbers, and a label
+is looked up by the sets that have it, from its own set up.
+"""
+
+import re
+from array import array
+from typing import Collection, Container, Dict, FrozenSet, Iterable, List, Optional, Set, Tuple
+
+from heap_tools.reports import LONGEST_LINE, Amount
+
+#: A line: the objects, their bytes, their set, and their class.
+TABLE_LINE = re.compile(rb" *([0-9]{1,19}) +([0-9]{1,19})  (-|[0-9]{1,19})  ([!-~]+)")
+#: A line that says which two sets another one is made of.
+JOINT = re.compile(rb"set ([0-9]{1,19}) = ([0-9]{1,19}) \+ ([0-9]{1,19})")
+#: What is shown in place of a set without labels.
+EMPTY = -1
+
+
+class HeldTable:
+    """The lines of a table. Each has a set of labels, `EMPTY` if it has none."""
+
+    def __init__(self) -> None:
+        self._names: Dict[bytes, int] = {}
+        self._classes: List[str] = []
+        # Of each line its set, its class, its objects and their bytes.
+        self._lines = array("q")
+        #: The parts of each set that has several labels, and for each set those that are made of it.
+        self._parts: Dict[int, Tuple[int, int]] = {}
+        self._upper: Dict[int, List[int]] = {}
+        self._by_set: Dict[int, List[int]] = {}
+        self._known: Dict[int, FrozenSet[int]] = {}
+
+    def add(self, line: bytes) -> bool:
+        """Adds a line of the text. Returns whether it is one."""
+        found = TABLE_LINE.fullmatch(line)
+        if found:
+            objects, size, of_set, name = found.groups()
+            number = EMPTY if of_set == b"-" else int(of_set)
+            self._by_set.setdefault(number, []).append(len(self._lines))
+            self._lines.extend((number, self._class(name), int(objects), int(size)))
+            return True
+        joint = JOINT.fullmatch(line)
+        if joint:
+            whole, first, second = map(int, joint.groups())
+            self._parts[whole] = first, second
+            for part in (first, second):
+                self._upper.setdefault(part, []).append(whole)
+        return bool(joint)
+
+    def _class(self, name: bytes) -> int:
+        if name not in self._names:
+            self._names[name] = len(self._classes)
+            self._classes.append(name.decode())
+        return self._names[name]
+
+    def sets_with(self, label: int) -> FrozenSet[int]:
+        """Returns the sets of lines that have a label."""
+        if label not in self._known:
+            found, waiting = {label}, [label]
+            while waiting:
+                more = [each for each in self._upper.get(waiting.pop(), ()) if each not in found]
+                found.update(more)
+                waiting += more
+            self._known[label] = frozenset(found & self._by_set.keys())
+        return self._known[label]
+
+    def labels_of(self, number: int) -> Set[int]:
+        """Returns the labels of a set."""
+        found, waiting = set(), [number] * (number != EMPTY)
+        while waiting:
+            each = waiting.pop()
+            parts = self._parts.get(each)
+            if parts:
+                waiting += parts
+            else:
+                found.add(each)
+        return found
+
+    def sets_below(self, label: int) -> List[int]:
+        """Returns the sets of lines whose labels are all lower than `label`."""
+        high: Set[int] = set()
+        for number, parts in self._parts.items():  # in the order of the text: parts come before what is made of them
+            if any(part in high or part not in self._parts and part >= label for part in parts):
+                high.add(number)
+        return [each for each in self._by_set if each not in high and (each in self._parts or each < label)]
+
+    def every_set(self) -> Collection[int]:
+        """Returns the sets of all lines."""
+        return self._by_set.keys()
+
+    def amounts(self, sets: Iterable[int]) -> Dict[str, Amount]:
+        """Returns how many objects these sets have, by class, and their bytes."""
+        found: Dict[int, Tuple[int, int]] = {}
+        lines, by_set = self._lines, self._by_set
+        for each in sets:
+            for at in by_set.get(each, ()):
+                objects, size = found.get(lines[at + 1], (0, 0))
+                found[lines[at + 1]] = objects + lines[at + 2], size + lines[at + 3]
+        return {self._classes[number]: Amount(*amount) for number, amount in found.items()}
+
+    def total(self, number: int, names: Optional[Container[str]] = None) -> Amount:
+        """Returns how many objects a set has of the classes `names`, or of all, and their bytes."""
+        objects = size = 0
+        for at in self._by_set.get(number, ()):
+            if names is None or self._classes[self._lines[at + 1]] in names:
+                objects, size = objects + self._lines[at + 2], size + self._lines[at + 3]
+        return Amount(objects, size)
+
+    def held(self, label: int) -> Dict[str, Amount]:
+        """Returns what a label holds, by class."""
+        return self.amounts(self.sets_with(label))
+
+    def whole(self) -> Dict[str, Amount]:
+        """Returns all that is reachable, by class."""
+        return self.amounts(self.every_set())
+
+    def objects_in(self, sets: Iterable[int]) -> int:
+        """Returns how many objects these sets have."""
+        return sum(self._lines[at + 2] for each in sets for at in self._by_set.get(each, ()))
+
+
+class TableBound:
+    """Tests whether what a process has printed so far may be the beginning of a table of a dump with `length` bytes, of
+    a text with `labels` labels: its first line is one, or not yet whole, it has no more lines than that may have
+    objects and labels, and no line is too long."""
+
+    def __init__(self, length: int, labels: int) -> None:
+        self._most_lines = length + labels
+        self._lines = self._at = self._line = 0
+
+    def __call__(self, text: bytes) -> bool:
+        """Tests it of `text`, which begins with the one before."""
+        self._lines += text.count(b"\n", self._at)
+        self._line = max(self._line, 1 + text.rfind(b"\n", self._at))
+        self._at = len(text)
+        if self._lines > self._most_lines or self._at - self._line >= LONGEST_LINE:
+            return False
+        first = text[: text.find(b"\n")] if self._line else b""
+        return not self._line or bool(TABLE_LINE.fullmatch(first) or JOINT.fullmatch(first))
+
+
+def read_table(text: bytes) -> Optional[HeldTable]:
+    """Reads a table, which may be empty. Returns None if `text` is none: if it has another line, or does not end with a
+    line."""
+    table, at, find = HeldTable(), 0, text.find
+    while at < len(text):
+        end = find(b"\n", at)
+        if end < 0 or not table.add(text[at:end]):
+            return None
+        at = end + 1
+    return table

@@ -1,0 +1,162 @@
+"""What holds much only together: up to three candidates of any kinds, each of which is needed.
+
+retained finds in one run what any number of groups hold. So no path to an object is walked: the candidates are cut into
+blocks, and it is asked of all blocks, pairs and triples of blocks. No part of a group holds more than the group, so
+only blocks of groups that gained enough are looked into, until each block is one candidate: then it is known what each
+group of them gained, and that no two of three gained nearly as much shows that each is needed. It need not be the one
+of all candidates that gained most: blocks are chosen by all that they gained, and what a group gained bounds that of
+its parts only if nothing of it shrank.
+"""
+
+from itertools import combinations
+from typing import List, NamedTuple, Sequence, Set, Tuple
+
+from heap_tools.candidates import Candidate
+from heap_tools.dump_side import DumpSide, Several, ask_places, key_of
+from heap_tools.held_table import HeldTable
+from heap_tools.line_order import MOST, NEARLY
+from heap_tools.probe import Probe
+
+#: How many may be needed.
+MOST_NEEDED = 3
+#: Of how many classes it is asked which of their fields are needed.
+MOST_KIN = 4
+#: In how many blocks candidates are cut: so a run has some 2,300 labels, and three runs find three of 3,000 candidates.
+BLOCKS = 24
+#: How many of these are looked into at most.
+MOST_KEPT = BLOCKS // 2
+
+
+class Joint(NamedTuple):
+    """Some blocks, what they gained that they hold only together, in the unit of the question, and how many objects
+    they hold so."""
+
+    blocks: Tuple[int, ...]
+    gain: int
+    objects: int
+
+
+class JointSearch:
+    """A search among `candidates` for those that gained `at_least` percent of the growth only together. What one of
+    them holds alone does not count, unless `counts_alone` is set, or it is a thread: what threads lead to may be held
+    together below."""
+
+    def __init__(
+        self, probe: Probe, at_least: float, candidates: Sequence[Candidate], counts_alone: bool = False
+    ) -> None:
+        self.probe, self.candidates = probe, candidates
+        self.least = at_least * probe.unit.of(probe.growth) / 100
+        self._alone = [] if counts_alone else alone(candidates)
+
+    def find(self) -> List[Candidate]:
+        """Returns the candidates that are needed, none if no three gained enough."""
+        left: Several = self.candidates
+        while left:
+            blocks = cut(left)
+            joints = self._minimal(blocks)
+            if joints and len(blocks) == len(left):
+                every = [[left[number] for number in joint.blocks] for joint in joints]
+                return min(zip(every, joints), key=lambda pair: preference(*pair))[0]
+            left = [each for number in kept(joints) for each in blocks[number]]
+        return []
+
+    def _minimal(self, blocks: Sequence[Several]) -> List[Joint]:
+        """Returns the fewest blocks that gained enough, and nearly as much as any others."""
+        found: List[Joint] = []
+        every = self._joints(blocks)
+        least = max(self.least, NEARLY * max(joint.gain for joint in every))
+        for joint in every:
+            if joint.gain >= least and not any(set(other.blocks) < set(joint.blocks) for other in found):
+                found.append(joint)
+        return found
+
+    def _joints(self, blocks: Sequence[Several]) -> List[Joint]:
+        """Asks what all blocks, pairs and triples hold only together, in one run for each dump. The fewest come
+        first."""
+        several = [each for count in range(MOST_NEEDED) for each in combinations(range(len(blocks)), count + 1)]
+        groups: List[Several] = [[it for number in each for it in blocks[number]] for each in several]
+        sides = self.probe.sides()
+        tables = ask_places([(side, [side.places(it) for it in [*groups, *self._alone]]) for side in sides])
+        now, *before = (self._held_together(side, table, len(groups)) for side, table in zip(sides, tables))
+        gains = [held - sum(was[number][0] for was in before) for number, (held, _) in enumerate(now)]
+        return [Joint(each, gain, objects) for each, gain, (_, objects) in zip(several, gains, now)]
+
+    def _held_together(self, side: DumpSide, table: HeldTable, count: int) -> List[Tuple[int, int]]:
+        """Returns for each of the first `count` labels how much it holds that no later label does, and how many
+        objects."""
+        found = [(0, 0)] * count
+        for number in table.sets_below(count):
+            amount = self.probe.unit.of(self.probe.amount_of(side.held(table, [number])))
+            objects = table.objects_in([number])
+            for label in table.labels_of(number):
+                found[label] = found[label][0] + amount, found[label][1] + objects
+        return found
+
+
+def alone(candidates: Several) -> List[Several]:
+    """Returns the candidates of which it does not count what they hold alone, each as a group."""
+    return [[each] for each in candidates if not each.is_thread]
+
+
+def joint_answers(
+    probe: Probe, at_least: float, explained: Sequence[Several], candidates: Several, known: Several
+) -> Sequence[Several]:
+    """Returns what gained `at_least` percent of the growth together that none of `explained` holds: of the fields of a
+    class those that are needed, or all; if no class has such, those of `candidates` that hold enough only together.
+    They are some of `known`: what all of these gained only together was asked before, and if it is less, nothing is
+    asked."""
+    found = [needed_of(probe, at_least, it) or it for it in kin_with(probe, at_least, explained, candidates)]
+    least = at_least * probe.unit.of(probe.growth) / 100
+    if not found and probe.unit.of(probe.gain_beside(known, alone(known))) >= least:
+        found = [each for each in [JointSearch(probe, at_least, candidates).find()] if each]
+    return [by_amount(probe, each) for each in found if probe.share(each) >= at_least]
+
+
+def kin_with(probe: Probe, at_least: float, explained: Sequence[Several], candidates: Several) -> Sequence[Several]:
+    """Returns those of `candidates` that a class declares, of each class of which all gained enough that none of
+    `explained` holds, own ones first, then those that gained most."""
+    known, taken = key_of(candidates), frozenset().union(*map(key_of, explained))
+    kin = [group for group in probe.candidates.kin().values() if len(group) > 1 and known.issuperset(key_of(group))]
+    gains = [(probe.unit.percent(probe.gain_beside(group, explained), probe.growth), group) for group in kin]
+    enough = sorted((pair for pair in gains if pair[0] >= at_least), key=lambda it: (not it[1][0].is_own, -it[0]))
+    return [[each for each in group if each.key not in taken] for _, group in enough[:MOST_KIN]]
+
+
+def needed_of(probe: Probe, at_least: float, group: Several) -> Several:
+    """Returns those of `group` that hold enough only together, none if one holds what it adds mostly alone: the sum of
+    what has nothing to do with each other is no answer."""
+    needed = JointSearch(probe, at_least, group, counts_alone=True).find()
+    rests = [[it for it in needed if it is not each] for each in needed]
+    probe.ask([needed, *rests] if len(needed) > 1 else [])
+    if len(needed) < 2 or probe.share(needed) < at_least:
+        return []
+    adds = [probe.share(needed) - probe.share(rest) for rest in rests]
+    return needed if all(probe.share([it]) < MOST * more for it, more in zip(needed, adds)) else []
+
+
+def cut(candidates: Several) -> List[Several]:
+    """Returns candidates in at most `BLOCKS` blocks of about one length."""
+    count = min(BLOCKS, len(candidates))
+    bounds = [number * len(candidates) // count for number in range(count + 1)]
+    return [candidates[begin:end] for begin, end in zip(bounds, bounds[1:])]
+
+
+def kept(joints: Sequence[Joint]) -> List[int]:
+    """Returns the blocks of as many of `joints` as may be looked into, the fewest blocks first, of these those that
+    hold least: they are the deepest."""
+    found: Set[int] = set()
+    for joint in sorted(joints, key=lambda joint: (len(joint.blocks), joint.objects)):
+        if not found or len(found.union(joint.blocks)) <= MOST_KEPT:
+            found.update(joint.blocks)
+    return sorted(found)
+
+
+def preference(group: Several, joint: Joint) -> Tuple[int, int, int, int]:
+    """Returns what the best answer is the smallest by: how many are not own, of how many classes they are, how many
+    they are, and how much they hold."""
+    return sum(not each.is_own for each in group), len({each.owner for each in group}), len(group), joint.objects
+
+
+def by_amount(probe: Probe, group: Several) -> List[Candidate]:
+    """Returns candidates, those first that hold most alone."""
+    return sorted(group, key=lambda each: (-probe.unit.of(probe.retained([each]).amount), str(each)))

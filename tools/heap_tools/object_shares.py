@@ -1,0 +1,103 @@
+"""What objects hold by one reference each: that of many objects is asked in one run, and each share is exact."""
+
+from typing import Iterator, List, NamedTuple, Sequence, Set, Tuple
+
+from heap_tools.dump_side import ask_places
+from heap_tools.heap_objects import FieldValue, HeapObjects
+from heap_tools.held_table import HeldTable
+from heap_tools.label_text import Place
+from heap_tools.probe import Probe
+from heap_tools.reports import Amount
+
+#: The share in percent that one object must have to be named.
+OF_ONE = 20
+#: Of how many objects it is looked up what they hold in the heap.
+HEAVIEST = 32
+#: The part of what an object holds that it must hold by itself, nearer than any other one: the first node of a linked
+#: list does not.
+BY_ITSELF = 0.5
+
+
+class Holding(NamedTuple):
+    """An object, by its reference, and what it holds by that."""
+
+    value: FieldValue
+    amount: Amount
+
+
+class ObjectShares:
+    """What objects hold by their references `values` in the dump that `probe` asks: `together` is what all of them do.
+    In `table` all have the label `first`, and each one of those after it. `heavy` are the numbers of those that hold
+    most in the dump's bytes, at most `HEAVIEST`: what they hold in the heap is looked up only of these."""
+
+    def __init__(self, probe: Probe, values: Sequence[FieldValue], table: HeldTable, first: int) -> None:
+        self.probe, self.values, self.table, self.first = probe, values, table, first
+        self.together = held_amount(probe, table, first)
+        self._held = [0] * len(values)
+        lines = list(self._lines())
+        for amount, numbers in lines:
+            for number in numbers:
+                self._held[number] += amount
+        #: How much of what it holds each object holds nearer than any other one: of two that hold something both, one
+        #: holds all that the other one does, which holds less.
+        self._nearest = [0] * len(values)
+        for amount, numbers in lines:
+            self._nearest[min(numbers, key=lambda it: self._held[it])] += amount
+        self.heavy = sorted(range(len(values)), key=lambda it: -self._held[it])[:HEAVIEST]
+
+    def _lines(self) -> Iterator[Tuple[int, List[int]]]:
+        """Yields how much some of the objects hold together that no others do, in the dump's bytes, and these."""
+        labels = range(self.first + 1, self.first + 1 + len(self.values))
+        names = self.probe.names()
+        for each in self.table.sets_with(self.first):
+            numbers = [label - labels.start for label in self.table.labels_of(each) if label in labels]
+            if numbers:
+                yield self.probe.unit.of(self.table.total(each, names)), numbers
+
+    def amount(self, value: FieldValue) -> Amount:
+        """Returns what one of the objects holds."""
+        return self._amount(self.values.index(value))
+
+    def _amount(self, number: int) -> Amount:
+        return held_amount(self.probe, self.table, self.first + 1 + number)
+
+    def most(self, whole: Amount) -> float:
+        """Returns the most that one of them holds, in percent of `whole`."""
+        return max((self.probe.unit.percent(self._amount(it), whole) for it in self.heavy), default=0.0)
+
+    def heaviest(self, whole: Amount) -> List[Holding]:
+        """Returns the objects that hold `OF_ONE` percent of `whole` or more, most of that by themselves, and nothing
+        that another one of them holds, the heaviest first."""
+        unit, found = self.probe.unit, []
+        taken: Set[int] = set()
+        for number in self.heavy:
+            amount, sets = self._amount(number), self.table.sets_with(self.first + 1 + number)
+            is_heavy = unit.percent(amount, whole) >= OF_ONE and self._nearest[number] >= BY_ITSELF * self._held[number]
+            if is_heavy and sets.isdisjoint(taken):
+                taken |= sets
+                found.append(Holding(self.values[number], amount))
+        return sorted(found, key=lambda each: -unit.of(each.amount))
+
+
+def held_amount(probe: Probe, table: HeldTable, label: int) -> Amount:
+    """Returns how much a label holds of what is asked for."""
+    return probe.amount_of(probe.side.held(table, table.sets_with(label)))
+
+
+def shares_of(probe: Probe, lists: Sequence[Sequence[FieldValue]]) -> List[ObjectShares]:
+    """Returns what the objects of several lists hold, asked in one run."""
+    objects, first = HeapObjects(probe.runs.dump), []
+    places: List[List[Place]] = []
+    for values in lists:
+        each = [objects.place_of(value) for value in values]
+        first.append(len(places))
+        places += [each, *([it] for it in each)]
+    (table,) = ask_places([(probe.side, places)])
+    return [ObjectShares(probe, values, table, label) for values, label in zip(lists, first)]
+
+
+def amounts_of(probe: Probe, lists: Sequence[Sequence[FieldValue]]) -> List[Amount]:
+    """Returns what the references of each list hold together, asked in one run."""
+    objects = HeapObjects(probe.runs.dump)
+    (table,) = ask_places([(probe.side, [[objects.place_of(value) for value in values] for values in lists])])
+    return [held_amount(probe, table, number) for number in range(len(lists))]

@@ -1,0 +1,142 @@
+"""What counts in dumps: which weak references are followed, and whether local variables are.
+
+Calls run while a dump is made, and their local variables lead into what fields hold: they mostly do not count. Mostly
+nothing else is known than what is reachable without weak references and without local variables; if that is not enough,
+one run for each dump shows what is reachable by each other way to count.
+"""
+
+import enum
+from typing import Dict, List, NamedTuple, Optional, Sequence, Union
+
+from heap_tools.candidates import FIELD, WEAK, Candidates
+from heap_tools.dump_runs import DumpRuns
+from heap_tools.dump_side import DumpSide, Several, ask, ask_places
+from heap_tools.label_text import Place, class_of
+from heap_tools.reports import Report, Unit
+from heap_tools.weak_kinds import WeakKind, weak_kind_of
+
+#: Local variables that hold at most this share of what is asked for, in percent, are those of calls that are running.
+PASSING = 5.0
+
+
+class Calls(enum.Enum):
+    """Which calls do not count. The value says whether only those of the JDK do not."""
+
+    ALL = False
+    OF_JDK = True
+
+
+class Weak(enum.Enum):
+    """Whether weak references are followed, if not those of one kind are."""
+
+    NONE = enum.auto()
+    ALL = enum.auto()
+
+
+class Way(NamedTuple):
+    """A way to count: which weak references are followed, and the local variables of which calls do not count."""
+
+    follows: Union[Weak, WeakKind] = Weak.NONE
+    calls: Optional[Calls] = None
+
+
+#: The way that is tried first.
+USUAL = Way(Weak.NONE, Calls.ALL)
+#: All other ways.
+OTHER_WAYS = [
+    Way(follows, calls)
+    for follows in (*Weak, WeakKind.FINAL, WeakKind.PHANTOM, WeakKind.WEAK)
+    for calls in (None, *Calls)
+    if (follows, calls) != USUAL
+]
+
+
+class WhatCounts:
+    """Some dumps, and what is reachable in them by each way to count."""
+
+    def __init__(self, dumps: Sequence[DumpRuns]) -> None:
+        self.dumps = dumps
+        self._sides: Dict[Way, List[DumpSide]] = {}
+        self._reports: Dict[Way, List[Report]] = {}
+
+    def sides(self, way: Way) -> List[DumpSide]:
+        """Returns the dumps as they are asked by a way: what each candidate holds is known, and what all fields of a
+        class do."""
+        if way not in self._sides:
+            sides = self._sides[way] = [side_of(each, way) for each in self.dumps]
+            groups = first_groups(sides[-1])
+            ask([(side, groups) for side in sides])
+        return self._sides[way]
+
+    def reports(self, way: Way) -> List[Report]:
+        """Returns the reports of the dumps by a way."""
+        if way in self._sides or way == USUAL:
+            return [side.base for side in self.sides(way)]
+        if not self._reports:
+            self._ask()
+        return self._reports[way]
+
+    def _ask(self) -> None:
+        """Asks at once for the reports by all ways."""
+        every = [side_of(each, Way(Weak.ALL)) for each in self.dumps]
+        tables = ask_places([(side, [cut_by(side, way) for way in OTHER_WAYS]) for side in every])
+        for number, way in enumerate(OTHER_WAYS):
+            self._reports[way] = [side.report_without(table, number) for side, table in zip(every, tables)]
+
+
+def side_of(runs: DumpRuns, way: Way) -> DumpSide:
+    """Returns a dump as it is asked by a way. The list of a loader's classes holds what is held anyway, too: so classes
+    that are never unloaded are roots."""
+    candidates = Candidates(runs.dump, runs.report, way.follows is not Weak.NONE)
+    side = DumpSide(runs, candidates, candidates.not_counted(), runs.dump.lasting_classes())
+    return DumpSide(runs, candidates, [*side.cut, *cut_by(side, way)], side.roots)
+
+
+def cut_by(side: DumpSide, way: Way) -> List[Place]:
+    """Returns the places of the references that a way does not follow."""
+    calls = side.candidates.running(way.calls.value) if way.calls else []
+    return [*weak_places(side, way.follows), *calls]
+
+
+def weak_places(side: DumpSide, follows: Union[Weak, WeakKind]) -> List[Place]:
+    """Returns the places of the weak references that are not followed."""
+    every = side.candidates.places((FIELD, WEAK)) if follows is not Weak.ALL else ()
+    return [each for each in every if weak_kind_of(side.runs.dump, class_of(each)) is not follows]
+
+
+def first_groups(side: DumpSide) -> List[Several]:
+    """Returns all groups of which it is asked in one run: each candidate alone, all threads, all static fields, these
+    with all fields, the fields of one kind that a class declares, and those that a class with few instances has."""
+    candidates = side.candidates
+    statics, fields, threads = candidates.statics(), candidates.every_field(), candidates.all_threads()
+    single = [*statics, *candidates.locals(), *candidates.threads(), *candidates.threads_alike(), *fields]
+    few = candidates.few()
+    every: List[Several] = [
+        [threads],
+        statics,
+        [*statics, threads, *fields],
+        few,
+        [it for it in few if it.kind != FIELD],
+    ]
+    kin = [group for group in candidates.kin().values() if len(group) > 1]
+    return [*([each] for each in single), *every, *kin, *candidates.units().values()]
+
+
+def without_running_calls(
+    counts: WhatCounts,
+    follows: Union[Weak, WeakKind],
+    bases: Sequence[Report],
+    families: Optional[List[str]],
+    unit: Unit,
+    whole: int,
+    most: float = PASSING,
+) -> Way:
+    """Returns the way without the local variables of all calls, if in none of the dumps, of which `bases` are the
+    reports with them, more than `most` percent of `whole` is lost by that; else without those of the JDK's calls, under
+    the same condition; else with all."""
+    for calls in Calls:
+        pairs = zip(bases, counts.reports(Way(follows, calls)))
+        lost = [unit.of(base.total(families)) - unit.of(less.total(families)) for base, less in pairs]
+        if 100 * max(lost) <= most * whole:
+            return Way(follows, calls)
+    return Way(follows)
