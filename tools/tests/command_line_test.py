@@ -50,14 +50,16 @@ class EndTest(unittest.TestCase):
             self.assertEqual(self.ended(body), (130, "tool: interrupted\n"), name)
 
     def test_early(self) -> None:
-        """An interrupt while the modules of a tool are read takes one line, too, and so does one that is missing."""
-        missing = "No module named 'mmap'"
-        needed = f"{missing}: the tools need all of Python 3.7 or later, and the folder heap_tools"
+        """An interrupt while the modules of a tool are read takes one line, too, and so does one that is missing or that
+        Python takes as wrong, which it does if it is short of memory."""
+        missing, wrong = "No module named 'mmap'", "expected ':'"
+        needed = "a tool needs all of Python 3.7 or later, the folder heap_tools, and memory"
         for tool in ("grown", "held", "holders", "leaks", "sizes"):
             text = (TOOLS / tool).read_text(encoding="utf-8")
             for raised, status, line in (
                 ("KeyboardInterrupt", 130, "interrupted"),
-                (f'ModuleNotFoundError("{missing}")', 5, needed),
+                (f'ModuleNotFoundError("{missing}")', 5, f"{missing}: {needed}"),
+                (f'SyntaxError("{wrong}", ("x.py", 7, 1, ""))', 5, f"{wrong} (x.py, line 7): {needed}"),
                 ("MemoryError", 1, "out of memory"),
             ):
                 body = text.replace("from heap_tools", f"raise {raised}\n    from x")
