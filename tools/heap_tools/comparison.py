@@ -83,9 +83,14 @@ class Comparison:
             f"{weakly_held_words(self.followed.amount)}: see --weak" if 100 * held >= MUCH_WEAKLY_HELD * whole else ""
         )
 
-    def probes_between(self, groups: Sequence[Several]) -> List[Probe]:
-        """Returns what knows what `groups` hold in some dumps between the first and the last: at most `BETWEEN`."""
-        sides = [side_of(each, self.way) for each in spread(self.dumps[1:-1], BETWEEN)]
+    @property
+    def between(self) -> List[DumpRuns]:
+        """Returns some dumps between the first and the last: at most `BETWEEN`."""
+        return spread(self.dumps[1:-1], BETWEEN)
+
+    def probes_between(self, groups: Sequence[Several], cut: Several) -> List[Probe]:
+        """Returns what knows what `groups` hold in the dumps between, without what is `cut`."""
+        sides = [side_of(each, self.way).without(cut) for each in self.between]
         ask([(side, groups) for side in sides])
         return [Probe(side, self.probe.families, self.probe.unit) for side in sides]
 
@@ -142,7 +147,7 @@ def comparison_of(dumps: Sequence[DumpRuns], options: Options) -> Comparison:
     asked = with_growth(reports, with_direct_memory(reports, Asked(families, unit), direct), dumps)
     growth = grown(reports, asked.families, asked.unit)
     # What holds less than at_least percent is no line, and nothing below it is.
-    percent = max(PASSING, options.at_least - 1)
+    percent = max(PASSING, options.bounds.first - 1)
     way = without_running_calls(counts, followed.follows, reports, asked.families, asked.unit, growth, percent)
     first, last = counts.sides(way)
     probe = GrowthProbe(first, last, asked.families, asked.unit)

@@ -58,6 +58,10 @@ class DumpSide:
         #: What is reachable of each class, in bytes of the dump.
         self.written: Dict[str, Amount] = {}
 
+    def without(self, group: Several) -> "DumpSide":
+        """Returns the same dump, in which the references of a group are not followed either."""
+        return DumpSide(self.runs, self.candidates, [*self.cut, *self.places(group)], self.roots)
+
     @property
     def base(self) -> Report:
         """The report of the dump as it is asked. Nothing is known before something was asked."""

@@ -6,7 +6,8 @@ from heap_tools.comparison import Comparison, NoGrowth
 from heap_tools.documents import JsonObject, amount_entry, candidates_entry, dump_entry, share_entry
 from heap_tools.dump_runs import DumpRuns
 from heap_tools.humanize import counted
-from heap_tools.leak_lines import Answer, Line, LineObjects
+from heap_tools.leak_answer import Answer
+from heap_tools.leak_lines import Line, LineObjects
 from heap_tools.leak_notes import Notes
 from heap_tools.leak_options import Options
 from heap_tools.one_dump import HeapAnswer, contents_of
@@ -39,12 +40,10 @@ def fields_of_one(answer: HeapAnswer, notes: HeapNotes, cost: Cost) -> JsonObjec
     question, probe = answer.question, answer.question.probe
     return {
         "files": [dump_entry(question.runs)],
-        **question_entry(probe, answer.at_least, question.followed.is_any),
+        **question_entry(probe, answer.found, question.followed.is_any),
         "whole": amount_entry(probe.growth),
         "growth": None,
-        "lines": [line_entry(each, is_growth=False) for each in answer.lines],
-        "hidden": answer.hidden,
-        "objects": objects_entry(answer.objects),
+        **lines_entry(answer.found, is_growth=False),
         "contents": contents_entry(answer.contents),
         "more_threads": [],
         "ran_out": [{"thread": it.name, "methods": it.methods, "before_own": it.before_own} for it in notes.ran_out],
@@ -56,15 +55,13 @@ def fields_of_one(answer: HeapAnswer, notes: HeapNotes, cost: Cost) -> JsonObjec
 
 def fields_of_growth(comparison: Comparison, answer: Answer, notes: Notes, cost: Cost) -> JsonObject:
     """Returns the fields of the document of two dumps or more."""
-    probe, lines = answer.probe, answer.lines
+    probe, lines = comparison.probe, answer.lines
     return {
         "files": [dump_entry(each) for each in comparison.dumps],
-        **question_entry(probe, answer.search.at_least, comparison.follows_weak),
+        **question_entry(probe, answer, comparison.follows_weak),
         "whole": amount_entry(probe.whole),
         "growth": amount_entry(probe.growth),
-        "lines": [line_entry(each, is_growth=True) for each in lines],
-        "hidden": answer.hidden,
-        "objects": objects_entry(notes.objects),
+        **lines_entry(answer, is_growth=True),
         "contents": contents_entry(contents_of(lines[0].held, probe.unit)) if lines else [],
         "more_threads": [
             {"pattern": it.pattern, "before": it.before, "after": it.after, "methods": it.frames}
@@ -86,13 +83,13 @@ def fields_of_nothing(
         "files": [dump_entry(each) for each in dumps],
         "unit": options.unit.value,
         "classes": families,
-        "at_least_percent": options.at_least,
+        "at_least_percent": options.bounds.first,
         "follows_weak": options.weak,
         "whole": amount_entry(none.whole if none else Amount()),
         "growth": amount_entry(none.growth) if none else None,
         "lines": [],
         "hidden": 0,
-        "objects": None,
+        "left": amount_entry(none.growth if none else Amount()),
         "contents": [],
         "more_threads": [],
         "ran_out": [],
@@ -102,12 +99,12 @@ def fields_of_nothing(
     }
 
 
-def question_entry(probe: Probe, at_least: float, follows_weak: bool) -> JsonObject:
+def question_entry(probe: Probe, answer: Answer, follows_weak: bool) -> JsonObject:
     """Returns what was asked."""
     return {
         "unit": probe.unit.value,
         "classes": probe.families,
-        "at_least_percent": at_least,
+        "at_least_percent": answer.search.at_least,
         "follows_weak": follows_weak,
     }
 
@@ -115,6 +112,12 @@ def question_entry(probe: Probe, at_least: float, follows_weak: bool) -> JsonObj
 def cost_entry(cost: Cost) -> JsonObject:
     """Returns what an answer cost."""
     return {"fields_tried": cost.fields, "runs": cost.runs, "seconds": round(cost.seconds, 1)}
+
+
+def lines_entry(answer: Answer, is_growth: bool) -> JsonObject:
+    """Returns the lines, how many more there are, and what is in none of them."""
+    lines = [line_entry(each, is_growth) for each in answer.lines]
+    return {"lines": lines, "hidden": answer.hidden, "left": amount_entry(answer.left)}
 
 
 def line_entry(line: Line, is_growth: bool) -> JsonObject:
@@ -125,13 +128,16 @@ def line_entry(line: Line, is_growth: bool) -> JsonObject:
         "retained": amount_entry(line.held.amount),
         "share_percent": share_entry(line.share),
         "instances_before": line.instances_before if is_growth else None,
-        "instances": line.held.instances,
+        "instances": line.instances,
+        "objects": objects_entry(line.objects),
     }
 
 
 def objects_entry(found: Optional[LineObjects]) -> Optional[JsonObject]:
-    """Returns which objects gained or hold most of a line."""
-    return {"line": found.number, "objects": [object_entry(each) for each in found.objects]} if found else None
+    """Returns which objects gained or hold most of a field, and which field that is."""
+    if not found:
+        return None
+    return {"field": candidates_entry(found.held.candidates), "objects": [object_entry(each) for each in found.objects]}
 
 
 def object_entry(found: HoldingObject) -> JsonObject:

@@ -1,10 +1,11 @@
-"""The answer of `leaks`: the lines that show what holds the growth. `line_order.py` has their order."""
+"""What holds much of what is asked for, as lines: `line_order.py` has their order, `leak_answer.py` what `leaks` shows
+of them."""
 
 import dataclasses
-from typing import Callable, List, NamedTuple, Optional, Sequence, Tuple
+from typing import FrozenSet, List, NamedTuple, Optional, Sequence
 
 from heap_tools.candidates import FEW, FIELD, STATIC, Candidate, joint_name
-from heap_tools.dump_side import Several, key_of
+from heap_tools.dump_side import GroupKey, Several, key_of
 from heap_tools.fields_of_object import find_below, part_of_one
 from heap_tools.heap_objects import HeapObjects
 from heap_tools.lasting_elements import LastingElements
@@ -25,51 +26,42 @@ from heap_tools.which_object import (
 )
 
 
+class LineObjects(NamedTuple):
+    """The objects that gained most of what a field did, and what that is: a line's own, or one above it or below it."""
+
+    held: Retained
+    objects: List[HoldingObject]
+
+
 class Line(NamedTuple):
-    """What was found: what it held, what it holds, the share of the growth in percent, what is above it, and how many
-    instances had it."""
+    """What was found: what it held, what it holds, the share of all that is asked for in percent, what is above it, how
+    many instances have it and had it, what it held in dumps between, and the objects that gained most of it, or of what
+    is above it or below it."""
 
     held: Retained
     before: Amount
     share: float
     above: List[Retained]
+    instances: int
     instances_before: int
+    between: Sequence[Amount] = ()
+    objects: Optional[LineObjects] = None
 
     def path(self) -> str:
         """Returns the way from the top down to what was found."""
         return " > ".join(joint_name(each.candidates) for each in [*self.above, self.held])
 
 
-class LineObjects(NamedTuple):
-    """The objects that gained most of what a line did: the number of the line, what it holds, and the objects."""
-
-    number: int
-    held: Retained
-    objects: List[HoldingObject]
-
-
-class Answer(NamedTuple):
-    """The first lines, the objects that gained most of one line, how many more lines there are, the search that found
-    them, and what it asked: `probe`, and `between` of dumps between the first and the last."""
-
-    lines: List[Line]
-    objects: Optional[LineObjects]
-    hidden: int
-    search: Search
-    probe: GrowthProbe
-    between: Sequence[Probe] = ()
-
-
 class Lines:
     """What a search has found, in the order of `line_order`: of one dump by what it holds. `between` are dumps between
-    the first and the last. `uses` may know the values of the fields that were found."""
+    the first and the last. What is named in `above` is none: it is above a line that there is already."""
 
     def __init__(
         self,
         search: Search,
         probe: Probe,
         between: Sequence[Probe] = (),
-        uses: Optional[FieldUses] = None,
+        above: FrozenSet[GroupKey] = frozenset(),
     ) -> None:
         self.search, self.probe, self.between, self.found = search, probe, between, search.found
         self.scoring = Scoring.GAIN if isinstance(probe, GrowthProbe) else Scoring.SHARE
@@ -78,25 +70,32 @@ class Lines:
         if self.scoring is Scoring.GAIN:
             self.others = [*search.steady, *(probe.retained(kin) for kin in map(self._kin, self.found) if kin)]
         self.every = [*self.found, *self.others]
-        self.uses = uses or uses_of(self.found, probe)
-        self.features = [self._features(held, number < len(self.found)) for number, held in enumerate(self.every)]
+        self.uses = uses_of(self.found, probe)
+        self.features = [
+            self._features(held, number < len(self.found) and held.key not in above)
+            for number, held in enumerate(self.every)
+        ]
 
     def sorted(self) -> List[Retained]:
         """Returns what was found, the answer first."""
         return [self.every[number] for number in self._order().sorted()]
 
+    def are_lasting(self) -> bool:
+        """Tests whether something of what was found lasts: if not, only new objects hold what grew."""
+        return self._order().are_lasting()
+
     def ask_for_objects(self) -> Optional[LineObjects]:
-        """Asks of some lines which objects gained most, and notes if it is one. Returns them, without a number; if
-        there are none, what leads to the answer if that is one object."""
+        """Asks of some lines which objects gained most, and notes if it is one. Returns them; if there are none, what
+        leads to the answer if that is one object."""
         several = None
         for number in self._order().to_ask():
             objects = self._objects_of(self.every[number])
             if len(objects) == 1 and not objects[0].is_element:
                 of_one = objects[0].of_gain / 100
                 self.features[number] = dataclasses.replace(self.features[number], of_one=of_one)
-                return LineObjects(0, self.every[number], objects)
+                return LineObjects(self.every[number], objects)
             if several is None and tell_apart(objects):
-                several = LineObjects(0, self.every[number], objects)
+                several = LineObjects(self.every[number], objects)
         return several or self._leading_to_answer()
 
     def _leading_to_answer(self) -> Optional[LineObjects]:
@@ -111,7 +110,7 @@ class Lines:
             for only in self.uses.of(held.candidates[0]).values:
                 found = object_leading_to(self.probe, upper, only.instance, held.amount, self.uses)
                 if found and found.names:
-                    return LineObjects(0, upper, [found])
+                    return LineObjects(upper, [found])
         return None
 
     def ask_for_elements(self) -> None:
@@ -210,21 +209,6 @@ def uses_of(found: Sequence[Retained], probe: Probe) -> FieldUses:
     return FieldUses(HeapObjects(probe.runs.dump), [held.candidates[0] for held in found if is_field(held)])
 
 
-def answer_of(
-    probe: GrowthProbe,
-    at_least: int,
-    top: int,
-    probes_between: Callable[[Sequence[Several]], List[Probe]] = lambda _: [],
-) -> Answer:
-    """Searches the dumps for what holds `at_least` percent of the growth, and returns the `top` first lines.
-    `probes_between` returns what knows of some groups what they held between the first dump and the last."""
-    search = searched(probe, at_least)
-    uses = uses_of(search.found, probe)
-    between = probes_between([held.candidates for held in search.found]) if search.found else []
-    lines, objects, hidden = lines_found(search, probe, top, between, uses)
-    return Answer(lines, objects, hidden, search, probe, between)
-
-
 def searched(probe: Probe, at_least: float) -> Search:
     """Searches for what holds `at_least` percent of what the probe asks for, alone or together. Of one dump it is not
     asked what static fields hold only together, unless no root is found: in any dump that is much."""
@@ -258,23 +242,39 @@ def explains(held: Retained) -> bool:
     return held.instances <= FEW and not any(each.is_thread for each in held.candidates)
 
 
-def lines_found(
-    search: Search,
-    probe: Probe,
-    top: int,
-    between: Sequence[Probe] = (),
-    uses: Optional[FieldUses] = None,
-) -> Tuple[List[Line], Optional[LineObjects], int]:
-    """Returns the `top` first lines of what a search has found, the objects that gained most of one, and how many more
-    lines there are. `uses` may know the values of the fields that were found."""
-    found = Lines(search, probe, between, uses)
-    objects = found.ask_for_objects()
-    found.ask_for_elements()
-    objects = None if found.ask_below() else objects
-    ranked = found.sorted()
-    paths, lines = ReferencePaths(probe, [*ranked, *search.steady]), []
-    for held in ranked[:top]:
-        before, share = probe.before(held.candidates).amount, probe.share(held.candidates)
-        lines.append(Line(held, before, share, paths.above(held), probe.instances_before(held.candidates)))
-    objects = objects and objects._replace(number=1 + ranked.index(objects.held))
-    return lines, objects, len(ranked) - len(lines)
+class Found(NamedTuple):
+    """What a search has found, the answer first, whether some of it lasts, what asked for it, of dumps between, too,
+    what is above what, and the objects that gained most of the answer, or of what is above it or below it."""
+
+    ranked: List[Retained]
+    is_lasting: bool
+    probe: Probe
+    between: Sequence[Probe]
+    paths: ReferencePaths
+    objects: Optional[LineObjects]
+
+    def line(self, number: int, whole: Probe) -> Line:
+        """Returns what was found as a line; its share and its instances are of what `whole` asks for."""
+        held, probe = self.ranked[number], self.probe
+        group = held.candidates
+        return Line(
+            held,
+            probe.before(group).amount,
+            probe.unit.percent(probe.gain(group), whole.growth),
+            self.paths.above(held),
+            whole.instances(group),
+            whole.instances_before(group),
+            [each.retained(group).amount for each in self.between],
+            self.objects if number == 0 else None,
+        )
+
+
+def found_by(search: Search, between: Sequence[Probe], above: FrozenSet[GroupKey]) -> Found:
+    """Returns what a search has found, in its order, without what is named in `above`."""
+    lines = Lines(search, search.probe, between, above)
+    objects = lines.ask_for_objects()
+    lines.ask_for_elements()
+    objects = None if lines.ask_below() else objects
+    ranked, is_lasting = lines.sorted(), lines.are_lasting()
+    paths = ReferencePaths(search.probe, [*search.found, *search.steady])
+    return Found(ranked, is_lasting, search.probe, between, paths, objects)

@@ -2,7 +2,7 @@
 classes grew, what is held by weak references alone, and what is outside the heap."""
 
 import re
-from typing import List, NamedTuple, Optional, Sequence
+from typing import List, NamedTuple, Sequence
 
 from heap_tools.candidates import joint_name
 from heap_tools.class_counts import grown_class_counts
@@ -11,7 +11,9 @@ from heap_tools.class_names import is_own
 from heap_tools.comparison import Comparison
 from heap_tools.direct_buffers import more_direct_memory, worth_saying
 from heap_tools.humanize import counted
-from heap_tools.leak_lines import Answer, Line, LineObjects
+from heap_tools.leak_answer import Answer
+from heap_tools.leak_lines import Line
+from heap_tools.leak_options import Bounds
 from heap_tools.reports import Report
 from heap_tools.thread_counts import ThreadCount, grown_thread_counts
 from heap_tools.which_object import hidden, sentence
@@ -24,22 +26,21 @@ class Notes(NamedTuple):
     """All that is said beside the lines. `sentences` are on what the lines do not have, and `own_classes` is one on the
     classes that grew, which a page has in a table."""
 
-    objects: Optional[LineObjects]
     threads: List[ThreadCount]
     sentences: List[str]
     own_classes: str = ""
 
 
-def notes_of(comparison: Comparison, answer: Answer, shows_values: bool) -> Notes:
-    """Returns what is to be said beside the lines of an answer."""
+def notes_of(comparison: Comparison, lines: Sequence[Line]) -> Notes:
+    """Returns what is to be said beside lines."""
     grew = comparison.last.report.reachable.minus(comparison.first.report.reachable)
     direct = more_direct_memory(*comparison.direct) if worth_saying(*comparison.direct, grew.bytes) else ""
     threads = grown_thread_counts(comparison.first.dump, comparison.last.dump)[:PATTERNS]
     classes = map(str, grown_class_counts(comparison.first.dump, comparison.last.dump)[:PATTERNS])
-    every = (*classes, comparison.weak_words, direct, captured_words(answer.lines))
+    every = (*classes, comparison.weak_words, direct, captured_words(lines))
     sentences = [each for each in every if each]
     own_classes = own_classes_words([each.report for each in comparison.dumps])
-    return Notes(shown_objects(answer.objects, shows_values), threads, sentences, own_classes)
+    return Notes(threads, sentences, own_classes)
 
 
 def own_classes_words(reports: Sequence[Report]) -> str:
@@ -61,18 +62,37 @@ def captured_words(lines: Sequence[Line]) -> str:
     return f"field {captured[0]} is a variable that a lambda in {where} captured: arg$1 is the first one, or `this`"
 
 
-def shown_objects(found: Optional[LineObjects], shows_values: bool) -> Optional[LineObjects]:
-    """Returns the objects of a line, without texts of the dump unless `shows_values`."""
-    return found and found._replace(objects=hidden(found.objects, shows_values))
+def without_values(lines: Sequence[Line], shows_values: bool) -> List[Line]:
+    """Returns lines whose objects are named without texts of the dump, unless `shows_values`."""
+    shown = (
+        line.objects and line.objects._replace(objects=hidden(line.objects.objects, shows_values)) for line in lines
+    )
+    return [line._replace(objects=objects) for line, objects in zip(lines, shown)]
 
 
-def objects_words(found: LineObjects) -> str:
-    """Returns which objects gained most of what a line did."""
-    return f"line {found.number}: {sentence(joint_name(found.held.candidates), found.objects)}"
+def objects_words(lines: Sequence[Line]) -> List[str]:
+    """Returns which objects gained most of what each line did, of those of which that is known."""
+    known = [(number, line.objects) for number, line in enumerate(lines, 1) if line.objects]
+    return [f"line {number}: {sentence(joint_name(it.held.candidates), it.objects)}" for number, it in known]
 
 
 def notes_words(notes: Notes) -> List[str]:
     """Returns what is beside the lines, a sentence each."""
-    objects = [objects_words(notes.objects)] if notes.objects else []
     threads = [f"{counted(each.after - each.before, 'thread')} more: {each}" for each in notes.threads]
-    return [*objects, *filter(None, [notes.own_classes]), *threads, *notes.sentences]
+    return [*filter(None, [notes.own_classes]), *threads, *notes.sentences]
+
+
+def rest_words(answer: Answer, bounds: Bounds, whole: str) -> List[str]:
+    """Returns what the lines do not have of `whole`, a sentence each."""
+    if not answer.lines:
+        alone = f"no field, local variable or thread alone holds {bounds.first}% of {whole}"
+        return [alone + ": see --at-least" * (bounds.first > 1)]
+    if answer.hidden:
+        hold = "holds" if answer.hidden == 1 else "hold"
+        return [f"{answer.hidden} more {hold} {bounds.first}% or more: see --top"]
+    if bounds.shows_all or answer.left_percent < bounds.others:
+        return []
+    left = f"{answer.left_percent:.0f}% of {whole} are in no line"
+    if len(answer.lines) == bounds.top:
+        return [f"{left}: see --top"]
+    return [f"{left}: nothing else that lasts holds {bounds.others}%"]

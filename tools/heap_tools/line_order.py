@@ -96,22 +96,13 @@ class LineOrder:
         self.scores = {number: self.score(number) for number in self.numbers}
 
     def sorted(self) -> List[int]:
-        """Returns the numbers of the lines, the answer first. Of one dump the best own line beside that is the second:
-        something else may leak, too."""
+        """Returns the numbers of the lines, the answer first."""
         answer = self.answer()
-        first = [answer, self.beside(answer) if self.scoring is Scoring.SHARE else None]
-        return sorted(
-            self.numbers, key=lambda it: (*(it != each for each in first), -self.scores[it], *self._depth(it))
-        )
+        return sorted(self.numbers, key=lambda it: (it != answer, -self.scores[it], *self._depth(it)))
 
-    def beside(self, answer: Optional[int]) -> Optional[int]:
-        """Returns the best own line whose name says what it is for among those that are neither above the answer nor
-        below it, or one that is deeper by the rule of the answer. Returns None if there is none."""
-        if answer is None:
-            return None
-        others = [it for it in self.numbers if not self._is_on_path(it, answer)]
-        found = [it for it in others if says(self.lines[it]) == OF_PROGRAM]
-        return self.deepest_with(self._largest(found), others) if found else None
+    def are_lasting(self) -> bool:
+        """Tests whether something that lasts holds enough of what grew."""
+        return bool(self.numbers) and self._lasts(self.best())
 
     def answer(self) -> Optional[int]:
         """Returns the number of the answer, None if there is no line."""

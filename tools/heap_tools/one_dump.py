@@ -1,22 +1,21 @@
-"""What fills the heap of one dump: the lines, which object holds most, and what is in it."""
+"""What fills the heap of one dump: the lines, and what is in the first."""
 
 from dataclasses import dataclass
-from typing import List, NamedTuple, Optional
+from typing import List
 
 from heap_tools.class_objects import require_objects
 from heap_tools.comparison import families_asked
 from heap_tools.dump_runs import DumpRuns
 from heap_tools.heap_dump import HeapDump
-from heap_tools.leak_lines import Line, LineObjects, lines_found, searched
-from heap_tools.leak_notes import shown_objects
+from heap_tools.leak_answer import Answer
+from heap_tools.leak_lines import Line
 from heap_tools.leak_options import Options
 from heap_tools.probe import Probe, Retained
 from heap_tools.reports import Row, Unit
-from heap_tools.search import Search
 from heap_tools.weak_growth import Followed, followed_of
 from heap_tools.what_counts import PASSING, WhatCounts, without_running_calls
 
-#: The share from which on a line is shown: something else that holds a fifth may be a second suspect.
+#: The share of what is reachable from which on the first line is shown, in percent.
 AT_LEAST = 20
 
 
@@ -36,16 +35,20 @@ class HeapQuestion:
 
 @dataclass(frozen=True)
 class HeapAnswer:
-    """What was asked, the first lines, how many more there are that hold `at_least` percent, which objects hold most of
-    one of them, and what the first line retains, class by class, the largest first."""
+    """What was asked, and what was found."""
 
     question: HeapQuestion
-    search: Search
-    lines: List[Line]
-    at_least: int
-    hidden: int
-    objects: Optional[LineObjects]
-    contents: List[Row]
+    found: Answer
+
+    @property
+    def lines(self) -> List[Line]:
+        """The lines."""
+        return self.found.lines
+
+    @property
+    def contents(self) -> List[Row]:
+        """What the first line retains, class by class, the largest first."""
+        return contents_of(self.lines[0].held, self.question.probe.unit) if self.lines else []
 
 
 def question_of(runs: DumpRuns, options: Options) -> HeapQuestion:
@@ -55,19 +58,9 @@ def question_of(runs: DumpRuns, options: Options) -> HeapQuestion:
     followed, (base,) = followed_of(counts, families, unit, options.weak)
     if families:
         require_objects(families[0], runs, base)
-    whole, percent = unit.of(base.total(families)), max(PASSING, options.at_least - 1)
+    whole, percent = unit.of(base.total(families)), max(PASSING, options.bounds.first - 1)
     (side,) = counts.sides(without_running_calls(counts, followed.follows, [base], families, unit, whole, percent))
     return HeapQuestion(runs, Probe(side, families, unit, runs.report.total(families)), followed)
-
-
-def answer_of_one(question: HeapQuestion, options: Options) -> HeapAnswer:
-    """Searches a dump for what holds much of what is asked for."""
-    probe = question.probe
-    search = searched(probe, options.at_least)
-    lines, objects, hidden = lines_found(search, probe, options.top)
-    objects = shown_objects(objects, options.shows_values)
-    contents = contents_of(lines[0].held, probe.unit) if lines else []
-    return HeapAnswer(question, search, lines, options.at_least, hidden, objects, contents)
 
 
 def contents_of(held: Retained, unit: Unit) -> List[Row]:

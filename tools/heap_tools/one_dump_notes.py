@@ -58,12 +58,12 @@ def notes_of_one(answer: HeapAnswer) -> HeapNotes:
     )
 
 
-def sentences_of(answer: HeapAnswer, notes: HeapNotes) -> List[str]:
-    """Returns all that is said beside the lines."""
+def sentences_of(answer: HeapAnswer, notes: HeapNotes, rest: Sequence[str]) -> List[str]:
+    """Returns all that is said beside the lines. `rest`: what they do not have."""
     ran_out = [f"memory ran out in {place}" for place in notes.ran_out]
-    objects = objects_words(answer.objects) if answer.objects else ""
-    found = [fullness_words(answer, notes), objects, contents_words(answer.contents), *ran_out, *map(str, notes.locals)]
-    return [each for each in [*found, notes.weak, *notes.others, rest_of_one(answer), SECOND] if each]
+    objects = objects_words(answer.lines)
+    found = [fullness_words(answer, notes), *objects, contents_words(answer.contents), *ran_out]
+    return [each for each in [*found, *map(str, notes.locals), notes.weak, *notes.others, *rest, SECOND] if each]
 
 
 def fullness_words(answer: HeapAnswer, notes: HeapNotes) -> str:
@@ -114,13 +114,3 @@ def unreachable_words(answer: HeapAnswer) -> str:
     if not report.unreachable.bytes or 100 * report.unreachable.bytes < MUCH * report.reachable.bytes:
         return ""
     return f"{size(report.unreachable.bytes)} more are unreachable: {WHY_UNREACHABLE}"
-
-
-def rest_of_one(answer: HeapAnswer) -> str:
-    """Returns what the lines do not have: that there are more, or none; empty if neither is so."""
-    probe, at_least = answer.question.probe, answer.at_least
-    if answer.hidden:
-        return f"{answer.hidden} more {'holds' if answer.hidden == 1 else 'hold'} {at_least}% or more: see --top"
-    whole, more = counted(probe.unit.of(probe.growth), probe.unit.noun), ": see --at-least" * (at_least > 1)
-    none = f"no field, local variable or thread alone holds {at_least}% of {whole}{more}"
-    return "" if answer.lines else none

@@ -12,6 +12,6 @@ def lines_of_one(answer: HeapAnswer) -> str:
     found = [heads] if answer.lines and is_terminal(sys.stdout) else []
     for line in answer.lines:
         amount = line.held.amount
-        text = f"{amount.objects:10} {amount.bytes:14} {line.share:4.0f}% {line.held.instances:9}  {line.path()}\n"
+        text = f"{amount.objects:10} {amount.bytes:14} {line.share:4.0f}% {line.instances:9}  {line.path()}\n"
         found.append(text)
     return "".join(found)

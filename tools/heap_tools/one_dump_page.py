@@ -2,13 +2,14 @@
 
 from heap_tools import page
 from heap_tools.leak_lines import Line
+from heap_tools.leak_options import Options
 from heap_tools.one_dump import HeapAnswer
 from heap_tools.one_dump_notes import HeapNotes
 from heap_tools.page_content import (
     dump_of,
     fields_of,
     layout_sentence,
-    object_of,
+    objects_of,
     program_of,
     sentence_of,
     share_entries,
@@ -18,8 +19,8 @@ from heap_tools.probe import Probe
 from heap_tools.reports import Amount
 
 
-def page_of_one(answer: HeapAnswer, notes: HeapNotes, making: page.Making, shows_values: bool) -> page.OneDump:
-    """Returns what the page shows. `shows_values`: of the program, too, what values of the dump say."""
+def page_of_one(answer: HeapAnswer, notes: HeapNotes, making: page.Making, options: Options) -> page.OneDump:
+    """Returns what the page shows: unless `options` hide them, of the program, too, what values of the dump say."""
     question, probe = answer.question, answer.question.probe
     names = probe.families or [row.name for row in answer.contents]
     return page.OneDump(
@@ -30,16 +31,17 @@ def page_of_one(answer: HeapAnswer, notes: HeapNotes, making: page.Making, shows
         making=making,
         by=probe.unit,
         of_class=probe.families[0] if probe.families else None,
-        program=program_of(question.runs, shows_values),
+        program=program_of(question.runs, options.shows_values),
         next_steps=steps_from(question.runs.path, answer.lines, names, question.followed.is_any),
-        objects=[object_of(answer.objects.number, it) for it in answer.objects.objects] if answer.objects else [],
+        objects=objects_of(answer.lines),
         contents=answer.contents,
         ran_out=[page.RanOutEntry(it.name, it.methods, it.before_own) for it in notes.ran_out],
         notes=[sentence_of(each) for each in [*map(str, notes.locals), *notes.others]],
         weak=sentence_of(notes.weak) if notes.weak else None,
         layout=layout_sentence(question.runs),
         capacity=notes.capacity,
-        shares=share_entries(answer.lines),
+        shares=share_entries(answer.lines, options.bounds.shows_all),
+        shows_all=options.bounds.shows_all,
     )
 
 
@@ -52,5 +54,5 @@ def suspect_of(line: Line, probe: Probe) -> page.SuspectEntry:
     """Returns what the page shows of a line."""
     above = [page.StepEntry(fields_of(each.candidates), share_of_one(each.amount, probe)) for each in line.above]
     return page.SuspectEntry(
-        fields_of(line.held.candidates), line.held.instances, share_of_one(line.held.amount, probe), above
+        fields_of(line.held.candidates), line.instances, share_of_one(line.held.amount, probe), above
     )

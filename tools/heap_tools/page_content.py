@@ -15,8 +15,10 @@ from heap_tools.dump_runs import DumpRuns
 from heap_tools.faults import UNWRITABLE, WRONG_USE, Fault
 from heap_tools.heapmark import Heapmark
 from heap_tools.heap_bytes import layout_words
-from heap_tools.leak_lines import Answer, Line
+from heap_tools.leak_answer import Answer
+from heap_tools.leak_lines import Line
 from heap_tools.leak_notes import Notes
+from heap_tools.leak_options import Options
 from heap_tools.omissions import on_page
 from heap_tools.plain_dumps import is_dump
 from heap_tools.probe import GrowthProbe, Probe
@@ -26,10 +28,11 @@ from heap_tools.which_object import HoldingObject
 
 
 def content_of(
-    comparison: Comparison, answer: Answer, notes: Notes, making: page.Making, shows_values: bool
+    comparison: Comparison, answer: Answer, notes: Notes, making: page.Making, options: Options
 ) -> page.Leak:
-    """Returns what the page of `--html` shows. `shows_values`: of the program, too, what values of the dump say."""
-    probe = answer.probe
+    """Returns what the page of `--html` shows: unless `options` hide them, of the program, too, what values of the dump
+    say."""
+    probe = comparison.probe
     of_class = probe.families[0] if probe.families and len(probe.families) == 1 else None
     reports = [runs.report for runs in comparison.dumps]
     grown = growth_entries(reports, probe.unit)
@@ -37,7 +40,7 @@ def content_of(
     return page.Leak(
         dumps=[dump_of(runs) for runs in comparison.dumps],
         grown=grown,
-        holders=[holder_of(line, probe, measured_between(line, answer, comparison)) for line in answer.lines],
+        holders=[holder_of(line, probe, measured_between(line, comparison)) for line in answer.lines],
         last=reports[-1].families,
         growth=probe.growth,
         omitted=on_page(comparison.more_unreachable()),
@@ -45,15 +48,16 @@ def content_of(
         by=probe.unit,
         of_class=of_class,
         is_of_grown=bool(probe.families) and of_class is None,
-        program=program_of(comparison.last, shows_values),
+        program=program_of(comparison.last, options.shows_values),
         next_steps=steps_from(comparison.last.path, answer.lines, names, comparison.follows_weak),
-        objects=objects_of(notes, len(answer.lines)),
+        objects=objects_of(answer.lines),
         threads=[page.ThreadGroupEntry(it.pattern, it.before, it.after, it.frames) for it in notes.threads],
         notes=[sentence_of(text) for text in (*comparison.why, *notes.sentences) if text != comparison.followed.why],
         weak=weak_sentence(comparison),
         layout=layout_sentence(comparison.last),
         contents=contents_of_growth(answer.lines[0], probe) if answer.lines else [],
-        shares=share_entries(answer.lines),
+        shares=share_entries(answer.lines, options.bounds.shows_all),
+        shows_all=options.bounds.shows_all,
     )
 
 
@@ -65,10 +69,11 @@ def contents_of_growth(line: Line, probe: GrowthProbe) -> List[page.GrownClass]:
     return sorted(found, key=lambda it: (-unit.of(it.growth), -unit.other.of(it.growth), it.name))
 
 
-def share_entries(lines: Sequence[Line]) -> List[page.ShareEntry]:
-    """Returns the parts of the heap that lines hold. They must be disjoint: so only the first line counts, since others
-    may be above it or below it."""
-    return [page.ShareEntry(fields_of(line.held.candidates), line.held.lost) for line in lines[:1]]
+def share_entries(lines: Sequence[Line], shows_all: bool) -> List[page.ShareEntry]:
+    """Returns the parts of the heap that lines hold, which must be disjoint: if all that holds much is shown, only the
+    first line counts, since others may be above it or below it."""
+    disjoint = lines[:1] if shows_all else lines
+    return [page.ShareEntry(fields_of(line.held.candidates), line.held.lost) for line in disjoint]
 
 
 def sentence_of(text: str) -> str:
@@ -96,18 +101,20 @@ def growth_entries(reports: Sequence[Report], unit: Unit) -> List[page.GrownClas
     return [page.GrownClass(name, [report.amount(name) for report in reports]) for name in names]
 
 
-def objects_of(notes: Notes, lines: int) -> List[page.ObjectEntry]:
-    """Returns the objects that hold most of what a line holds. The page has the first `lines` lines."""
-    if not notes.objects:
-        return []
-    number, held = notes.objects.number, notes.objects.held
-    field = None if number <= lines else fields_of(held.candidates)[0]
-    return [object_of(number, it, field) for it in notes.objects.objects]
+def objects_of(lines: Sequence[Line]) -> List[page.ObjectEntry]:
+    """Returns the objects that hold most of what each line holds, or of a field above it or below it."""
+    found: List[page.ObjectEntry] = []
+    for number, line in enumerate(lines, 1):
+        if line.objects:
+            is_of_line = line.objects.held.key == line.held.key
+            field = None if is_of_line else fields_of(line.objects.held.candidates)[0]
+            found += [object_of(number, it, field) for it in line.objects.objects]
+    return found
 
 
-def object_of(line: int, it: HoldingObject, field: Optional[page.FieldEntry] = None) -> page.ObjectEntry:
-    """Returns what the page shows of an object that has the field of a line. `field`: that, if the page has no such
-    line."""
+def object_of(line: int, it: HoldingObject, field: Optional[page.FieldEntry]) -> page.ObjectEntry:
+    """Returns what the page shows of an object that has the field of a line, or another `field` above it or below
+    it."""
     names = [page.NameEntry(name.how, name.text) for name in it.names]
     return page.ObjectEntry(line, it.class_name, names, it.amount.bytes, it.percent, it.has_gained, field)
 
@@ -125,17 +132,17 @@ def program_of(runs: DumpRuns, shows_values: bool) -> page.ProgramEntry:
     return page.ProgramEntry(facts.name, facts.process, facts.machine)
 
 
-def measured_between(line: Line, answer: Answer, comparison: Comparison) -> Dict[int, Amount]:
+def measured_between(line: Line, comparison: Comparison) -> Dict[int, Amount]:
     """Returns what a line holds in the dumps between the first and the last that were asked, by their places."""
     places = {runs.path: place for place, runs in enumerate(comparison.dumps)}
-    return {places[each.runs.path]: each.retained(line.held.candidates).amount for each in answer.between}
+    return {places[each.path]: amount for each, amount in zip(comparison.between, line.between)}
 
 
 def holder_of(line: Line, probe: GrowthProbe, between: Dict[int, Amount]) -> page.HolderEntry:
     """Returns what the page shows of a line. `between`: what it holds in dumps between, by their places."""
     return page.HolderEntry(
         fields=fields_of(line.held.candidates),
-        instances=line.held.instances,
+        instances=line.instances,
         before=share_of(line.before, probe.earlier),
         after=share_of(line.held.amount, probe),
         share=line.share,

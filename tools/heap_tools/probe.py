@@ -7,6 +7,7 @@ from heap_tools.class_names import family
 from heap_tools.dump_runs import DumpRuns
 from heap_tools.dump_side import DumpSide, Several, GroupKey, GroupTable, Held, ask, key_of
 from heap_tools.reports import Amount, Report, Unit
+from heap_tools.what_counts import first_groups
 
 
 class Retained(NamedTuple):
@@ -65,6 +66,10 @@ class Probe:
     def sides(self) -> List[DumpSide]:
         """Returns the dumps that are asked."""
         return [self.side]
+
+    def without(self, group: Several) -> "Probe":
+        """Returns what asks the same of what is left without a group: what each candidate holds is known."""
+        return Probe(asked_without(self, group)[0], self.families, self.unit, self.growth.minus(self.gain(group)))
 
     def ask(self, groups: Sequence[Several]) -> None:
         """Asks all dumps at once what `groups` hold that are not known."""
@@ -166,6 +171,11 @@ class GrowthProbe(Probe):
         """Returns the dumps that are asked."""
         return [self.side, self.earlier.side]
 
+    def without(self, group: Several) -> "GrowthProbe":
+        """Returns what asks the same of what is left without a group: what each candidate holds is known."""
+        side, earlier = asked_without(self, group)
+        return GrowthProbe(earlier, side, self.families, self.unit)
+
     def before(self, group: Several) -> Retained:
         """Returns what a group held before."""
         return self.earlier.retained(group)
@@ -177,3 +187,11 @@ class GrowthProbe(Probe):
     def instances_before(self, group: Several) -> int:
         """Returns how many instances a group had before."""
         return self.earlier.instances(group)
+
+
+def asked_without(probe: Probe, group: Several) -> List[DumpSide]:
+    """Returns the dumps that `probe` asks without a group, and asks them at once what each candidate holds then."""
+    sides = [side.without(group) for side in probe.sides()]
+    groups = first_groups(sides[0])
+    ask([(side, groups) for side in sides])
+    return sides

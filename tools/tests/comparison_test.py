@@ -73,8 +73,10 @@ class BetweenTest(unittest.TestCase):
             dumps: Any = [None, between, None]
             none = DirectMemory(), DirectMemory()
             comparison = Comparison(dumps, none, probe, Followed(way.follows), way, [])
-            (found,) = comparison.probes_between([known.statics()])
+            (found,) = comparison.probes_between([known.statics()], [])
             self.assertEqual(found.side.cut, cut, way)
+            (found,) = comparison.probes_between([known.statics()], known.statics())
+            self.assertEqual(found.side.cut, [*cut, *(place for each in known.statics() for place in each.places)])
             self.assertEqual((found.families, found.unit), (["shop/Order"], Unit.BYTES))
 
     def test_other_main(self) -> None:

@@ -59,25 +59,26 @@ FORMS: Dict[str, Dict[str, Any]] = {
                 "share_percent": float,
                 "instances_before": Maybe(int),
                 "instances": int,
+                "objects": Maybe(
+                    {
+                        "field": [FIELD],
+                        "objects": [
+                            {
+                                "class": str,
+                                "names": [{"how": str, "text": str}],
+                                "retained": AMOUNT,
+                                "share_percent": float,
+                                "share_of": {"growth", "retained"},
+                                "of": int,
+                                "is_element": bool,
+                            }
+                        ],
+                    }
+                ),
             }
         ],
         "hidden": int,
-        "objects": Maybe(
-            {
-                "line": int,
-                "objects": [
-                    {
-                        "class": str,
-                        "names": [{"how": str, "text": str}],
-                        "retained": AMOUNT,
-                        "share_percent": float,
-                        "share_of": {"growth", "retained"},
-                        "of": int,
-                        "is_element": bool,
-                    }
-                ],
-            }
-        ),
+        "left": AMOUNT,
         "contents": [{"class": str, "retained": AMOUNT}],
         "more_threads": [{"pattern": str, "before": int, "after": int, "methods": [str]}],
         "ran_out": [{"thread": str, "methods": [str], "before_own": int}],
@@ -248,8 +249,9 @@ class DocumentsTest(ToolTest):
             self.assertEqual((kinds, line["instances"], line["instances_before"]), ([["static"], ["field"]], 80, 80))
             self.assertEqual(line["path"][-1][0]["text"], "shop/Basket.items")
             self.assertEqual(line["retained"]["objects"] - line["before"]["objects"], found["growth"]["objects"])
-            (one,) = found["objects"]["objects"]
-            self.assertEqual((one["class"], one["of"], found["objects"]["line"]), ("shop/Basket", 80, 1))
+            (one,) = line["objects"]["objects"]
+            self.assertEqual((one["class"], one["of"]), ("shop/Basket", 80))
+            self.assertEqual((line["objects"]["field"], found["left"]), (line["path"][-1], {"objects": 0, "bytes": 0}))
             self.assertEqual("alice" in one["names"][0]["text"], is_shown)
             self.assertEqual("alice" in json.dumps(found), is_shown)
             self.assertEqual([len(found["files"]), found["ran_out"]], [2, []])
@@ -289,19 +291,26 @@ class DocumentsTest(ToolTest):
         ):
             with self.subTest(paths=paths):
                 found = self.document("leaks", "--top", "1", *paths)
-                (one,) = found["objects"]["objects"]
+                (one,) = found["lines"][0]["objects"]["objects"]
                 self.assertEqual(one["share_of"], share_of)
                 self.assertTrue(least <= one["share_percent"] <= most, one)
 
     def test_hidden(self) -> None:
-        """The number of the lines that are not shown, of one dump and of two."""
+        """The number of the lines that --all would show and --top hides, of one dump and of two; and what is in no
+        line, by lines of which none is above another."""
         of_customer(20).write("before.hprof")
         of_customer(400, 60).write("after.hprof")
         for paths in ["after.hprof"], ["before.hprof", "after.hprof"]:
-            every = self.document("leaks", *paths, "--top", "99")
+            every = self.document("leaks", *paths, "--all")
             self.assertEqual((every["hidden"], len(every["lines"]) > 2), (0, True), paths)
-            found = self.document("leaks", *paths, "--top", "1")
+            found = self.document("leaks", *paths, "--all", "--top", "1")
             self.assertEqual((found["hidden"], found["lines"]), (len(every["lines"]) - 1, every["lines"][:1]), paths)
+            found = self.document("leaks", *paths, "--top", "99")
+            held = [
+                line["retained"]["objects"] - (line["before"] or {"objects": 0})["objects"] for line in found["lines"]
+            ]
+            whole = found["growth"] or found["whole"]
+            self.assertEqual((found["hidden"], sum(held) + found["left"]["objects"]), (0, whole["objects"]), paths)
 
     def test_no_growth(self) -> None:
         """At status 3 there is a document without lines, too, and so if no more grew than the user allows."""
@@ -316,7 +325,7 @@ class DocumentsTest(ToolTest):
         found = self.document("leaks", "--more-than", "2160", "10.hprof", "20.hprof")
         self.assertEqual((found["lines"], found["growth"]), ([], {"objects": 120, "bytes": 2160}))
         found = self.document("leaks", "--more-than", "2159", "10.hprof", "20.hprof", status=3)
-        self.assertEqual((len(found["lines"]), found["growth"]["bytes"]), (3, 2160))
+        self.assertEqual((len(found["lines"]), found["growth"]["bytes"]), (1, 2160))
         DUMPS["shop"].write("shop.hprof")
         found = self.document("leaks", "shop.hprof", "--class", "Ghost", status=3)
         self.assertEqual((found["lines"], found["whole"], found["growth"]), ([], {"objects": 0, "bytes": 0}, None))

@@ -5,7 +5,8 @@ from typing import List, Sequence
 
 from heap_tools.fields_of_object import leads_to_container, part_of_one
 from heap_tools.heap_objects import HeapObjects
-from heap_tools.leak_lines import answer_of
+from heap_tools.leak_answer import answer_of
+from heap_tools.leak_options import Bounds
 from heap_tools.candidates import FEW
 from heap_tools.object_parts import FieldUses
 from tests.support.dump_writer import BYTE, DumpWriter, word
@@ -61,8 +62,8 @@ class BelowTest(unittest.TestCase):
 
     def paths(self, before: DumpWriter, after: DumpWriter) -> List[str]:
         """Returns the paths of the lines about what grew."""
-        answer = answer_of(growth_of(before, after), 30, 8)
-        self.assertIsNone(answer.objects)
+        answer = answer_of(growth_of(before, after), Bounds(shows_all=True, top=8))
+        self.assertEqual([line.objects for line in answer.lines if line.objects], [])
         return [line.path() for line in answer.lines]
 
     def test_one_object(self) -> None:

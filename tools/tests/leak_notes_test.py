@@ -1,14 +1,16 @@
 """Tests what leaks says beside its lines."""
 
 import unittest
-from typing import Any, Dict, List
+from typing import Dict, List
 from unittest import mock
 
 from heap_tools.candidates import FIELD, Candidate
 from heap_tools.direct_buffers import DirectMemory
-from heap_tools.leak_lines import Answer, Line, LineObjects
+from heap_tools.leak_answer import Answer
+from heap_tools.leak_lines import Line, LineObjects
 from heap_tools.leak_notes import PATTERNS, Notes, captured_words, notes_of, notes_words, objects_words
-from heap_tools.leak_notes import own_classes_words, shown_objects
+from heap_tools.leak_notes import own_classes_words, rest_words, without_values
+from heap_tools.leak_options import Bounds
 from heap_tools.naming import Name
 from heap_tools.probe import Retained
 from heap_tools.reports import Amount, Report, Row, Unit
@@ -21,7 +23,7 @@ def line(name: str, holders: int, share: float = 90.0, before: int = 9) -> Line:
     bytes each before, or none."""
     held = Retained([Candidate(FIELD, name, holders)], Amount(9, 90), Amount(9, 90), {})
     was = Amount(before, 10 * before) if before < 9 else Amount()
-    return Line(held, was, share, [], before)
+    return Line(held, was, share, [], holders, before)
 
 
 def holding(*names: str) -> List[HoldingObject]:
@@ -35,22 +37,38 @@ OWN = line("shop/Basket.items", 9)
 class LeakNotesTest(unittest.TestCase):
     """What is said beside the lines."""
 
-    def answer(self, *lines: Line) -> Answer:
-        """Returns an answer with these lines."""
-        nothing: Any = None
-        return Answer(list(lines), None, 0, nothing, mock.Mock(unit=Unit.BYTES))
-
     def test_objects(self) -> None:
-        """Which objects gained most, or hold most; without texts of the dump if these are not to be shown."""
-        found = LineObjects(2, OWN.held, holding("one"))
-        said = "line 2: 1 of 9 shop/Basket.items holds most: shop/Basket (its field name one): 88%"
-        self.assertEqual(objects_words(found), said)
+        """Which objects of each line gained most, or hold most; without texts of the dump if these are not to be
+        shown."""
+        found = LineObjects(OWN.held, holding("one"))
         gained = found._replace(objects=[each._replace(has_gained=True) for each in holding("one") * 2])
-        self.assertIn("2 of 9 shop/Basket.items gained most: ", objects_words(gained))
-        hidden = shown_objects(found, False)
-        assert hidden
-        self.assertIn("holds most: shop/Basket (its field name): 88%", objects_words(hidden))
-        self.assertEqual([shown_objects(found, True), shown_objects(None, False)], [found, None])
+        lines = [OWN, OWN._replace(objects=found), OWN._replace(objects=gained)]
+        second, third = objects_words(lines)
+        said = "line 2: 1 of 9 shop/Basket.items holds most: shop/Basket (its field name one): 88%"
+        self.assertEqual(second, said)
+        self.assertIn("line 3: 2 of 9 shop/Basket.items gained most: ", third)
+        hidden, _ = objects_words(without_values(lines, False))
+        self.assertIn("holds most: shop/Basket (its field name): 88%", hidden)
+        self.assertEqual(without_values(lines, True), lines)
+
+    def test_rest(self) -> None:
+        """What is in no line, and which option shows more."""
+        probe = mock.Mock(unit=Unit.BYTES, growth=Amount(9, 90))
+        search = mock.Mock(probe=probe)
+        bounds, more = Bounds(30, 10, 2), "18 bytes"
+        for count, hidden, left, of, said in (
+            (0, 0, 90, bounds, ["no field, local variable or thread alone holds 30% of 18 bytes: see --at-least"]),
+            (0, 0, 90, Bounds(1, 1), ["no field, local variable or thread alone holds 1% of 18 bytes"]),
+            (1, 0, 8, bounds, []),
+            (1, 0, -8, bounds, []),
+            (1, 0, 9, bounds, ["10% of 18 bytes are in no line: nothing else that lasts holds 10%"]),
+            (2, 0, 9, bounds, ["10% of 18 bytes are in no line: see --top"]),
+            (2, 1, 9, Bounds(30, 10, 2, True), ["1 more holds 30% or more: see --top"]),
+            (2, 2, 9, Bounds(30, 10, 2, True), ["2 more hold 30% or more: see --top"]),
+            (2, 0, 9, Bounds(30, 10, 9, True), []),
+        ):
+            answer = Answer([OWN] * count, hidden, search, Amount(0, left), True)
+            self.assertEqual(rest_words(answer, of, more), said)
 
     def test_captured(self) -> None:
         """Of fields of lambdas the first one is explained, from the first line and the top of its path down."""
@@ -67,8 +85,8 @@ class LeakNotesTest(unittest.TestCase):
             comparison = mock.Mock(direct=(DirectMemory(), DirectMemory()), dumps=[])
             comparison.weak_words = ""
             comparison.first.dump.classes = comparison.last.dump.classes = {}
-            found = notes_of(comparison, self.answer(), shows_values=True)
-        self.assertEqual((found, PATTERNS), (Notes(None, counts[:3], []), 3))
+            found = notes_of(comparison, [])
+        self.assertEqual((found, PATTERNS), (Notes(counts[:3], []), 3))
 
     def test_own_classes(self) -> None:
         """The own classes of which there are most objects more, those first that grew at each step; in one sentence."""
@@ -88,7 +106,7 @@ class LeakNotesTest(unittest.TestCase):
         middle = {**before, "shop/Job": 6005, "B": 1}
         said = "own classes that grew: 3 B, 6,000 shop/Job, 4 A$$Lambda, and 2 classes more: see grown --own"
         self.assertEqual(own_classes_words(reports(before, middle, more)), said)
-        found = Notes(None, [], ["the end"], own_classes="own classes that grew: 3 B")
+        found = Notes([], ["the end"], own_classes="own classes that grew: 3 B")
         self.assertEqual(notes_words(found), ["own classes that grew: 3 B", "the end"])
 
 

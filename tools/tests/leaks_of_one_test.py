@@ -23,6 +23,7 @@ class LeaksOfOneTest(ToolTest):
 
     tool = "leaks"
     TABLE = line(801, 14400, 80, 1, "static shop/Service.CACHE > shop/Cache.table")
+    CATALOG = line(201, 3600, 20, 1, "static shop/Catalog.ALL")
     CACHE = line(802, 14412, 80, 1, "static shop/Service.CACHE")
     TEXT = line(400, 8000, 44, 400, "static shop/Service.CACHE > shop/Cache.table > shop/Order.text")
 
@@ -35,16 +36,19 @@ class LeaksOfOneTest(ToolTest):
             SECOND,
             "leaks: * fields, * run of heapmark and * of retained, * s",
         ]
-        self.expect(["cache.hprof"], self.TABLE + self.CACHE + self.TEXT, "\n".join(said))
-        more = f"{said[0]}\n{said[1]}\nleaks: 2 more hold 20% or more: see --top\n*"
+        self.expect(["cache.hprof"], self.TABLE + self.CATALOG, "\n".join(said))
+        more = f"{said[0]}\n{said[1]}\nleaks: 20% of 18,028 bytes are in no line: see --top\n*"
         self.expect(["--top", "1", "cache.hprof"], self.TABLE, more)
+        more = f"{said[0]}\n{said[1]}\nleaks: 2 more hold 20% or more: see --top\n*"
+        self.expect(["--all", "--top", "1", "cache.hprof"], self.TABLE, more)
+        self.assertEqual(self.ran("--all", "cache.hprof").out, self.TABLE + self.CACHE + self.TEXT)
         none = (
             f"{said[0]}\nleaks: no field, local variable or thread alone holds 90% of 18,028 bytes: see --at-least\n*"
         )
         self.expect(["cache.hprof", "--at-least", "90"], "", none)
 
     def test_second(self) -> None:
-        """What holds a fifth beside line 1 is the second line, and nothing is said to have grown."""
+        """What holds a tenth of what line 1 leaves is the second line, and nothing is said to have grown."""
         handler(200).write("handler.hprof")
         ended = self.ran("handler.hprof")
         path = 'thread "http-0" > local shop/Handler.handle'
@@ -59,7 +63,7 @@ class LeaksOfOneTest(ToolTest):
         dump = handler(200)
         dump.root(700)
         dump.write("rooted.hprof")
-        lines = self.ran("rooted.hprof", "--top", "9").out.splitlines()
+        lines = self.ran("rooted.hprof", "--all").out.splitlines()
         self.assertEqual(lines[0], line(401, 7200, 66, 1, "local shop/Handler.handle").rstrip("\n"))
         text = line(200, 4000, 37, 200, 'thread "http-0" > local shop/Handler.handle > shop/Order.text')
         self.assertIn(text.rstrip("\n"), lines)
@@ -68,7 +72,6 @@ class LeaksOfOneTest(ToolTest):
         """The objects of one class, by their number; and classes of which none is reachable."""
         cache(400).write("cache.hprof")
         held = line(400, 3200, 100, 1, "static shop/Service.CACHE > shop/Cache.table")
-        held += line(400, 3200, 100, 1, "static shop/Service.CACHE")
         self.expect(["cache.hprof", "--class", "shop.Order", "--objects"], held, "*")
         for name, spelt in (("shop/None", "shop/None"), ("", "''")):
             said = f"leaks: {spelt}: no class of the dump *"
@@ -97,7 +100,8 @@ class LeaksOfOneTest(ToolTest):
         of_customer(400).write("one.hprof")
         ended = self.ran("--html", "page.html", "--json", "one.hprof")
         found = json.loads(ended.out)
-        (one,), line = found["objects"]["objects"], found["lines"][found["objects"]["line"] - 1]
+        line = found["lines"][0]
+        (one,) = line["objects"]["objects"]
         share = one["share_percent"] * line["share_percent"] / 100
         self.assertLess(share + 3, one["share_percent"])
         text = Outline(pathlib.Path("page.html").read_text(encoding="utf-8")).text().replace("\u00a0", " ")
@@ -142,7 +146,7 @@ class LeaksOfOneTest(ToolTest):
         cache(400).write("cache.hprof")
         ended = self.ran("--html", "page.html", "cache.hprof")
         page = Outline(pathlib.Path("page.html").read_text(encoding="utf-8")).text()
-        self.assertEqual((ended.status, ended.out), (0, self.TABLE + self.CACHE + self.TEXT))
+        self.assertEqual((ended.status, ended.out), (0, self.TABLE + self.CATALOG))
         self.assertIn("CACHE", page)
         for word in WORDS_OF_GROWTH:
             self.assertNotIn(word, page)
@@ -159,7 +163,7 @@ class LeaksOfOneTest(ToolTest):
         cache(400).write("cache.hprof")
         _, seen = self.on_terminal("cache.hprof", stream="stdout")
         heads = f"{'objects':>10} {'bytes':>14} share instances  field\n"
-        self.assertEqual(seen, heads + self.TABLE + self.CACHE + self.TEXT)
+        self.assertEqual(seen, heads + self.TABLE + self.CATALOG)
 
 
 if __name__ == "__main__":

@@ -78,19 +78,21 @@ class LeaksTest(ToolTest):
         return [columns_of(each) for each in ended.out.splitlines()]
 
     def test_cache(self) -> None:
-        """The field that holds the growth, by identifiers of both sizes; not the catalog, which holds more."""
-        lines = line(120, 2160, 100, 720, 2880, 1, self.PATH)
-        lines += line(120, 2160, 100, 732, 2892, 1, "static shop/Service.CACHE")
+        """The field that holds the growth, by identifiers of both sizes; not the catalog, which holds more. With --all,
+        what is above it and below it has a line, too."""
+        first = line(120, 2160, 100, 720, 2880, 1, self.PATH)
+        self.expect(["monday", "friday"], first, self.COST)
+        lines = first + line(120, 2160, 100, 732, 2892, 1, "static shop/Service.CACHE")
         lines += line(60, 1200, 56, 400, 1600, "20 to 80", f"{self.PATH} > shop/Order.text")
-        self.expect(["monday", "friday"], lines, self.COST)
+        self.expect(["--all", "monday", "friday"], lines, self.COST)
         self.assertNotIn("Catalog", lines)
         rows = self.found(cache(20, id_size=4), cache(80, id_size=4))
         self.assertEqual([rows[0][0], rows[0][1], rows[0][6]], ["120", "1680", self.PATH])
         (classes, _) = self.ran("monday", "friday").said.splitlines()
         self.assertEqual(classes, "leaks: own classes that grew: 60 shop/Order")
-        first = self.ran("--top=1", "monday", "friday")
-        self.assertEqual(first.out, lines.splitlines(True)[0])
-        self.assertIn("leaks: 2 more hold 30% or more: see --top\n", first.said)
+        ended = self.ran("--all", "--top=1", "monday", "friday")
+        self.assertEqual(ended.out, first)
+        self.assertIn("leaks: 2 more hold 30% or more: see --top\n", ended.said)
 
     def test_class(self) -> None:
         """The growth of a class, and a class that did not grow."""
@@ -127,21 +129,21 @@ class LeaksTest(ToolTest):
     def test_hidden_classes(self) -> None:
         """Names of hidden classes differ, and BEFORE may lack a class. What their fields are is said."""
         for before in (lambdas(20, "00aa"), lambdas(0, "")):
-            rows = self.found(before, lambdas(80, "00bb"))
+            rows = self.found(before, lambdas(80, "00bb"), "--all")
             listener = "static shop/Bus.LISTENER"
             self.assertEqual([row[-1] for row in rows[:2]], [listener, f"{listener} > shop/Bus$$Lambda.arg$1"])
         self.assertEqual(rows[0][3], "0")
-        said = self.ran("before", "after").said
+        said = self.ran("--all", "before", "after").said
         self.assertIn("leaks: field shop/Bus$$Lambda.arg$1 is a variable that a lambda in shop/Bus captured: ", said)
         self.assertNotIn("lambda", self.ran("monday", "friday").said)
 
     def test_threads(self) -> None:
         """A local variable of a thread, also if the thread of BEFORE is another one."""
         path = 'thread "http-0" > local shop/Handler.handle'
-        rows = self.found(handler(20), handler(80))
+        rows = self.found(handler(20), handler(80), "--all")
         self.assertEqual([row[-1] for row in rows[:2]], [path, 'thread "http-0"'])
         self.assertEqual([row[3] for row in rows[:2]], ["720", "743"])
-        rows = self.found(handler(20, "http-7"), handler(80))
+        rows = self.found(handler(20, "http-7"), handler(80), "--all")
         self.assertEqual([(row[3], row[-1]) for row in rows[:2]], [("720", path), ("0", 'thread "http-0"')])
 
     def test_threads_of_a_pattern(self) -> None:
@@ -171,7 +173,7 @@ class LeaksTest(ToolTest):
 
     def test_executor(self) -> None:
         """Who owns the queue, of which a worker thread knows, too. Two that own it only together say less than it."""
-        rows = self.found(worker(20), worker(80))
+        rows = self.found(worker(20), worker(80), "--all")
         timer, queue = "static shop/Service.TIMER", "java/util/Executor.queue"
         self.assertEqual([row[-1] for row in rows[:2]], [timer, f"{timer} > {queue}"])
         owned_twice = [worker(count) for count in (20, 80)]
@@ -180,7 +182,7 @@ class LeaksTest(ToolTest):
             dump.instance(605, 10, 600)
             dump.root(10)
         both = f"together static shop/Screen.SHOWN, {timer}"
-        rows = self.found(owned_twice[0], owned_twice[1])
+        rows = self.found(owned_twice[0], owned_twice[1], "--all")
         self.assertEqual([row[-1] for row in rows[:2]], [f"{both} > {queue}", both])
 
     def test_running_calls(self) -> None:
@@ -216,16 +218,16 @@ class LeaksTest(ToolTest):
         leaks itself. The number of holders that changed is shown, and the help has the reasons."""
         names = [row[-1] for row in self.found(swapped(20, False), swapped(80, True))]
         self.assertEqual([names[0], "Stock" in " ".join(names)], [self.PATH, False])
-        rows = self.found(emptied(0, 60, 100), emptied(60, 0, 1000))
+        rows = self.found(emptied(0, 60, 100), emptied(60, 0, 1000), "--all")
         self.assertEqual([row[-1] for row in rows[:2]], ["static shop/Tables.ORDERS", "static shop/Pages.ALL"])
         rows = self.found(noisy(20, 900), noisy(80, 9000))
         self.assertEqual(rows[0][-1], "static shop/Pages.ALL")
         noisy(50, 100, minutes=6).write("between")
         noisy(80, 9000, minutes=12).write("after")
-        lines = self.ran("before", "between", "after", "--at-least=10").out.splitlines()
+        lines = self.ran("before", "between", "after", "--at-least=10", "--all").out.splitlines()
         names = [columns_of(each)[-1] for each in lines]
         self.assertEqual((names[0], names[-1]), (self.PATH, "static shop/Pages.ALL"))
-        payload = [columns_of(each) for each in self.ran("monday", "friday").out.splitlines()][-1]
+        payload = [columns_of(each) for each in self.ran("--all", "monday", "friday").out.splitlines()][-1]
         self.assertEqual(payload[-2:], ["20 to 80", f"{self.PATH} > shop/Order.text"])
         self.assertIn("accumulation point", self.ran("--help").out)
 
@@ -242,13 +244,13 @@ class LeaksTest(ToolTest):
 
     def test_collections(self) -> None:
         """The field of an own class comes before that of a map which inherits from a collection of the JDK's."""
-        names = [row[-1] for row in self.found(library_map(20), library_map(80))]
+        names = [row[-1] for row in self.found(library_map(20), library_map(80), "--all")]
         top = "static shop/Service.STORE"
         self.assertEqual(names[:3], [f"{top} > shop/Store.map", top, f"{top} > shop/Store.map > lib/LargeMap.segments"])
 
     def test_topmost_of_what_leaks(self) -> None:
         """Of fields whose holders became more, the topmost comes first, though it has more holders."""
-        rows = self.found(referents(20), referents(80))
+        rows = self.found(referents(20), referents(80), "--all")
         top = "lib/Reference.referent"
         self.assertEqual([row[-2:] for row in rows], [["50 to 110", top], ["20 to 80", f"{top} > shop/Page.text"]])
 
@@ -274,7 +276,8 @@ class LeaksTest(ToolTest):
         # Of 10,080 bytes, streams and their finalizers are 7,920.
         row = columns_of(ended.out.splitlines()[0])
         self.assertEqual(row[:5] + row[6:], ["180", "7920", "79%", "2640", "10560", self.FINALIZER])
-        self.assertNotIn("Cache", ended.out)
+        # The rest is the next line.
+        self.assertEqual([columns_of(each)[2::4] for each in ended.out.splitlines()[1:]], [["21%", self.PATH]])
         ended = self.ran("--class", "shop/Stream", "before", "after")
         row = columns_of(ended.out.splitlines()[0])
         self.assertEqual((row[:5], row[6]), (["60", "480", "100%", "160", "640"], self.FINALIZER), ended.said)
@@ -305,7 +308,7 @@ class LeaksTest(ToolTest):
         pairs += [(lambdas(20, "00aa"), lambdas(80, "00bb")), (finalizers(20, 20), weakly_held[0])]
         steps = 0
         for before, after in pairs:
-            for row in self.found(before, after, "--at-least=10"):
+            for row in self.found(before, after, "--at-least=10", "--all"):
                 path = row[-1].split(" > ")
                 self.assertFalse(any(" static " in f" {step}" for step in path[1:]), path)
                 options = ["--weak"] * (after in weakly_held)
@@ -437,7 +440,7 @@ class LeaksTest(ToolTest):
         for number, name in enumerate(names):
             cache(20 + number, minutes=number).write(name)
         ended = self.ran("--html", "page.html", *names)
-        self.assertEqual((ended.status, ended.out.split()[-1]), (0, "shop/Order.text"), ended.said)
+        self.assertEqual((ended.status, ended.out.split()[-1]), (0, "shop/Cache.table"), ended.said)
         self.assertTrue(os.path.getsize("page.html"))
         self.expect(["monday", *["friday"] * 100], said="leaks: 101 dumps: at most 100", status=2)
 
@@ -467,7 +470,7 @@ class LeaksTest(ToolTest):
     def test_words(self) -> None:
         """The help, and wrong words."""
         self.check_help("Shows what holds the objects that grew between heap dumps of one program: ")
-        self.check_wrong_words([], ["--all", "monday", "friday"], ["monday", "friday", "--top", "0"], ["--class"])
+        self.check_wrong_words([], ["--every", "monday", "friday"], ["monday", "friday", "--top", "0"], ["--class"])
 
     def test_names_of_files(self) -> None:
         """Names that a tool or a shell may take for something else."""

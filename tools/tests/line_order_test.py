@@ -228,19 +228,6 @@ class LineOrderTest(unittest.TestCase):
         self.assertEqual(LineOrder(row.lines, holds, GROWTH).answer(), 1)
         self.assertEqual([each for each in asked if each[0] > each[1]], [])
 
-    def test_beside(self) -> None:
-        """Of one dump the best own line that is neither above the answer nor below it is the second, whatever it has;
-        of two dumps it comes by its score. One that many instances explain has none."""
-        row = "static shop/A.STORE > *shop/Store.map > java/util/HashMap.table"
-        others = 'java/util/Map.m (700), static shop/B.b (200), shop/C.c (300 0..99), thread "main" (500)'
-        for scoring, second in ((Scoring.SHARE, "static shop/B.b"), (Scoring.GAIN, "static shop/A.STORE")):
-            order, names = Row.of(f"all: {row}, {others}").order(scoring)
-            self.assertEqual([names[number] for number in order.sorted()][:2], ["shop/Store.map", second])
-        order, names = Row.of(f"deep: {row}, static shop/B.b (300) > shop/C.c (290)").order(Scoring.SHARE)
-        self.assertEqual([names[number] for number in order.sorted()][1], "shop/C.c")
-        order, names = Row.of(f"none: {row}, java/util/Map.m (700)").order(Scoring.SHARE)
-        self.assertEqual([names[number] for number in order.sorted()][1], "static shop/A.STORE")
-
     def test_to_ask(self) -> None:
         """It is asked of fields of several instances that are below the answer and gained most of what it did: of those
         first whose names say most, then of those with the fewest instances; last of the answer."""

@@ -20,7 +20,7 @@ def report(*rows: Row) -> Report:
 def line(*candidates: Candidate) -> Line:
     """Returns a line of these candidates."""
     held = Retained(candidates, Amount(2, 20), Amount(2, 20), {})
-    return Line(held, Amount(1, 10), 100.0, [], 1)
+    return Line(held, Amount(1, 10), 100.0, [], 1, 1)
 
 
 class ContentTest(unittest.TestCase):
@@ -44,7 +44,7 @@ class ContentTest(unittest.TestCase):
         now = {"A": Amount(5, 50), "B": Amount(9, 40), "C": Amount(1, 1)}
         was = Retained([static], Amount(), Amount(), {"A": Amount(4, 40), "B": Amount(1, 10), "D": Amount(1, 2)})
         held = Retained([static], Amount(15, 91), Amount(15, 91), now)
-        it = Line(held, Amount(6, 52), 100.0, [], 1)
+        it = Line(held, Amount(6, 52), 100.0, [], 1, 1)
         for unit, wanted in ((Unit.BYTES, "BACD"), (Unit.OBJECTS, "BACD")):
             probe = mock.create_autospec(GrowthProbe, instance=True, unit=unit)
             probe.before.return_value = was
@@ -52,8 +52,9 @@ class ContentTest(unittest.TestCase):
             self.assertEqual("".join(each.name for each in found), wanted)
             self.assertEqual(found[0].amounts, [Amount(1, 10), Amount(9, 40)])
             self.assertEqual(found[3].amounts, [Amount(1, 2), Amount()])
-        self.assertEqual(share_entries([it, it]), [page.ShareEntry([page.FieldEntry(STATIC, "shop/Cache.ALL")], now)])
-        self.assertEqual(share_entries([]), [])
+        share = page.ShareEntry([page.FieldEntry(STATIC, "shop/Cache.ALL")], now)
+        self.assertEqual([share_entries([it, it], each) for each in (False, True)], [[share, share], [share]])
+        self.assertEqual(share_entries([], False), [])
 
     def test_steps(self) -> None:
         """Commands on the first line and the first own class; held has no word for all threads."""

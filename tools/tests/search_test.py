@@ -11,11 +11,13 @@ from unittest import mock
 
 from heap_tools.candidates import FIELD, LOCAL, STATIC, THREAD, THREADS, Candidate, Candidates, joint_name
 from heap_tools.dump_runs import DumpRuns
-from heap_tools.dump_side import ask, key_of
+from heap_tools.dump_side import DumpSide, ask, key_of
 from heap_tools.heap_dump import HeapDump
 from heap_tools.heapmark import Heapmark
 from heap_tools.joint_search import BLOCKS, JointSearch, alone
-from heap_tools.leak_lines import Line, answer_of, searched
+from heap_tools.leak_answer import answer_of
+from heap_tools.leak_lines import Line, searched
+from heap_tools.leak_options import Bounds
 from heap_tools.line_order import NEARLY
 from heap_tools.probe import GrowthProbe, Probe
 from heap_tools.reference_paths import ReferencePaths
@@ -347,15 +349,37 @@ class RandomTest(unittest.TestCase):
     def test_top(self) -> None:
         """Fewer lines are the first of all lines, and the others are counted."""
         for seed, probe in self.pairs(PAIRS // 2):
-            every = answer_of(probe, AT_LEAST, 1000)
+            every = answer_of(probe, Bounds(AT_LEAST, top=1000, shows_all=True))
             self.assertEqual(every.hidden, 0, seed)
             for top in (1, 2, 4, 8):
-                answer = answer_of(probe, AT_LEAST, top)
+                answer = answer_of(probe, Bounds(AT_LEAST, top=top, shows_all=True))
                 self.assertEqual(
                     [self.line(each) for each in answer.lines], [self.line(each) for each in every.lines[:top]]
                 )
                 self.assertEqual(len(answer.lines) + answer.hidden, len(every.lines), (seed, top))
-                self.assertEqual(answer.objects, every.objects, seed)
+                objects = [[line.objects and line.objects.objects for line in of.lines] for of in (answer, every)]
+                self.assertEqual(objects[0], objects[1][:top], seed)
+
+    def test_lines(self) -> None:
+        """Each line has what is not reachable any more if its references are cut, too, in what those above it leave;
+        the first is the first of all, none is above another, and what is in no line is the rest of the growth."""
+        several = 0
+        for seed, probe in self.pairs(PAIRS // 2):
+            answer = answer_of(probe, Bounds(AT_LEAST))
+            first = answer_of(probe, Bounds(AT_LEAST, shows_all=True)).lines[:1]
+            self.assertEqual([self.line(each) for each in answer.lines[:1]], [self.line(each) for each in first], seed)
+            several += len(answer.lines) > 1
+            cut: List[Candidate] = []
+            left = probe.growth
+            for line in answer.lines:
+                group = line.held.candidates
+                now, was = (held_beside(side, group, cut) for side in probe.sides())
+                self.assertEqual((line.held.amount, line.before), (now, was), seed)
+                cut, left = [*cut, *group], left.minus(now.minus(was))
+            self.assertEqual(answer.left, left, seed)
+            above = {step.key for line in answer.lines for step in line.above}
+            self.assertTrue(above.isdisjoint(line.held.key for line in answer.lines), seed)
+        self.assertGreater(several, PAIRS // 20)
 
     def line(self, line: Line) -> Tuple[str, Amount, Amount, Amount, int]:
         """Returns what a line shows."""
@@ -365,7 +389,7 @@ class RandomTest(unittest.TestCase):
         """Each step of a path holds all that the next one does, object for object; no field is above a static one."""
         steps = 0
         for seed, probe in self.pairs(PAIRS // 2):
-            for line in answer_of(probe, AT_LEAST, 8).lines:
+            for line in answer_of(probe, Bounds(AT_LEAST, top=8, shows_all=True)).lines:
                 path = [*line.above, line.held]
                 for upper, lower in zip(path, path[1:]):
                     self.assertGreater(lost(probe.side, upper), lost(probe.side, lower), (seed, line.path()))
@@ -386,9 +410,18 @@ class RandomTest(unittest.TestCase):
                     dump.write(f"{folder}/{name}")
                     both.append(DumpRuns.of(Heapmark(), f"{folder}/{name}", "leaks"))
                 proved = self.probe(*both)
-                lines = [list(map(self.line, answer_of(each, AT_LEAST, 8).lines)) for each in (probe, proved)]
-            self.assertEqual(lines[0], lines[1], seed)
+                for shows_all in (False, True):
+                    bounds = Bounds(AT_LEAST, top=8, shows_all=shows_all)
+                    lines = [list(map(self.line, answer_of(each, bounds).lines)) for each in (probe, proved)]
+                    self.assertEqual(lines[0], lines[1], (seed, shows_all))
             self.assertEqual(probe.growth, proved.growth)
+
+
+def held_beside(side: DumpSide, group: Sequence[Candidate], cut: Sequence[Candidate]) -> Amount:
+    """Returns what is not reachable any more if the references of `group` are cut besides those of `cut`."""
+    assert isinstance(side.runs, MarkedRuns)
+    with_group = side.runs.reachable([*side.cut, *side.places(cut)], side.roots)
+    return side.runs.report_of(with_group - side.runs.reachable(side.without([*cut, *group]).cut, side.roots)).reachable
 
 
 if __name__ == "__main__":

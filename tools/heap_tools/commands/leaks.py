@@ -3,6 +3,7 @@
 import contextlib
 import sys
 import time
+from argparse import Namespace
 from typing import Iterator, List, NamedTuple, NoReturn, Optional, Sequence
 
 from heap_tools import command_line
@@ -16,10 +17,11 @@ from heap_tools.heap_bytes import counted_in_heap
 from heap_tools.heapmark import Heapmark
 from heap_tools.humanize import counted, duration, size
 from heap_tools.leak_documents import Cost, fields_of_growth, fields_of_nothing, fields_of_one
-from heap_tools.leak_lines import Answer, Line, answer_of
-from heap_tools.leak_notes import notes_of, notes_words
-from heap_tools.leak_options import Options
-from heap_tools.one_dump import AT_LEAST, answer_of_one, question_of
+from heap_tools.leak_answer import Answer, answer_of
+from heap_tools.leak_lines import Line
+from heap_tools.leak_notes import notes_of, notes_words, objects_words, rest_words, without_values
+from heap_tools.leak_options import Bounds, Options
+from heap_tools.one_dump import AT_LEAST, HeapAnswer, question_of
 from heap_tools.one_dump_notes import notes_of_one, sentences_of
 from heap_tools.one_dump_output import lines_of_one
 from heap_tools.one_dump_page import page_of_one
@@ -30,9 +32,8 @@ from heap_tools.reports import Unit
 
 ABOUT = """
 Shows what holds the objects that grew between heap dumps of one program: for
-each field, static field, local variable or thread that holds much of the
-growth, a line. The first line is the answer. Of one dump it shows what holds
-much of the heap.
+each leak a line, with the field, static field, local variable or thread that
+holds it. Of one dump it shows what holds much of the heap.
 """
 NOTES = """
 The columns are the objects and the bytes that are held in the last dump and
@@ -45,10 +46,14 @@ variable or a thread down, stand before it: in `A > B`, A holds all that B does.
 
 Line 1 is the accumulation point: the last place on the path where most of the
 growth is still together, in objects that both dumps have. On one path, fields
-of your own come before collections and fields of the JDK. The others follow by
-what they gained in objects that both dumps have. What did not grow at each step
-between several dumps comes last. If only new objects hold what grew, line 1 is
-the topmost one, such as a thread.
+of your own come before collections and fields of the JDK. What did not grow at
+each step between several dumps comes last. If only new objects hold what grew,
+line 1 is the topmost one, such as a thread.
+
+Each other line is the same of what the lines above it leave: the references of
+these are cut, and it is asked again, until less than a tenth of the growth is
+left. So no object counts twice. With --all, each field that holds much has a
+line, the answer first, also those above it and below it.
 
 Calls that are running do not count, if nearly all of the growth is held without
 them: their local variables lead into containers that fields hold.
@@ -67,10 +72,9 @@ how they are found, which is not proved.
 
 Of one dump, the columns are the objects and bytes that are held, their share of
 all that is reachable, and the number of instances. Line 1 is what holds most in
-few objects. If an own line is beside it, neither above nor below, the best such
-one is line 2: it may leak, too. Messages say how full the heap is, which object
-holds most, what is in it, and in which methods memory ran out: of an unlucky
-thread, which need not be the cause.
+few objects. Messages say how full the heap is, which object holds most, what is
+in it, and in which methods memory ran out: of an unlucky thread, which need not
+be the cause.
 
 How lines are ordered, rule by rule: see docs/LEAK.md.
 
@@ -96,8 +100,12 @@ Examples:
 """
 #: The most files on a command line: each is read, and each has a place in the page's charts.
 MOST_FILES = 100
-#: The share of the growth from which on a line is shown.
+#: The share of the growth from which on the first line is shown, in percent.
 AT_LEAST_OF_GROWTH = 30
+#: The share from which on each other line is shown: of a leak with less, a later dump says more.
+AT_LEAST_OF_OTHERS = 10
+#: How many lines are shown: who reads an alarm reads no more.
+TOP = 4
 
 
 def parser() -> Parser:
@@ -108,9 +116,13 @@ def parser() -> Parser:
     text = "Show what holds the objects of a class, as heapmark, grown or jmap shows it, not the whole heap"
     it.option("--class", "CLASS", text, dest="of_class")
     it.flag("--objects", "Take shares of objects, not of bytes")
-    text = "Show what holds P percent or more, 1 to 100 [default: 30 of the growth, 20 of the heap of one dump]"
+    text = (
+        "Show what holds P percent or more, 1 to 100 [default: 10, and line 1 from 30 of the growth on, from 20 of the "
+        "heap of one dump]"
+    )
     it.option("--at-least", "P", text, type=number(1, 100))
-    it.option("--top", "N", "Show at most N lines [default: 4]", type=number(1), default=4)
+    it.option("--top", "N", "Show at most N lines [default: 4, and all with --all]", type=number(1))
+    it.flag("--all", "Show each field that holds as much as line 1 must, also above and below others")
     text = "Show it only if more than BYTES bytes more are reachable; the exit status is then 3, else 0"
     it.option("--more-than", "BYTES", text, type=number())
     it.option("--html", "FILE", "Also write a page for a browser, with charts, to FILE")
@@ -152,7 +164,7 @@ def printed(lines: Sequence[Line], unit: Unit) -> str:
 
 def instances_of(line: Line) -> str:
     """Returns the number of instances of a line, and before it the one in the first dump if that differs."""
-    was, now = line.instances_before, line.held.instances
+    was, now = line.instances_before, line.instances
     return str(now) if was == now else f"{was} to {now}"
 
 
@@ -171,15 +183,9 @@ def lines_above(comparison: Comparison, probe: GrowthProbe, width: int) -> str:
     return f"{head}\n{'objects':>10} {unit:>14} share {'before':>14} {'after':>14} {'instances':>{width}}  field\n"
 
 
-def remainder(answer: Answer, comparison: Comparison) -> List[str]:
+def remainder(answer: Answer, comparison: Comparison, options: Options) -> List[str]:
     """Returns what the lines do not have, a sentence each."""
-    search, probe, found = answer.search, answer.probe, []
-    if answer.hidden:
-        hold = "holds" if answer.hidden == 1 else "hold"
-        found.append(f"{answer.hidden} more {hold} {search.at_least}% or more: see --top")
-    if not answer.lines:
-        more = ": see --at-least" * (search.at_least > 1)
-        found.append(f"no field, local variable or thread alone holds {search.at_least}% of the growth{more}")
+    probe, found = comparison.probe, rest_words(answer, options.bounds, "the growth")
     if probe.unit.of(comparison.more_unreachable()) > probe.unit.of(probe.growth):
         found.append(comparison.why_missing())
     return found
@@ -198,6 +204,11 @@ def nothing_too(dumps: Sequence[DumpRuns], options: Options, output: Output) -> 
         raise
 
 
+def shown(answer: Answer, options: Options) -> Answer:
+    """Returns an answer without the values of the dump that `options` hide."""
+    return answer._replace(lines=without_values(answer.lines, options.shows_values))
+
+
 def print_growth(paths: Sequence[str], options: Options, output: Output) -> None:
     """Prints what holds the growth between two dumps or more."""
     progress = Progress("leaks")
@@ -206,22 +217,23 @@ def print_growth(paths: Sequence[str], options: Options, output: Output) -> None
         progress.show("asking what each field holds")
         with nothing_too(dumps.dumps, options, output):
             comparison = comparison_of(dumps.dumps, options)
-        answer = answer_of(comparison.probe, options.at_least, options.top, comparison.probes_between)
-        notes = notes_of(comparison, answer, options.shows_values)
+        answer = shown(answer_of(comparison.probe, options.bounds, comparison.probes_between), options)
+        notes = notes_of(comparison, answer.lines)
     finally:
         progress.clear()
     has_heads = is_terminal(sys.stdout) and answer.lines
-    above = lines_above(comparison, answer.probe, width_of(answer.lines)) if has_heads else ""
+    above = lines_above(comparison, comparison.probe, width_of(answer.lines)) if has_heads else ""
     cost = output.cost(answer.search.all)
-    sentences = [*comparison.why, *notes_words(notes), *remainder(answer, comparison)]
+    sentences = [*comparison.why, *objects_words(answer.lines), *notes_words(notes)]
+    sentences += remainder(answer, comparison, options)
     changed = [words for each in dumps.dumps for words in each.changed_words()]
     sentences += [*filter(None, [dumps.words]), *changed, str(cost)]
     if output.is_json:
         write(document("leaks", fields_of_growth(comparison, answer, notes, cost), sentences))
     else:
-        write(above + printed(answer.lines, answer.probe.unit))
+        write(above + printed(answer.lines, comparison.probe.unit))
     if output.page is not None:
-        write_page(output.page, content_of(comparison, answer, notes, output.making(), options.shows_values))
+        write_page(output.page, content_of(comparison, answer, notes, output.making(), options))
     for sentence in sentences:
         say(f"leaks: {sentence}")
 
@@ -235,18 +247,26 @@ def print_one(path: str, options: Options, output: Output) -> None:
         progress.show("asking what each field holds")
         with nothing_too(dumps.dumps, options, output):
             question = question_of(dumps.dump, options)
-        answer = answer_of_one(question, options)
+        answer = HeapAnswer(question, shown(answer_of(question.probe, options.bounds), options))
         notes = notes_of_one(answer)
     finally:
         progress.clear()
-    cost = output.cost(answer.search.all)
-    changed = dumps.dump.changed_words()
-    sentences = [*sentences_of(answer, notes), *filter(None, [dumps.words]), *changed, str(cost)]
+    cost = output.cost(answer.found.search.all)
+    changed, probe = dumps.dump.changed_words(), question.probe
+    rest = rest_words(answer.found, options.bounds, counted(probe.unit.of(probe.growth), probe.unit.noun))
+    sentences = [*sentences_of(answer, notes, rest), *filter(None, [dumps.words]), *changed, str(cost)]
     write(document("leaks", fields_of_one(answer, notes, cost), sentences) if output.is_json else lines_of_one(answer))
     if output.page is not None:
-        write_page(output.page, page_of_one(answer, notes, output.making(), options.shows_values))
+        write_page(output.page, page_of_one(answer, notes, output.making(), options))
     for sentence in sentences:
         say(f"leaks: {sentence}")
+
+
+def bounds_of(options: Namespace) -> Bounds:
+    """Returns which lines the options ask for."""
+    first = options.at_least or (AT_LEAST_OF_GROWTH if options.after else AT_LEAST)
+    top = options.top or (sys.maxsize if options.all else TOP)
+    return Bounds(first, options.at_least or AT_LEAST_OF_OTHERS, top, options.all)
 
 
 def main(words: Sequence[str]) -> int:
@@ -258,10 +278,8 @@ def main(words: Sequence[str]) -> int:
         raise Fault(WRONG_USE, "--more-than: one dump shows no growth: a later one does")
     if options.html is not None:
         require_place(options.html)
-    at_least = options.at_least or (AT_LEAST_OF_GROWTH if options.after else AT_LEAST)
-    unit = Unit.OBJECTS if options.objects else Unit.BYTES
-    bounds = at_least, options.top, options.weak, not options.no_values, options.dump_bytes, options.more_than
-    asked = Options(options.of_class, unit, *bounds)
+    unit, flags = Unit.OBJECTS if options.objects else Unit.BYTES, (options.weak, not options.no_values)
+    asked = Options(options.of_class, unit, bounds_of(options), *flags, options.dump_bytes, options.more_than)
     output = Output(words, Heapmark(), time.time(), options.json, options.html)
     if options.after:
         print_growth([options.dump, *options.after], asked, output)

@@ -35,13 +35,20 @@ def about(leak: Leak) -> str:
     """Returns what the table of holders has."""
     growth, rise = (with_sign(leak.by.of(each), leak.by) for each in (leak.growth, leak.rise))
     texts = [
-        "Without one of these, much of what grew would be unreachable. Line 1 is the answer; the others are above, "
-        f"below or beside it. The growth is {growth} of {leak.whole}."
+        f"Without one of these, much of what grew would be unreachable. {what_lines_are(leak.shows_all)} The growth is "
+        f"{growth} of {leak.whole}."
     ]
     if is_less(leak):
         of_heap = f"That of the heap is {rise}: what" if growth != rise else "What"
         texts.append(f"{of_heap} only weak references or running calls hold does not count.")
     return " ".join(texts)
+
+
+def what_lines_are(shows_all: bool) -> str:
+    """Returns what the lines after the first are."""
+    if shows_all:
+        return "Line 1 is the answer; the others are above, below or beside it."
+    return "Line 1 is the answer; each other line holds most of what those above it do not."
 
 
 def holder_row(line: int, it: HolderEntry, of_whole: str, limits: Limits) -> Html:

@@ -178,7 +178,8 @@ class Leak:
     not hold. `weak`: a sentence on the weak references, if they are followed. `layout`: a sentence on the sizes of
     objects, if the bytes are those of the heap and not those of the dumps. `contents`: the classes of what the first
     holder holds, with their amounts in the first dump and in the last, in the order in which they are shown. `shares`:
-    parts of the last heap by what holds them, as far as that is known; all else is shown by package."""
+    parts of the last heap by what holds them, as far as that is known; all else is shown by package. `shows_all`: all
+    holders are shown, also above the first and below it; else each holds nothing that those before it do."""
 
     dumps: List[DumpEntry]
     grown: List[GrownClass]
@@ -199,6 +200,7 @@ class Leak:
     layout: Optional[str] = None
     contents: List[GrownClass] = field(default_factory=list)
     shares: List[ShareEntry] = field(default_factory=list)
+    shows_all: bool = False
 
     @property
     def is_of_all(self) -> bool:
@@ -248,6 +250,7 @@ class OneDump:
     layout: Optional[str] = None
     capacity: Optional[int] = None
     shares: List[ShareEntry] = field(default_factory=list)
+    shows_all: bool = False
 
     @property
     def whole(self) -> str:

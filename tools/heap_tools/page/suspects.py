@@ -4,6 +4,7 @@ as a table."""
 from typing import Optional
 
 from heap_tools.page.classes import class_table
+from heap_tools.page.holders import what_lines_are
 from heap_tools.page.model import HeldShare, Limits, ObjectEntry, OneDump, RanOutEntry, SuspectEntry
 from heap_tools.page.names import kind_of, name_of, names_of, path_row, shown_steps, thread_name
 from heap_tools.page.objects import frames, names_of_object, object_table
@@ -91,8 +92,8 @@ def suspect_table(dump: OneDump, limits: Limits) -> Html:
     """Returns the table of the suspects."""
     shown = dump.suspects[: limits.holders]
     about = (
-        "Without one of these, much of the heap would be unreachable. Line 1 is the accumulation point; the others are "
-        f"above, below or beside it. Shares are of {dump.whole}."
+        f"Without one of these, much of the heap would be unreachable. {what_lines_are(dump.shows_all)} Shares are of "
+        f"{dump.whole}."
     )
     heads = {"Held by": "name", "Instances": "number", "Objects": "number", "Bytes": "number", "Share": "shares"}
     rows = (suspect_row(line, it, limits) for line, it in enumerate(shown, 1))
