@@ -9,9 +9,10 @@ from typing import Callable, FrozenSet, List, NamedTuple, Sequence
 
 from heap_tools.candidates import Candidate
 from heap_tools.dump_side import GroupKey, Several
+from heap_tools.element_counts import element_counts
 from heap_tools.leak_lines import Found, Line, found_by, searched
 from heap_tools.leak_options import Bounds
-from heap_tools.probe import Probe
+from heap_tools.probe import GrowthProbe, Probe
 from heap_tools.reports import Amount
 from heap_tools.search import Search
 
@@ -44,7 +45,16 @@ def answer_of(whole: Probe, bounds: Bounds, between: Between = nothing_between) 
     """Searches what `whole` asks for what holds it, and returns the lines."""
     search = searched(whole, bounds.first)
     found = ranked(search, between)
-    return every_line(search, found, bounds) if bounds.shows_all else one_by_one(search, found, bounds, between)
+    answer = every_line(search, found, bounds) if bounds.shows_all else one_by_one(search, found, bounds, between)
+    return answer._replace(lines=with_elements(answer.lines, whole))
+
+
+def with_elements(lines: Sequence[Line], whole: Probe) -> List[Line]:
+    """Returns lines that know how many elements their containers have and had."""
+    fields = [line.held.candidates for line in lines]
+    now = element_counts(whole, fields)
+    was = element_counts(whole.earlier, fields) if isinstance(whole, GrowthProbe) else [None] * len(lines)
+    return [line._replace(elements=it, elements_before=before) for line, it, before in zip(lines, now, was)]
 
 
 def every_line(search: Search, found: Found, bounds: Bounds) -> Answer:

@@ -129,6 +129,8 @@ def line_entry(line: Line, is_growth: bool) -> JsonObject:
         "share_percent": share_entry(line.share),
         "instances_before": line.instances_before if is_growth else None,
         "instances": line.instances,
+        "elements_before": line.elements_before,
+        "elements": line.elements,
         "objects": objects_entry(line.objects),
     }
 

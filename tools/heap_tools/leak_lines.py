@@ -35,8 +35,8 @@ class LineObjects(NamedTuple):
 
 class Line(NamedTuple):
     """What was found: what it held, what it holds, the share of all that is asked for in percent, what is above it, how
-    many instances have it and had it, what it held in dumps between, and the objects that gained most of it, or of what
-    is above it or below it."""
+    many instances have it and had it, what it held in dumps between, the objects that gained most of it, or of what is
+    above it or below it, and how many elements the containers have and had to which it leads, if that is known."""
 
     held: Retained
     before: Amount
@@ -46,6 +46,8 @@ class Line(NamedTuple):
     instances_before: int
     between: Sequence[Amount] = ()
     objects: Optional[LineObjects] = None
+    elements: Optional[int] = None
+    elements_before: Optional[int] = None
 
     def path(self) -> str:
         """Returns the way from the top down to what was found."""

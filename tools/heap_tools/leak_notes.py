@@ -76,6 +76,17 @@ def objects_words(lines: Sequence[Line]) -> List[str]:
     return [f"line {number}: {sentence(joint_name(it.held.candidates), it.objects)}" for number, it in known]
 
 
+def elements_words(lines: Sequence[Line]) -> List[str]:
+    """Returns how many elements the container of each line has, and had, of those of which that is known."""
+    found = []
+    for number, line in enumerate(lines, 1):
+        if line.elements is not None:
+            was = f"{line.elements_before:,}, then " if line.elements_before is not None else ""
+            name = joint_name(line.held.candidates)
+            found.append(f"line {number}: {name}: {was}{counted(line.elements, 'element')}")
+    return found
+
+
 def notes_words(notes: Notes) -> List[str]:
     """Returns what is beside the lines, a sentence each."""
     threads = [f"{counted(each.after - each.before, 'thread')} more: {each}" for each in notes.threads]

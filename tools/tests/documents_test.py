@@ -59,6 +59,8 @@ FORMS: Dict[str, Dict[str, Any]] = {
                 "share_percent": float,
                 "instances_before": Maybe(int),
                 "instances": int,
+                "elements_before": Maybe(int),
+                "elements": Maybe(int),
                 "objects": Maybe(
                     {
                         "field": [FIELD],

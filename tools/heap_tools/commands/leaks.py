@@ -19,7 +19,7 @@ from heap_tools.humanize import counted, duration, size
 from heap_tools.leak_documents import Cost, fields_of_growth, fields_of_nothing, fields_of_one
 from heap_tools.leak_answer import Answer, answer_of
 from heap_tools.leak_lines import Line
-from heap_tools.leak_notes import notes_of, notes_words, objects_words, rest_words, without_values
+from heap_tools.leak_notes import elements_words, notes_of, notes_words, objects_words, rest_words, without_values
 from heap_tools.leak_options import Bounds, Options
 from heap_tools.one_dump import AT_LEAST, HeapAnswer, question_of
 from heap_tools.one_dump_notes import notes_of_one, sentences_of
@@ -224,7 +224,7 @@ def print_growth(paths: Sequence[str], options: Options, output: Output) -> None
     has_heads = is_terminal(sys.stdout) and answer.lines
     above = lines_above(comparison, comparison.probe, width_of(answer.lines)) if has_heads else ""
     cost = output.cost(answer.search.all)
-    sentences = [*comparison.why, *objects_words(answer.lines), *notes_words(notes)]
+    sentences = [*comparison.why, *objects_words(answer.lines), *elements_words(answer.lines), *notes_words(notes)]
     sentences += remainder(answer, comparison, options)
     changed = [words for each in dumps.dumps for words in each.changed_words()]
     sentences += [*filter(None, [dumps.words]), *changed, str(cost)]

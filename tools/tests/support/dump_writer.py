@@ -209,12 +209,12 @@ class DumpWriter:
         superclass: int = 0,
         loader: int = 0,
     ) -> None:
-        """Writes a class. Its fields are of type object, except `coder`, `size`, `pid`, `startTime` and those whose
-        names begin with `int`."""
+        """Writes a class. Its fields are of type object, except `coder`, `size`, `pid`, `startTime`, those whose names
+        begin with `int`, and those that are followed by their type, as in `count int`."""
         if name is not None:
             self.loaded(number, name)
         static = [(self.text(one), OBJECT, self.form.spell([value])) for one, value in (statics or {}).items()]
-        own = [(self.text(one), kind_of(one)) for one in fields]
+        own = [(self.text(one.partition(" ")[0]), kind_of(one)) for one in fields]
         self.heap += self.form.named_class_dump(number, (superclass, loader), static, own)
 
     def instance(self, number: int, of_class: int, *values: Union[int, builtins.bytes]) -> None:
@@ -259,8 +259,8 @@ def word(number: int) -> bytes:
 
 def kind_of(field: str) -> int:
     """Returns the type's code of a field by its name, or by the beginning of that."""
-    return (
-        INT
-        if field.startswith("int")
-        else {"coder": BYTE, "size": INT, "pid": LONG, "startTime": LONG}.get(field, OBJECT)
-    )
+    types = {name: code for code, name in TYPE_NAME.items()}
+    if " " in field:
+        return types[field.partition(" ")[2]]
+    known = {"coder": BYTE, "size": INT, "pid": LONG, "startTime": LONG}
+    return INT if field.startswith("int") else known.get(field, OBJECT)
