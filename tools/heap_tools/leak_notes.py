@@ -78,13 +78,16 @@ def objects_words(lines: Sequence[Line]) -> List[str]:
 
 def elements_words(lines: Sequence[Line]) -> List[str]:
     """Returns how many elements the container of each line has, and had, of those of which that is known."""
-    found = []
-    for number, line in enumerate(lines, 1):
-        if line.elements is not None:
-            was = f"{line.elements_before:,}, then " if line.elements_before is not None else ""
-            name = joint_name(line.held.candidates)
-            found.append(f"line {number}: {name}: {was}{counted(line.elements, 'element')}")
-    return found
+    known = [(number, line) for number, line in enumerate(lines, 1) if line.elements is not None]
+    return [f"line {number}: {joint_name(it.held.candidates)}: {elements_of(it)}" for number, it in known]
+
+
+def elements_of(line: Line) -> str:
+    """Returns how many elements the containers of a line have, and had, empty if that is not known."""
+    if line.elements is None:
+        return ""
+    was = f"{line.elements_before:,}, then " if line.elements_before is not None else ""
+    return was + counted(line.elements, "element")
 
 
 def notes_words(notes: Notes) -> List[str]:

@@ -2,6 +2,7 @@
 
 from heap_tools import page
 from heap_tools.leak_lines import Line
+from heap_tools.leak_notes import elements_of
 from heap_tools.leak_options import Options
 from heap_tools.one_dump import HeapAnswer
 from heap_tools.one_dump_notes import HeapNotes
@@ -53,6 +54,5 @@ def share_of_one(amount: Amount, probe: Probe) -> page.HeldShare:
 def suspect_of(line: Line, probe: Probe) -> page.SuspectEntry:
     """Returns what the page shows of a line."""
     above = [page.StepEntry(fields_of(each.candidates), share_of_one(each.amount, probe)) for each in line.above]
-    return page.SuspectEntry(
-        fields_of(line.held.candidates), line.instances, share_of_one(line.held.amount, probe), above
-    )
+    held = share_of_one(line.held.amount, probe)
+    return page.SuspectEntry(fields_of(line.held.candidates), line.instances, held, above, elements_of(line))

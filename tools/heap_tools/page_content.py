@@ -17,7 +17,7 @@ from heap_tools.heapmark import Heapmark
 from heap_tools.heap_bytes import layout_words
 from heap_tools.leak_answer import Answer
 from heap_tools.leak_lines import Line
-from heap_tools.leak_notes import Notes
+from heap_tools.leak_notes import Notes, elements_of
 from heap_tools.leak_options import Options
 from heap_tools.omissions import on_page
 from heap_tools.plain_dumps import is_dump
@@ -149,6 +149,7 @@ def holder_of(line: Line, probe: GrowthProbe, between: Dict[int, Amount]) -> pag
         above=[page.StepEntry(fields_of(each.candidates), share_of(each.amount, probe)) for each in line.above],
         instances_before=line.instances_before,
         between=between,
+        elements=elements_of(line),
     )
 
 

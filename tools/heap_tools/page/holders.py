@@ -59,7 +59,7 @@ def holder_row(line: int, it: HolderEntry, of_whole: str, limits: Limits) -> Htm
         line=line,
         kind=kind_of(it.fields),
         name=names_of(it.fields, limits),
-        path=path_row(it.above, 6, limits),
+        path=path_row(it.above, 6, limits, it.elements),
         instances=instance_count(it),
         objects=change_of(before.objects, after.objects, "object"),
         bytes=change_of(before.bytes, after.bytes, "byte"),

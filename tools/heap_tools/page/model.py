@@ -72,7 +72,8 @@ class HolderEntry:
     """What holds some of the growth: several fields only together. `instances`: the number of objects that have the
     field in the last dump; `share`: its share of the growth in percent. `above`: what it is reached through, from the
     top down to what is right above it. `instances_before`: the number in the first dump, if it is known. `between`:
-    what it held in dumps between the first and the last, as far as that was measured, by their places in `dumps`."""
+    what it held in dumps between the first and the last, as far as that was measured, by their places in `dumps`.
+    `elements`: how many elements its containers have, in the first dump too, in words."""
 
     fields: List[FieldEntry]
     instances: int
@@ -82,17 +83,20 @@ class HolderEntry:
     above: List[StepEntry]
     instances_before: Optional[int] = None
     between: Dict[int, Amount] = field(default_factory=dict)
+    elements: str = ""
 
 
 @dataclass(frozen=True)
 class SuspectEntry:
     """What holds much of one heap: several fields only together. `instances`: the number of objects that have the
-    field. `above`: what it is reached through, from a root down to what is right above it."""
+    field. `above`: what it is reached through, from a root down to what is right above it. `elements`: how many
+    elements its containers have, in words."""
 
     fields: List[FieldEntry]
     instances: int
     held: HeldShare
     above: List[StepEntry]
+    elements: str = ""
 
 
 @dataclass(frozen=True)

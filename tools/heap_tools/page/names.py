@@ -162,7 +162,10 @@ def path_to(above: Sequence[StepEntry], limits: Limits) -> Html:
     return fill("path", steps=joined((fill("item", text=step) for step in steps), " "))
 
 
-def path_row(above: Sequence[StepEntry], columns: int, limits: Limits) -> Html:
-    """Returns the fields above what holds as a row of a table with `columns` columns, below that of the name, which has
-    no room for them."""
-    return fill("path_row", columns=columns, path=path_to(above, limits)) if above else Html()
+def path_row(above: Sequence[StepEntry], columns: int, limits: Limits, elements: str = "") -> Html:
+    """Returns the fields above what holds, and how many `elements` its containers have, as a row of a table with
+    `columns` columns, below that of the name, which has no room for them."""
+    parts = [path_to(above, limits)] if above else []
+    if elements:
+        parts.append(fill("elements", text=elements))
+    return fill("path_row", columns=columns, path=joined(parts, " ")) if parts else Html()

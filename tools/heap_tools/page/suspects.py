@@ -109,7 +109,7 @@ def suspect_row(line: int, it: SuspectEntry, limits: Limits) -> Html:
         line=line,
         kind=kind_of(it.fields),
         name=names_of(it.fields, limits),
-        path=path_row(it.above, 5, limits),
+        path=path_row(it.above, 5, limits, it.elements),
         instances=figure(it.instances, "instance"),
         objects=figure(it.held.amount.objects, "object"),
         bytes=figure(it.held.amount.bytes, "byte"),
