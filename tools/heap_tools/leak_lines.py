@@ -11,7 +11,7 @@ from heap_tools.heap_objects import HeapObjects
 from heap_tools.lasting_elements import LastingElements
 from heap_tools.line_features import Features
 from heap_tools.line_order import CHAIN, HARDLY_ANY, MOST, NEARLY, LineOrder, Scoring
-from heap_tools.object_parts import FieldUses
+from heap_tools.object_parts import MOST_OBJECTS, FieldUses
 from heap_tools.joint_search import joint_answers
 from heap_tools.probe import GrowthProbe, Probe, Retained
 from heap_tools.reference_paths import ReferencePaths, is_root
@@ -73,6 +73,9 @@ class Lines:
             self.others = [*search.steady, *(probe.retained(kin) for kin in map(self._kin, self.found) if kin)]
         self.every = [*self.found, *self.others]
         self.uses = uses_of(self.found, probe)
+        earlier = probe.earlier if isinstance(probe, GrowthProbe) else probe
+        #: What knows the values in the first dump of those fields of which it is asked how many these were.
+        self.uses_before = uses_of(list(filter(self._may_have_come, self.found)), earlier)
         self.features = [
             self._features(held, number < len(self.found) and held.key not in above)
             for number, held in enumerate(self.every)
@@ -158,27 +161,42 @@ class Lines:
         """Returns what the order has to know of `held`."""
         probe, candidates, was = self.probe, held.candidates, self.probe.before(held.candidates)
         classes = frozenset().union(*(each.classes for each in candidates))
+        of_its_kind = sum(held.lost.get(name, Amount()).objects for name in classes)
+        with_value = self._with_value(held) if is_line else held.instances
         return Features(
             name=joint_name(candidates),
             kinds=tuple(each.kind for each in candidates),
             is_own=held.is_own,
             is_collection=all(each.is_collection for each in candidates),
             instances=held.instances,
-            with_value=self._with_value(held) if is_line else held.instances,
+            with_value=with_value,
             instances_before=probe.instances_before(candidates),
+            with_value_before=self._with_value_before(held),
             amount=probe.unit.of(held.amount),
             before=probe.unit.of(was.amount),
             heap=held.heap.objects,
             gains={name: amount.minus(was.lost.get(name, Amount())).objects for name, amount in held.lost.items()},
             grew_at_each_step=not is_line or self._grew_at_each_step(held),
-            is_chain=sum(held.lost.get(name, Amount()).objects for name in classes) > CHAIN * held.instances,
+            is_chain=min(of_its_kind, with_value) > CHAIN * held.instances,
             is_line=is_line,
         )
 
     def _with_value(self, held: Retained) -> int:
         """Returns how many instances have a value in a line's field: of several some may have none."""
         may_be_null = is_field(held) and held.instances > 1
-        return self.uses.count(held.candidates[0]) if may_be_null else held.instances
+        return max(1, with_value_of(held, held.instances, self.uses)) if may_be_null else held.instances
+
+    def _with_value_before(self, held: Retained) -> int:
+        """Returns how many instances had a value in a line's field in the first dump, or all if that makes no
+        difference."""
+        every = self.probe.instances_before(held.candidates)
+        return with_value_of(held, every, self.uses_before) if self._may_have_come(held) else every
+
+    def _may_have_come(self, held: Retained) -> bool:
+        """Tests whether it matters how many instances of a line had a value in the first dump: there are more now, and
+        some have none."""
+        is_growth = self.scoring is Scoring.GAIN
+        return is_growth and self.probe.instances_before(held.candidates) < held.instances > self._with_value(held)
 
     def _grew_at_each_step(self, held: Retained) -> bool:
         """Tests whether `held` gained between each two of the dumps that are asked."""
@@ -204,6 +222,13 @@ class Lines:
 def is_field(held: Retained) -> bool:
     """Tests whether a line is one field of instances."""
     return len(held.candidates) == 1 and held.candidates[0].kind == FIELD
+
+
+def with_value_of(held: Retained, every: int, uses: FieldUses) -> int:
+    """Returns how many of `every` instances have a value in the field `held`, by `uses`: all if too many have one to
+    count them."""
+    count = uses.count(held.candidates[0])
+    return min(count, every) if count <= MOST_OBJECTS else every
 
 
 def uses_of(found: Sequence[Retained], probe: Probe) -> FieldUses:

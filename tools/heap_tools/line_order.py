@@ -28,7 +28,8 @@ LASTS = 0.25
 LARGE_CLASS = 0.1
 #: The part of what a line holds that it may have held before, if it is asked whether that was beside it.
 HARDLY_ANY = 0.1
-#: The part of its instances that a field must hold to be a chain.
+#: The part of its instances that a field must hold to be a chain, and that must have a value in it: each leads to the
+#: next one. Of a tree's nodes the field holds nearly all, too, but few lead to others.
 CHAIN = 0.5
 #: Of how many lines below the answer it is asked at most whether one object gained most: each takes a run or two.
 MOST_ASKED = 3
@@ -59,12 +60,13 @@ def says(line: Features) -> int:
 
 def lasting_gain(line: Features) -> float:
     """Returns what the instances gained that a line had before, too, on average, at least what one has; or what all
-    gained, without what the new ones would have held before, if they are few."""
-    came, was, each = line.instances - line.instances_before, line.instances_before, line.amount / line.instances
-    if came <= 0:
+    gained, without what the new ones would have held before, if they are few. An instance without a value is none: of
+    14,581 nodes of a tree 351 may have children, so what one of these gained in leaves did not come with new nodes."""
+    came = line.part_came
+    if not came:
         return line.gain
-    lasting = max(each, was * each - line.before)
-    return max(lasting, line.gain - came * line.before / was) if was and line.with_value <= FEW else lasting
+    lasting = max(line.amount / line.with_value, (1 - came) * line.amount - line.before)
+    return max(lasting, line.gain - line.before * came / (1 - came)) if came < 1 and line.with_value <= FEW else lasting
 
 
 def part_gained(line: Features, upper: Features) -> float:

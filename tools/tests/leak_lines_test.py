@@ -5,13 +5,16 @@ from typing import List, Optional, Sequence, Tuple
 from unittest import mock
 
 from heap_tools.candidates import FIELD, STATIC, Candidate
+from heap_tools.field_values import values_by_field
 from heap_tools.heap_objects import FieldValue
 from heap_tools.leak_lines import LineObjects, Lines
-from heap_tools.line_order import NEARLY
+from heap_tools.line_order import NEARLY, lasting_gain
 from heap_tools.naming import Name
 from heap_tools.object_parts import Parts
 from heap_tools.reports import Amount
 from heap_tools.which_object import HoldingObject
+from tests.support.dump_writer import BYTE, DumpWriter
+from tests.support.marked import growth_of, held_by
 from tests.support.told_probe import Things, ToldGains, field
 
 ROOT, INBOX, TEXT = (
@@ -46,10 +49,18 @@ class NearlyAllTest(unittest.TestCase):
 class LinesTest(unittest.TestCase):
     """Lines"""
 
-    def lines(self, found: Sequence[Candidate], earlier: Things, things: Things, before: int = 0) -> Lines:
-        """Returns the lines about `found`, each of which had `before` instances, and has a value in all."""
+    def lines(
+        self,
+        found: Sequence[Candidate],
+        earlier: Things,
+        things: Things,
+        before: int = 0,
+        with_value: Optional[int] = None,
+    ) -> Lines:
+        """Returns the lines about `found`, each of which had `before` instances, and has a value in all or in
+        `with_value`."""
         probe = ToldGains(earlier, things, FIELDS)
-        uses = mock.Mock(count=lambda each: each.count)
+        uses = mock.Mock(count=lambda each: each.count if with_value is None else with_value)
         search = mock.Mock(found=[probe.retained([each]) for each in found], steady=[])
         with mock.patch.object(type(probe.earlier), "instances", return_value=before):
             with mock.patch("heap_tools.leak_lines.FieldUses", return_value=uses):
@@ -128,11 +139,17 @@ class LinesTest(unittest.TestCase):
             self.assertEqual(asked, is_asked, before)
 
     def test_chain(self) -> None:
-        """A field that holds more than half of its own instances is a chain."""
-        for held, is_chain in ((100, False), (101, True)):
+        """A field that holds more than half of its own instances, and has a value in more than half, is a chain."""
+        for held, with_value, is_chain in ((100, 199, False), (101, 199, True), (199, 100, False), (199, 101, True)):
             follower = Candidate(FIELD, "shop/Thing.next", 200, classes=frozenset(["shop/Thing"]))
-            lines = self.lines([follower], [], [([["shop/Thing.next"]], held)])
-            self.assertEqual(lines.features[0].is_chain, is_chain, held)
+            lines = self.lines([follower], [], [([["shop/Thing.next"]], held)], with_value=with_value)
+            self.assertEqual(lines.features[0].is_chain, is_chain, (held, with_value))
+
+    def test_with_value(self) -> None:
+        """If too many instances have a value to count them, all count, and no more than are reachable."""
+        for every, count, wanted in ((500_000, 100_001, 500_000), (500_000, 100_000, 100_000), (9, 12, 9), (9, 0, 1)):
+            lines = self.lines([field("shop/Thing.next", every)], [], MAILS, with_value=count)
+            self.assertEqual(lines.features[0].with_value, wanted)
 
     def test_kin_of_which(self) -> None:
         """What the fields of a class hold counts only if they held more than half of it before: else it cannot show
@@ -144,6 +161,72 @@ class LinesTest(unittest.TestCase):
             assert isinstance(lines.probe, ToldGains)
             self.assertEqual(len(lines.others), is_asked)
             self.assertIn(["shop/S.blue", "shop/S.green"], lines.probe.asked("before"))
+
+
+class Tree(DumpWriter):
+    """A static field names a node, which has a node for each of `leaves`, and that so many. Each has the former in the
+    array of its field `children`, null if there are none, and 100 bytes."""
+
+    def __init__(self, leaves: Sequence[int]) -> None:
+        super().__init__()
+        self.of_class(1, "shop/Tree", {"ROOT": 1000})
+        self.of_class(2, "shop/Node", fields=["children", "content"])
+        self.of_class(3, "[Lshop/Node;")
+        self.node(1000, range(1001, 1001 + len(leaves)))
+        for number, count in enumerate(leaves):
+            every = range(10_000 * (number + 1), 10_000 * (number + 1) + count)
+            self.node(1001 + number, every)
+            for leaf in every:
+                self.node(leaf, ())
+        self.root(1)
+
+    def node(self, number: int, children: Sequence[int]) -> None:
+        """Writes a node."""
+        self.instance(number, 2, number + 2_000_000 if children else 0, number + 4_000_000)
+        if children:
+            self.array(number + 2_000_000, 3, *children)
+        self.values(number + 4_000_000, BYTE, bytes(100))
+
+
+class TreeTest(unittest.TestCase):
+    """Lines about a field of nodes, most of which have no value in it."""
+
+    def lines(self, before: Sequence[int], after: Sequence[int], name: str = "children") -> Lines:
+        """Returns the lines about a field between two dumps of a tree."""
+        probe = growth_of(Tree(before), Tree(after))
+        return Lines(mock.Mock(found=[held_by(probe, f"shop/Node.{name}")], steady=[]), probe)
+
+    def test_full_node(self) -> None:
+        """What one of 100 nodes gained in leaves did not come with new nodes, since these have no children. It can be
+        asked which node that is: a tree is no chain."""
+        lines = self.lines([3] * 100, [3] * 99 + [900])
+        (line,) = lines.features
+        self.assertEqual((line.instances, line.with_value), (1298, 101))
+        self.assertEqual((line.instances_before, line.with_value_before), (401, 101))
+        self.assertEqual((lasting_gain(line), line.is_chain), (line.gain, False))
+        found = lines.ask_for_objects()
+        assert found
+        self.assertEqual([(each.class_name, each.of) for each in found.objects], [("shop/Node", 101)])
+
+    def test_new_nodes(self) -> None:
+        """What new nodes with children hold came with them."""
+        (line,) = self.lines([3] * 100, [3] * 400).features
+        self.assertEqual((line.with_value_before, line.with_value), (101, 401))
+        self.assertLess(lasting_gain(line), 0.01 * line.gain)
+
+    def test_asked(self) -> None:
+        """How many had a value in the first dump is asked only if more instances have the field now, and some of them
+        no value."""
+        for before, after, name, is_asked in (
+            ([3] * 100, [4] * 100, "children", True),
+            ([4] * 100, [3] * 99 + [99], "children", False),
+            ([3] * 100, [4] * 100, "content", False),
+        ):
+            with mock.patch("heap_tools.object_parts.values_by_field", wraps=values_by_field) as walks:
+                lines = self.lines(before, after, name)
+            self.assertEqual(walks.call_count, 2 if is_asked else 1, (name, is_asked))
+            if not is_asked:
+                self.assertEqual(lines.features[0].with_value_before, lines.features[0].instances_before)
 
 
 if __name__ == "__main__":

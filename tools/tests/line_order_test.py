@@ -1,8 +1,8 @@
 """Tests the order of the lines of leaks alone: rows of features in, the answer out, a row for each rule and pair.
 
 A row is why, a colon, and lines, of which the answer has a star. In `A > B`, A holds all that B does. Words in
-parentheses after a name are what the line gained of 1,000, its instances before and now as `2..9`, of `9/99` now nine
-with a value, and others; all else is as in `SPOKEN`."""
+parentheses after a name are what the line gained of 1,000, its instances before and now as `2..9`, of `9/99` nine with
+a value, and others; all else is as in `SPOKEN`."""
 
 import unittest
 from dataclasses import replace
@@ -42,6 +42,10 @@ rule 1, few came, which would have held nothing: *shop/A.a (900 2..8 null), stat
 rule 1, many came, of which few have a value: *shop/A.a (900 2..6/99 null), static shop/B.b (400)
 rule 1, many came, and many have a value: shop/A.a (900 2..65/99 null), *static shop/B.b (400)
 rule 1, few came, which would have held as much: shop/A.a (700 1..8), *static shop/B.b (400)
+rule 1, new instances have no value: *shop/Node.children (900 340/500..351/9999), static shop/B.b (400)
+rule 1, new instances have values: shop/Node.children (900 34/500..351/9999), *static shop/B.b (400)
+rule 1, what was there has a value now: *shop/A.a (900 0/200..180/201 null), static shop/B.b (400)
+rule 1, what came may have the values: shop/A.a (900 0/200..180/999 null), *static shop/B.b (400)
 rule 1, it was null: *static shop/A.a (600 0..1 null), static shop/B.b (400)
 rule 1, it had no instance: shop/A.a (900 0..9 null), *static shop/B.b (400)
 rule 1, one object gained most: *shop/A.a (900 10..110 one), static shop/B.b (400)
@@ -127,11 +131,12 @@ def line(name: str, words: str, depth: int) -> Features:
         was, dots, now = word.partition("..")
         more = SPOKEN.get(word)
         if dots:
-            with_value, instances = now.split("/") if "/" in now else (now, now)
-            more = {"instances_before": int(was), "with_value": int(with_value), "instances": int(instances)}
+            more = dict(zip(("with_value", "instances"), map(int, f"{now}/{now}".split("/"))))
+            more.update(zip(("with_value_before", "instances_before"), map(int, f"{was}/{was}".split("/"))))
         known.update({"gain": int(word)} if more is None else more)
     gain = known.pop("gain")
     known.setdefault("with_value", known["instances"])
+    known.setdefault("with_value_before", known["instances_before"])
     known.setdefault("gains", {"shop/Order": gain})
     is_collection = name.startswith("java/util/")
     return Features(
