@@ -9,7 +9,7 @@ from heap_tools.dump_side import GroupKey, Several, key_of
 from heap_tools.fields_of_object import find_below, part_of_one
 from heap_tools.heap_objects import HeapObjects
 from heap_tools.lasting_elements import LastingElements
-from heap_tools.line_features import Features
+from heap_tools.line_features import Features, evenness
 from heap_tools.line_order import CHAIN, HARDLY_ANY, MOST, NEARLY, LineOrder, Scoring
 from heap_tools.object_parts import MOST_OBJECTS, FieldUses
 from heap_tools.joint_search import joint_answers
@@ -176,7 +176,7 @@ class Lines:
             before=probe.unit.of(was.amount),
             heap=held.heap.objects,
             gains={name: amount.minus(was.lost.get(name, Amount())).objects for name, amount in held.lost.items()},
-            grew_at_each_step=not is_line or self._grew_at_each_step(held),
+            evenness=self._evenness(held) if is_line else 1.0,
             is_chain=min(of_its_kind, with_value) > CHAIN * held.instances,
             is_line=is_line,
         )
@@ -198,13 +198,13 @@ class Lines:
         is_growth = self.scoring is Scoring.GAIN
         return is_growth and self.probe.instances_before(held.candidates) < held.instances > self._with_value(held)
 
-    def _grew_at_each_step(self, held: Retained) -> bool:
-        """Tests whether `held` gained between each two of the dumps that are asked."""
-        if not self.between:
-            return True
-        every = [self.probe.before(held.candidates), *(each.retained(held.candidates) for each in self.between), held]
-        series = [self.probe.unit.of(each.amount) for each in every]
-        return all(after > before for before, after in zip(series, series[1:]))
+    def _evenness(self, held: Retained) -> float:
+        """Returns how evenly `held` gained over the dumps that are asked."""
+        if not self.between or not isinstance(self.probe, GrowthProbe):
+            return 1.0
+        probes = [self.probe.earlier, *self.between, self.probe]
+        amounts = [self.probe.unit.of(each.retained(held.candidates).amount) for each in probes]
+        return evenness(amounts, [each.runs.dump.time for each in probes])
 
     def _kin(self, held: Retained) -> List[Candidate]:
         """Returns the fields of the class that declares the field `held`, static ones if it is static, if it held

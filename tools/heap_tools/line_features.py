@@ -1,7 +1,7 @@
 """What the order of lines knows of each."""
 
 from dataclasses import dataclass, field
-from typing import Mapping, Tuple
+from typing import List, Mapping, Sequence, Tuple
 
 from heap_tools.candidates import THREAD, THREADS
 
@@ -13,7 +13,7 @@ class Features:
     and `with_value_before`. `amount` and `before` are what they hold and held, in the unit of the question. `heap` is
     the number of all objects that they hold, `gains` of how many objects they gained by class. `of_one` is the part of
     its gain that one object has, if that is most, `of_elements` that of elements of the answer's container that were
-    there before. `is_chain`: most of its instances have a value, and it holds most of them. `is_line`: it gained
+    there before. `evenness`: how evenly it gained over several dumps. `is_chain`: most of its instances have a value, and it holds most of them. `is_line`: it gained
     enough; else it only shows what was held before."""
 
     name: str
@@ -28,7 +28,7 @@ class Features:
     before: int
     heap: int
     gains: Mapping[str, int] = field(default_factory=dict)
-    grew_at_each_step: bool = True
+    evenness: float = 1.0
     of_one: float = 0.0
     of_elements: float = 0.0
     is_chain: bool = False
@@ -38,6 +38,11 @@ class Features:
     def gain(self) -> int:
         """How much more is held than before."""
         return self.amount - self.before
+
+    @property
+    def grew_at_each_step(self) -> bool:
+        """Tests whether more was held in each dump than in the one before."""
+        return self.evenness > 0
 
     @property
     def part_came(self) -> float:
@@ -50,3 +55,21 @@ class Features:
     def is_thread(self) -> bool:
         """Tests whether it is threads."""
         return all(kind in (THREAD, THREADS) for kind in self.kinds)
+
+
+def evenness(amounts: Sequence[int], times: Sequence[int]) -> float:
+    """Returns how evenly something gained over dumps that were made at these times: 1 if all steps are the same, 0 if
+    one is no gain, else 1 less the part of the gain by which the largest step exceeds the smallest. A leak gains about
+    as much with each request or in each hour: so steps count as they are or per time, whichever are more even."""
+    steps, spans = steps_of(amounts), steps_of(times)
+    if min(steps) <= 0:
+        return 0.0
+    counted: List[List[float]] = [[*steps]]
+    if min(spans) > 0:
+        counted.append([step / span for step, span in zip(steps, spans)])
+    return max(1 - (max(each) - min(each)) / sum(each) for each in counted)
+
+
+def steps_of(series: Sequence[int]) -> List[int]:
+    """Returns how much more each number of a series is than the one before."""
+    return [after - before for before, after in zip(series, series[1:])]

@@ -2,13 +2,14 @@
 
 A line's score is what it gained without what came with new instances (unless one object gained most, or elements that
 the answer had before), without what was above it, below it or in a field of its class before, and nothing if it did not
-grow at each step between dumps. If no score is a quarter of the growth, nothing that lasts holds what grew: the answer
-is the topmost line, a thread before others. Else the answer is the deepest line on the path of the best score (of those
-with nine tenths of it, of the line whose name says most), above or below it, that has half of that score: the
-accumulation point. A collection, several of the JDK or with a thread together, a variable of a lambda or a thread is
-the answer only if no other line on that path has nine tenths of that score, or half of it below; of fields, own ones,
-and those of which one object gained most, come before the JDK's in the same way. The other lines follow by their
-scores.
+grow at each step between dumps. Lines that gained unevenly come later: scores are compared without the part of the gain
+by which the largest step exceeds the smallest, as they are or per time, but with a quarter at least. If no score is a
+quarter of the growth, nothing that lasts holds what grew: the answer is the topmost line, a thread before others. Else
+the answer is the deepest line on the path of the best score (of those with nine tenths of it, of the line whose name
+says most), above or below it, that has half of that score: the accumulation point. A collection, several of the JDK or
+with a thread together, a variable of a lambda or a thread is the answer only if no other line on that path has nine
+tenths of that score, or half of it below; of fields, own ones, and those of which one object gained most, come before
+the JDK's in the same way. The other lines follow by their scores.
 """
 
 import enum
@@ -24,6 +25,9 @@ MOST = 0.5
 NEARLY = 0.9
 #: The part of the growth that the best score must be: with less, too little of it is in what was there before.
 LASTS = 0.25
+#: The part of its score that a line keeps, however uneven its steps are: a leak may gain most in one busy step. The
+#: steps of a cache that happens to hold more in each of three or four dumps differ by half of its gain, on average.
+UNEVEN = 0.25
 #: The part of all objects that were gained which a class must have to show that they did not move.
 LARGE_CLASS = 0.1
 #: The part of what a line holds that it may have held before, if it is asked whether that was beside it.
@@ -96,11 +100,13 @@ class LineOrder:
         self.numbers = sorted((it for it, line in enumerate(lines) if line.is_line), key=lambda it: lines[it].heap)
         self.some_are_steady = any(lines[number].grew_at_each_step for number in self.numbers)
         self.scores = {number: self.score(number) for number in self.numbers}
+        #: The scores by which lines are compared that may have gained by chance.
+        self.even_scores = {number: score * self._evenness(number) for number, score in self.scores.items()}
 
     def sorted(self) -> List[int]:
         """Returns the numbers of the lines, the answer first."""
         answer = self.answer()
-        return sorted(self.numbers, key=lambda it: (it != answer, -self.scores[it], *self._depth(it)))
+        return sorted(self.numbers, key=lambda it: (it != answer, -self.even_scores[it], *self._depth(it)))
 
     def are_lasting(self) -> bool:
         """Tests whether something that lasts holds enough of what grew."""
@@ -136,7 +142,7 @@ class LineOrder:
         lasts."""
         chosen = self._largest(self.numbers)
         others = [it for it in self.numbers if not self.lines[it].is_collection]
-        if others and self.scores[self._largest(others)] >= MOST * self.scores[chosen]:
+        if others and self.even_scores[self._largest(others)] >= MOST * self.even_scores[chosen]:
             chosen = self._largest(others)
         single = [it for it in self.numbers if says(self.lines[it]) > TOGETHER]
         if single and says(self.lines[chosen]) == TOGETHER and self._lasts(self._largest(single)):
@@ -145,7 +151,7 @@ class LineOrder:
 
     def _largest(self, numbers: Sequence[int]) -> int:
         """Returns the line of `numbers` with the largest score, of those with nearly that one whose name says most."""
-        lines, scores = self.lines, self.scores
+        lines, scores = self.lines, self.even_scores
         near = [it for it in numbers if scores[it] >= NEARLY * max(scores[each] for each in numbers)]
         return max(self._say_most(near), key=lambda it: (scores[it], -lines[it].heap, lines[it].name))
 
@@ -168,12 +174,12 @@ class LineOrder:
     def deepest_with(self, best: int, numbers: Sequence[int]) -> int:
         """Returns the deepest line of `numbers` above or below `best` that has most of its score, of those whose names
         say most."""
-        near = [it for it in numbers if self.scores[it] >= MOST * self.scores[best]]
+        near = [it for it in numbers if self.even_scores[it] >= MOST * self.even_scores[best]]
         path = [it for it in near if self._is_on_path(it, best)]
-        for least in NEARLY, MOST:
-            near = [it for it in path if self.scores[it] >= least * self.scores[best] and says(self.lines[it])]
-            if near:
-                return self._own_below(min(self._say_most(near), key=self._depth), path)
+        for near in [it for it in path if self.scores[it] >= NEARLY * self.scores[best]], path:
+            named = [it for it in near if says(self.lines[it])]
+            if named:
+                return self._own_below(min(self._say_most(named), key=self._depth), path)
         return min(path, key=self._depth)
 
     def to_ask(self) -> List[int]:
@@ -223,6 +229,10 @@ class LineOrder:
     def _is_steady(self, number: int) -> bool:
         """Tests whether a line grew at each step, or none did."""
         return self.lines[number].grew_at_each_step or not self.some_are_steady
+
+    def _evenness(self, number: int) -> float:
+        """Returns the part of its score that a line keeps by how evenly it gained, if some line grew at each step."""
+        return max(UNEVEN, self.lines[number].evenness) if self.some_are_steady else 1.0
 
     def _is_below(self, lower: int, upper: int) -> bool:
         """Tests whether a line is below another one: of two that hold nearly the same, that which holds less."""

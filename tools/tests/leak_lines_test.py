@@ -151,6 +151,16 @@ class LinesTest(unittest.TestCase):
             lines = self.lines([field("shop/Thing.next", every)], [], MAILS, with_value=count)
             self.assertEqual(lines.features[0].with_value, wanted)
 
+    def test_evenness(self) -> None:
+        """How evenly a line gained is seen by what it held in the dumps between, and when these were made."""
+        for held, time, wanted in ((50, 30, 1.0), (20, 30, 0.4), (20, 12, 1.0), (0, 30, 0.0)):
+            probe = ToldGains([], [([["shop/A.ALL"]], 100)])
+            between = mock.Mock(**{"retained.return_value": probe.retained([ROOT])._replace(amount=Amount(1, held))})
+            probe.earlier.runs.dump.time, between.runs.dump.time, probe.runs.dump.time = 0, time, 60
+            search = mock.Mock(found=[probe.retained([ROOT])], steady=[])
+            lines = Lines(search, probe, [between], uses=mock.Mock())
+            self.assertAlmostEqual(lines.features[0].evenness, wanted)
+
     def test_kin_of_which(self) -> None:
         """What the fields of a class hold counts only if they held more than half of it before: else it cannot show
         that they gained little."""

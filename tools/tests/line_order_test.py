@@ -4,6 +4,7 @@ A row is why, a colon, and lines, of which the answer has a star. In `A > B`, A 
 parentheses after a name are what the line gained of 1,000, its instances before and now as `2..9`, of `9/99` nine with
 a value, and others; all else is as in `SPOKEN`."""
 
+import itertools
 import unittest
 from dataclasses import replace
 from typing import Any, Dict, List, NamedTuple, Sequence, Set, Tuple
@@ -11,8 +12,8 @@ from typing import Any, Dict, List, NamedTuple, Sequence, Set, Tuple
 from heap_tools import line_order
 from heap_tools.candidates import FEW, FIELD, LOCAL, STATIC, THREAD, THREADS
 from heap_tools.commands import leaks
-from heap_tools.line_features import Features
-from heap_tools.line_order import LASTS, MOST, MOST_ASKED, NEARLY, LineOrder, Scoring, part_gained
+from heap_tools.line_features import Features, evenness
+from heap_tools.line_order import LASTS, MOST, MOST_ASKED, NEARLY, UNEVEN, LineOrder, Scoring, part_gained
 from tests.support.tool_test import TOP
 
 GROWTH = 1000
@@ -24,7 +25,10 @@ SPOKEN: Dict[str, Dict[str, Any]] = {
     "one": {"of_one": 0.9},
     "half": {"of_one": 0.6},
     "elements": {"of_elements": 0.9},
-    "unsteady": {"grew_at_each_step": False},
+    "unsteady": {"evenness": 0.0},
+    "odd": {"evenness": 0.5},
+    "uneven": {"evenness": 0.4},
+    "jump": {"evenness": 0.1},
     "chain": {"is_chain": True},
     "together": {"kinds": (STATIC, STATIC)},
     "roots": {"kinds": (STATIC, THREAD)},
@@ -56,14 +60,23 @@ rule 1, something else went from below it: *shop/A.a (900 null) > shop/C.c (100 
 rule 1, what is below it gained it in few objects: *static shop/A.a > shop/C.c (880 9..99 few), static shop/B.b (400)
 rule 1, it did not grow at each step: static shop/A.a (600 unsteady), *static shop/B.b (400)
 rule 1, nothing grew at each step: *static shop/A.a (600 unsteady), static shop/B.b (400 unsteady)
+rule 1, it gained most in one step: static shop/A.a (900 uneven), *static shop/B.b (400)
+rule 1, it gained most in one step, but far more: *static shop/A.a (uneven), static shop/B.b (399)
+rule 1, a quarter of it counts in any case: *static shop/A.a (jump), static shop/B.b (249)
+rule 1, all gained most in one step: *static shop/A.a (900 uneven), static shop/B.b (400 jump)
+rule 1, none grew at each step, and that most: *static shop/A.a (900 unsteady), static shop/B.b (400 unsteady)
 rule 2, nothing lasts: *shop/Session.orders (9..99) > shop/Order.text (10..110)
 rule 2, nothing lasts, a thread first: *threads "job" (900 9..99), shop/B.b (950 9..99)
 rule 2, a quarter lasts: *static shop/A.a (250), shop/Order.text (10..110)
 rule 2, less than a quarter lasts: static shop/A.a (249), *shop/Order.text (10..110)
 rule 2, little grew at each step: *static shop/A.a (200), static shop/B.b (700 unsteady)
+rule 2, what gained most in one step lasts: *static shop/A.a (250 jump), shop/Order.text (10..110 jump)
 rule 2, a thread came that did not grow at each step: *shop/Order.text (10..110), thread "job" (unsteady)
 rule 3, the deepest: static shop/A.STORE > *shop/Store.map
 rule 3, the deepest with half: static shop/A.a > *shop/B.b (500) > shop/C.c (499)
+rule 3, of two below it that which gained evenly: static shop/A.a > *shop/B.b (500), shop/C.c (600 uneven)
+rule 3, what is below gained most in one step: *static shop/A.a > shop/C.c (900 uneven)
+rules 3 and 4, nearly as much, however even: *shop/B.b (950 uneven) > java/lang/L.l (990 odd)
 rule 3, what is beside is not deeper: *static shop/A.a, static shop/B.b (600)
 rule 4, no collection: *static shop/A.STORE > java/util/HashMap.table
 rule 4, a collection beside: java/util/HashMap.table, *static shop/A.a (500)
@@ -278,6 +291,27 @@ class LineOrderTest(unittest.TestCase):
             self.assertEqual(order.to_ask_of_elements(), [], above)
         self.assertEqual(LineOrder([], lambda upper, lower: False, GROWTH).to_ask_of_elements(), [])
 
+    def test_evenness(self) -> None:
+        """Steps are even that are the same, or the same per time. One that is no gain is none; three jumps that happen
+        to be in one direction differ by more than half of what they are together."""
+        hours = [0, 60, 120, 180]
+        for steps, times, wanted in (
+            ([300, 300, 300], hours, 1.0),
+            ([308, 298, 295], hours, 0.99),
+            ([160, 145, 826], hours, 0.40),
+            ([100, 900], [0, 60, 600], 1.0),
+            ([500, 500], [0, 60, 600], 1.0),
+            ([900, 100], [0, 60, 600], 0.20),
+            ([100, 900], hours[:3], 0.20),
+            ([100, 900], [0, 0, 60], 0.20),
+            ([100, 900], [60, 60, 0], 0.20),
+            ([300, 0, 300], hours, 0.0),
+            ([300, -9, 300], hours, 0.0),
+            ([7], [0, 60], 1.0),
+        ):
+            amounts = list(itertools.accumulate([50, *steps]))
+            self.assertAlmostEqual(evenness(amounts, times), wanted, 2, f"{steps} {times}")
+
     def test_part_gained(self) -> None:
         """What moved is seen by the classes that have a tenth or more of the objects that were gained."""
         for moved, part in ((9, 0.0), (10, 1.0)):
@@ -290,13 +324,13 @@ class LineOrderTest(unittest.TestCase):
         """docs/LEAK.md quotes the order, which the help of leaks says in short, without scores."""
         quoted = " ".join((line_order.__doc__ or "").partition("\n\n")[2].split())
         self.assertIn(quoted, (TOP / "docs/LEAK.md").read_text(encoding="utf-8"))
-        self.assertEqual(quoted.count(". ") + 1, 5)
+        self.assertEqual(quoted.count(". ") + 1, 6)
         self.assertIn("the accumulation point", leaks.NOTES)
         self.assertNotIn("score", leaks.NOTES)
 
     def test_numbers(self) -> None:
         """The numbers that docs/LEAK.md has."""
-        self.assertEqual((MOST, NEARLY, LASTS, FEW, MOST_ASKED), (0.5, 0.9, 0.25, 64, 3))
+        self.assertEqual((MOST, NEARLY, LASTS, UNEVEN, FEW, MOST_ASKED), (0.5, 0.9, 0.25, 0.25, 64, 3))
 
 
 if __name__ == "__main__":
