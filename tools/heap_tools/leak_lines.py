@@ -2,6 +2,7 @@
 of them."""
 
 import dataclasses
+import math
 from typing import FrozenSet, List, NamedTuple, Optional, Sequence
 
 from heap_tools.candidates import FEW, FIELD, STATIC, Candidate, joint_name
@@ -10,7 +11,7 @@ from heap_tools.fields_of_object import find_below, part_of_one
 from heap_tools.heap_objects import HeapObjects
 from heap_tools.lasting_elements import LastingElements
 from heap_tools.line_features import Features, evenness
-from heap_tools.line_order import CHAIN, HARDLY_ANY, MOST, NEARLY, LineOrder, Scoring
+from heap_tools.line_order import CHAIN, HARDLY_ANY, MOST, MOST_ASKED, NEARLY, LineOrder, Scoring
 from heap_tools.object_parts import MOST_OBJECTS, FieldUses
 from heap_tools.joint_search import joint_answers
 from heap_tools.probe import GrowthProbe, Probe, Retained
@@ -19,6 +20,7 @@ from heap_tools.reports import Amount
 from heap_tools.search import Search
 from heap_tools.which_object import (
     HoldingObject,
+    PartsOfField,
     object_leading_to,
     objects_that_grew,
     objects_that_hold,
@@ -92,6 +94,7 @@ class Lines:
     def ask_for_objects(self) -> Optional[LineObjects]:
         """Asks of some lines which objects gained most, and notes if it is one. Returns them; if there are none, what
         leads to the answer if that is one object."""
+        self._ask_for_new()
         several = None
         for number in self._order().to_ask():
             objects = self._objects_of(self.every[number])
@@ -102,6 +105,18 @@ class Lines:
             if several is None and tell_apart(objects):
                 several = LineObjects(self.every[number], objects)
         return several or self._leading_to_answer()
+
+    def _ask_for_new(self) -> None:
+        """Asks of lines that decide the order, and whose scores are averages, what their new instances can hold at
+        most, and notes it."""
+        for _ in range(MOST_ASKED):
+            number = self._order().to_ask_of_new()
+            if number is None:
+                return
+            line, parts = self.features[number], PartsOfField(self.probe, self.every[number], uses=self.uses)
+            came = math.ceil(line.part_came * line.with_value)
+            of_largest = parts.shares.part_of_largest(came) if parts.is_question else 0.0
+            self.features[number] = dataclasses.replace(line, of_largest=of_largest)
 
     def _leading_to_answer(self) -> Optional[LineObjects]:
         """Returns which of several objects leads to the answer, if only one object has that field, and what names it:

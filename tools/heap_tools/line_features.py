@@ -1,7 +1,7 @@
 """What the order of lines knows of each."""
 
 from dataclasses import dataclass, field
-from typing import List, Mapping, Sequence, Tuple
+from typing import List, Mapping, Optional, Sequence, Tuple
 
 from heap_tools.candidates import THREAD, THREADS
 
@@ -13,7 +13,8 @@ class Features:
     and `with_value_before`. `amount` and `before` are what they hold and held, in the unit of the question. `heap` is
     the number of all objects that they hold, `gains` of how many objects they gained by class. `of_one` is the part of
     its gain that one object has, if that is most, `of_elements` that of elements of the answer's container that were
-    there before. `evenness`: how evenly it gained over several dumps. `is_chain`: most of its instances have a value, and it holds most of them. `is_line`: it gained
+    there before. `of_largest` is the part of `amount` that as many of the largest instances hold as came, None if it is
+    not known: the most that new ones can hold. `evenness`: how evenly it gained over several dumps. `is_chain`: most of its instances have a value, and it holds most of them. `is_line`: it gained
     enough; else it only shows what was held before."""
 
     name: str
@@ -31,6 +32,7 @@ class Features:
     evenness: float = 1.0
     of_one: float = 0.0
     of_elements: float = 0.0
+    of_largest: Optional[float] = None
     is_chain: bool = False
     is_line: bool = True
 

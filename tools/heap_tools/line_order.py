@@ -65,11 +65,13 @@ def says(line: Features) -> int:
 def lasting_gain(line: Features) -> float:
     """Returns what the instances gained that a line had before, too, on average, at least what one has; or what all
     gained, without what the new ones would have held before, if they are few. An instance without a value is none: of
-    14,581 nodes of a tree 351 may have children, so what one of these gained in leaves did not come with new nodes."""
+    14,581 nodes of a tree 351 may have children, so what one of these gained in leaves did not come with new nodes. An
+    average rises, too, if new instances are larger: so if it is known, the largest ones count as new."""
     came = line.part_came
     if not came:
         return line.gain
-    lasting = max(line.amount / line.with_value, (1 - came) * line.amount - line.before)
+    of_new = max(came, line.of_largest or 0.0)
+    lasting = max(line.amount / line.with_value, (1 - of_new) * line.amount - line.before)
     return max(lasting, line.gain - line.before * came / (1 - came)) if came < 1 and line.with_value <= FEW else lasting
 
 
@@ -206,6 +208,22 @@ class LineOrder:
         ]
         found = [it for it in found if self.scores[it] < MOST * self.scores[answer] and self._is_below(it, answer)]
         return sorted(found, key=lambda it: (-says(lines[it]), -lines[it].heap))[:MOST_ASKED]
+
+    def to_ask_of_new(self) -> Optional[int]:
+        """Returns a line of which it is to be asked what its new instances can hold at most: the best one, or the
+        answer, if its score is an average over many instances, of which some came. Returns None if neither's is."""
+        answer = self.answer()
+        if answer is None or not self._lasts(self.best()):
+            return None
+        return next((it for it in (self.best(), answer) if self._is_average(it)), None)
+
+    def _is_average(self, number: int) -> bool:
+        """Tests whether the score of a line is an average. Of a chain it is not asked what each instance holds: all
+        that come after it."""
+        line = self.lines[number]
+        known = max(line.of_one, line.of_elements) * line.gain
+        is_of_many = line.kinds == (FIELD,) and line.with_value > FEW and not line.is_chain
+        return is_of_many and line.of_largest is None and line.part_came > 0 and self.scores[number] > known
 
     def _with_objects(self, of: int) -> List[int]:
         """Returns the lines about several instances that gained most of what a line did and hold no more than it."""

@@ -33,6 +33,7 @@ class ObjectShares:
     def __init__(self, probe: Probe, values: Sequence[FieldValue], table: HeldTable, first: int) -> None:
         self.probe, self.values, self.table, self.first = probe, values, table, first
         self.together = held_amount(probe, table, first)
+        self._names = probe.names()
         self._held = [0] * len(values)
         lines = list(self._lines())
         for amount, numbers in lines:
@@ -48,11 +49,10 @@ class ObjectShares:
     def _lines(self) -> Iterator[Tuple[int, List[int]]]:
         """Yields how much some of the objects hold together that no others do, in the dump's bytes, and these."""
         labels = range(self.first + 1, self.first + 1 + len(self.values))
-        names = self.probe.names()
         for each in self.table.sets_with(self.first):
             numbers = [label - labels.start for label in self.table.labels_of(each) if label in labels]
             if numbers:
-                yield self.probe.unit.of(self.table.total(each, names)), numbers
+                yield self.probe.unit.of(self.table.total(each, self._names)), numbers
 
     def amount(self, value: FieldValue) -> Amount:
         """Returns what one of the objects holds."""
@@ -64,6 +64,12 @@ class ObjectShares:
     def most(self, whole: Amount) -> float:
         """Returns the most that one of them holds, in percent of `whole`."""
         return max((self.probe.unit.percent(self._amount(it), whole) for it in self.heavy), default=0.0)
+
+    def part_of_largest(self, count: int) -> float:
+        """Returns the part of what all hold together that `count` of them hold by themselves, those that hold most so,
+        by the dump's bytes."""
+        whole = sum(self.probe.unit.of(self.table.total(it, self._names)) for it in self.table.sets_with(self.first))
+        return sum(sorted(self._nearest, reverse=True)[:count]) / max(1, whole)
 
     def heaviest(self, whole: Amount) -> List[Holding]:
         """Returns the objects that hold `OF_ONE` percent of `whole` or more, most of that by themselves, and nothing

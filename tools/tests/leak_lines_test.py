@@ -12,9 +12,9 @@ from heap_tools.line_order import NEARLY, lasting_gain
 from heap_tools.naming import Name
 from heap_tools.object_parts import Parts
 from heap_tools.reports import Amount
-from heap_tools.which_object import HoldingObject
+from heap_tools.which_object import HoldingObject, PartsOfField
 from tests.support.dump_writer import BYTE, DumpWriter
-from tests.support.marked import growth_of, held_by
+from tests.support.marked import growth_of, held_by, probe_of
 from tests.support.told_probe import Things, ToldGains, field
 
 ROOT, INBOX, TEXT = (
@@ -237,6 +237,67 @@ class TreeTest(unittest.TestCase):
             self.assertEqual(walks.call_count, 2 if is_asked else 1, (name, is_asked))
             if not is_asked:
                 self.assertEqual(lines.features[0].with_value_before, lines.features[0].instances_before)
+
+
+class Carts(DumpWriter):
+    """A static field names an array of carts, of which each has so many bytes in its field `items`. The second cart and
+    the third have the same bytes if they are `sharing`."""
+
+    def __init__(self, sizes: Sequence[int], sharing: bool = False) -> None:
+        super().__init__()
+        self.of_class(1, "shop/Shop", {"CARTS": 1000})
+        self.of_class(2, "shop/Cart", fields=["items"])
+        self.of_class(3, "[Lshop/Cart;")
+        self.array(1000, 3, *range(2000, 2000 + len(sizes)))
+        for number, size in enumerate(sizes):
+            self.instance(2000 + number, 2, 30_000 + (1 if sharing and number == 2 else number))
+            self.values(30_000 + number, BYTE, bytes(size))
+        self.root(1)
+
+
+class NewInstancesTest(unittest.TestCase):
+    """Lines about a field of many instances, of which some came."""
+
+    def answer(self, sizes: Sequence[int], later: Sequence[int]) -> Tuple[str, Optional[float]]:
+        """Returns the answer between two dumps with carts of these sizes, and what is known of the largest ones."""
+        probe = growth_of(Carts(sizes), Carts(later))
+        found = [held_by(probe, "shop/Shop.CARTS"), held_by(probe, "shop/Cart.items")]
+        lines = Lines(mock.Mock(found=found, steady=[]), probe)
+        lines.ask_for_objects()
+        return str(lines.sorted()[0].candidates[0]), lines.features[1].of_largest
+
+    def test_larger(self) -> None:
+        """If as many of the largest carts as came hold what was gained, an average over all carts shows nothing that
+        lasts: what came is held above them."""
+        holder, of_largest = self.answer([10] * 100, [10] * 100 + [500] * 12)
+        assert of_largest
+        self.assertEqual(holder, "static shop/Shop.CARTS")
+        self.assertAlmostEqual(of_largest, 6000 / 7000)
+
+    def test_all(self) -> None:
+        """If each cart gained as much, those that were there before gained most, whichever came."""
+        holder, of_largest = self.answer([10] * 100, [70] * 112)
+        assert of_largest
+        self.assertEqual(holder, "shop/Cart.items")
+        self.assertAlmostEqual(of_largest, 12 / 112)
+
+    def test_none_came(self) -> None:
+        """It is not asked if no cart came, or if the carts are few."""
+        self.assertEqual(self.answer([10] * 100, [70] * 100), ("shop/Cart.items", None))
+        self.assertEqual(self.answer([10] * 40, [70] * 50), ("shop/Cart.items", None))
+
+    def test_too_many(self) -> None:
+        """Of more carts than can be asked it is not known, and it is not asked again."""
+        with mock.patch("heap_tools.which_object.MOST_OBJECTS", 100):
+            holder, of_largest = self.answer([10] * 100, [10] * 100 + [500] * 12)
+        self.assertEqual((holder, of_largest), ("shop/Cart.items", 0.0))
+
+    def test_part_of_largest(self) -> None:
+        """What two hold only together is held by none of them."""
+        probe = probe_of(Carts([60, 20, 10, 30], sharing=True))
+        shares = PartsOfField(probe, held_by(probe, "shop/Cart.items")).shares
+        parts = [round(shares.part_of_largest(count), 3) for count in range(5)]
+        self.assertEqual(parts, [round(size / 110, 3) for size in (0, 60, 90, 90, 90)])
 
 
 if __name__ == "__main__":

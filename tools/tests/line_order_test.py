@@ -24,6 +24,7 @@ SPOKEN: Dict[str, Dict[str, Any]] = {
     "had": {"before": 400},
     "one": {"of_one": 0.9},
     "half": {"of_one": 0.6},
+    "largest": {"of_largest": 0.8},
     "elements": {"of_elements": 0.9},
     "unsteady": {"evenness": 0.0},
     "odd": {"evenness": 0.5},
@@ -42,6 +43,9 @@ rule 1, the largest gain: *static shop/A.a (600), static shop/B.b (400)
 rule 1, not what is large: *static shop/A.a (600), static shop/B.b (400 large)
 rule 1, new instances do not count: *static shop/A.a (400), shop/Order.text (10..110)
 rule 1, each of many gained, and some came: *shop/A.a (900 100..110), static shop/B.b (400)
+rule 1, each of many gained, but new ones may hold most: shop/A.a (900 100..110 largest), *static shop/B.b (400)
+rule 1, new ones hold most, and those before gained most: *shop/A.a (900 100..110 largest), static shop/B.b (99)
+rule 1, few came, which may hold most: *shop/A.a (900 2..8 null largest), static shop/B.b (400)
 rule 1, few came, which would have held nothing: *shop/A.a (900 2..8 null), static shop/B.b (400)
 rule 1, many came, of which few have a value: *shop/A.a (900 2..6/99 null), static shop/B.b (400)
 rule 1, many came, and many have a value: shop/A.a (900 2..65/99 null), *static shop/B.b (400)
@@ -311,6 +315,26 @@ class LineOrderTest(unittest.TestCase):
         ):
             amounts = list(itertools.accumulate([50, *steps]))
             self.assertAlmostEqual(evenness(amounts, times), wanted, 2, f"{steps} {times}")
+
+    def test_to_ask_of_new(self) -> None:
+        """What new instances can hold is asked of the best line and the answer, if their scores are averages over many
+        instances of which some came, and nothing else shows what lasts."""
+        for text, asked in (
+            ("*shop/A.a (900 100..110), static shop/B.b (400)", "shop/A.a"),
+            ("static shop/A.ALL > *shop/A.a (900 100..110)", "shop/A.a"),
+            ("java/util/M.m (900 100..110), *static shop/B.b (400)", "java/util/M.m"),
+            ("*shop/A.a (900 100..110 largest), static shop/B.b (99)", None),
+            ("*shop/A.a (900 100..100), static shop/B.b (400)", None),
+            ("*shop/A.a (900 50..64), static shop/B.b (400)", None),
+            ("*shop/A.a (900 100..110 one), static shop/B.b (400)", None),
+            ("*shop/A.a (900 100..110 chain), static shop/B.b (400)", None),
+            ("*static shop/B.b, shop/A.a (900 100..110)", None),
+            ("*shop/Order.text (10..110)", None),
+        ):
+            order, names = Row.of(f"asked: {text}").order()
+            found = order.to_ask_of_new()
+            self.assertEqual(None if found is None else names[found], asked, text)
+        self.assertIsNone(LineOrder([], lambda upper, lower: False, GROWTH).to_ask_of_new())
 
     def test_part_gained(self) -> None:
         """What moved is seen by the classes that have a tenth or more of the objects that were gained."""
