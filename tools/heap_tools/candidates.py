@@ -3,9 +3,10 @@
 import functools
 from collections import defaultdict
 from dataclasses import dataclass, field
-from typing import Callable, Dict, FrozenSet, Iterable, Iterator, List, NamedTuple, Optional, Sequence, Set, Tuple
+from typing import Callable, Counter, Dict, FrozenSet, Iterable, Iterator, List, NamedTuple, Optional
+from typing import Sequence, Set, Tuple
 
-from heap_tools.class_names import family, is_own
+from heap_tools.class_names import class_pattern_of, family, is_own
 from heap_tools.heap_dump import Field, HeapDump, Root
 from heap_tools.heap_objects import HeapObjects
 from heap_tools.hprof_format import OBJECT
@@ -36,10 +37,11 @@ Key = Tuple[str, str]
 
 @dataclass(frozen=True, eq=False)
 class Candidate:
-    """A field of all classes of one name, a local variable of all methods of one name, or all threads of one name.
-    `count` is the number of its holders: of the instances that have the field, or of the threads. `places` are those of
-    its references. `classes` are the families of the instances. `is_collection`: it is a field of a collection, which
-    says nothing of what it is for."""
+    """A field of all classes of one name, a static field of all classes of a pattern of names, a local variable of all
+    methods of one name, or all threads of one name or of a pattern. `count` is the number of its holders: of the
+    instances that have the field, of the classes that have a value in the static field, or of the threads. `places` are
+    those of its references. `classes` are the families of the instances. `is_collection`: it is a field of a
+    collection, which says nothing of what it is for."""
 
     kind: str
     name: str
@@ -119,6 +121,7 @@ class Candidates:
             if report.amount(family(dump.names[class_id])).objects:
                 self._add_fields(class_id)
         self._every_field: Optional[List[Candidate]] = None
+        self._by_pattern: Optional[Dict[str, List[DumpedField]]] = None
         self._names: Optional[Dict[int, str]] = None
         self._threads: Optional[List[Candidate]] = None
         self._locals: Optional[List[Candidate]] = None
@@ -151,9 +154,10 @@ class Candidates:
     def places(self, key: Key) -> Sequence[Place]:
         """Returns the places of the references of what is called `key`: none if the dump does not have it."""
         kind, name = key
-        if kind in (STATIC, FIELD):
-            found = (self._statics if kind == STATIC else self._fields).get(name)
-            return found.places if found else ()
+        if kind == STATIC:
+            return [place for each in self._of_static(name) for place in each.places]
+        if kind == FIELD:
+            return self._fields[name].places if name in self._fields else ()
         root = self._root(key)
         return root.places if root else ()
 
@@ -164,9 +168,27 @@ class Candidates:
         return [it for owner, it in zip(found.declared_by, found.places) if owner == class_id] if found else []
 
     def values_of_static(self, key: Key) -> List[int]:
-        """Returns the identifiers in the static field that is called `key`, of all classes of one name."""
-        found = self._statics.get(key[1])
-        return [each for each in found.values if each] if found else []
+        """Returns the identifiers in the static field that is called `key`, of all classes of its name or pattern."""
+        return [value for each in self._of_static(key[1]) for value in each.values if value]
+
+    def _of_static(self, name: str) -> List[DumpedField]:
+        """Returns the static fields that `name` means: that of classes of one name, or those of a pattern of names."""
+        if name in self._statics:
+            return [self._statics[name]]
+        return self._statics_by_pattern().get(name, []) if "*" in name else []
+
+    def _statics_by_pattern(self) -> Dict[str, List[DumpedField]]:
+        """Returns the static fields of classes whose names have a pattern, by the field's name with that. What the
+        virtual machine keeps with a class is no place where a program puts something."""
+        if self._by_pattern is None:
+            self._by_pattern = {}
+            called = functools.lru_cache(maxsize=1)(class_pattern_of)  # the fields of a class follow each other
+            for name, of_name in self._statics.items():
+                owner, _, field_name = name.rpartition(".")
+                pattern = called(owner)
+                if pattern != owner and not field_name.startswith("<"):
+                    self._by_pattern.setdefault(f"{pattern}.{field_name}", []).append(of_name)
+        return self._by_pattern
 
     def instances(self, key: Key, report: Report) -> int:
         """Returns how many instances what is called `key` has if `report` is that of the dump."""
@@ -174,7 +196,7 @@ class Candidates:
         if kind == FIELD:
             return self._count(self._fields[name].families, report) if name in self._fields else 0
         if kind == STATIC:
-            return self._statics[name].led if name in self._statics else 0
+            return sum(each.led for each in self._of_static(name))
         found = self._root(key)
         return found.count if found else 0
 
@@ -201,6 +223,25 @@ class Candidates:
         found = [Candidate(STATIC, name, it.led, it.places) for name, it in self._statics.items() if it.led]
         return sorted(found, key=lambda each: (each.is_of_machine, each.count, each.name))
 
+    def statics_alike(self) -> List[Candidate]:
+        """Returns the static fields of classes alike, by the pattern of the names of these: of one loader several have
+        such names, and a value in the field. Then it is that of all classes of the pattern, as a name is that of all
+        classes that have it."""
+        found = []
+        for name, of_pattern in self._statics_by_pattern().items():
+            if len(of_pattern) > 1 and name not in self._statics and self._are_of_one_loader(of_pattern):
+                places = [place for each in of_pattern for place in each.places]
+                found.append(Candidate(STATIC, name, sum(each.led for each in of_pattern), places))
+        return sorted(found, key=lambda each: (each.count, each.name))
+
+    def _are_of_one_loader(self, fields: Sequence[DumpedField]) -> bool:
+        """Tests whether a loader has classes of several names with a value in these static fields."""
+        classes = self.dump.classes
+        loaders: Counter[int] = Counter()
+        for it in fields:
+            loaders.update({classes[owner].loader for owner, value in zip(it.declared_by, it.values) if value})
+        return max(loaders.values(), default=0) > 1
+
     def fields(self, report: Report) -> List[Candidate]:
         """Returns the fields of classes with reachable instances. Those with few holders come first."""
         found = []
@@ -220,14 +261,15 @@ class Candidates:
         return self._every_field
 
     def few(self) -> List[Candidate]:
-        """Returns what may hold something together with others: static fields, local variables, threads, and fields of
-        few instances that are not those of collections. What the virtual machine keeps with a class is no place where
-        a program puts something."""
+        """Returns what may hold something together with others: static fields, also those of classes alike, local
+        variables, threads, and fields of few instances that are not those of collections. What the virtual machine
+        keeps with a class is no place where a program puts something."""
         alike = self.threads_alike()
         known = {place for each in alike for place in each.places}
         threads = [*alike, *(each for each in self.threads() if known.isdisjoint(each.places))]
         fields = [each for each in self.every_field() if each.count <= FEW and not each.is_collection]
-        return [each for each in [*self.statics(), *self.locals(), *threads, *fields] if not each.is_of_machine]
+        statics = [*self.statics(), *self.statics_alike()]
+        return [each for each in [*statics, *self.locals(), *threads, *fields] if not each.is_of_machine]
 
     def kin(self) -> Dict[Key, List[Candidate]]:
         """Returns the fields that each class declares, and likewise the static fields, by kind and class."""

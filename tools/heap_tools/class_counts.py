@@ -1,10 +1,9 @@
 """Of which loaders there are more classes: a loader that is kept keeps its classes, and generated classes pile up."""
 
-import re
 from collections import defaultdict
 from typing import Counter, Dict, List, NamedTuple, Set
 
-from heap_tools.class_names import family
+from heap_tools.class_names import class_pattern_of
 from heap_tools.heap_dump import HeapDump
 from heap_tools.heap_objects import HeapObjects
 from heap_tools.humanize import counted
@@ -84,9 +83,3 @@ def usual(after: Counter[str], before: Counter[str]) -> str:
     more = after - before
     pattern, count = more.most_common(1)[0]
     return pattern if 2 * count >= sum(more.values()) else ""
-
-
-def class_pattern_of(name: str) -> str:
-    """Returns the name of a class with `*` for each number in it, such as `com/sun/proxy/$Proxy*`, but for those by
-    which a character is spelled."""
-    return re.sub(r"(\\x[0-9a-f]{2})|[0-9]+", lambda it: it[1] or "*", family(name))

@@ -38,6 +38,11 @@ security source swing tools xml/internal
 )
 #: What the names of its other classes begin with.
 JDK = ("java/", "jdk/", "sun/", "netscape/", "org/ietf/jgss/", "org/jcp/xml/", "org/w3c/dom/", "org/xml/sax/", *COM_SUN)
+#: What varies in the names of classes alike: numbers, and what generators add after `$$`, which is the hexadecimal
+#: digits of a hash, and a number if two classes have the same hash (CGLIB, and with it Spring and Guice). A byte that
+#: the report spells as `\x` and two digits does not vary.
+DIGITS, ADDED = frozenset("0123456789"), "$$"
+VARYING = re.compile(r"(\\x[0-9a-f]{2})|(?<=\$\$)[0-9a-f]+(_[0-9]+)?(?![0-9A-Za-z_])|[0-9]+")
 #: The row of a report for the classes themselves. A class may have a name that begins with `<`, too.
 CLASSES = "<class>"
 
@@ -63,6 +68,15 @@ def family(name: str) -> str:
     if "+0x" not in name:  # as in most rows of each report
         return name
     return re.sub(r"(\$[0-9]+)?\+0x[0-9a-f]+", "", name, count=1)
+
+
+def class_pattern_of(name: str) -> str:
+    """Returns the name of a class with `*` for what varies in the names of classes alike: `com/sun/proxy/$Proxy12` is
+    `com/sun/proxy/$Proxy*`, `shop/View$$EnhancerByCGLIB$$3f2a91c0` is `shop/View$$EnhancerByCGLIB$$*`."""
+    name = family(name)
+    if DIGITS.isdisjoint(name) and ADDED not in name:  # as most are: this takes a twentieth of the time
+        return name
+    return VARYING.sub(lambda found: found[1] or "*", name)
 
 
 def element(name: str) -> str:

@@ -4,7 +4,7 @@ import os
 import re
 from typing import List, NamedTuple, Optional, Tuple
 
-from heap_tools.candidates import LOCAL, THREAD, THREADS, Candidates, Key
+from heap_tools.candidates import LOCAL, STATIC, THREAD, THREADS, Candidates, Key
 from heap_tools.class_lookup import why_no_field, why_unknown
 from heap_tools.class_names import families, family, shown, spellings
 from heap_tools.faults import WRONG_USE, Fault
@@ -85,6 +85,9 @@ def _places_of_field(entry: str, candidates: Candidates) -> Tuple[List[Place], s
     none."""
     dump, (name, _, field) = candidates.dump, field_of(entry).rpartition(".")
     class_ids = classes_named(name, dump)
+    alike = candidates.places((STATIC, field_of(entry))) if entry.startswith(STATIC_WORD) and not class_ids else ()
+    if alike:
+        return [*alike], ""
     wanted = {field, shown(os.fsencode(field))}
     fields = [(it, each) for it in class_ids for each in dump.classes[it].fields if each.name in wanted]
     if entry.startswith(STATIC_WORD):

@@ -27,10 +27,12 @@ class Search:
         self.all = 0
 
     def find(self) -> None:
-        """Finds static fields, local variables, threads and fields; threads of names that are alike if no other thread
-        is found, nor a local variable."""
+        """Finds static fields, local variables, threads and fields; static fields of classes alike if none of them is
+        found alone, and threads of names that are alike if no other thread is found, nor a local variable."""
         candidates = self.probe.candidates
         self.look_in(candidates.statics())
+        alone = {place for held in self.found for each in held.candidates for place in each.places}
+        self.look_in([each for each in candidates.statics_alike() if alone.isdisjoint(each.places)])
         known = len(self.found)
         self.look_in(candidates.locals())
         self.look_in(candidates.threads())

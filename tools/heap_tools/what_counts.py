@@ -109,7 +109,8 @@ def first_groups(side: DumpSide) -> List[Several]:
     with all fields, the fields of one kind that a class declares, and those that a class with few instances has."""
     candidates = side.candidates
     statics, fields, threads = candidates.statics(), candidates.every_field(), candidates.all_threads()
-    single = [*statics, *candidates.locals(), *candidates.threads(), *candidates.threads_alike(), *fields]
+    alike = [*candidates.statics_alike(), *candidates.threads_alike()]
+    single = [*statics, *candidates.locals(), *candidates.threads(), *alike, *fields]
     few = candidates.few()
     every: List[Several] = [
         [threads],

@@ -101,6 +101,43 @@ class CandidatesTest(unittest.TestCase):
             found = self.candidates(dump).threads_alike()
             self.assertEqual([(each.name, each.count) for each in found], wanted)
 
+    def classes(self, *names: str, loader: int = 0, field: str = "ALL") -> Application:
+        """Returns a dump in which each of some more classes has a static field that is not null."""
+        dump = Application()
+        for number, name in enumerate(names, 50):
+            dump.of_class(number, name, {field: 300 + number}, loader=loader * number)
+        return dump
+
+    def test_statics_alike(self) -> None:
+        """Static fields of classes of one loader whose names differ only in numbers or in what generators add are one
+        candidate. A class of a kind of its own is none, nor are hidden classes, which have one name."""
+        view = "shop/View$$EnhancerByCGLIB$$"
+        for names, wanted in (
+            ([f"{view}3f2a91c0", f"{view}facade", f"{view}3f2a91c0_2"], [(f"{view}*.ALL", 3)]),
+            (["shop/$Proxy1", "shop/$Proxy22", "shop/Other1"], [("shop/$Proxy*.ALL", 2)]),
+            ([f"{view}3f2a91c0", "shop/$Proxy1", "shop/View"], []),
+            (["shop/Viewabc", "shop/Viewdef", "shop/View$abc", "shop/View$def"], []),
+            (["shop/Bus$$Lambda$1+0x00aa", "shop/Bus$$Lambda$2+0x00ab"], []),
+            (["shop/A*", "shop/A1", "shop/A2"], []),
+        ):
+            found = self.candidates(self.classes(*names)).statics_alike()
+            self.assertEqual([(each.name, each.count) for each in found], wanted, names)
+        proxies = "shop/$Proxy1", "shop/$Proxy2"
+        self.assertEqual(self.candidates(self.classes(*proxies, loader=1)).statics_alike(), [])
+        self.assertEqual(self.candidates(self.classes(*proxies, field="<init_lock>")).statics_alike(), [])
+
+    def test_alike_in_other_dumps(self) -> None:
+        """In other dumps classes alike are called by their pattern, however many there are."""
+        known = self.candidates(self.classes("shop/$Proxy1", "shop/$Proxy2"))
+        (alike,) = known.statics_alike()
+        self.assertEqual((str(alike), alike.is_own), ("static shop/$Proxy*.ALL", True))
+        self.assertEqual((known.instances(alike.key, Report()), known.values_of_static(alike.key)), (2, [350, 351]))
+        self.assertEqual([*known.places(alike.key)], [*alike.places])
+        self.assertEqual(self.named(known.few())[1:4], [*self.named(known.statics())[1:], str(alike)])
+        earlier = self.candidates(self.classes("shop/$Proxy7"))
+        self.assertEqual((earlier.instances(alike.key, Report()), [*earlier.places(alike.key)]), (1, ["object 50 4"]))
+        self.assertFalse(self.candidates(Application()).places(alike.key))
+
     def test_running(self) -> None:
         """Local variables of all methods, or of those of the JDK."""
         dump = Application()
@@ -221,7 +258,7 @@ class CandidatesTest(unittest.TestCase):
         ):
             self.assertEqual(known.places(key), wanted, key)
         for kind in (STATIC, FIELD, LOCAL, THREAD):
-            self.assertEqual(known.places((kind, "other")), ())
+            self.assertFalse(known.places((kind, "other")))
         self.assertEqual(known.values_of_static((STATIC, "shop/Order.FIRST")), [300])
 
     def test_side(self) -> None:

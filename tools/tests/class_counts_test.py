@@ -2,7 +2,7 @@
 
 import unittest
 
-from heap_tools.class_counts import MACHINE_LOADER, MANY, grown_class_counts, class_pattern_of
+from heap_tools.class_counts import MACHINE_LOADER, MANY, grown_class_counts
 from heap_tools.heap_dump import HeapDump
 from tests.support.dump_writer import DumpWriter
 
@@ -45,15 +45,6 @@ class ClassCountsTest(unittest.TestCase):
         """A few classes more, as any program has, are not said, and nor are fewer."""
         self.assertEqual(self.said(dump_of(1, 20), dump_of(1, 19 + MANY)), [])
         self.assertEqual(self.said(dump_of(1, 900), dump_of(1, 20)), [])
-
-    def test_patterns(self) -> None:
-        """Numbers are left out, but for those that spell a character, and hidden classes have one name."""
-        for name, wanted in (
-            ("com/sun/proxy/$Proxy12", "com/sun/proxy/$Proxy*"),
-            ("a/B$$Lambda$14+0x0000aa", "a/B$$Lambda"),
-            ("a\\x1bb77", "a\\x1bb*"),
-        ):
-            self.assertEqual(class_pattern_of(name), wanted)
 
 
 if __name__ == "__main__":

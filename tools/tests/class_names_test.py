@@ -72,6 +72,25 @@ class FunctionsTest(unittest.TestCase):
         ):
             self.assertEqual(class_names.family(name), wanted)
 
+    def test_pattern(self) -> None:
+        """Numbers vary in the names of classes alike, and hexadecimal digits after `$$`, but not those that spell a
+        character. Hidden classes have one name."""
+        for name, wanted in (
+            ("com/sun/proxy/$Proxy12", "com/sun/proxy/$Proxy*"),
+            ("a/B$$Lambda$14+0x0000aa", "a/B$$Lambda"),
+            ("a\\x1bb77", "a\\x1bb*"),
+            ("shop/View$$EnhancerByCGLIB$$3f2a91c0", "shop/View$$EnhancerByCGLIB$$*"),
+            ("shop/View$$EnhancerByCGLIB$$3f2a91c0_2", "shop/View$$EnhancerByCGLIB$$*"),
+            (
+                "shop/View$$EnhancerByGuice$$facade$$FastClassByGuice$$a1",
+                "shop/View$$EnhancerByGuice$$*$$FastClassByGuice$$*",
+            ),
+            ("shop/View$$SpringCGLIB$$0", "shop/View$$SpringCGLIB$$*"),
+            ("shop/View$abc", "shop/View$abc"),
+            ("shop/View$$abcView", "shop/View$$abcView"),
+        ):
+            self.assertEqual(class_names.class_pattern_of(name), wanted)
+
     def test_own(self) -> None:
         """Classes of the JDK, arrays of them and of numbers, and class objects are not own."""
         jdk = "java/lang/String jdk/internal/A sun/nio/ch/A netscape/A org/ietf/jgss/A org/w3c/dom/A org/jcp/xml/dsig/A"

@@ -30,8 +30,10 @@ grown or jmap shows it, in quotes if it has a `$`; letters beyond ASCII may
 stand as they are, and dots in place of slashes. Without `$14+0x..` a hidden
 class means all of that name. A line of holders or leaks may be pasted, or what
 it ends with: `static A.x` means only a static field, `together static A.x, B.y`
-both fields, `A.x > B.y` means B.y, `local A.f` the local variables of a method,
-and `thread "NAME"` or `threads "NAME-*"` all that threads of such names hold.
+both fields, `A.x > B.y` means B.y, `static A$$*.x` the static fields of classes
+whose names differ only in that place, `local A.f` the local variables of a
+method, and `thread "NAME"` or `threads "NAME-*"` all that threads of such names
+hold.
 
 It runs heapmark on DUMP, then retained, which finds what is not reachable
 without these fields, and shows that as grown does between two dumps; grown

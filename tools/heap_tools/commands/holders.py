@@ -40,11 +40,12 @@ with the fewest instances: your own cache or queue, then the fields of the
 containers in it; then own fields, threads, and fields of the JDK. Classes with
 the same name are added together, and so are hidden classes, such as those of
 lambdas, whose names differ only in a number and an address (`$1+0x..`). Then a
-static field has one instance for each of these classes. A line `together` names
-static fields that hold the objects only together. The share is one of objects,
-that of an array class and of the whole heap one of bytes. A line on standard
-error says how much threads or the virtual machine hold without any static
-field.
+static field has one instance for each of these classes. So has one of classes
+alike, `static A$$*.x`, whose names differ in numbers or hexadecimal digits: it
+is tried if none of them holds enough alone. A line `together` names static
+fields that hold the objects only together. The share is one of objects, that of
+an array class and of the whole heap one of bytes. A line on standard error says
+how much threads or the virtual machine hold without any static field.
 
 One run of retained finds what each field, local variable and thread holds: what
 is not reachable without it. Three lists hold only what is held anyway, and do

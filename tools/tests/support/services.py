@@ -331,3 +331,14 @@ def referents(count: int) -> Service:
         dump.instance(number, 6, number - 600 + 5001 if number < 600 + count else 0)
         dump.root(number)
     return dump
+
+
+def generated(count: int, size: int = 100) -> Service:
+    """A loader has `count` classes with names as CGLIB makes them, whose static field leads to `size` bytes each."""
+    dump = Service()
+    for number in range(count):
+        name = f"shop/View$$EnhancerByCGLIB$${1_000_003 * (number + 1):x}"
+        dump.of_class(10_000 + number, name, {"CALLBACKS": 20_000 + number})
+        dump.values(20_000 + number, BYTE, bytes(size))
+        dump.root(10_000 + number)
+    return dump

@@ -71,6 +71,10 @@ class ToldCandidates:
         """Returns the static fields."""
         return [each for each in self.every if each.kind == STATIC]
 
+    def statics_alike(self) -> List[Candidate]:
+        """Returns nothing."""
+        return []
+
     def fields(self, report: Report) -> List[Candidate]:
         """Returns the fields."""
         return [each for each in self.every if each.kind == FIELD]
