@@ -7,9 +7,14 @@ from heap_tools.class_names import class_pattern_of
 from heap_tools.heap_dump import HeapDump
 from heap_tools.heap_objects import HeapObjects
 from heap_tools.humanize import counted
+from heap_tools.reports import Report
 
 #: The least number of classes more that is said: a program loads some hundred of them as it goes on, each once.
 MANY = 100
+#: From how many loaders of one class on it is said of one dump that they are many, and up to how many classes each, on
+#: average. A loader for each module of a server is one of some hundred, and has dozens of classes; what makes a class
+#: at run time, such as a script or a template, needs one loader with one class, and perhaps one within that.
+MANY_LOADERS, FEW_CLASSES = 1000, 2
 #: The loader of the JDK's own classes, which is no object.
 MACHINE_LOADER = "the virtual machine"
 
@@ -51,6 +56,29 @@ def grown_class_counts(first: HeapDump, last: HeapDump) -> List[ClassCount]:
             counts = classes.number, len(was.loaders), len(classes.loaders)
             found.append(ClassCount(loader, was.number, *counts, usual(classes.patterns, was.patterns)))
     return sorted(found, key=lambda each: (-each.more, each.loader))
+
+
+def many_loaders_words(dump: HeapDump, report: Report) -> List[str]:
+    """Returns in words of which classes a dump has `MANY_LOADERS` loaders or more with few classes each, those with
+    most first. `report` is that of the dump: they have to be reachable. Looks for the loaders only if there are so many
+    in all."""
+    if len({each.loader for each in dump.classes.values()}) < MANY_LOADERS:
+        return []
+    many = [
+        (name, it)
+        for name, it in _by_loader(dump).items()
+        if MANY_LOADERS <= min(len(it.loaders), report.amount(name).objects)
+        and it.number <= FEW_CLASSES * len(it.loaders)
+    ]
+    return [_loaders_words(name, it) for name, it in sorted(many, key=lambda each: (-len(each[1].loaders), each[0]))]
+
+
+def _loaders_words(name: str, found: "_Classes") -> str:
+    """Returns in words how many loaders of one class there are, and what most of their classes are called."""
+    pattern = usual(found.patterns, Counter())
+    most = f", most like {pattern}" if pattern else ""
+    classes = counted(found.number, "class")
+    return f"{len(found.loaders):,} loaders {name} have {classes}{most}: metadata of each is outside the heap"
 
 
 class _Classes:

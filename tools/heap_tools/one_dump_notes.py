@@ -1,17 +1,20 @@
-"""What is said beside the lines of one dump: how full the heap is, which object holds most, what is in it, and which
-thread ran out of memory."""
+"""What is said beside the lines of one dump: how full the heap is, which object holds most, what is in it, which thread
+ran out of memory and what it asked for, and what else there is much of: threads and loaders."""
 
 from dataclasses import dataclass
 from typing import List, NamedTuple, Optional, Sequence
 
 from heap_tools.candidates import LOCAL
+from heap_tools.class_counts import many_loaders_words
 from heap_tools.direct_buffers import DirectMemory, direct_memory
 from heap_tools.heap_capacity import heap_capacity
 from heap_tools.humanize import counted, size
 from heap_tools.leak_notes import captured_words, elements_words, objects_words
+from heap_tools.memory_asked import asked_words
 from heap_tools.omissions import WHY_UNREACHABLE
 from heap_tools.one_dump import HeapAnswer
 from heap_tools.reports import Row
+from heap_tools.thread_counts import many_threads_words
 from heap_tools.thread_stacks import ThreadPlace, threads_in, threads_that_ran_out
 
 #: From which part of what counts on, in percent, it is said what else there is: what is unreachable, what weak
@@ -51,8 +54,10 @@ def notes_of_one(answer: HeapAnswer) -> HeapNotes:
     """Returns what is to be said beside the lines of an answer."""
     dump = answer.question.dump
     direct = direct_memory(dump)
-    others = [captured_words(answer.lines), direct_words(answer, direct), unreachable_words(answer)]
-    ran_out, capacity = threads_that_ran_out(dump), heap_capacity(dump)
+    ran_out, capacity, report = threads_that_ran_out(dump), heap_capacity(dump), answer.question.runs.report
+    others = [asked_words(dump, place, report.reachable.bytes, capacity) for place in ran_out]
+    others += [captured_words(answer.lines), direct_words(answer, direct), unreachable_words(answer)]
+    others += [*many_loaders_words(dump, report), *many_threads_words(dump)]
     return HeapNotes(
         capacity, ran_out, local_places(answer), direct, weakly_held_in_one(answer), list(filter(None, others))
     )

@@ -15,6 +15,9 @@ FRAMES = 5
 #: How many characters of a thread's name are shown, and of a frame: a program may make names of any length, and a line
 #: of a message has to be read.
 LONGEST_NAME, LONGEST_FRAME = 100, 200
+#: From how many threads of one pattern on it is said of one dump that they are many. Pools of servers have some hundred
+#: at most: those of Tomcat and Jetty 200, if nobody says otherwise.
+MANY_THREADS = 500
 #: What threads with no name, or an empty one, are called.
 NAMELESS = "without a name"
 
@@ -51,12 +54,20 @@ class ThreadCount(NamedTuple):
         begin = self.own or 0
         return [method_of(frame) for frame in self.stack[begin : begin + FRAMES]]
 
-    def __str__(self) -> str:
-        where = "it is" if self.after == 1 else "most are"
-        named = f'"{self.pattern}"' if self.pattern else NAMELESS
-        stack = f"; {where} in {', '.join(self.frames)}" if self.stack else ""
+    @property
+    def named(self) -> str:
+        """The pattern in quotes, or words for threads without a name."""
+        return f'"{self.pattern}"' if self.pattern else NAMELESS
+
+    @property
+    def where(self) -> str:
+        """The stack in words that follow others, empty if there is none."""
+        are = "it is" if self.after == 1 else "most are"
         innermost = f" (innermost: {method_of(self.stack[0])})" if self.own else ""
-        return f"threads {named}: {self.before}, then {self.after}{stack}{innermost}"
+        return f"; {are} in {', '.join(self.frames)}{innermost}" if self.stack else ""
+
+    def __str__(self) -> str:
+        return f"threads {self.named}: {self.before}, then {self.after}{self.where}"
 
 
 def method_of(frame: Frame) -> str:
@@ -82,6 +93,16 @@ def grown_thread_counts(first: HeapDump, last: HeapDump) -> List[ThreadCount]:
         if len(threads) > was:
             found.append(ThreadCount(pattern, was, len(threads), _usual_stack(last, threads)))
     return sorted(found, key=lambda each: (each.before - each.after, each.pattern))
+
+
+def many_threads_words(dump: HeapDump) -> List[str]:
+    """Returns in words of which patterns a dump has `MANY_THREADS` threads or more, most of them first. Reads the names
+    only if there are so many in all."""
+    every = _by_pattern(dump) if number_of_threads(dump) >= MANY_THREADS else {}
+    many = [(pattern, threads) for pattern, threads in every.items() if len(threads) >= MANY_THREADS]
+    many.sort(key=lambda each: (-len(each[1]), each[0]))
+    found = [ThreadCount(pattern, 0, len(threads), _usual_stack(dump, threads)) for pattern, threads in many]
+    return [f"{it.after:,} threads {it.named}, each with a stack outside the heap{it.where}" for it in found]
 
 
 def _by_pattern(dump: HeapDump) -> Dict[str, List[int]]:

@@ -17,12 +17,13 @@ METHODS = 3
 
 
 class ThreadPlace(NamedTuple):
-    """Where a thread is: its name as it is shown, its methods, the innermost first, and how many of them are before the
-    first own one, 0 if none is own."""
+    """Where a thread is: its name as it is shown, its methods, the innermost first, how many of them are before the
+    first own one, 0 if none is own, and its serial number in the dump."""
 
     name: str
     methods: List[str]
     before_own: int
+    thread: int
 
     @property
     def shown(self) -> List[str]:
@@ -60,9 +61,9 @@ def _places(dump: HeapDump, begin: Callable[[List[Frame]], int]) -> List[ThreadP
     begins = {thread: begin(stack) if stack else -1 for thread, stack in stacks.items()}
     found = {thread: stacks[thread][number:] for thread, number in begins.items() if number >= 0}
     names = HeapObjects(dump).thread_names() if found else {}
-    return [_place(printable(names.get(thread, "")), stack) for thread, stack in found.items()]
+    return [_place(thread, printable(names.get(thread, "")), stack) for thread, stack in found.items()]
 
 
-def _place(name: str, stack: List[Frame]) -> ThreadPlace:
+def _place(thread: int, name: str, stack: List[Frame]) -> ThreadPlace:
     own = next((number for number, frame in enumerate(stack) if is_own(frame.class_name)), 0)
-    return ThreadPlace(name, [method_words(frame) for frame in stack], own)
+    return ThreadPlace(name, [method_words(frame) for frame in stack], own, thread)

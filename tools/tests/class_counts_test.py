@@ -2,8 +2,16 @@
 
 import unittest
 
-from heap_tools.class_counts import MACHINE_LOADER, MANY, grown_class_counts
+from heap_tools.class_counts import (
+    FEW_CLASSES,
+    MACHINE_LOADER,
+    MANY,
+    MANY_LOADERS,
+    grown_class_counts,
+    many_loaders_words,
+)
 from heap_tools.heap_dump import HeapDump
+from heap_tools.reports import Amount, Report, Row
 from tests.support.dump_writer import DumpWriter
 
 
@@ -45,6 +53,22 @@ class ClassCountsTest(unittest.TestCase):
         """A few classes more, as any program has, are not said, and nor are fewer."""
         self.assertEqual(self.said(dump_of(1, 20), dump_of(1, 19 + MANY)), [])
         self.assertEqual(self.said(dump_of(1, 900), dump_of(1, 20)), [])
+
+    def test_many_loaders(self) -> None:
+        """Of one dump it is said if very many loaders of one class are reachable that have hardly more than a class
+        each."""
+        every = MANY_LOADERS
+        said = f"{every:,} loaders shop/Loader have {every:,} classes, most like shop/Plugin*: metadata of each is outside the heap"
+        for loaders, classes, reachable, wanted in (
+            (every, 1, every, [said]),
+            (every, FEW_CLASSES, every, [said.replace(" 1,000 classes", f" {every * FEW_CLASSES:,} classes")]),
+            (every, FEW_CLASSES + 1, every, []),
+            (every, 1, every - 1, []),
+            (every - 1, 1, every, []),
+        ):
+            report = Report([Row("shop/Loader", Amount(reachable, 0))])
+            found = many_loaders_words(dump_of(loaders, classes), report)
+            self.assertEqual(found, wanted)
 
 
 if __name__ == "__main__":

@@ -6,7 +6,7 @@ import unittest
 
 from tests.support.dump_writer import BYTE
 from tests.support.outline import Outline
-from tests.support.services import buffers, cache, finalizers, handler, of_customer
+from tests.support.services import add_capacity, buffers, cache, finalizers, handler, of_customer
 from tests.support.tool_test import ToolTest
 
 SECOND = "leaks: one dump shows what is held, not what is more than usual: a second one, taken later, shows that"
@@ -116,6 +116,13 @@ class LeaksOfOneTest(ToolTest):
         dump.write("oom.hprof")
         said = self.ran("oom.hprof").said
         self.assertIn('leaks: memory ran out in thread "http-0" in shop/Handler.handle, shop/Handler.serve\n', said)
+        self.assertNotIn("of the heap is in use", said)
+        add_capacity(dump, 20_000)
+        dump.write("large.hprof")
+        said = self.ran("large.hprof").said
+        self.assertIn(
+            "leaks: only 22% of the heap is in use: [Ljava/lang/Object;.grow asked for one array that is", said
+        )
 
     def test_other_memory(self) -> None:
         """What weak references hold, direct buffers, and what is unreachable: if it is much."""

@@ -14,8 +14,10 @@ from heap_tools.thread_counts import (
     FRAMES,
     LONGEST_FRAME,
     LONGEST_NAME,
+    MANY_THREADS,
     ThreadCount,
     grown_thread_counts,
+    many_threads_words,
     pattern_of,
     shown_name,
 )
@@ -67,6 +69,15 @@ class ThreadCountsTest(unittest.TestCase):
             'threads "http-*": 1, then 3',
         ]
         self.assertEqual(self.grown(["main", "report-7", "http-1"], after), wanted)
+
+    def test_many_of_one_dump(self) -> None:
+        """Of one dump it is said of which pattern there are very many threads."""
+        names = [*(f"report-{number}" for number in range(MANY_THREADS)), *(f"http-{number}" for number in range(9))]
+        said = f'{MANY_THREADS} threads "report-*", each with a stack outside the heap; most are in '
+        found = many_threads_words(self.read(threads(names)))
+        self.assertEqual(found, [f"{said}shop/Queue.take, shop/Queue.run"])
+        self.assertEqual(many_threads_words(self.read(threads(names[1:]))), [])
+        self.assertEqual(many_threads_words(self.read(threads(names[:9]))), [])
 
     def test_one(self) -> None:
         """What one thread is in, most are not said to be in."""

@@ -1,8 +1,9 @@
 """Small dumps of services that leak beside a catalog."""
 
+import struct
 from typing import Sequence
 
-from tests.support.dump_writer import BYTE, DumpWriter, word
+from tests.support.dump_writer import BYTE, LONG, OBJECT, DumpWriter, word
 
 MINUTE = 60000
 
@@ -246,6 +247,26 @@ def add_properties(dump: DumpWriter, command: str) -> None:
         for at, text in zip((key, value), pair):
             add_text(dump, at, text)
     dump.root(51)
+
+
+def add_capacity(dump: DumpWriter, capacity: int, key: str = "java.home") -> None:
+    """Writes how many bytes the heap may have: what direct buffers may, with one property of the name `key`."""
+    fields = [
+        (dump.text("directMemory"), LONG, struct.pack(">Q", capacity)),
+        (dump.text("savedProps"), OBJECT, dump.form.spell([90800])),
+    ]
+    dump.loaded(60, "jdk/internal/misc/VM")
+    dump.heap += dump.form.named_class_dump(60, (0, 0), fields, [])
+    dump.of_class(61, "java/util/HashMap", fields=["table"])
+    dump.of_class(62, "[Ljava/util/HashMap$Node;")
+    dump.of_class(63, "java/util/HashMap$Node", fields=["intHash", "key", "value", "next"])
+    dump.of_class(64, "java/lang/String", fields=["value", "coder"])
+    dump.instance(90800, 61, 90801)
+    dump.array(90801, 62, 0, 90802)
+    dump.instance(90802, 63, word(7), 90803, 90803, 0)
+    dump.instance(90803, 64, 90804, b"\0")
+    dump.values(90804, BYTE, key.encode())
+    dump.root(60)
 
 
 def add_text(dump: DumpWriter, number: int, text: str) -> None:
