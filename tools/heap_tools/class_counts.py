@@ -60,8 +60,8 @@ def grown_class_counts(first: HeapDump, last: HeapDump) -> List[ClassCount]:
 
 def many_loaders_words(dump: HeapDump, report: Report) -> List[str]:
     """Returns in words of which classes a dump has `MANY_LOADERS` loaders or more with few classes each, those with
-    most first. `report` is that of the dump: they have to be reachable. Looks for the loaders only if there are so many
-    in all."""
+    most first. `report` is that of the dump: they have to be reachable. Looks for the loaders only if there are
+    `MANY_LOADERS` in all."""
     if len({each.loader for each in dump.classes.values()}) < MANY_LOADERS:
         return []
     many = [

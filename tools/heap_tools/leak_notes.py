@@ -18,6 +18,10 @@ from heap_tools.reports import Report
 from heap_tools.thread_counts import ThreadCount, grown_thread_counts
 from heap_tools.which_object import hidden, sentence
 
+#: What is said of lines that are not `LineOrder.lasts`: the first one may be threads that leak, or any payload.
+NOTHING_LASTS = (
+    "nothing that lasts holds a quarter of what grew: only new objects do, and line 1 is the topmost of these"
+)
 #: How many patterns of names of threads are said, how many kinds of loaders, and how many classes that grew.
 PATTERNS = 3
 

@@ -121,6 +121,11 @@ class LineOrder:
         best = self.best()
         return self.deepest_with(best, self.numbers) if self._lasts(best) else self.topmost()
 
+    def lasts(self) -> bool:
+        """Tests whether something that lasts holds enough of the growth, or there is no line. Else the answer is only
+        the topmost line: new instances hold what grew."""
+        return not self.numbers or self._lasts(self.best())
+
     def score(self, number: int) -> float:
         """Returns the score of a line."""
         line = self.lines[number]

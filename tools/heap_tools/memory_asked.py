@@ -14,7 +14,7 @@ LITTLE_IN_USE = 50
 #: The part of what is reachable, in percent, that a local variable has at least which is said. Containers that grow copy
 #: their array into one that is half as large again, or twice as large: a small one says nothing of what was asked for.
 LARGE_ARRAY = 10
-#: What the names of the JDK's methods begin with that make classes, such as `defineClass1`, and those that copy arrays.
+#: What the JDK's methods that make classes are called first, such as `defineClass1`, and whose methods copy arrays.
 DEFINES, COPIES = "define", "java/util/Arrays."
 #: What is outside the heap, and may have run out, too.
 METADATA = "for class metadata, which is outside the heap"

@@ -97,7 +97,7 @@ def grown_thread_counts(first: HeapDump, last: HeapDump) -> List[ThreadCount]:
 
 def many_threads_words(dump: HeapDump) -> List[str]:
     """Returns in words of which patterns a dump has `MANY_THREADS` threads or more, most of them first. Reads the names
-    only if there are so many in all."""
+    only if there are `MANY_THREADS` in all."""
     every = _by_pattern(dump) if number_of_threads(dump) >= MANY_THREADS else {}
     many = [(pattern, threads) for pattern, threads in every.items() if len(threads) >= MANY_THREADS]
     many.sort(key=lambda each: (-len(each[1]), each[0]))

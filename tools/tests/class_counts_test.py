@@ -58,7 +58,8 @@ class ClassCountsTest(unittest.TestCase):
         """Of one dump it is said if very many loaders of one class are reachable that have hardly more than a class
         each."""
         every = MANY_LOADERS
-        said = f"{every:,} loaders shop/Loader have {every:,} classes, most like shop/Plugin*: metadata of each is outside the heap"
+        said = f"{every:,} loaders shop/Loader have {every:,} classes, most like shop/Plugin*"
+        said += ": metadata of each is outside the heap"
         for loaders, classes, reachable, wanted in (
             (every, 1, every, [said]),
             (every, FEW_CLASSES, every, [said.replace(" 1,000 classes", f" {every * FEW_CLASSES:,} classes")]),

@@ -8,9 +8,10 @@ from heap_tools.candidates import FIELD, Candidate
 from heap_tools.direct_buffers import DirectMemory
 from heap_tools.leak_answer import Answer
 from heap_tools.leak_lines import Line, LineObjects
-from heap_tools.leak_notes import PATTERNS, Notes, captured_words, notes_of, notes_words, objects_words
+from heap_tools.leak_notes import NOTHING_LASTS, PATTERNS, Notes, captured_words, notes_of, notes_words, objects_words
 from heap_tools.leak_notes import own_classes_words, rest_words, without_values
 from heap_tools.leak_options import Bounds
+from heap_tools.line_order import LASTS
 from heap_tools.naming import Name
 from heap_tools.probe import Retained
 from heap_tools.reports import Amount, Report, Row, Unit
@@ -69,6 +70,10 @@ class LeakNotesTest(unittest.TestCase):
         ):
             answer = Answer([OWN] * count, hidden, search, Amount(0, left), True)
             self.assertEqual(rest_words(answer, of, more), said)
+
+    def test_nothing_lasts(self) -> None:
+        """The sentence says which part of the growth something that lasts should have."""
+        self.assertEqual((LASTS, "a quarter of what grew" in NOTHING_LASTS), (1 / 4, True))
 
     def test_captured(self) -> None:
         """Of fields of lambdas the first one is explained, from the first line and the top of its path down."""

@@ -230,6 +230,18 @@ class LineOrderTest(unittest.TestCase):
         self.assertEqual(self.sorted(f"all: {store}, static shop/B.b (400)"), [*wanted, "shop/Order.text"])
         self.assertEqual(LineOrder([], lambda upper, lower: False, GROWTH).sorted(), [])
 
+    def test_lasts(self) -> None:
+        """Nothing lasts if no score is a quarter of the growth: the answer is then the topmost line."""
+        for row, wanted in (
+            ("static shop/A.a (250), shop/Order.text (10..110)", True),
+            ("static shop/A.a (249), shop/Order.text (10..110)", False),
+            ("shop/Session.orders (9..99) > shop/Order.text (10..110)", False),
+            ("shop/B.b (900 9..99 one)", True),
+        ):
+            order, _ = Row.of(f"lasts: *{row}").order()
+            self.assertEqual(order.lasts(), wanted, row)
+        self.assertTrue(LineOrder([], lambda upper, lower: False, GROWTH).lasts())
+
     def test_nearly_the_same(self) -> None:
         """Each of two lines that hold nearly the same holds the other: that which holds less is below."""
         deepest = "static shop/A.STORE > *shop/Store.map"
