@@ -22,13 +22,13 @@ Between = Callable[[Sequence[Several], Several], List[Probe]]
 
 class Answer(NamedTuple):
     """The lines, how many more there are if all are shown, what was looked for first, and how much of what is asked for
-    no line holds. `are_lasting`: something that lasts holds what the first line does, not only new objects."""
+    no line holds. `lasts`: something that lasts holds what the first line does, not only new objects."""
 
     lines: List[Line]
     hidden: int
     search: Search
     left: Amount
-    are_lasting: bool
+    lasts: bool
 
     @property
     def left_percent(self) -> float:

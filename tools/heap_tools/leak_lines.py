@@ -87,9 +87,9 @@ class Lines:
         """Returns what was found, the answer first."""
         return [self.every[number] for number in self._order().sorted()]
 
-    def are_lasting(self) -> bool:
+    def lasts(self) -> bool:
         """Tests whether something of what was found lasts: if not, only new objects hold what grew."""
-        return self._order().are_lasting()
+        return self._order().lasts()
 
     def ask_for_objects(self) -> Optional[LineObjects]:
         """Asks of some lines which objects gained most, and notes if it is one. Returns them; if there are none, what
@@ -317,6 +317,6 @@ def found_by(search: Search, between: Sequence[Probe], above: FrozenSet[GroupKey
     objects = lines.ask_for_objects()
     lines.ask_for_elements()
     objects = None if lines.ask_below() else objects
-    ranked, is_lasting = lines.sorted(), lines.are_lasting()
+    ranked, is_lasting = lines.sorted(), lines.lasts()
     paths = ReferencePaths(search.probe, [*search.found, *search.steady])
     return Found(ranked, is_lasting, search.probe, between, paths, objects)

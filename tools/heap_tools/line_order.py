@@ -110,10 +110,6 @@ class LineOrder:
         answer = self.answer()
         return sorted(self.numbers, key=lambda it: (it != answer, -self.even_scores[it], *self._depth(it)))
 
-    def are_lasting(self) -> bool:
-        """Tests whether something that lasts holds enough of what grew."""
-        return bool(self.numbers) and self._lasts(self.best())
-
     def answer(self) -> Optional[int]:
         """Returns the number of the answer, None if there is no line."""
         if not self.numbers:

@@ -21,7 +21,7 @@ class HoldingObject(NamedTuple):
     """An object that holds much of what a field holds: its class, what names it, and what it holds. `percent` is its
     share of what the field holds now; if `has_gained`, the share of what it gained in what the field gained, both
     measured in both dumps. `of`: among how many objects it was looked for. `is_element`: these are the elements of the
-    field's list, not the instances that have the field. `least_gain`: if it is not measured what it gained, the share
+    field's list, not the instances that have the field, of which `instances` are reachable. `least_gain`: if it is not measured what it gained, the share
     of the field's gain in percent that it gained at least."""
 
     class_name: str
@@ -31,6 +31,7 @@ class HoldingObject(NamedTuple):
     has_gained: bool = False
     of: int = 0
     is_element: bool = False
+    instances: int = 0
     least_gain: float = 0.0
 
     @property
@@ -46,19 +47,27 @@ class HoldingObject(NamedTuple):
     def __str__(self) -> str:
         return f"{self.class_name}{f' ({self.named_by})' if self.names else ''}: {self.percent:.0f}%"
 
+    def among(self, field: str) -> str:
+        """Returns in words among what it was looked for: the instances that have `field`, as a line counts them, or
+        those with a value in it. More of these than are reachable are all that the dump has."""
+        if self.is_element:
+            return f"elements of {field}"
+        if self.of > self.instances:
+            return f"{field} in the dump, reachable or not,"
+        return field if self.of == self.instances else f"{field} with a value"
+
 
 def sentence(field: str, found: Sequence[HoldingObject]) -> str:
     """Returns in words what objects hold or gained of what `field` does."""
     first, are_most = found[0], sum(each.percent for each in found) >= OF_ALL
     hold = "gained" if first.has_gained else "holds" if len(found) == 1 else "hold"
-    what = f"elements of {field}" if first.is_element else field
-    return f"{len(found)} of {first.of:,} {what} {hold}{' most' * are_most}: {'; '.join(map(str, found))}"
+    return f"{len(found)} of {first.of:,} {first.among(field)} {hold}{' most' * are_most}: {'; '.join(map(str, found))}"
 
 
 def tell_apart(found: Sequence[HoldingObject]) -> bool:
-    """Tests whether objects that hold much say more than that there are some: that others hold little, or by names
-    which of them they are."""
-    return bool(found) and (len(found) < found[0].of or any(each.names for each in found))
+    """Tests whether objects that hold much say more than that there are some: by names which of them they are; or of
+    one that it holds most, and others little. Equal parts without names say only that there are parts."""
+    return any(each.names for each in found) or bool(found) and len(found) < found[0].of and found[0].percent >= OF_ALL
 
 
 class PartsOfField:
@@ -145,6 +154,7 @@ class PartsOfField:
                 self.probe.unit.percent(amount, whole),
                 of=self.count,
                 is_element=self.parts.are_elements,
+                instances=self.held.instances,
             )
             for value, amount in found
         ]

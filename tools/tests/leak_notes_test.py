@@ -29,7 +29,11 @@ def line(name: str, holders: int, share: float = 90.0, before: int = 9) -> Line:
 
 def holding(*names: str) -> List[HoldingObject]:
     """Returns an object with these names."""
-    return [HoldingObject("shop/Basket", [Name("its field name", name) for name in names], Amount(1, 80), 88.0, of=9)]
+    return [
+        HoldingObject(
+            "shop/Basket", [Name("its field name", name) for name in names], Amount(1, 80), 88.0, of=9, instances=9
+        )
+    ]
 
 
 OWN = line("shop/Basket.items", 9)

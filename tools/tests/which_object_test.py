@@ -23,7 +23,7 @@ from heap_tools.which_object import (
     sentence,
     tell_apart,
 )
-from tests.support.dump_writer import BYTE, OBJECT, DumpWriter
+from tests.support.dump_writer import BYTE, OBJECT, DumpWriter, word
 from tests.support.marked import RETAINED, growth_of, held_by, probe_of
 from tests.support.queues import Chains, Folders, Queues
 from tests.support.random_heaps import random_pair
@@ -181,17 +181,39 @@ class HoldsTest(unittest.TestCase):
             self.assertEqual(found.of, of)
 
     def test_tell_apart(self) -> None:
-        """All of several objects that no name tells apart say nothing; some of them do, and all with names."""
+        """Equal parts that no name tells apart say nothing, though others hold little; with names they do."""
         cases: List[Tuple[List[int], List[Optional[str]], bool]]
         cases = [
             ([5_000] * 4, [None] * 4, False),
-            ([5_000] * 4 + [9], [None] * 5, True),
+            ([5_000] * 4 + [9], [None] * 5, False),
+            ([5_000] * 4 + [9], [*"abcde"], True),
+            ([21_000, 8_000, 8_000, 9], [None] * 4, True),
+            ([19_000, 10_000, 10_000, 9], [None] * 4, False),
             ([5_000] * 4, [*"abcd"], True),
         ]
         for sizes, names, wanted in cases:
             found = self.holding(Queues(sizes, names=names))
-            self.assertEqual((len(found), tell_apart(found)), (4, wanted))
+            self.assertEqual(tell_apart(found), wanted, sizes)
+            self.assertGreater(len(found), 2)
         self.assertFalse(tell_apart([]))
+
+    def test_among(self) -> None:
+        """It is said if not all instances that a line counts have a value, or if more have one than are reachable."""
+        one = HoldingObject("shop/Queue", [], Amount(1, 9), 90.0)
+        for of, instances, is_element, wanted in (
+            (8, 8, False, "1 of 8 shop/Queue.list holds most: shop/Queue: 90%"),
+            (8, 16, False, "1 of 8 shop/Queue.list with a value holds most: shop/Queue: 90%"),
+            (9, 8, False, "1 of 9 shop/Queue.list in the dump, reachable or not, holds most: shop/Queue: 90%"),
+            (8, 16, True, "1 of 8 elements of shop/Queue.list holds most: shop/Queue: 90%"),
+        ):
+            found = one._replace(of=of, instances=instances, is_element=is_element)
+            self.assertEqual(sentence("shop/Queue.list", [found]), wanted)
+        for content, is_reachable, wanted_of in ((0, True, (3, 4)), (40_000, False, (4, 3)), (40_000, True, (4, 4))):
+            dump = Queues([9_000, 5, 6])
+            dump.instance(9_000, 4, word(0), 0, content)
+            dump.root(*[9_000] * is_reachable)
+            (found,) = self.holding(dump)
+            self.assertEqual((found.of, found.instances), wanted_of)
 
     def test_equal_elements(self) -> None:
         """Of a list of equal elements none is named."""

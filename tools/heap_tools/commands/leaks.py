@@ -19,7 +19,15 @@ from heap_tools.humanize import counted, duration, size
 from heap_tools.leak_documents import Cost, fields_of_growth, fields_of_nothing, fields_of_one
 from heap_tools.leak_answer import Answer, answer_of
 from heap_tools.leak_lines import Line
-from heap_tools.leak_notes import elements_words, notes_of, notes_words, objects_words, rest_words, without_values
+from heap_tools.leak_notes import (
+    NOTHING_LASTS,
+    elements_words,
+    notes_of,
+    notes_words,
+    objects_words,
+    rest_words,
+    without_values,
+)
 from heap_tools.leak_options import Bounds, Options
 from heap_tools.one_dump import AT_LEAST, HeapAnswer, question_of
 from heap_tools.one_dump_notes import notes_of_one, sentences_of
@@ -185,7 +193,8 @@ def lines_above(comparison: Comparison, probe: GrowthProbe, width: int) -> str:
 
 def remainder(answer: Answer, comparison: Comparison, options: Options) -> List[str]:
     """Returns what the lines do not have, a sentence each."""
-    probe, found = comparison.probe, rest_words(answer, options.bounds, "the growth")
+    probe, found = comparison.probe, [] if answer.lasts else [NOTHING_LASTS]
+    found += rest_words(answer, options.bounds, "the growth")
     if probe.unit.of(comparison.more_unreachable()) > probe.unit.of(probe.growth):
         found.append(comparison.why_missing())
     return found
