@@ -24,7 +24,7 @@ class ClassesAlikeTest(ToolTest):
     def test_one_dump(self) -> None:
         """One dump shows how many classes have it, and so does holders."""
         line = f"{90:10} {27000:14} {86:4}% {90:9}  {ALIKE}\n"
-        self.assertEqual(self.ran("after.hprof", tool="leaks").out, line)
+        self.assertEqual(self.ran("after.hprof", "--top", "1", tool="leaks").out, line)
         self.assertEqual(self.ran("after.hprof", "--at-least", "30", tool="holders").out, line)
 
     def test_held(self) -> None:

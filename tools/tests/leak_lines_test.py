@@ -158,7 +158,8 @@ class LinesTest(unittest.TestCase):
             between = mock.Mock(**{"retained.return_value": probe.retained([ROOT])._replace(amount=Amount(1, held))})
             probe.earlier.runs.dump.time, between.runs.dump.time, probe.runs.dump.time = 0, time, 60
             search = mock.Mock(found=[probe.retained([ROOT])], steady=[])
-            lines = Lines(search, probe, [between], uses=mock.Mock())
+            with mock.patch("heap_tools.leak_lines.uses_of"):
+                lines = Lines(search, probe, [between])
             self.assertAlmostEqual(lines.features[0].evenness, wanted)
 
     def test_kin_of_which(self) -> None:

@@ -32,14 +32,17 @@ class LeaksOfOneTest(ToolTest):
         cache(400).write("cache.hprof")
         said = [
             "leaks: 18.0 kB are reachable, in 1,010 objects",
+            "leaks: line 1: shop/Cache.table: 400 elements",
+            "leaks: line 2: static shop/Catalog.ALL: 100 elements",
             "leaks: line 1 holds 400 byte[[]] (8.0 kB), 400 shop/Order (3.2 kB), 1 [[]Ljava/lang/Object; (3.2 kB)",
             SECOND,
             "leaks: * fields, * run of heapmark and * of retained, * s",
         ]
         self.expect(["cache.hprof"], self.TABLE + self.CATALOG, "\n".join(said))
-        more = f"{said[0]}\n{said[1]}\nleaks: 20% of 18,028 bytes are in no line: see --top\n*"
+        about = "\n".join([said[0], said[1], said[3]])
+        more = f"{about}\nleaks: 20% of 18,028 bytes are in no line: see --top\n*"
         self.expect(["--top", "1", "cache.hprof"], self.TABLE, more)
-        more = f"{said[0]}\n{said[1]}\nleaks: 2 more hold 20% or more: see --top\n*"
+        more = f"{about}\nleaks: 2 more hold 20% or more: see --top\n*"
         self.expect(["--all", "--top", "1", "cache.hprof"], self.TABLE, more)
         self.assertEqual(self.ran("--all", "cache.hprof").out, self.TABLE + self.CACHE + self.TEXT)
         none = (

@@ -485,7 +485,7 @@ class LeaksTest(ToolTest):
         for words in runs:
             ended = self.ran("--html", "page.html", "--json", "before", "after", *words)
             self.assertIn(line, ended.said)
-            (found,) = json.loads(ended.out)["objects"]["objects"]
+            (found,) = json.loads(ended.out)["lines"][0]["objects"]["objects"]
             self.assertEqual(found["names"], [{"how": local, "text": '"worker 1"'}])
             self.assertIn("worker 1", pathlib.Path("page.html").read_text(encoding="utf-8"))
 
