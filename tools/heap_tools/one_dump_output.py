@@ -4,6 +4,7 @@ import sys
 
 from heap_tools.console import is_terminal
 from heap_tools.one_dump import HeapAnswer
+from heap_tools.shown_path import line_with_path
 
 
 def lines_of_one(answer: HeapAnswer) -> str:
@@ -12,6 +13,6 @@ def lines_of_one(answer: HeapAnswer) -> str:
     found = [heads] if answer.lines and is_terminal(sys.stdout) else []
     for line in answer.lines:
         amount = line.held.amount
-        text = f"{amount.objects:10} {amount.bytes:14} {line.share:4.0f}% {line.instances:9}  {line.path()}\n"
-        found.append(text)
+        figures = f"{amount.objects:10} {amount.bytes:14} {line.share:4.0f}% {line.instances:9}"
+        found.append(line_with_path(figures, [*line.above, line.held]) + "\n")
     return "".join(found)

@@ -169,11 +169,12 @@ class LeaksOfOneTest(ToolTest):
         self.expect(["none.hprof"], said="leaks: none.hprof: no such file", status=1)
 
     def test_terminal(self) -> None:
-        """On a terminal there are heads above the lines."""
+        """On a terminal there are heads above the lines, and a path that does not fit is below its figures."""
         cache(400).write("cache.hprof")
         _, seen = self.on_terminal("cache.hprof", stream="stdout")
         heads = f"{'objects':>10} {'bytes':>14} share instances  field\n"
-        self.assertEqual(seen, heads + self.TABLE + self.CATALOG)
+        table = self.TABLE.replace("  static", "\n    static")
+        self.assertEqual(seen, heads + table + self.CATALOG)
 
 
 if __name__ == "__main__":

@@ -540,10 +540,11 @@ class LeaksTest(ToolTest):
     def test_terminal(self) -> None:
         """A terminal shows the growth and the heads of the columns, and how far the search is."""
         ended, seen = self.on_terminal("monday", "friday", stream="stdout")
-        top, heads, first = seen.splitlines()[:3]
+        top, heads, figures, path = seen.splitlines()[:4]
         self.assertEqual((ended.status, top), (0, "reachable 4.3 kB to 6.5 kB in 12 min"))
         self.assertEqual(heads.split(), ["objects", "bytes", "share", "before", "after", "instances", "field"])
-        self.assertTrue(first.endswith("shop/Cache.table"), seen)
+        # Both are wider than 80 columns.
+        self.assertEqual((figures.split()[-1], path), ("1", f"    {self.PATH}"), seen)
         _, seen = self.on_terminal("monday", "friday")
         parts = seen.split("\r")
         self.assertEqual(parts[0], "leaks: reading dump 1 of 2")

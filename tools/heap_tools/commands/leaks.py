@@ -37,6 +37,7 @@ from heap_tools.page import Making
 from heap_tools.page_content import content_of, making_of, require_place, write_page
 from heap_tools.probe import GrowthProbe
 from heap_tools.reports import Unit
+from heap_tools.shown_path import line_with_path
 
 ABOUT = """
 Shows what holds the objects that grew between heap dumps of one program: for
@@ -166,7 +167,8 @@ def printed(lines: Sequence[Line], unit: Unit) -> str:
     for line in lines:
         gain, was, now = line.held.amount.minus(line.before), unit.of(line.before), unit.of(line.held.amount)
         text = f"{gain.objects:10} {gain.bytes:14} {line.share:4.0f}% {was:14} {now:14}"
-        texts.append(f"{text} {instances_of(line):>{width_of(lines)}}  {line.path()}\n")
+        figures = f"{text} {instances_of(line):>{width_of(lines)}}"
+        texts.append(line_with_path(figures, [*line.above, line.held]) + "\n")
     return "".join(texts)
 
 
