@@ -166,8 +166,8 @@ def with_direct_memory(reports: Sequence[Report], asked: Asked, direct: Tuple[Di
     growth = grown(reports, asked.families, asked.unit)
     if asked.families is not None or asked.unit is not Unit.BYTES or after.bytes - before.bytes <= max(0, growth):
         return asked
-    so = f"the heap grew by less; so the shares are of the objects of {BUFFER}"
-    return Asked([BUFFER], Unit.OBJECTS, [f"{more_direct_memory(before, after)}: {so}"])
+    why = f"{more_direct_memory(before, after)}: the heap grew by less; {only_of(BUFFER)}"
+    return Asked([BUFFER], Unit.OBJECTS, [why])
 
 
 def with_growth(reports: Sequence[Report], asked: Asked, dumps: Sequence[DumpRuns]) -> Asked:
@@ -186,8 +186,14 @@ def with_growth(reports: Sequence[Report], asked: Asked, dumps: Sequence[DumpRun
         text += f"; {missing_words(dumps)}" if max(unreachable_growth(dumps)) > 0 else ""
         first, last = (each.total(families) for each in reports)
         raise NoGrowth(text, last, last.minus(first), is_allowed=False)
-    so = f"so the shares are of the objects of {'it' if families else 'the classes that grew'}"
+    so = only_of("it" if families else "the classes that grew")
     return Asked(more, Unit.OBJECTS, [*why, f"{text}; {so}"])
+
+
+def only_of(classes: str) -> str:
+    """Returns in words what lines count if that is not what the user asked for: their bytes, too, are only those of
+    these classes, so that all figures of a line, a document and a page are of the same objects."""
+    return f"so only objects of {classes} count, and shares are of their number"
 
 
 def require_more(reachable: Sequence[Amount], options: Options) -> None:

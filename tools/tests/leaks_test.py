@@ -110,7 +110,8 @@ class LeaksTest(ToolTest):
                 dump.instance(number, 6)
             dump.root(6)
             dump.write(name)
-        said = f"leaks: shop/Job: 0 bytes, then 0: no growth; so the shares are of the objects of it\n{self.COST}"
+        so = "so only objects of it count, and shares are of their number"
+        said = f"leaks: shop/Job: 0 bytes, then 0: no growth; {so}\n{self.COST}"
         self.expect(["--class=shop/Job", "before", "after"], line(60, 0, 100, 20, 80, 1, "static shop/Job.ALL"), said)
         said = "leaks: Order: no class of the dump has this name: did you mean shop/Order?"
         self.expect(["--class=Order", "monday", "friday"], said=said, status=6)
@@ -292,7 +293,8 @@ class LeaksTest(ToolTest):
     def test_direct_buffers(self) -> None:
         """Bytes outside the heap are said if they grew, and what holds the buffers is asked if the heap grew by
         less."""
-        asked = ": the heap grew by less; so the shares are of the objects of java/nio/DirectByteBuffer"
+        counted = "so only objects of java/nio/DirectByteBuffer count, and shares are of their number"
+        asked = f": the heap grew by less; {counted}"
         for orders, words, first in (21, asked, "Pool.BUFFERS"), (800, "", self.PATH.rpartition("shop/")[2]):
             pathlib.Path("before").write_bytes(buffers(10, 20))
             pathlib.Path("after").write_bytes(buffers(60, orders, 12))
@@ -363,7 +365,8 @@ class LeaksTest(ToolTest):
         """The whole did not grow, or nothing did."""
         moved(10).write("before")
         moved(60).write("after")
-        said = f"leaks: reachable: 816 bytes, then 816: no growth; so the shares are of the objects of *\n{self.COST}"
+        so = "so only objects of * count, and shares are of their number"
+        said = f"leaks: reachable: 816 bytes, then 816: no growth; {so}\n{self.COST}"
         self.expect(["before", "after"], line(50, 0, 100, 10, 60, 1, "static shop/Catalog.SOLD"), said)
         said = "leaks: reachable: 6,508 bytes, then 6,508: no growth"
         cache(80, minutes=15).write("later")

@@ -104,7 +104,8 @@ class PageOfDumpsTest(ToolTest):
         ended = self.ran("--html", "page.html", *map(str, files))
         self.assertEqual(ended.status, 0, ended.said)
         top = Outline(pathlib.Path("page.html").read_text(encoding="utf-8")).text()
-        self.assertIn("the heap grew by less; so the shares are of the objects of java/nio/DirectByteBuffer.", top)
+        counted = "only objects of java/nio/DirectByteBuffer count, and shares are of their number"
+        self.assertIn(f"the heap grew by less; so {counted}.", top)
 
     def test_classes_without_a_name(self) -> None:
         """A class that no record names has its number for a name: in the headline, on its line, and in the command."""
