@@ -1,15 +1,15 @@
 """The order of the lines of `leaks`, the answer first.
 
-A line's score is what it gained without what came with new instances (unless one object gained most, or elements that
-the answer had before), without what was above it, below it or in a field of its class before, and nothing if it did not
-grow at each step between dumps. Lines that gained unevenly come later: scores are compared without the part of the gain
-by which the largest step exceeds the smallest, as they are or per time, but with a quarter at least. If no score is a
-quarter of the growth, nothing that lasts holds what grew: the answer is the topmost line, a thread before others. Else
-the answer is the deepest line on the path of the best score (of those with nine tenths of it, of the line whose name
-says most), above or below it, that has half of that score: the accumulation point. A collection, several of the JDK or
-with a thread together, a variable of a lambda or a thread is the answer only if no other line on that path has nine
-tenths of that score, or half of it below; of fields, own ones, and those of which one object gained most, come before
-the JDK's in the same way. The other lines follow by their scores.
+A line's score is what it gained without what came with new instances (unless they are classes alike, one object gained
+most, or elements that the answer had before), without what was above it, below it or in a field of its class before,
+and nothing if it did not grow at each step between dumps. Lines that gained unevenly come later: scores are compared
+without the part of the gain by which the largest step exceeds the smallest, as they are or per time, but with a quarter
+at least. If no score is a quarter of the growth, nothing that lasts holds what grew: the answer is the topmost line, a
+thread before others. Else the answer is the deepest line on the path of the best score (of those with nine tenths of
+it, of the line whose name says most), above or below it, that has half of that score: the accumulation point. A
+collection, several of the JDK or with a thread together, a variable of a lambda or a thread is the answer only if no
+other line on that path has nine tenths of that score, or half of it below; of fields, own ones, and those of which one
+object gained most, come before the JDK's in the same way. The other lines follow by their scores.
 """
 
 import enum
@@ -62,13 +62,19 @@ def says(line: Features) -> int:
     return OF_PROGRAM if line.is_own or line.of_one else 2
 
 
+def is_of_classes_alike(line: Features) -> bool:
+    """Tests whether a line is a static field of classes alike, whose name is a pattern. These are no instances that
+    come and go: one loader, which lasts, has several, and a leak makes more of them."""
+    return line.kinds == (STATIC,) and "*" in line.name
+
+
 def lasting_gain(line: Features) -> float:
     """Returns what the instances gained that a line had before, too, on average, at least what one has; or what all
     gained, without what the new ones would have held before, if they are few. An instance without a value is none: of
     14,581 nodes of a tree 351 may have children, so what one of these gained in leaves did not come with new nodes. An
     average rises, too, if new instances are larger: so if it is known, the largest ones count as new."""
     came = line.part_came
-    if not came:
+    if not came or is_of_classes_alike(line):
         return line.gain
     of_new = max(came, line.of_largest or 0.0)
     lasting = max(line.amount / line.with_value, (1 - of_new) * line.amount - line.before)
@@ -126,7 +132,8 @@ class LineOrder:
         """Returns the score of a line."""
         line = self.lines[number]
         if self.scoring is Scoring.SHARE:
-            return line.amount if line.with_value <= FEW else line.amount * line.of_one
+            is_whole = line.with_value <= FEW or is_of_classes_alike(line)
+            return line.amount if is_whole else line.amount * line.of_one
         if not self._is_steady(number):
             return 0.0
         score = max(lasting_gain(line), max(line.of_one, line.of_elements) * line.gain)

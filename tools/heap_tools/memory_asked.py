@@ -11,8 +11,8 @@ from heap_tools.thread_stacks import ThreadPlace
 #: Up to which part of the heap in use, in percent, it is said what was asked for. The other half had no room for it, so
 #: it is one array, since no other object is so large, or no memory of the heap.
 LITTLE_IN_USE = 50
-#: The part of what is reachable, in percent, that a local variable has at least which is said. Containers that grow copy
-#: their array into one that is half as large again, or twice as large: a small one says nothing of what was asked for.
+#: The part of what is reachable, in percent, that a local variable has at least which is said. Containers that grow
+#: copy their array into one that is half as large again, or twice as large: a small one does not show what was asked.
 LARGE_ARRAY = 10
 #: What the JDK's methods that make classes are called first, such as `defineClass1`, and whose methods copy arrays.
 DEFINES, COPIES = "define", "java/util/Arrays."

@@ -21,8 +21,8 @@ class HoldingObject(NamedTuple):
     """An object that holds much of what a field holds: its class, what names it, and what it holds. `percent` is its
     share of what the field holds now; if `has_gained`, the share of what it gained in what the field gained, both
     measured in both dumps. `of`: among how many objects it was looked for. `is_element`: these are the elements of the
-    field's list, not the instances that have the field, of which `instances` are reachable. `least_gain`: if it is not measured what it gained, the share
-    of the field's gain in percent that it gained at least."""
+    field's list, not instances that have the field, of which `instances` are reachable. `least_gain`: if it is not
+    measured what it gained, the share of the field's gain in percent that it gained at least."""
 
     class_name: str
     names: List[Name]

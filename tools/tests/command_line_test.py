@@ -50,8 +50,8 @@ class EndTest(unittest.TestCase):
             self.assertEqual(self.ended(body), (130, "tool: interrupted\n"), name)
 
     def test_early(self) -> None:
-        """An interrupt while the modules of a tool are read takes one line, too, and so does one that is missing or that
-        Python takes as wrong, which it does if it is short of memory."""
+        """An interrupt while the modules of a tool are read takes one line, too, and so does a module that is missing,
+        or that Python takes as wrong, which it does if it is short of memory."""
         missing, wrong = "No module named 'mmap'", "expected ':'"
         needed = "a tool needs all of Python 3.7 or later, the folder heap_tools, and memory"
         for tool in ("grown", "held", "holders", "leaks", "sizes"):
