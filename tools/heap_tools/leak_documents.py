@@ -8,12 +8,12 @@ from heap_tools.dump_runs import DumpRuns
 from heap_tools.humanize import counted
 from heap_tools.leak_answer import Answer
 from heap_tools.leak_lines import Line, LineObjects
-from heap_tools.leak_notes import Notes
+from heap_tools.leak_notes import Notes, grown_own_classes
 from heap_tools.leak_options import Options
 from heap_tools.one_dump import HeapAnswer, contents_of
 from heap_tools.one_dump_notes import HeapNotes
 from heap_tools.probe import Probe
-from heap_tools.reports import Amount, Row
+from heap_tools.reports import Amount, Report, Row
 from heap_tools.which_object import HoldingObject
 
 
@@ -45,6 +45,7 @@ def fields_of_one(answer: HeapAnswer, notes: HeapNotes, cost: Cost) -> JsonObjec
         "growth": None,
         **lines_entry(answer.found, is_growth=False),
         "contents": contents_entry(answer.contents),
+        "own_classes": [],
         "more_threads": [],
         "ran_out": [{"thread": it.name, "methods": it.methods, "before_own": it.before_own} for it in notes.ran_out],
         "direct_bytes": [notes.direct.bytes],
@@ -63,6 +64,7 @@ def fields_of_growth(comparison: Comparison, answer: Answer, notes: Notes, cost:
         "growth": amount_entry(probe.growth),
         **lines_entry(answer, is_growth=True),
         "contents": contents_entry(contents_of(lines[0].held, probe.unit)) if lines else [],
+        "own_classes": own_classes_entry([each.report for each in comparison.dumps]),
         "more_threads": [
             {"pattern": it.pattern, "before": it.before, "after": it.after, "methods": it.frames}
             for it in notes.threads
@@ -91,6 +93,7 @@ def fields_of_nothing(
         "hidden": 0,
         "left": amount_entry(none.growth if none else Amount()),
         "contents": [],
+        "own_classes": [],
         "more_threads": [],
         "ran_out": [],
         "direct_bytes": [],
@@ -124,6 +127,8 @@ def line_entry(line: Line, is_growth: bool) -> JsonObject:
     """Returns a line: what was held before only if there is a dump of that."""
     return {
         "path": [candidates_entry(each.candidates) for each in [*line.above, line.held]],
+        "text": line.path(),
+        "is_own": line.held.is_own,
         "before": amount_entry(line.before) if is_growth else None,
         "retained": amount_entry(line.held.amount),
         "share_percent": share_entry(line.share),
@@ -133,6 +138,11 @@ def line_entry(line: Line, is_growth: bool) -> JsonObject:
         "elements": line.elements,
         "objects": objects_entry(line.objects),
     }
+
+
+def own_classes_entry(reports: Sequence[Report]) -> List[JsonObject]:
+    """Returns the own classes of which there are more objects."""
+    return [{"class": each.name, "growth": amount_entry(each.amount)} for each in grown_own_classes(reports)]
 
 
 def objects_entry(found: Optional[LineObjects]) -> Optional[JsonObject]:

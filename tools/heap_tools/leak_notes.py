@@ -6,7 +6,7 @@ from typing import List, NamedTuple, Sequence
 
 from heap_tools.candidates import joint_name
 from heap_tools.class_counts import grown_class_counts
-from heap_tools.class_growth import growths
+from heap_tools.class_growth import ClassGrowth, growths
 from heap_tools.class_names import is_own
 from heap_tools.comparison import Comparison
 from heap_tools.direct_buffers import more_direct_memory, worth_saying
@@ -48,12 +48,17 @@ def notes_of(comparison: Comparison, lines: Sequence[Line]) -> Notes:
 
 
 def own_classes_words(reports: Sequence[Report]) -> str:
-    """Returns of which own classes there are most objects more in the last report than in the first, as `grown --own`
-    shows them, empty if there are none."""
-    grown = [each for each in growths(reports) if is_own(each.name) and each.amount.objects > 0]
+    """Returns of which own classes there are most objects more in the last report than in the first, empty if there are
+    none."""
+    grown = grown_own_classes(reports)
     shown = ", ".join(f"{each.amount.objects:,} {each.name}" for each in grown[:PATTERNS])
     more = f", and {counted(len(grown) - PATTERNS, 'class')} more: see grown --own" if len(grown) > PATTERNS else ""
     return f"own classes that grew: {shown}{more}" if grown else ""
+
+
+def grown_own_classes(reports: Sequence[Report]) -> List[ClassGrowth]:
+    """Returns the own classes of which there are more objects, as `grown --own` shows them."""
+    return [each for each in growths(reports) if is_own(each.name) and each.amount.objects > 0]
 
 
 def captured_words(lines: Sequence[Line]) -> str:

@@ -54,6 +54,8 @@ FORMS: Dict[str, Dict[str, Any]] = {
         "lines": [
             {
                 "path": [[FIELD]],
+                "text": str,
+                "is_own": bool,
                 "before": Maybe(AMOUNT),
                 "retained": AMOUNT,
                 "share_percent": float,
@@ -82,6 +84,7 @@ FORMS: Dict[str, Dict[str, Any]] = {
         "hidden": int,
         "left": AMOUNT,
         "contents": [{"class": str, "retained": AMOUNT}],
+        "own_classes": [{"class": str, "growth": AMOUNT}],
         "more_threads": [{"pattern": str, "before": int, "after": int, "methods": [str]}],
         "ran_out": [{"thread": str, "methods": [str], "before_own": int}],
         "direct_bytes": [int],
@@ -250,6 +253,10 @@ class DocumentsTest(ToolTest):
             line, kinds = found["lines"][0], [[each["kind"] for each in step] for step in found["lines"][0]["path"]]
             self.assertEqual((kinds, line["instances"], line["instances_before"]), ([["static"], ["field"]], 80, 80))
             self.assertEqual(line["path"][-1][0]["text"], "shop/Basket.items")
+            self.assertEqual((line["text"], line["is_own"]), ("static shop/Baskets.ALL > shop/Basket.items", True))
+            self.assertEqual(
+                found["own_classes"][0], {"class": "shop/Order", "growth": {"objects": 380, "bytes": 3040}}
+            )
             self.assertEqual(line["retained"]["objects"] - line["before"]["objects"], found["growth"]["objects"])
             (one,) = line["objects"]["objects"]
             self.assertEqual((one["class"], one["of"]), ("shop/Basket", 80))
