@@ -1,6 +1,5 @@
 """Walks over the objects of a heap dump: how many there are of a class, where they are, and what their fields hold."""
 
-import itertools
 import sys
 from array import array
 from typing import Dict, Iterable, Iterator, List, NamedTuple, Optional, Set, Tuple
@@ -31,15 +30,6 @@ class FieldValue(NamedTuple):
     instance: int
     value: int
     holder: int = 0
-
-
-class Referrer(NamedTuple):
-    """What refers to an object: where it is, the identifier of the object, and the name of the field, empty for an
-    element of an array. A class refers by its static fields."""
-
-    place: int
-    target: int
-    field: str
 
 
 class HeapObjects:
@@ -219,57 +209,6 @@ class HeapObjects:
             if found:
                 places[class_id] = found
         return places
-
-    def referrers_of(self, identifiers: Iterable[int]) -> List[Referrer]:
-        """Returns what refers to the objects with these identifiers. Walks over the segments that have them."""
-        wanted = {each for each in identifiers if each}
-
-        def found_in(segments: List[Span]) -> List[Referrer]:
-            return [found for segment in segments for found in self._referrers_in(segment, wanted)]
-
-        parts = shared(found_in, self.dump.segments, FEWEST_SEGMENTS) if wanted else []
-        return [each for part in parts for each in part]
-
-    def _referrers_in(self, segment: Span, wanted: Set[int]) -> Iterator[Referrer]:
-        """Yields what refers to the objects `wanted` in a segment. An identifier may also occur in a number or across
-        values: only the places of references count."""
-        occurrences = sorted((at, each) for each in wanted for at in self._occurrences(each, segment))
-        if not occurrences:
-            return
-        number, begin = 0, segment[0]
-        ends = itertools.chain((at for at, _ in self.dump.sub_records([segment])), [segment[1]])
-        for end in ends:
-            while number < len(occurrences) and occurrences[number][0] < end:
-                at, target = occurrences[number]
-                field = self._field_at(begin, at)
-                if field is not None:
-                    yield Referrer(begin, target, field)
-                number += 1
-            begin = end
-
-    def _occurrences(self, identifier: int, segment: Span) -> Iterator[int]:
-        """Yields where the bytes of an identifier are in a segment."""
-        pattern = identifier.to_bytes(self.dump.id_size, "big")
-        at = self.dump.bytes.find(pattern, *segment)
-        while at >= 0:
-            yield at
-            at = self.dump.bytes.find(pattern, at + 1, segment[1])
-
-    def _field_at(self, begin: int, at: int) -> Optional[str]:
-        """Returns the name of the field whose reference is at `at`, of the object at `begin`; an empty name if that is
-        an element of an array, None if no reference is there."""
-        dump, elements = self.dump, begin + 9 + 2 * self.dump.id_size
-        tag = dump.bytes[begin]
-        if tag == hprof.OBJECT_ARRAY:
-            return "" if at >= elements and (at - elements) % dump.id_size == 0 else None
-        if tag == hprof.INSTANCE:
-            fields = ((begin + place, each) for _, place, each in self.fields_of(self.class_of(begin)))
-        elif tag == hprof.CLASS_DUMP:
-            of_class = dump.classes[dump.id(begin + 1)].fields
-            fields = ((each.place + 1, each) for each in of_class if each.is_static)
-        else:
-            return None
-        return next((each.name for place, each in fields if place == at and each.kind == hprof.OBJECT), None)
 
     def place_of_value(self, at: int, class_name: str, field: str, kind: int) -> Optional[int]:
         """Returns where the value of an instance's field is that the class `class_name` declares, or None. `kind` is

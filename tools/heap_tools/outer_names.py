@@ -3,7 +3,7 @@
 from typing import Dict, Iterable, List, Mapping, Sequence, Set, Tuple
 
 from heap_tools import hprof_format as hprof
-from heap_tools.heap_objects import THREAD_CLASS, HeapObjects, Referrer
+from heap_tools.heap_objects import THREAD_CLASS, HeapObjects
 from heap_tools.naming import (
     NAMES_SHOWN,
     Name,
@@ -15,6 +15,7 @@ from heap_tools.naming import (
     shown_text,
 )
 from heap_tools.object_owners import Owners
+from heap_tools.referrers import Referrer, Referrers
 
 #: The fields of the nodes of maps: the object, and its key.
 MAP_NODES = (
@@ -101,7 +102,7 @@ class OuterNames:
 
     def _by_owner(self, places: Sequence[int], others: Sequence[int]) -> Dict[int, List[Name]]:
         """Returns the names of the nearest owners that have any."""
-        above = Owners(self.objects).above([*places, *others])
+        above = Owners(Referrers(self.objects)).above(places, others)
         owners = {at: self._without_neighbours(at, steps) for at, steps in above.items()}
         keyed = self._keyed_names({owner for steps in owners.values() for step in steps for owner in step})
         names: Dict[int, List[Set[Name]]] = {}

@@ -11,6 +11,7 @@ from heap_tools.dump_runs import DumpRuns
 from heap_tools.faults import UNREADABLE, Fault
 from heap_tools.heap_objects import FEWEST_SEGMENTS, HeapObjects
 from heap_tools.heapmark import Heapmark
+from heap_tools.referrers import MOST_OWNERS, Referrers
 from heap_tools.thread_counts import grown_thread_counts, number_of_threads
 from tests.support.dump_writer import BYTE, FRAME, LONG, ROOT_THREAD_OBJECT, STRING, TRACE, DumpWriter, word
 from tests.support.tool_test import ToolTest, report
@@ -185,7 +186,10 @@ class ReadingTest(HprofTest):
             self.assertEqual(len(objects.places_of(1000 + number for number in every)), count)
             self.assertEqual(objects.count({"shop/Order"}), count)
             self.assertEqual(len(objects.values_of(["shop/Order.next"], {5000})), count)
-            self.assertEqual(len(objects.referrers_of([5000])), 2 * count + 1)
+            referrers = Referrers(objects)
+            referrers.look_up([5000])
+            most = min(count, MOST_OWNERS + 1)
+            self.assertEqual(len(referrers.of(5000)), 2 * most + 1)
             texts = {3000 + number: str(number) for number in every}
             self.assertEqual(objects.texts(texts), texts)
 

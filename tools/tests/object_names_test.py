@@ -383,19 +383,51 @@ class NamesTest(unittest.TestCase):
             dump.instance(number, 26, 300)
         self.assertEqual(self.names(dump, 310), [['the map\'s key "tenant-317"']])
 
-    def test_references(self) -> None:
-        """Bytes that look like an identifier are no reference if they are in a number or across values."""
+    def scopes(self, others: int) -> Queues:
+        """Returns a dump with two arrays of a script, 300 and 301. The first is in two variables: `visits`, of a scope
+        to which `others` functions refer that nothing holds for certain, and `log`, of one that a static field has."""
         dump = Queues([])
-        dump.of_class(20, "shop/Atom", fields=["state"])
-        dump.of_class(21, "shop/Pair", {"LAST": 300}, fields=["first", "second", "intCount"])
-        dump.of_class(22, "[Lshop/Atom;")
-        dump.instance(300, 20, 0)
-        dump.instance(310, 21, 301, 300, word(300))
-        dump.values(311, BYTE, dump.form.spell([300]) * 3)
-        dump.array(312, 22, 301, 300, 300)
-        read = self.read(dump.bytes())
-        found = [(read.id(each.place + 1), each.field) for each in HeapObjects(read).referrers_of([300])]
-        self.assertEqual(sorted(found), [(21, "LAST"), (310, "second"), (312, ""), (312, "")])
+        dump.of_class(20, "script/Array", fields=["scope"])
+        dump.of_class(21, "script/Slot", fields=["name", "value"])
+        dump.of_class(22, "[Lscript/Slot;")
+        dump.of_class(23, "script/Scope", {"TOP": 341}, fields=["slots"])
+        dump.of_class(24, "script/Function", fields=["scope", "caller"])
+        for number, (name, value) in enumerate((("visits", 300), ("log", 300), ("carts", 301)), 310):
+            dump.string(60_000 + number, name)
+            dump.instance(number, 21, 60_000 + number, value)
+        dump.array(330, 22, 310)
+        dump.array(331, 22, 311)
+        dump.array(332, 22, 312)
+        for number in range(3):
+            dump.instance(340 + number, 23, 330 + number)
+        dump.instance(300, 20, 340)
+        dump.instance(301, 20, 342)
+        for number in range(others):
+            caller = 1001 + number if number < others - 1 else 1000
+            dump.instance(1000 + number, 24, 340 if number % 2 else 0, caller)
+        return dump
+
+    def test_scopes(self) -> None:
+        """If one of the owners by a field is known to be held elsewhere, another one, of which that is not known, names
+        the object, too."""
+        wanted = ['of script/Slot, its field name "log"', 'of script/Slot, its field name "visits"']
+        self.assertEqual(self.names(self.scopes(900), 300, others=[301]), [wanted])
+
+    def test_within(self) -> None:
+        """What is in an object does not take its name: both are in a variable, but one by way of the other."""
+        dump = Queues([])
+        dump.of_class(20, "script/Object", fields=["table"])
+        dump.of_class(21, "script/Slot", fields=["name", "value"])
+        dump.of_class(22, "script/Scope", {"TOP": 340}, fields=["slot"])
+        dump.of_class(23, "script/Table", fields=["slot"])
+        for number, (name, value) in enumerate((("visits", 300), ("17", 301)), 310):
+            dump.string(60_000 + number, name)
+            dump.instance(number, 21, 60_000 + number, value)
+        dump.instance(340, 22, 310)
+        dump.instance(300, 20, 320)
+        dump.instance(301, 20, 0)
+        dump.instance(320, 23, 311)
+        self.assertEqual(self.names(dump, 300, others=[301]), [['of script/Slot, its field name "visits"']])
 
     def test_one_text(self) -> None:
         """The only text of an object names it, whatever its field is called; of several, the likely ones, at most
