@@ -4,7 +4,7 @@ from typing import Iterator, List, Sequence, Tuple
 
 from heap_tools import hprof_format as hprof
 from heap_tools.heap_objects import FieldValue, HeapObjects
-from heap_tools.outer_names import MAP_NODES, NODE_CLASSES
+from heap_tools.part_names import MAP_NODES, NODE_CLASSES
 
 #: The classes of entries, and their fields of values and of keys.
 VALUES = [(owner, field) for name, _, _ in MAP_NODES for owner, _, field in [name.rpartition(".")]]

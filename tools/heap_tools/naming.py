@@ -42,8 +42,9 @@ def is_naming(field: str) -> bool:
 
 
 def likeliest_first(name: Name) -> Tuple[bool, Name]:
-    """Returns what names of owners are sorted by: those come first whose last field is called as what names is."""
-    return not is_naming(re.split("[ .]", name.how)[-1]), name
+    """Returns what names of owners are sorted by: those come first whose last field is called as what names is, and has
+    a text."""
+    return not (name.text and is_naming(re.split("[ .]", name.how)[-1])), name
 
 
 def best_of(named: Mapping[str, str]) -> Optional[str]:

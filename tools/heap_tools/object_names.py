@@ -7,7 +7,8 @@ from heap_tools import hprof_format as hprof
 from heap_tools.heap_dump import HeapDump
 from heap_tools.heap_objects import THREAD_CLASS, HeapObjects
 from heap_tools.naming import NAMES_SHOWN, Name, alone_in, likely_names, names_joined, shown_text
-from heap_tools.outer_names import MAP_NODES, OTHERS, OuterNames
+from heap_tools.outer_names import OuterNames
+from heap_tools.part_names import MAP_NODES
 from heap_tools.thread_locals import VALUE_OF_ENTRY, ThreadLocals, telling
 
 #: The classes of boxed numbers, whose value a key may be, and the codes of their types.
@@ -25,18 +26,19 @@ class ObjectNames:
     def __init__(self, dump: HeapDump) -> None:
         self.dump, self.objects = dump, HeapObjects(dump)
         self.thread_locals = ThreadLocals(self.objects)
+        self._outer = OuterNames(self.objects)
 
     def names_of(self, places: Sequence[int], others: Sequence[int] = ()) -> Dict[int, List[Name]]:
         """Returns the names of the objects at these places, at most `NAMES_SHOWN`, and each text once: texts, keys and
         thread-locals of threads that neither another of them nor one at `others` has, and thread-locals. If an object
-        has none, those of what it is made of count, then those of its owners, which the first of `others` do not have,
+        has none, those of what it is made of count, then those of its owners, which some of `others` do not have,
         too. Walks over all objects some times."""
         own = self.own_names([*places, *others])
         alone = alone_in(own)
         found = {at: names_joined(telling(own[at], alone[at]))[:NAMES_SHOWN] for at in places}
         nameless = [at for at in places if not found[at]]
         if nameless:
-            found.update(OuterNames(self.objects).of(nameless, others[:OTHERS]))
+            found.update(self._outer.of(nameless, others))
         return found
 
     def own_names(self, places: Sequence[int]) -> Dict[int, List[Name]]:

@@ -56,6 +56,17 @@ class ThreadLocals:
             if threads.get(at):
                 yield at, Name(f"{local or 'a thread-local'} {OF_THREAD}", shown_text(threads[at]), is_of_thread=True)
 
+    def by_static_field(self) -> Dict[int, Name]:
+        """Returns the static fields of the thread-locals by which threads have objects, by the identifiers of these:
+        entries and their values."""
+        found: Dict[int, Name] = {}
+        statics = self._static_fields()
+        for key, entry in self.objects.places_of(self._threads_by_entry()).items():
+            field = statics.get(self.objects.reference(entry, "java/lang/ref/Reference", "referent"))
+            for each in (key, self.objects.reference(entry, ENTRY, "value")) if field else ():
+                found.setdefault(each, Name(BY_THREAD_LOCAL, f"static {field}"))
+        return found
+
     def _static_fields(self) -> Dict[int, str]:
         """Returns the names of static fields by the identifiers of the objects that they name."""
         found: Dict[int, str] = {}

@@ -383,6 +383,35 @@ class NamesTest(unittest.TestCase):
             dump.instance(number, 26, 300)
         self.assertEqual(self.names(dump, 310), [['the map\'s key "tenant-317"']])
 
+    def test_far(self) -> None:
+        """The key of what has an object in a proxy names it, six references up; what is further up does not, and
+        neither does what leads to a thread."""
+        for wrappers, wanted in ((3, ['the map\'s key "eu"']), (4, [])):
+            dump = Queues([])
+            dump.of_class(20, "shop/Inbox")
+            dump.of_class(21, "java/util/HashMap$Entry", {"FIRST": 330})
+            for number in range(2):
+                dump.instance(300 + number, 20)
+                for step in range(wrappers + 2):
+                    if number == 0:
+                        dump.of_class(40 + step, f"shop/Wrapper{step}", fields=["target"])
+                    below = 310 + 100 * number + step - 1 if step else 300 + number
+                    dump.instance(310 + 100 * number + step, 40 + step, below)
+                dump.string(60_000 + number, ("eu", "us")[number])
+                dump.instance(330 + number, 5, 60_000 + number, 310 + 100 * number + wrappers + 1)
+            self.assertEqual(self.names(dump, 300, others=[301]), [wanted])
+        dump = Threads()
+        dump.of_class(20, "shop/Inbox")
+        dump.of_class(21, "shop/Worker", fields=["inbox"], superclass=30)
+        dump.of_class(22, "shop/Group", {"FIRST": 340}, fields=["name", "worker"])
+        dump.of_class(23, "shop/Desk", {"INBOX": 301})
+        dump.string(60_000, "group")
+        dump.instance(300, 20)
+        dump.instance(301, 20)
+        dump.instance(320, 21, 300, 0, 0, 0)
+        dump.instance(340, 22, 60_000, 320)
+        self.assertEqual(self.names(dump, 300, 301), [["the field shop/Worker.inbox"], ["static shop/Desk.INBOX"]])
+
     def scopes(self, others: int) -> Queues:
         """Returns a dump with two arrays of a script, 300 and 301. The first is in two variables: `visits`, of a scope
         to which `others` functions refer that nothing holds for certain, and `log`, of one that a static field has."""
@@ -428,6 +457,88 @@ class NamesTest(unittest.TestCase):
         dump.instance(301, 20, 0)
         dump.instance(320, 23, 311)
         self.assertEqual(self.names(dump, 300, others=[301]), [['of script/Slot, its field name "visits"']])
+
+    def test_field_above(self) -> None:
+        """The field that leads to an object is its name if it has no other: the field of the program nearest to it that
+        leads to nothing else, and the fields below that. A field by which several are led to is none."""
+        dump = Queues([])
+        dump.of_class(20, "shop/Watches", fields=["table"])
+        dump.of_class(21, "shop/Tree", {"ONE": 330}, fields=["dataWatches", "childWatches"])
+        dump.of_class(22, "java/util/HashMap")
+        dump.of_class(23, "shop/OtherTree", fields=["dataWatches"], superclass=21)
+        for number in range(2):
+            dump.instance(300 + number, 20, 310 + number)
+            dump.instance(310 + number, 22)
+        dump.instance(330, 21, 300, 301)
+        wanted = [["the field shop/Tree.dataWatches"], ["the field shop/Tree.childWatches"]]
+        self.assertEqual(self.names(dump, 300, 301), wanted)
+        wanted = [[f"{each[0]}.table"] for each in wanted]
+        self.assertEqual(self.names(dump, 310, 311), wanted)
+        for number in range(20):
+            dump.instance(400 + number, 21, 300 if number == 19 else 0, 0)
+        self.assertEqual(self.names(dump, 310, 311), wanted)
+        dump.instance(440, 23, 0, 310, 0)
+        self.assertEqual(self.names(dump, 310, 311), [[], wanted[1]])
+
+    def test_owner_once(self) -> None:
+        """An owner names an object once: by its text, not by that of a part, too, and not if it is named as a part."""
+        dump = Queues([])
+        dump.of_class(20, "shop/Tenant", fields=["registry"])
+        dump.of_class(21, "shop/Registry", {"ONE": 310, "OTHER": 310}, fields=["id", "name", "owner", "tenant"])
+        dump.of_class(22, "shop/Owner", fields=["name"])
+        dump.of_class(23, "shop/Inbox", {"FIRST": 301, "LAST": 301})
+        for number, text in enumerate(("7", "registry", "ms north")):
+            dump.string(60_000 + number, text)
+        dump.instance(300, 20, 310)
+        dump.instance(301, 23)
+        dump.instance(310, 21, 60_000, 60_001, 320, 300)
+        dump.instance(320, 22, 60_002)
+        self.assertEqual(self.names(dump, 300), [['its field registry.id "7"']])
+        self.assertEqual(self.names(dump, 320), [['its field name "ms north"']])
+        self.assertEqual(self.names(dump, 301), [["static shop/Inbox.FIRST"]])
+        dump.of_class(24, "shop/Desk", fields=["registry", "inbox"])
+        dump.of_class(25, "shop/Tray")
+        dump.instance(302, 25)
+        dump.instance(330, 24, 310, 302)
+        self.assertEqual(self.names(dump, 302), [['of shop/Desk, its field registry.id "7"']])
+
+    def test_attributes(self) -> None:
+        """A text of an owner whose field is not called like a name is one only if no other one of its class has it:
+        else it is an attribute, such as a state. So is the key that more than twelve maps have."""
+        for count, is_name in ((1, True), (2, False)):
+            dump = Queues([])
+            dump.of_class(20, "shop/Inbox")
+            dump.of_class(21, "shop/Tenant", fields=["state", "inbox", "id"])
+            dump.string(60_000, "LATE")
+            for number in range(count):
+                dump.instance(300 + number, 20)
+                dump.instance(310 + number, 21, 60_000, 300 + number if number == 0 else 0, 0)
+            wanted = ['of shop/Tenant, its field state "LATE"'] if is_name else ["the field shop/Tenant.inbox"]
+            self.assertEqual(self.names(dump, 300), [wanted])
+        for count, is_name in ((12, True), (13, False)):
+            dump = Queues([])
+            dump.of_class(20, "shop/Session", fields=["basket"])
+            dump.of_class(21, "shop/Basket")
+            dump.string(60_000, "session")
+            for number in range(count):
+                dump.instance(300 + number, 21)
+                dump.instance(320 + number, 20, 300 + number)
+                dump.instance(340 + number, 5, 60_000, 320 + number)
+            self.assertEqual(self.names(dump, 300), [['the map\'s key "session"'] if is_name else []], count)
+
+    def test_owned_by_thread(self) -> None:
+        """What an object has that a thread has by a thread-local is named by both, and if several threads of one name
+        have such objects, by the thread-local."""
+        for names, wanted in ((("orders", "carts"), ' of thread "orders"'), (("pool", "pool"), "")):
+            dump = Threads()
+            dump.of_class(20, "shop/Context", fields=["list"])
+            dump.of_class(21, "java/util/ArrayList")
+            for number, name in enumerate(names):
+                dump.having(1 + number, name, [(310 + number, LOCAL)])
+                dump.instance(310 + number, 20, 300 + number)
+                dump.instance(300 + number, 21)
+            local = f"the thread-local static shop/Queues.LOCAL{wanted}"
+            self.assertEqual(self.names(dump, 300, others=[301]), [[local]])
 
     def test_one_text(self) -> None:
         """The only text of an object names it, whatever its field is called; of several, the likely ones, at most
