@@ -10,6 +10,7 @@ from heap_tools.object_parts import MOST_OBJECTS, FieldUses, elements
 from heap_tools.object_shares import OF_ONE, Holding, ObjectShares, shares_of
 from heap_tools.probe import GrowthProbe, Probe, Retained
 from heap_tools.reports import Amount
+from heap_tools.thread_locals import BY_THREAD_LOCAL, ThreadLocals
 
 #: Of how many objects it is asked at least which hold most: of one it is no question.
 FEWEST_OBJECTS = 2
@@ -61,7 +62,19 @@ def sentence(field: str, found: Sequence[HoldingObject]) -> str:
     """Returns in words what objects hold or gained of what `field` does."""
     first, are_most = found[0], sum(each.percent for each in found) >= OF_ALL
     hold = "gained" if first.has_gained else "holds" if len(found) == 1 else "hold"
-    return f"{len(found)} of {first.of:,} {first.among(field)} {hold}{' most' * are_most}: {'; '.join(map(str, found))}"
+    among = f"{len(found)} of {first.of:,} {first.among(field)}"
+    return f"{among} {hold}{' most' * are_most}: {'; '.join(_spelled(found))}"
+
+
+def _spelled(found: Sequence[HoldingObject]) -> Iterator[str]:
+    """Yields in words what objects hold: those that threads have by one thread-local hold it together."""
+    alike: Dict[str, List[HoldingObject]] = {}
+    for number, each in enumerate(found):
+        is_of_threads = [name.how for name in each.names] == [BY_THREAD_LOCAL]
+        alike.setdefault(f"{each.class_name} {each.named_by}" if is_of_threads else str(number), []).append(each)
+    for group in alike.values():
+        together = group[0]._replace(percent=sum(each.percent for each in group))
+        yield f"{len(group)} {together}" if len(group) > 1 else str(together)
 
 
 def tell_apart(found: Sequence[HoldingObject]) -> bool:
@@ -143,9 +156,22 @@ class PartsOfField:
         known = set(chosen)
         return self.names.names_of(chosen, [at for at in self.places if at not in known])
 
-    def described(self, found: Sequence[Holding], whole: Amount) -> List[HoldingObject]:
-        """Returns these objects with their names and their shares of `whole`."""
-        names = self.names_of([each.value.instance for each in found])
+    def of_threads(self) -> Dict[Name, List[Holding]]:
+        """Returns those of the objects that several threads have by the thread-local of one static field, the heaviest
+        first, by that field."""
+        locals_of = ThreadLocals(self.objects).by_static_field()
+        found: Dict[Name, List[Holding]] = {}
+        for each in self.parts.values if locals_of else ():
+            name = locals_of.get(self.objects.dump.id(each.instance + 1))
+            if name:
+                found.setdefault(name, []).append(Holding(each, self.shares.amount(each)))
+        size = self.probe.unit.of
+        return {name: sorted(of, key=lambda it: -size(it.amount)) for name, of in found.items() if len(of) > 1}
+
+    def described(self, found: Sequence[Holding], whole: Amount, name: Optional[Name] = None) -> List[HoldingObject]:
+        """Returns these objects with their names, or with the name that all have, and their shares of `whole`."""
+        places = [each.value.instance for each in found]
+        names = {at: [name] for at in places} if name else self.names_of(places)
         return [
             HoldingObject(
                 self.class_of(value.instance),
@@ -185,6 +211,9 @@ def objects_that_hold(probe: Probe, held: Retained, uses: Optional[FieldUses] = 
         found = parts.shares.heaviest(held.amount)
         if sum(probe.unit.percent(each.amount, held.amount) for each in found) >= OF_ALL:
             return [it._replace(least_gain=it.percent) for it in parts.described(found, held.amount)]
+        for name, alike in parts.of_threads().items():
+            if sum(probe.unit.percent(each.amount, held.amount) for each in alike) >= OF_ALL:
+                return parts.described(alike, held.amount, name)
     return []
 
 
@@ -231,7 +260,7 @@ class GrownParts:
         what each held only if that leaves it open, and what its heaviest held only if some are not found there."""
         found = self.now.shares.heaviest(self.gain)
         if sum(self.percent(each.amount) for each in found) < OF_ALL:
-            return []
+            return self._of_threads()
         certain = self._grown(found)
         if sum(self.percent(each.amount) for each in certain) - self.most_before >= OF_ALL:
             return self._described(certain)
@@ -250,6 +279,22 @@ class GrownParts:
         if is_measured:
             described = [it._replace(percent=gain, has_gained=True) for it, gain in zip(described, gains)]
         return sorted(described, key=lambda each: -each.percent)
+
+    def _of_threads(self) -> List[HoldingObject]:
+        """Returns the objects that several threads have by one thread-local, if these gained most together, though none
+        of them gained much."""
+        heavy = {name: of for name, of in self.now.of_threads().items() if self._together(of) >= OF_ALL}
+        if not heavy:
+            return []
+        before = PartsOfField(self.probe.earlier, self.before, self.now.parts.are_elements).of_threads()
+        for name, alike in heavy.items():
+            if self._together(alike) - self._together(before.get(name, [])) >= OF_ALL:
+                return self.now.described(alike, self.held.amount, name)
+        return []
+
+    def _together(self, found: Sequence[Holding]) -> float:
+        """Returns the share of what objects hold in the gain, in percent."""
+        return sum(self.percent(each.amount) for each in found)
 
     def _described(self, found: Sequence[Holding]) -> List[HoldingObject]:
         """Returns these objects with what they hold now, and the least that each gained."""

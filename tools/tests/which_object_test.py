@@ -27,7 +27,7 @@ from tests.support.dump_writer import BYTE, OBJECT, DumpWriter, word
 from tests.support.marked import RETAINED, growth_of, held_by, probe_of
 from tests.support.queues import Chains, Folders, Queues
 from tests.support.random_heaps import random_pair
-from tests.support.thread_locals import buffers
+from tests.support.thread_locals import Threads, buffers
 from tests.support.tool_test import ToolTest
 
 CONTENT = "shop/Queue.content"
@@ -36,6 +36,18 @@ CONTENT = "shop/Queue.content"
 def said(field: str, found: Sequence[HoldingObject]) -> str:
     """Returns what is said of the objects, empty if there are none."""
     return sentence(field, found) if found else ""
+
+
+def with_others(dump: Threads, count: int, size: int) -> Threads:
+    """Writes `count` more buffers of `size` bytes, which a static field has, and returns the dump."""
+    dump.of_class(21, "[Lshop/Buffer;")
+    dump.of_class(22, "shop/Buffers", {"ALL": 5000})
+    dump.array(5000, 21, *range(5100, 5100 + count))
+    for number in range(count):
+        dump.instance(5100 + number, 20, 5300 + number)
+        dump.values(5300 + number, BYTE, bytes(size))
+    dump.root(22)
+    return dump
 
 
 class HoldsTest(unittest.TestCase):
@@ -249,6 +261,22 @@ class HoldsTest(unittest.TestCase):
             chain = Folders(list(range(1, 40)), [50] * 40, id_size)
             self.assertEqual(self.holding(chain, "disk/Folder.folders"), [])
 
+    def test_threads_alike(self) -> None:
+        """If no object holds much, but threads have most of them by one thread-local, its static field names all of
+        these; in bytes, in words and one by one. Of objects that hold little it does not, and neither does it if no
+        static field has the thread-local."""
+        field, local = "shop/Buffer.content", "the thread-local static shop/Queues.LOCAL"
+        found = self.holding(buffers([900, 910, 920, 930, 940, 950]), field)
+        self.assertEqual([each.amount.bytes for each in found], [950, 940, 930, 920, 910, 900])
+        self.assertEqual({each.named_by for each in found}, {local})
+        self.assertTrue(tell_apart(found))
+        words = f"6 of 6 {field} hold most: 6 shop/Buffer ({local}): 100%"
+        self.assertEqual(said(field, found), words)
+        self.assertEqual(said(field, hidden(found, False)), words.replace(" static shop/Queues.LOCAL", ""))
+        for others, wanted in ((40, 6), (60, 0)):
+            dump = with_others(buffers([900] * 6), others, 100)
+            self.assertEqual(len(self.holding(dump, field)), wanted)
+
     def test_leading(self) -> None:
         """The one of several objects that leads straight to an object is named without a run; it is no question if
         several do, none, or if there is only one."""
@@ -374,6 +402,15 @@ class GrewTest(unittest.TestCase):
         wanted = '1 of 3 elements of {0} gained most: shop/Queue (its field name "queue 1"): 100%'
         field = "shop/Queues.ALL"
         self.expect(Queues([5000, 100, 7]), Queues([5000, 3100, 7], first=3000), wanted.format(field), field)
+
+    def test_threads_alike(self) -> None:
+        """Objects that threads have by one thread-local gained most together, if what these held before does not leave
+        it open."""
+        field, local = "shop/Buffer.content", "the thread-local static shop/Queues.LOCAL"
+        before, after = buffers([100] * 5), buffers([1100] * 6)
+        self.expect(before, after, f"6 of 6 {field} hold most: 6 shop/Buffer ({local}): 100%", field)
+        dumps = [with_others(buffers([1000] * 6), 40, size) for size in (10, 110)]
+        self.assertEqual(said(field, self.grown(dumps[0], dumps[1], field)), "")
 
     def test_no_growth(self) -> None:
         """Of a field that gained nothing no object grew."""
