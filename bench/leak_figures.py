@@ -39,7 +39,8 @@ from heap_tools.console import Progress  # noqa: E402
 from heap_tools.dump_side import DumpSide  # noqa: E402
 from heap_tools.faults import Fault  # noqa: E402
 from heap_tools.heapmark import Heapmark  # noqa: E402
-from heap_tools.leak_lines import Answer, Line, answer_of  # noqa: E402
+from heap_tools.leak_answer import Answer, answer_of  # noqa: E402
+from heap_tools.leak_lines import Line  # noqa: E402
 from heap_tools.leak_options import Options  # noqa: E402
 from heap_tools.probe import GrowthProbe, Probe  # noqa: E402
 from heap_tools.reports import Amount, Report, read_report  # noqa: E402
@@ -103,8 +104,7 @@ def compared(paths: Sequence[str]) -> tuple[Comparison, Answer, Heapmark]:
     """Asks the dumps as tools/leaks does without options. Returns what was asked, the answer and what ran heapmark."""
     heapmark, progress, options = Heapmark(), Progress("leaks"), Options()
     comparison = comparison_of(dumps_of(paths, heapmark, progress), options)
-    lines = answer_of(comparison.probe, options.at_least, options.top, comparison.probes_between)
-    return comparison, lines, heapmark
+    return comparison, answer_of(comparison.probe, options.bounds, comparison.probes_between), heapmark
 
 
 def main() -> int:
@@ -122,7 +122,7 @@ def main() -> int:
     if not answer.lines:
         print(f"no line, {runs} runs")
         return 1
-    probe, line = answer.probe, answer.lines[0]
+    probe, line = comparison.probe, answer.lines[0]
     shown, plainly = figures(plain, probe, line)
     wrong = [] if shown == plainly else [f"line {shown}, plain marker {plainly}"]
     wrong += [f"false path {step}" for step in wrong_steps(plain, probe, line)]

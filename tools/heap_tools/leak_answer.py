@@ -10,7 +10,7 @@ from typing import Callable, FrozenSet, List, NamedTuple, Sequence
 from heap_tools.candidates import Candidate
 from heap_tools.dump_side import GroupKey, Several
 from heap_tools.element_counts import element_counts
-from heap_tools.leak_lines import Found, Line, found_by, searched
+from heap_tools.leak_lines import Line, Ranking, ranking_of, searched
 from heap_tools.leak_options import Bounds
 from heap_tools.probe import GrowthProbe, Probe
 from heap_tools.reports import Amount
@@ -57,7 +57,7 @@ def with_elements(lines: Sequence[Line], whole: Probe) -> List[Line]:
     return [line._replace(elements=it, elements_before=before) for line, it, before in zip(lines, now, was)]
 
 
-def every_line(search: Search, found: Found, bounds: Bounds) -> Answer:
+def every_line(search: Search, found: Ranking, bounds: Bounds) -> Answer:
     """Returns all that was found, each as a line."""
     whole, count = search.probe, min(bounds.top, len(found.ranked))
     lines = [found.line(number, whole) for number in range(count)]
@@ -65,7 +65,7 @@ def every_line(search: Search, found: Found, bounds: Bounds) -> Answer:
     return Answer(lines, len(found.ranked) - count, search, left, found.is_lasting)
 
 
-def one_by_one(search: Search, first: Found, bounds: Bounds, between: Between) -> Answer:
+def one_by_one(search: Search, first: Ranking, bounds: Bounds, between: Between) -> Answer:
     """Returns the lines of which each holds nothing that those above it do."""
     whole, found = search.probe, first
     lines: List[Line] = []
@@ -83,8 +83,8 @@ def one_by_one(search: Search, first: Found, bounds: Bounds, between: Between) -
     return Answer(lines, 0, search, left, first.is_lasting)
 
 
-def ranked(search: Search, between: Between, cut: Several = (), above: FrozenSet[GroupKey] = frozenset()) -> Found:
+def ranked(search: Search, between: Between, cut: Several = (), above: FrozenSet[GroupKey] = frozenset()) -> Ranking:
     """Returns what a search has found without the candidates `cut`, in its order. What is named in `above` is no line:
     it is above one that there is already, and holds more than that only by what is in no other line."""
     asked = between([held.candidates for held in search.found], cut) if search.found else []
-    return found_by(search, asked, above)
+    return ranking_of(search, asked, above)

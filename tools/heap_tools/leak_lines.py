@@ -284,7 +284,7 @@ def explains(held: Retained) -> bool:
     return held.instances <= FEW and not any(each.is_thread for each in held.candidates)
 
 
-class Found(NamedTuple):
+class Ranking(NamedTuple):
     """What a search has found, the answer first, whether some of it lasts, what asked for it, of dumps between, too,
     what is above what, and the objects that gained most of the answer, or of what is above it or below it."""
 
@@ -311,7 +311,7 @@ class Found(NamedTuple):
         )
 
 
-def found_by(search: Search, between: Sequence[Probe], above: FrozenSet[GroupKey]) -> Found:
+def ranking_of(search: Search, between: Sequence[Probe], above: FrozenSet[GroupKey]) -> Ranking:
     """Returns what a search has found, in its order, without what is named in `above`."""
     lines = Lines(search, search.probe, between, above)
     objects = lines.ask_for_objects()
@@ -319,4 +319,4 @@ def found_by(search: Search, between: Sequence[Probe], above: FrozenSet[GroupKey
     objects = None if lines.ask_below() else objects
     ranked, is_lasting = lines.sorted(), lines.lasts()
     paths = ReferencePaths(search.probe, [*search.found, *search.steady])
-    return Found(ranked, is_lasting, search.probe, between, paths, objects)
+    return Ranking(ranked, is_lasting, search.probe, between, paths, objects)

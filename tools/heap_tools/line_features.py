@@ -14,8 +14,9 @@ class Features:
     the number of all objects that they hold, `gains` of how many objects they gained by class. `of_one` is the part of
     its gain that one object has, if that is most, `of_elements` that of elements of the answer's container that were
     there before. `of_largest` is the part of `amount` that as many of the largest instances hold as came, None if it is
-    not known: the most that new ones can hold. `evenness`: how evenly it gained over several dumps. `is_chain`: most of its instances have a value, and it holds most of them. `is_line`: it gained
-    enough; else it only shows what was held before."""
+    not known: the most that new ones can hold. `evenness`: how evenly it gained over several dumps. `is_chain`: most of
+    its instances have a value, and it holds most of them. `is_line`: it gained enough; else it only shows what was held
+    before."""
 
     name: str
     kinds: Tuple[str, ...]

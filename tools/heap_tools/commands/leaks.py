@@ -215,7 +215,7 @@ def nothing_too(dumps: Sequence[DumpRuns], options: Options, output: Output) -> 
         raise
 
 
-def shown(answer: Answer, options: Options) -> Answer:
+def as_shown(answer: Answer, options: Options) -> Answer:
     """Returns an answer without the values of the dump that `options` hide."""
     return answer._replace(lines=without_values(answer.lines, options.shows_values))
 
@@ -228,7 +228,7 @@ def print_growth(paths: Sequence[str], options: Options, output: Output) -> None
         progress.show("asking what each field holds")
         with nothing_too(dumps.dumps, options, output):
             comparison = comparison_of(dumps.dumps, options)
-        answer = shown(answer_of(comparison.probe, options.bounds, comparison.probes_between), options)
+        answer = as_shown(answer_of(comparison.probe, options.bounds, comparison.probes_between), options)
         notes = notes_of(comparison, answer.lines)
     finally:
         progress.clear()
@@ -258,7 +258,7 @@ def print_one(path: str, options: Options, output: Output) -> None:
         progress.show("asking what each field holds")
         with nothing_too(dumps.dumps, options, output):
             question = question_of(dumps.dump, options)
-        answer = HeapAnswer(question, shown(answer_of(question.probe, options.bounds), options))
+        answer = HeapAnswer(question, as_shown(answer_of(question.probe, options.bounds), options))
         notes = notes_of_one(answer)
     finally:
         progress.clear()
