@@ -114,7 +114,7 @@ AT_LEAST_OF_GROWTH = 30
 #: The share from which on each other line is shown: of a leak with less, a later dump says more.
 AT_LEAST_OF_OTHERS = 10
 #: How many lines are shown: who reads an alarm reads no more.
-TOP = 4
+MOST_LINES = 4
 
 
 def parser() -> Parser:
@@ -276,7 +276,7 @@ def print_one(path: str, options: Options, output: Output) -> None:
 def bounds_of(options: Namespace) -> Bounds:
     """Returns which lines the options ask for."""
     first = options.at_least or (AT_LEAST_OF_GROWTH if options.after else AT_LEAST)
-    top = options.top or (sys.maxsize if options.all else TOP)
+    top = options.top or (sys.maxsize if options.all else MOST_LINES)
     return Bounds(first, options.at_least or AT_LEAST_OF_OTHERS, top, options.all)
 
 
