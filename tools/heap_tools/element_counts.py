@@ -9,7 +9,7 @@ from heap_tools.object_parts import FieldUses
 from heap_tools.probe import Probe
 
 #: The number of elements that a container keeps, as an int.
-SIZES = {
+NUMBERS = {
     ("java/util/ArrayList", "size"),
     ("java/util/EnumMap", "size"),
     ("java/util/HashMap", "size"),
@@ -92,7 +92,7 @@ class ElementCounts:
         found: Optional[int] = None
         for owner, place, field in objects.fields_of(objects.class_of(at)):
             name = dump.names[owner], field.name
-            if (field.kind, name in SIZES) == (hprof.INT, True):
+            if (field.kind, name in NUMBERS) == (hprof.INT, True):
                 return dump.number(at + place, 4)
             if (field.kind, name in STRIPES) == (hprof.LONG, True):
                 found = signed(dump.number(at + place, 8))
