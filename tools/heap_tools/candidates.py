@@ -71,6 +71,11 @@ class Candidate:
         return self.kind in (THREAD, THREADS)
 
     @property
+    def is_captured(self) -> bool:
+        """Tests whether it is a variable that a lambda captured."""
+        return "$$Lambda" in self.name
+
+    @property
     def is_of_machine(self) -> bool:
         """Tests whether the virtual machine keeps the field with its class, such as `<resolved_references>`."""
         return ".<" in self.name
@@ -267,7 +272,8 @@ class Candidates:
         alike = self.threads_alike()
         known = {place for each in alike for place in each.places}
         threads = [*alike, *(each for each in self.threads() if known.isdisjoint(each.places))]
-        fields = [each for each in self.every_field() if each.count <= FEW and not each.is_collection]
+        few = (each for each in self.every_field() if each.count <= FEW)
+        fields = [each for each in few if not each.is_collection and not each.is_captured]
         statics = [*self.statics(), *self.statics_alike()]
         return [each for each in [*statics, *self.locals(), *threads, *fields] if not each.is_of_machine]
 

@@ -8,11 +8,11 @@ alone or with others. What leads to the client does, but they pile up in the cli
 from collections import Counter
 from typing import List, Optional, Set
 
-from heap_tools.candidates import FEW, FIELD, STATIC
+from heap_tools.candidates import FEW, FIELD, STATIC, Candidate
 from heap_tools.container_sizes import ContainerSizes
 from heap_tools.dump_side import Several, key_of
 from heap_tools.heap_objects import HeapObjects
-from heap_tools.joint_search import by_amount, needed_of
+from heap_tools.joint_search import JointSearch, by_amount, needed_of
 from heap_tools.object_parts import FieldUses
 from heap_tools.object_shares import amounts_of
 from heap_tools.probe import GrowthProbe, Probe, Retained
@@ -22,18 +22,33 @@ from heap_tools.search import Search
 
 def find_below(search: Search, upper: Retained, uses: FieldUses) -> List[Retained]:
     """Finds what fields that the instances of one class have, inherited ones too, hold only together, of what `upper`
-    holds, if that leads to no container. `uses` may know the values of fields."""
+    holds, if that leads to no container, and what fields of few instances do. `uses` may know the values of fields."""
     probe = search.probe
     if leads_to_container(probe, upper, uses):
         return []
     units = {key_of(unit): unit for name, unit in probe.candidates.units().items() if name in upper.lost}
     heavy = [unit for unit in units.values() if probe.share(unit) >= search.at_least]
     needed = [each for each in (needed_of(probe, search.at_least, unit) for unit in heavy) if each]
+    lower = JointSearch(probe, search.at_least, fields_below(probe, upper)).find()
+    needed += [lower] if len(lower) > 1 and lead_apart(probe, lower, uses) else []
     known = {held.key for held in search.found}
     every = {key_of(each): by_amount(probe, each) for each in needed if key_of(each) not in known}
     found = [probe.retained(each)._replace(candidates=each) for each in every.values()]
     search.found += found
     return found
+
+
+def fields_below(probe: Probe, upper: Retained) -> List[Candidate]:
+    """Returns the fields of few instances that may be below `upper`: those that do not hold all that it does."""
+    fields = [each for each in probe.candidates.few() if each.kind == FIELD]
+    return [each for each in fields if not probe.holds_all(probe.retained([each]), upper)]
+
+
+def lead_apart(probe: Probe, fields: Several, uses: FieldUses) -> bool:
+    """Tests whether no two fields lead to one object: two containers may have the same elements, but what two fields
+    lead to themselves is where things pile up."""
+    targets = [_targets(probe, probe.retained([each]), uses) for each in fields]
+    return all(targets) and sum(map(len, targets)) == len(set().union(*targets))
 
 
 def leads_to_container(probe: Probe, held: Retained, uses: FieldUses) -> bool:

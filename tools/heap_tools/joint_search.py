@@ -102,13 +102,13 @@ def joint_answers(
     probe: Probe, at_least: float, explained: Sequence[Several], candidates: Several, known: Several
 ) -> Sequence[Several]:
     """Returns what gained `at_least` percent of the growth together that none of `explained` holds: of the fields of a
-    class those that are needed, or all; if no class has such, those of `candidates` that hold enough only together.
+    class those that are needed, or all; if these leave as much, those of `candidates` that hold enough only together.
     They are some of `known`: what all of these gained only together was asked before, and if it is less, nothing is
     asked."""
     found = [needed_of(probe, at_least, it) or it for it in kin_with(probe, at_least, explained, candidates)]
     least = at_least * probe.unit.of(probe.growth) / 100
-    if not found and probe.unit.of(probe.gain_beside(known, alone(known))) >= least:
-        found = [each for each in [JointSearch(probe, at_least, candidates).find()] if each]
+    if probe.unit.of(probe.gain_beside(known, [*alone(known), *found])) >= least:
+        found += [each for each in [JointSearch(probe, at_least, candidates).find()] if each]
     return [by_amount(probe, each) for each in found if probe.share(each) >= at_least]
 
 

@@ -279,9 +279,9 @@ def roots_of(candidates: Several) -> Several:
 
 
 def explains(held: Retained) -> bool:
-    """Tests whether what is found leaves nothing to ask of what it holds: it has few instances. What threads lead to
-    may be held together below."""
-    return held.instances <= FEW and not any(each.is_thread for each in held.candidates)
+    """Tests whether what is found leaves nothing to ask of what it holds: it has few instances. What threads and
+    variables of lambdas lead to may be held together below."""
+    return held.instances <= FEW and not any(each.is_thread or each.is_captured for each in held.candidates)
 
 
 class Ranking(NamedTuple):

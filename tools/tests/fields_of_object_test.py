@@ -57,13 +57,34 @@ class Clients(DumpWriter):
         self.array(number + 10_000_000, 6, *elements)
 
 
+def stores(count: int, is_shared: bool) -> DumpWriter:
+    """Returns a dump of a store with so many packs in two lists, by a field of its own and one that it inherits, or in
+    one list, to which both lead."""
+    dump = DumpWriter(time=60_000 * count)
+    dump.of_class(1, "shop/Service", {"POOL": 100})
+    dump.of_class(2, "shop/Base", fields=["listed"])
+    dump.of_class(3, "shop/Store", fields=["stored"], superclass=2)
+    dump.of_class(4, "[Lshop/Pack;")
+    dump.of_class(5, "shop/Pack", fields=["content"])
+    packs = range(1000, 1000 + count)
+    dump.instance(100, 3, 101, 101 if is_shared else 102)
+    dump.of_class(6, "java/util/ArrayList", fields=["size", "elementData"])
+    for number in (101, 102):
+        dump.instance(number, 6, word(count), number + 100)
+        dump.array(number + 100, 4, *packs)
+    for pack in packs:
+        dump.instance(pack, 5, pack + 10_000)
+        dump.values(pack + 10_000, BYTE, bytes(100))
+    dump.root(1)
+    return dump
+
+
 class BelowTest(unittest.TestCase):
     """What is found below the answer."""
 
     def paths(self, before: DumpWriter, after: DumpWriter) -> List[str]:
         """Returns the paths of the lines about what grew."""
         answer = answer_of(growth_of(before, after), Bounds(shows_all=True, top=8))
-        self.assertEqual([line.objects for line in answer.lines if line.objects], [])
         return [line.path() for line in answer.lines]
 
     def test_one_object(self) -> None:
@@ -71,6 +92,13 @@ class BelowTest(unittest.TestCase):
         for id_size in (4, 8):
             paths = self.paths(Clients([70], id_size), Clients([300], id_size))
             self.assertEqual(paths[:2], [f"{POOL} > {TOGETHER}", POOL])
+
+    def test_two_lists(self) -> None:
+        """Two lists with the same parts, of one object, by fields of two classes, are the answer; what two fields lead
+        to themselves is not."""
+        for is_shared, wanted in ((False, f"{POOL} > together shop/Base.listed, shop/Store.stored"), (True, POOL)):
+            paths = self.paths(stores(70, is_shared), stores(300, is_shared))
+            self.assertEqual(paths[0], wanted)
 
     def test_several_objects(self) -> None:
         """The fields of several clients are found, too, but do not say where it piles up."""
