@@ -5,18 +5,16 @@ connection has such a list, too: so that field has many instances, and no field 
 alone or with others. What leads to the client does, but they pile up in the client.
 """
 
-from collections import Counter
-from typing import List, Optional, Set
+from typing import Dict, List, Set
 
 from heap_tools.candidates import FEW, FIELD, STATIC, Candidate
 from heap_tools.container_sizes import ContainerSizes
 from heap_tools.dump_side import Several, key_of
-from heap_tools.heap_objects import HeapObjects
+from heap_tools.heap_objects import FieldValue, HeapObjects
 from heap_tools.joint_search import JointSearch, by_amount, needed_of
 from heap_tools.object_parts import FieldUses
 from heap_tools.object_shares import amounts_of
 from heap_tools.probe import GrowthProbe, Probe, Retained
-from heap_tools.reports import Amount
 from heap_tools.search import Search
 
 
@@ -33,9 +31,7 @@ def find_below(search: Search, upper: Retained, uses: FieldUses) -> List[Retaine
     needed += [lower] if len(lower) > 1 and lead_apart(probe, lower, uses) else []
     known = {held.key for held in search.found}
     every = {key_of(each): by_amount(probe, each) for each in needed if key_of(each) not in known}
-    found = [probe.retained(each)._replace(candidates=each) for each in every.values()]
-    search.found += found
-    return found
+    return [probe.retained(each)._replace(candidates=each) for each in every.values()]
 
 
 def fields_below(probe: Probe, upper: Retained) -> List[Candidate]:
@@ -71,23 +67,23 @@ def _targets(probe: Probe, held: Retained, uses: FieldUses) -> Set[int]:
 
 
 def part_of_one(probe: Probe, held: Retained) -> float:
-    """Returns the part of what `held` holds by several fields, or of what it gained, that the only object has which has
-    all these fields, 0 if there are several."""
-    now = _of_only_one(probe, held.candidates)
-    was = _of_only_one(probe.earlier, held.candidates) if isinstance(probe, GrowthProbe) else Amount()
+    """Returns the part of what `held` holds by several fields, or of what it gained, that one object surely has which
+    has all these fields: what the largest holds now, less what the largest held before. Returns 0 if more than `FEW`
+    have them."""
+    now = _of_largest(probe, held.candidates)
+    was = _of_largest(probe.earlier, held.candidates) if isinstance(probe, GrowthProbe) else 0
     whole = probe.unit.of(held.amount.minus(probe.before(held.candidates).amount))
-    if now is None or was is None or whole <= 0:
-        return 0.0
-    return probe.unit.of(now.minus(was)) / whole
+    return max(0, now - was) / whole if whole > 0 else 0.0
 
 
-def _of_only_one(probe: Probe, fields: Several) -> Optional[Amount]:
-    """Returns what the only object holds by `fields` that has a value in each, nothing if none does, None if several
-    do."""
+def _of_largest(probe: Probe, fields: Several) -> int:
+    """Returns how much the object holds by `fields` that holds most, of those that have a value in each: nothing if
+    there are none, or more than `FEW`."""
     values = HeapObjects(probe.runs.dump).values_of([each.name for each in fields])
-    values = [each for each in values if probe.runs.dump.id(each.value)]
-    count = Counter(each.instance for each in values)
-    every = [at for at, number in count.items() if number == len(fields)]
-    if len(every) > 1:
-        return None
-    return amounts_of(probe, [[each for each in values if each.instance in every]])[0]
+    by_object: Dict[int, List[FieldValue]] = {}
+    for each in values:
+        if probe.runs.dump.id(each.value):
+            by_object.setdefault(each.instance, []).append(each)
+    every = [of_object for of_object in by_object.values() if len(of_object) == len(fields)]
+    amounts = amounts_of(probe, every) if 1 <= len(every) <= FEW else []
+    return max(map(probe.unit.of, amounts), default=0)

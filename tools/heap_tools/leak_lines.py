@@ -13,7 +13,7 @@ from heap_tools.lasting_elements import LastingElements
 from heap_tools.line_features import Features, evenness
 from heap_tools.line_order import CHAIN, HARDLY_ANY, MOST, MOST_ASKED, NEARLY, LineOrder, Scoring
 from heap_tools.object_parts import MOST_OBJECTS, FieldUses
-from heap_tools.joint_search import joint_answers
+from heap_tools.joint_search import by_amount, deepened, joint_answers
 from heap_tools.probe import GrowthProbe, Probe, Retained
 from heap_tools.reference_paths import ReferencePaths, is_root
 from heap_tools.reports import Amount
@@ -147,16 +147,28 @@ class Lines:
             self.features[number] = dataclasses.replace(line, of_elements=of_elements)
 
     def ask_below(self) -> bool:
-        """If the answer leads to no container, searches below it for what one object holds by several fields. Returns
-        whether that is the answer now."""
+        """Asks of several fields below the answer whether one object gained most by them; if the answer leads to no
+        container, searches for such fields. Returns whether they are the answer now."""
         answer = self._order().answer()
         if answer is None:
             return False
-        for held in find_below(self.search, self.every[answer], self.uses):
-            of_one = part_of_one(self.probe, held)
+        for number, held in enumerate(self.found):
+            if len(held.candidates) > 1 and all(each.kind == FIELD for each in held.candidates):
+                if number != answer and self._holds(answer, number):
+                    self.features[number] = dataclasses.replace(self.features[number], of_one=self._of_one(held))
+        for upper in find_below(self.search, self.every[answer], self.uses):
+            of_one = self._of_one(upper)
+            group = by_amount(self.probe, deepened(self.probe, upper.candidates))
+            held = self.probe.retained(group)._replace(candidates=group)
+            self.search.found.append(held)
             self.every.append(held)
-            self.features.append(dataclasses.replace(self._features(held, True), of_one=of_one * (of_one >= MOST)))
+            self.features.append(dataclasses.replace(self._features(held, True), of_one=of_one))
         return self._order().answer() != answer
+
+    def _of_one(self, held: Retained) -> float:
+        """Returns the part of what several fields gained that one object has, if it is most."""
+        part = part_of_one(self.probe, held)
+        return part if part >= MOST else 0.0
 
     def _objects_of(self, held: Retained) -> List[HoldingObject]:
         """Returns which objects gained most of what `held` did, or of one dump hold most."""

@@ -140,10 +140,14 @@ class PartTest(unittest.TestCase):
         return part_of_one(probe, probe.retained(both))
 
     def test_part(self) -> None:
-        """It is all of it if there is one client, which may have come, and nothing if there are several."""
+        """It is all of it if there is one client, which may have come; of several it is what the largest has more than
+        any had."""
         self.assertEqual(self.part(Clients([70]), Clients([300])), 1.0)
         self.assertEqual(self.part(Clients([]), Clients([300])), 1.0)
-        self.assertEqual(self.part(Clients([70, 1]), Clients([300, 1])), 0.0)
+        self.assertEqual(self.part(Clients([70, 1]), Clients([300, 1])), 1.0)
+        self.assertEqual(self.part(Clients([70, 70]), Clients([185, 185])), 0.5)
+        self.assertEqual(self.part(Clients([70, 1]), Clients([1, 300])), 1.0)
+        self.assertEqual(self.part(Clients([0] * FEW), Clients([9] * (FEW + 1))), 0.0)
         self.assertEqual(self.part(Clients([300]), Clients([70])), 0.0)
 
 
