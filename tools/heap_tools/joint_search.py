@@ -176,9 +176,11 @@ def deepened(probe: Probe, group: Several) -> Several:
 
 
 def below(probe: Probe, upper: Candidate) -> List[Candidate]:
-    """Returns the fields of few instances of which each holds something, and only what `upper` holds, too."""
+    """Returns the fields of few instances of which each holds something, and only what `upper` holds, too: own ones if
+    that is one, since those of the JDK say less."""
     held = probe.retained([upper])
     fields = [each for each in probe.candidates.few() if each.kind == FIELD and each.key != upper.key]
+    fields = [each for each in fields if each.is_own or not upper.is_own]
     return [it for it in fields if probe.retained([it]).heap.objects and probe.holds_all(held, probe.retained([it]))]
 
 

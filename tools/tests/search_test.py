@@ -133,6 +133,15 @@ class JointTest(unittest.TestCase):
             for group in (found, *(found - {each} for each in found)) if found else ():
                 self.assertEqual(gains.get(group, 0) >= least, group == found, seed)
 
+    def test_deepest(self) -> None:
+        """Each member gives way to the deepest field that does as well, of an own one only to an own field."""
+        for low, names in (("app", ["app/L.one", "app/M.two"]), ("java", ["app/A.one", "app/A.two"])):
+            fields = [field(name) for name in ("app/A.one", "app/A.two", f"{low}/L.one", f"{low}/M.two")]
+            one, two, low_one, low_two = (each.name for each in fields)
+            ways = [[first, second] for first in (one, low_one) for second in (two, low_two)]
+            alone: Things = [([[one]], 1), ([[two]], 1), ([[one], [low_one]], 2), ([[two], [low_two]], 2)]
+            self.assertEqual(self.found([(ways, 94), *alone], fields), [f"together {', '.join(names)}"])
+
     def test_four(self) -> None:
         """Four that are needed are no line, unless a class declares them."""
         for owners, is_found in (["A", "B", "C", "D"], False), (["A", "A", "A", "A"], True):
