@@ -5,17 +5,20 @@ connection has such a list, too: so that field has many instances, and no field 
 alone or with others. What leads to the client does, but they pile up in the client.
 """
 
-from typing import Dict, List, Set
+from typing import Dict, List, Optional, Set
 
 from heap_tools.candidates import FEW, FIELD, STATIC, Candidate
 from heap_tools.container_sizes import ContainerSizes
 from heap_tools.dump_side import Several, key_of
 from heap_tools.heap_objects import FieldValue, HeapObjects
 from heap_tools.joint_search import JointSearch, by_amount, needed_of
+from heap_tools.object_names import ObjectNames
 from heap_tools.object_parts import FieldUses
 from heap_tools.object_shares import amounts_of
 from heap_tools.probe import GrowthProbe, Probe, Retained
+from heap_tools.reports import Amount
 from heap_tools.search import Search
+from heap_tools.which_object import HoldingObject
 
 
 def find_below(search: Search, upper: Retained, uses: FieldUses) -> List[Retained]:
@@ -76,14 +79,33 @@ def part_of_one(probe: Probe, held: Retained) -> float:
     return max(0, now - was) / whole if whole > 0 else 0.0
 
 
+def object_with_most(probe: Probe, held: Retained) -> Optional[HoldingObject]:
+    """Returns the object that holds most by the fields of `held`, of those that have a value in each, None if there are
+    none, or more than `FEW`."""
+    every = _objects_with(probe, held.candidates)
+    if not every:
+        return None
+    at = max(every, key=lambda it: probe.unit.of(every[it]))
+    names = ObjectNames(probe.runs.dump).names_of([at], [other for other in every if other != at])
+    percent, of = probe.unit.percent(every[at], held.amount), len(every)
+    class_name = HeapObjects(probe.runs.dump).class_name(at)
+    return HoldingObject(class_name, names[at], every[at], percent, of=of, instances=of)
+
+
 def _of_largest(probe: Probe, fields: Several) -> int:
     """Returns how much the object holds by `fields` that holds most, of those that have a value in each: nothing if
     there are none, or more than `FEW`."""
+    return max(map(probe.unit.of, _objects_with(probe, fields).values()), default=0)
+
+
+def _objects_with(probe: Probe, fields: Several) -> Dict[int, Amount]:
+    """Returns the objects that have a value in each of `fields`, by their places, with what each holds by these; none
+    if they are more than `FEW`."""
     values = HeapObjects(probe.runs.dump).values_of([each.name for each in fields])
     by_object: Dict[int, List[FieldValue]] = {}
     for each in values:
         if probe.runs.dump.id(each.value):
             by_object.setdefault(each.instance, []).append(each)
-    every = [of_object for of_object in by_object.values() if len(of_object) == len(fields)]
-    amounts = amounts_of(probe, every) if 1 <= len(every) <= FEW else []
-    return max(map(probe.unit.of, amounts), default=0)
+    every = {at: of_object for at, of_object in by_object.items() if len(of_object) == len(fields)}
+    amounts = amounts_of(probe, list(every.values())) if 1 <= len(every) <= FEW else []
+    return dict(zip(every, amounts))

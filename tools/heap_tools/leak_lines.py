@@ -7,7 +7,7 @@ from typing import FrozenSet, List, NamedTuple, Optional, Sequence
 
 from heap_tools.candidates import FEW, FIELD, STATIC, Candidate, joint_name
 from heap_tools.dump_side import GroupKey, Several, key_of
-from heap_tools.fields_of_object import find_below, part_of_one
+from heap_tools.fields_of_object import find_below, object_with_most, part_of_one
 from heap_tools.heap_objects import HeapObjects
 from heap_tools.lasting_elements import LastingElements
 from heap_tools.line_features import Features, evenness
@@ -164,6 +164,15 @@ class Lines:
             self.every.append(held)
             self.features.append(dataclasses.replace(self._features(held, True), of_one=of_one))
         return self._order().answer() != answer
+
+    def object_of_several(self) -> Optional[LineObjects]:
+        """Returns which object gained most of what the answer did, if that is several fields of one of some objects."""
+        answer = self._order().answer()
+        if answer is None or not self.features[answer].of_one:
+            return None
+        held = self.every[answer]
+        found = object_with_most(self.probe, held)
+        return LineObjects(held, [found]) if found and tell_apart([found]) else None
 
     def _of_one(self, held: Retained) -> float:
         """Returns the part of what several fields gained that one object has, if it is most."""
@@ -328,7 +337,7 @@ def ranking_of(search: Search, between: Sequence[Probe], above: FrozenSet[GroupK
     lines = Lines(search, search.probe, between, above)
     objects = lines.ask_for_objects()
     lines.ask_for_elements()
-    objects = None if lines.ask_below() else objects
+    objects = lines.object_of_several() if lines.ask_below() else objects
     ranked, is_lasting = lines.sorted(), lines.lasts()
     paths = ReferencePaths(search.probe, [*search.found, *search.steady])
     return Ranking(ranked, is_lasting, search.probe, between, paths, objects)

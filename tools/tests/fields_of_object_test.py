@@ -3,7 +3,7 @@
 import unittest
 from typing import List, Sequence
 
-from heap_tools.fields_of_object import leads_to_container, part_of_one
+from heap_tools.fields_of_object import leads_to_container, object_with_most, part_of_one
 from heap_tools.heap_objects import HeapObjects
 from heap_tools.leak_answer import answer_of
 from heap_tools.leak_options import Bounds
@@ -149,6 +149,17 @@ class PartTest(unittest.TestCase):
         self.assertEqual(self.part(Clients([70, 1]), Clients([1, 300])), 1.0)
         self.assertEqual(self.part(Clients([0] * FEW), Clients([9] * (FEW + 1))), 0.0)
         self.assertEqual(self.part(Clients([300]), Clients([70])), 0.0)
+
+    def test_object(self) -> None:
+        """The object that has most by both fields, among how many, and its share; none if too many have them."""
+        for counts, of in (([300], 1), ([100, 300], 2), ([9] * (FEW + 1), 0)):
+            probe = probe_of(Clients(counts, is_listed=True))
+            fields = [it for name in ("Client.hosts", "Part.parts") for it in held_by(probe, f"shop/{name}").candidates]
+            found = object_with_most(probe, probe.retained(fields))
+            self.assertEqual(found.of if found else 0, of)
+            if found:
+                share = 100 * 300 / sum(counts)
+                self.assertEqual((found.class_name, round(found.percent / share, 1)), ("shop/Client", 1.0))
 
 
 if __name__ == "__main__":
