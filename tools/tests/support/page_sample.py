@@ -235,7 +235,11 @@ def one_dump(**changes: Any) -> page.OneDump:
         suspects=[
             page.SuspectEntry([field(tenants)], 1, whole, []),
             page.SuspectEntry(
-                [field("com/acme/mail/Tenant.inbox")], 500, inbox, [step(tenants, whole), step(f"{MAP}.table", whole)]
+                [field("com/acme/mail/Tenant.inbox")],
+                500,
+                inbox,
+                [step(tenants, whole), step(f"{MAP}.table", whole)],
+                elements="40,000 elements",
             ),
             page.SuspectEntry([field("local com/acme/mail/Import.run")], 1, held(20_114, 10_044_190, 20.2), []),
         ],
