@@ -133,7 +133,7 @@ class JointTest(unittest.TestCase):
             for group in (found, *(found - {each} for each in found)) if found else ():
                 self.assertEqual(gains.get(group, 0) >= least, group == found, seed)
 
-    def test_deepest(self) -> None:
+    def test_gives_way(self) -> None:
         """Each member gives way to the deepest field that does as well, of an own one only to an own field."""
         for low, names in (("app", ["app/L.one", "app/M.two"]), ("java", ["app/A.one", "app/A.two"])):
             fields = [field(name) for name in ("app/A.one", "app/A.two", f"{low}/L.one", f"{low}/M.two")]
