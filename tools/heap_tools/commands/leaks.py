@@ -186,7 +186,8 @@ def width_of(lines: Sequence[Line]) -> int:
 def lines_above(comparison: Comparison, probe: GrowthProbe, width: int) -> str:
     """Returns what stands above the lines on a terminal: how much the heap grew, and the heads of the columns."""
     was, now = (size(each.runs.report.total(probe.families).bytes) for each in (probe.earlier, probe))
-    what = probe.families[0] if probe.families and len(probe.families) == 1 else "reachable"
+    of_class = probe.families[0] if probe.families and len(probe.families) == 1 else "classes that grew"
+    what = of_class if probe.families else "reachable"
     took = comparison.last.dump.time - comparison.first.dump.time
     head = f"{what} {was} to {now}" + f" in {duration(took)}" * (took > 0)
     unit = comparison.last.report.bytes_head
