@@ -4,5 +4,5 @@
 /// `rt --version` prints: `dev/statuses` compares the two. The kit, which `rt --version` prints first, is omitted,
 /// since machines may have different kits with the same logic.
 pub const VERSION: &str = "\
-0.3.0
+0.4.0
 rattle logic dac8208d650f15bf";

@@ -45,7 +45,7 @@ Example:
 ";
 
 /// The version, and the logic with which it is proved.
-pub const VERSION: &str = "retained 0.3.0
+pub const VERSION: &str = "retained 0.4.0
 rattle logic dac8208d650f15bf
 ";
 
