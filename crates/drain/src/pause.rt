@@ -36,7 +36,8 @@ fn nap<R: Wait>(rt: &R, length: Duration)
 }
 
 /// Spins at first and then lets other threads run, so that work that comes at once is seen at once. After that
-/// (`Backoff` says when) naps. A worker that waits in vain leaves after 0.3 to 0.4 seconds.
+/// (`Backoff` says when) naps. A worker that waits in vain leaves after 0.3 seconds, or some 0.4 with what the system
+/// adds.
 pub(crate) fn pause<R: Wait>(rt: &R, backoff: &Backoff, turn: u32) {
     if backoff.is_completed() {
         nap(rt, nap_of(turn));

@@ -6,8 +6,8 @@
 //!   bytes shows that the right file is read.
 //! - `Refusal` is why a run has no report: a code, and for a fault of a dump its offset.
 //! - `print_refusal`, `print_line` and `print_about` print a line without an allocation, so that also the refusal of an
-//!   allocation that failed is printed. `print_words_error` prints what clap says of the words, `refuse_bytes` that a word is
-//!   no text.
+//!   allocation that failed is printed. `print_words_error` prints what clap says of the words, `refuse_bytes` that a
+//!   word is no text.
 #![tactic(auto)]
 
 mod command_words;
