@@ -251,19 +251,19 @@ FOUND = [
     (
         "the token of a tag that nobody loaded",
         SPENT,
-        "pub fn of_pool() -> SpentTag { SpentTag(()) }",
+        "pub fn of_pool() -> SpentTag { SpentTag { first_tag: 1 } }",
         ["SpentTag (causes)", "SpentTag (causes)"],
     ),
     (
         "such a token by its own name",
         SPENT,
-        "impl Default for SpentTag { fn default() -> Self { Self(()) } }",
+        "impl Default for SpentTag { fn default() -> Self { Self { first_tag: 1 } } }",
         ["SpentTag (causes)", "Self (causes)", "Self (causes)"],
     ),
     (
         "such a token as a constant",
         SPENT,
-        "pub const SPENT: SpentTag = SpentTag(());",
+        "pub const SPENT: SpentTag = SpentTag { first_tag: 1 };",
         ["SpentTag (causes)", "SpentTag (causes)"],
     ),
     ("a module that may make the token", SPENT, "pub mod more;", ["mod (causes)"]),

@@ -19,8 +19,10 @@ ITEMS = {
         }""",
     ],
     "buffer_pool/src/spent_tag.rt": [
-        "#[derive(Clone, Copy, Debug, PartialEq, Eq)] pub struct SpentTag(());",
-        "impl<A: Allocator> Worker<A> { pub fn spent_tag(&self) -> SpentTag { SpentTag(()) } }",
+        "#[derive(Clone, Copy, Debug, PartialEq, Eq)] pub struct SpentTag { first_tag: u64, }",
+        """impl<A: Allocator> Worker<A> {
+            pub fn spent_tag(&self) -> SpentTag { SpentTag { first_tag: self.first_tag, } }
+        }""",
     ],
     "heapmark/src/causes.rt": [
         "use std::rt::Files;",

@@ -13,6 +13,7 @@ use Rattle.mark_core.specs.Events.{Event, IsBusy}
 use Rattle.mark_core.specs.Counts.{Counts, LeadTo}
 use Rattle.buffer_pool.specs.Book.{Book, loaded, link_loaded, failed, popped, pushed}
 use Rattle.buffer_pool.specs.WorkerLog.{Log}
+use Rattle.buffer_pool.specs.declared.spent_tag.SpentTag.{SpentTag}
 use Rattle.buffer_pool.specs.declared.answers.TryPopped.{TryPopped}
 use Rattle.buffer_pool.specs.declared.answers.TryPopped.TheVariants as try_pop
 use Rattle.buffer_pool.specs.declared.answers.TryPushed.{TryPushed}
@@ -20,9 +21,14 @@ use Rattle.buffer_pool.specs.declared.answers.TryPushed.TheVariants as try_push
 use Rattle.buffer_pool.specs.declared.answers.Popped.{Popped}
 use Rattle.buffer_pool.specs.declared.answers.Popped.TheVariants as pop
 
+-- a pool: its table, and the tag that the heads of its stacks had at first
+pub record PoolId : Type 0 where
+  pub table : TableId
+  pub first_tag : ℕ
+
 -- a worker: its pool, its book, and its log
 pub record Owner : Type 0 where
-  pub pool : TableId
+  pub pool : PoolId
   pub book : Book
   pub log : Log
 
@@ -79,6 +85,10 @@ TriesPush q h old new (try_push.Spent back) =
 -- one of the two heads that the worker loaded last has the last tag
 abbrev pub HasLoadedLastTag : Book → Type 0
 HasLoadedLastTag b = (q : Which) × (head : Head) × ((look_of b.account q).head ≡ Some head) × (head.tag ≡ last_tag)
+
+-- the tag that the heads of a token's pool had at first
+abbrev pub first_tag_of : SpentTag → ℕ
+first_tag_of token = token.first_tag
 
 -- any number of tries of a pop, all lost, that lead from one book to another
 pub data LostPops (q : Which) : Book → Book → Type 0 where

@@ -47,13 +47,13 @@ pub struct Pool<A: Allocator> {
 
 impl<A: Allocator> Model for Pool<A> {
     ghost use Rattle.std.specs.Prelude.{◌≡◌};
-    ghost use Rattle.atomic_table.specs.Seated.{TableId};
+    ghost use Rattle.buffer_pool.specs.Calls.{PoolId};
     ghost use Rattle.buffer_pool.specs.working.BetweenCalls.{IsLaid};
     ghost use Rattle.buffer_pool.specs.working.Setups.{setup_of};
 
-    ghost Value = { TableId };
+    ghost Value = { PoolId };
 
-    ghost view = { λ p. p.table.shared.table_id };
+    ghost view = { λ p. record { table = p.table.shared.table_id; first_tag = p.table.shared.key.first_tag } };
 
     ghost invariant = { λ p. IsLaid p.table.shared.table_id (setup_of p.table.shared.key)
         × (p.buffers ≡ p.table.shared.key.buffers) × (p.objects ≡ p.table.shared.key.objects) };
@@ -81,7 +81,7 @@ impl<A: Allocator + Copy> Pool<A> {
           pairs = E.pairs edges.now;
         } in
             MatchResult result (λ p. IsInside e.objects buffers size first_tag × (p.1.pool ≡ p.0)
-            × (p.1.book ≡ new_book e whole) × (p.1.log ≡ first_log))
+            × (p.1.book ≡ new_book e whole) × (p.1.log ≡ first_log) × (p.0.first_tag ≡ first_tag))
             (Refuses (IsInside e.objects buffers size first_tag)) }
     {
         let objects = edges.objects();
@@ -106,7 +106,11 @@ impl<A: Allocator + Copy> Pool<A> {
                 buffers,
                 objects,
             },
-            Worker { seat, finished: 0 },
+            Worker {
+                seat,
+                finished: 0,
+                first_tag,
+            },
         ))
     }
 }

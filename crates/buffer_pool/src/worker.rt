@@ -5,22 +5,28 @@ use std::alloc::Allocator;
 use std::marker::Model;
 
 /// A worker of one pool: its share, the buffers that it holds, the objects in its charge, and those that it finished.
-/// Its only bytes are the number of finished objects.
+/// Its only bytes are the number of finished objects and the pool's first tag.
 #[derive(Drop)]
 pub struct Worker<A: Allocator> {
     pub(crate) seat: Token<A>,
     /// The number of objects that were finished by this worker, or by a worker that was joined to it.
     pub(crate) finished: u64,
+    /// The tag that the heads of the pool had at first.
+    pub(crate) first_tag: u64,
 }
 
 impl<A: Allocator> Model for Worker<A> {
     ghost use Rattle.std.specs.Prelude.{◌≡◌, length};
-    ghost use Rattle.buffer_pool.specs.Calls.{Owner};
+    ghost use Rattle.buffer_pool.specs.Calls.{Owner, PoolId};
     ghost use Rattle.buffer_pool.specs.working.BetweenCalls.{IsSound};
 
     ghost Value = { Owner };
 
-    ghost view = { λ w. record { pool = w.seat.table_id; book = w.seat.me.0.book; log = w.seat.me.0.log } };
+    ghost view = { λ w. record {
+      pool = record { table = w.seat.table_id; first_tag = w.first_tag };
+      book = w.seat.me.0.book;
+      log = w.seat.me.0.log;
+    } };
 
     ghost invariant = { λ w. IsSound w.seat.table_id w.seat.me
         × (w.finished ≡ length w.seat.me.0.book.account.finished) };

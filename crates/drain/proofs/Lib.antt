@@ -17,5 +17,6 @@ pub mod Runs
 pub mod Scanning
 pub mod Starting
 pub mod Tallies
+pub mod Tokens
 pub mod Visits
 pub mod Words

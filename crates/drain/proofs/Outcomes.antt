@@ -1,5 +1,5 @@
 -- What holds of a value if there is one, or if there is none.
-use Rattle.std.specs.Result.{IfOk}
+use Rattle.std.specs.Result.{IfErr, IfOk}
 use Rattle.drain.proofs.Words.{Err, IfNone, IfSome, None, Ok, OnOk, Option, Result, Some, subst, ◌≡◌}
 
 pub at_some : {X : Type 0} (P : X → Type 0) (r : Option X) (x : X) → IfSome r P → r ≡ Some x → P x
@@ -15,3 +15,7 @@ on_ok (Err e) held on = tt
 pub on_if_ok : {X E : Type 0} {P Q : X → Type 0} (r : Result X E) → IfOk r P → ((x : X) → P x → Q x) → IfOk r Q
 on_if_ok (Ok x) held on = on x held
 on_if_ok (Err e) held on = tt
+
+pub on_if_err : {X E : Type 0} {P Q : E → Type 0} (r : Result X E) → IfErr r P → ((e : E) → P e → Q e) → IfErr r Q
+on_if_err (Ok x) held on = tt
+on_if_err (Err e) held on = on e held

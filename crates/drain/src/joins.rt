@@ -1,6 +1,7 @@
 //! The joins: the leader scans what its workers left, and then takes in the workers and their tallies.
 
-ghost use Rattle.std.specs.Prelude.{◌≡◌, ◌+◌, [], ℕ, Contains, IfOk, vec_len};
+ghost use Rattle.std.specs.Prelude.{◌≡◌, ◌+◌, [], ℕ, Contains, IfErr, IfOk, vec_len};
+ghost use Rattle.work_pair.specs.CallEffects.{IsStopOf};
 ghost use Rattle.drain.specs.working.AtWork.{IsFree, Leads};
 ghost use Rattle.drain.specs.working.Duties.{AreBackUnder, IsBackUnder};
 ghost use Rattle.drain.specs.working.Jobs.{IsOnJob};
@@ -88,6 +89,7 @@ pub(crate) fn gather<R: Wait, A: Allocator, V: Walk, G: Gate, S>(
         ≡ ran.paired.worker.book.account.share + vec_len ran.back) }
     ensures free { IfOk result (λ t. IsFree t.worker) }
     ensures tally { IfOk result (λ t. HasTallied (V.measure job.now.graph.now) t.worker t.tally) }
+    ensures of_pool { IfErr result (IsStopOf job.now.pool.now) }
 {
     let RunWorkers {
         paired,

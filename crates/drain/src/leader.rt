@@ -1,9 +1,10 @@
 //! The call that marks a graph, and the leading thread.
 
-ghost use Rattle.std.specs.Prelude.{◌≡◌, ◌<◌, ◌+◌, [], IfOk};
+ghost use Rattle.std.specs.Prelude.{◌≡◌, ◌<◌, ◌+◌, [], IfErr, IfOk};
 ghost use Rattle.mark_core.specs.Shares.{whole};
 ghost use Rattle.drain.specs.ExactlyReachable.{ExactlyReachable};
 ghost use Rattle.drain.specs.Marks.{IsMarkingOf};
+ghost use Rattle.drain.specs.Stops.{IsFaultFrom};
 ghost use Rattle.drain.specs.working.AtWork.{HasLed, IsFree, IsSetupOf};
 ghost use Rattle.drain.specs.working.Tallying.{HasTallied};
 
@@ -25,6 +26,7 @@ use std::thread::Threads;
 
 /// Claims the roots, gives them to the workers and runs the workers. After all workers have ended, scans the remaining
 /// objects, and then joins the workers.
+#[tactic(auto, using(crate::proofs::Tokens::of_stop))]
 pub fn lead<T, A, V, G, S>(
     rt: &T,
     job: &Job<'_, A, V, G, S>,
@@ -44,6 +46,7 @@ where
     requires none { leader.book.account.finished ≡ [] }
     ensures led { IfOk result (λ t. HasLed leader.book.account.share leader t.worker) }
     ensures tally { IfOk result (λ t. HasTallied (V.measure job.now.graph.now) t.worker t.tally) }
+    ensures of_pool { IfErr result (IsFaultFrom job.now.pool.now.first_tag) }
 {
     let ready = prepare_leader(rt, job, leader)?;
     let ran = run_workers(rt, job, ready)?;
@@ -72,6 +75,7 @@ where
     G: Gate,
     ensures exactly_reachable { IfOk result (λ m. ExactlyReachable graph.now m.marks) }
     ensures made { IfOk result (IsMarkingOf graph.now) }
+    ensures of_options { IfErr result (IsFaultFrom options.now.first_tag) }
 {
     mark_where(rt, alloc, graph, options, gate, &StartsAll)
 }
@@ -94,6 +98,7 @@ where
     S: StartHook,
     ensures exactly_reachable { IfOk result (λ m. ExactlyReachable graph.now m.marks) }
     ensures made { IfOk result (IsMarkingOf graph.now) }
+    ensures of_options { IfErr result (IsFaultFrom options.now.first_tag) }
 {
     let workers = options.workers();
     let objects = graph.len();

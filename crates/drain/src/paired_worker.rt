@@ -34,7 +34,7 @@ impl<A: Allocator> PairedWorker<A> {
     ghost use Rattle.mark_core.specs.Events.{IsBusy};
     ghost use Rattle.mark_core.specs.declared.which.Which.TheVariants.{Empty, Full};
     ghost use Rattle.buffer_pool.specs.Calls.{Sees};
-    ghost use Rattle.work_pair.specs.CallEffects.{ShelvesAll};
+    ghost use Rattle.work_pair.specs.CallEffects.{IsStopOf, ShelvesAll};
     ghost use Rattle.work_pair.specs.Moves.{WasSeenEmpty};
     ghost use Rattle.work_pair.specs.PairState.{buffered_items};
     ghost use Rattle.std.specs.Iterator.{AlwaysYields, IsFinite};
@@ -54,7 +54,8 @@ impl<A: Allocator> PairedWorker<A> {
         requires pool { worker.pool ≡ pool.now }
         requires free { IsFree worker }
         requires busy { IsBusy worker.book.account }
-        ensures { IfOk result (HasOpened worker) }
+        ensures opened { IfOk result (HasOpened worker) }
+        ensures of_pool { IfErr result (IsStopOf pool.now) }
     {
         let mut worker = worker;
         match Pair::open(rt, alloc, pool, &mut worker)? {
@@ -75,7 +76,8 @@ impl<A: Allocator> PairedWorker<A> {
         requires pool { worker.pool ≡ pool.now }
         requires free { IsFree worker }
         requires busy { IsBusy worker.book.account }
-        ensures { IfOk result (λ p. GoesOn worker p.worker × IsAtWork p.pair [] p.worker) }
+        ensures opened { IfOk result (λ p. GoesOn worker p.worker × IsAtWork p.pair [] p.worker) }
+        ensures of_pool { IfErr result (IsStopOf pool.now) }
     {
         match PairedWorker::open(rt, alloc, pool, worker)? {
             Opened::Paired(paired) => Ok(paired),
@@ -140,7 +142,8 @@ impl<A: Allocator> PairedWorker<A> {
     fn put<R: Wait>(&mut self, rt: &R, pool: &Pool<A>, object: u32) -> Result<(), Stop>
         requires pool { self.old.worker.pool ≡ pool.now }
         requires at_hand { (besides : List ℕ) × IsAtWork self.old.pair (object ∷ besides) self.old.worker }
-        ensures { OnOk result (IsPut object self.old.pair self.old.worker self.new.pair self.new.worker) }
+        ensures put { OnOk result (IsPut object self.old.pair self.old.worker self.new.pair self.new.worker) }
+        ensures of_pool { IfErr result (IsStopOf pool.now) }
     {
         match self.pair.put(rt, pool, &mut self.worker, object) {
             Ok(()) => Ok(()),
@@ -170,6 +173,7 @@ impl<A: Allocator> PairedWorker<A> {
             → AreClaimed given self.old.pair self.old.worker self.new.pair self.new.worker) }
         ensures ended { OnOk result (HasEnded I.next_gives objects.old objects.new) }
         ensures seen { OnOk result (HasSeenAll seen.new self.new.worker) }
+        ensures of_pool { IfErr result (IsStopOf pool.now) }
     {
         while let Some(object) = objects.next() {
             if self.claim_unless_seen(pool, seen, object) {
@@ -187,6 +191,7 @@ impl<A: Allocator> PairedWorker<A> {
         ensures at_work { OnOk result (IsAtWork self.new.pair [] self.new.worker) }
         ensures given { OnOk result
             (WasSeenEmpty Empty self.old.worker.book self.new.worker.book ⊎ (buffered_items self.new.pair ≡ [])) }
+        ensures of_pool { IfErr result (IsStopOf pool.now) }
     {
         self.pair.publish(rt, pool, &mut self.worker)
     }
@@ -201,6 +206,7 @@ impl<A: Allocator> PairedWorker<A> {
         ensures at_work { OnOk result (IsAtWork self.new.pair [] self.new.worker) }
         ensures again { OnOk result (PutsAgain self.old.pair self.old.worker.book self.new.pair self.new.worker.book) }
         ensures fewer { IfOk result (λ fewer. IsTrue fewer ↔ length self.new.pair.spill < length self.old.pair.spill) }
+        ensures of_pool { IfErr result (IsStopOf pool.now) }
     {
         let spilled = self.pair.spilled();
         let Some(object) = self.pair.get(rt, pool, &mut self.worker)? else {
@@ -221,6 +227,7 @@ impl<A: Allocator> PairedWorker<A> {
         ensures at_work { OnOk result (IsAtWork self.new.pair [] self.new.worker) }
         ensures unspills { OnOk result (Unspills self.old.pair self.old.worker.book
             self.new.pair self.new.worker.book) }
+        ensures of_pool { IfErr result (IsStopOf pool.now) }
     {
         while self.pair.spilled() > 0 {
             if !self.unspill_one(rt, pool)? {
@@ -240,6 +247,7 @@ impl<A: Allocator> PairedWorker<A> {
         ensures goes_on { OnOk result (GoesOn self.old.worker self.new.worker) }
         ensures at_work { OnOk result (IsAtWork self.new.pair [] self.new.worker) }
         ensures gives { OnOk result (GivesSome self.old.pair self.old.worker.book self.new.pair self.new.worker.book) }
+        ensures of_pool { IfErr result (IsStopOf pool.now) }
     {
         self.unspill(rt, pool)?;
         self.pair.balance(rt, pool, &mut self.worker)
@@ -266,6 +274,7 @@ impl<A: Allocator> PairedWorker<A> {
         ensures goes_on { OnOk result (GoesOn self.old.worker self.new.worker) }
         ensures at_work { OnOk result (IsAtWork self.new.pair [] self.new.worker) }
         ensures offers { OnOk result (Offers self.old.pair self.old.worker.book self.new.pair self.new.worker.book) }
+        ensures of_pool { IfErr result (IsStopOf pool.now) }
     {
         if !self.others_want(pool) {
             return Ok(());
@@ -282,6 +291,7 @@ impl<A: Allocator> PairedWorker<A> {
         ensures finished { IfOk result (λ w. w.book.account.finished ≡ self.worker.book.account.finished) }
         ensures idle { IfOk result (λ w. w.book.account.idle ≡ self.worker.book.account.idle) }
         ensures shelved { IfOk result (λ w. ShelvesAll self.pair self.worker.book w.book) }
+        ensures of_pool { IfErr result (IsStopOf pool.now) }
     {
         let PairedWorker { mut worker, pair } = self;
         match pair.dispose(rt, pool, &mut worker) {

@@ -1,7 +1,8 @@
 //! The leader before it starts its workers.
 
-ghost use Rattle.std.specs.Prelude.{◌≡◌, ◌≤◌, [], IfOk, vec_capacity, vec_len};
+ghost use Rattle.std.specs.Prelude.{◌≡◌, ◌≤◌, [], IfErr, IfOk, vec_capacity, vec_len};
 ghost use Rattle.mark_core.specs.Events.{IsBusy};
+ghost use Rattle.drain.specs.Stops.{IsFaultFrom};
 ghost use Rattle.drain.specs.working.AtWork.{GoesOn, HasGiven, IsAtWork, IsFree, IsSetupOf, SawRoots};
 ghost use Rattle.drain.specs.working.Tallying.{AreTalliesOfNone, HasTallied};
 
@@ -26,6 +27,7 @@ pub(crate) struct PreparedLeader<A: Allocator, V: Measured> {
 
 /// Allocates the memory for the workers of `job`; then `leader` claims the roots and gives them to others. The leader's
 /// tally is of no object.
+#[tactic(auto, using(crate::proofs::Tokens::of_memory, crate::proofs::Tokens::of_stop))]
 pub(crate) fn prepare_leader<T: Wait, A: Allocator + Copy, V: Walk, G, S>(
     rt: &T,
     job: &Job<'_, A, V, G, S>,
@@ -48,6 +50,7 @@ pub(crate) fn prepare_leader<T: Wait, A: Allocator + Copy, V: Walk, G, S>(
     ensures tallies { IfOk result (λ r. (job.now.workers ≤ vec_len r.supplies.tallies)
         × AreTalliesOfNone (V.measure job.now.graph.now) r.supplies.tallies.items) }
     ensures tally { IfOk result (λ r. HasTallied (V.measure job.now.graph.now) r.paired.worker r.supplies.tally) }
+    ensures of_pool { IfErr result (IsFaultFrom job.now.pool.now.first_tag) }
 {
     let supplies = supplies_of(job)?;
     let paired = PairedWorker::open_and_begin(rt, job.alloc, job.pool, job.graph.roots(), leader)?;

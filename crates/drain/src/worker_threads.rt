@@ -2,8 +2,9 @@
 
 ghost use Rattle.std.specs.Prelude.{◌≡◌, ◌<◌, ◌≤◌, ◌+◌, ℕ, IfErr, IfOk, get_or, vec_capacity, vec_len};
 ghost use Rattle.buffer_pool.specs.Calls.{Owner};
+ghost use Rattle.work_pair.specs.CallEffects.{IsStopOf};
 ghost use Rattle.work_pair.specs.declared.stop.Stop.{Stop};
-ghost use Rattle.drain.specs.Stops.{IsRefusedThread, stopped};
+ghost use Rattle.drain.specs.Stops.{IsFaultFrom, IsRefusedThread, stopped};
 ghost use Rattle.drain.specs.working.AtWork.{HasGiven, IsSetupOf, IsThrough, Leads};
 ghost use Rattle.drain.specs.working.Duties.{AreBackUnder, HasRun, HasStarted, IsDutyUnder};
 ghost use Rattle.drain.specs.working.Jobs.{HasWorked, MayRun, MayWork};
@@ -32,7 +33,7 @@ use work_pair::Stop;
 pub struct RefusedThread(());
 
 /// What the thread of a worker owes: the worker that it began with, now through with its work, and a tally of what that
-/// worker finished.
+/// worker finished; or a stop whose token, if it has one, is of the worker's pool.
 #[derive(Drop)]
 pub struct Duty<A: Allocator, V> {
     /// The worker as it began, with which the returned worker is compared. It is a snapshot, as a promise is plain
@@ -43,12 +44,14 @@ pub struct Duty<A: Allocator, V> {
 }
 
 impl<A: Allocator, V: Measured> Promise<Result<TalliedWorker<A>, Stop>> for Duty<A, V> {
-    ghost use Rattle.std.specs.Prelude.{IfOk};
+    ghost use Rattle.std.specs.Prelude.{IfErr, IfOk};
+    ghost use Rattle.work_pair.specs.CallEffects.{IsStopOf};
     ghost use Rattle.drain.specs.working.AtWork.{IsThrough};
     ghost use Rattle.drain.specs.working.Tallying.{HasTallied};
 
     ghost kept_by = { λ duty outcome. IfOk outcome (λ t. IsThrough duty.begun.value t.worker
-        × HasTallied (V.measure duty.graph.value) t.worker t.tally) };
+        × HasTallied (V.measure duty.graph.value) t.worker t.tally)
+        × IfErr outcome (IsStopOf duty.begun.value.pool) };
 }
 
 /// The thread of a worker that was started.
@@ -66,6 +69,7 @@ fn work<T: Wait, A: Allocator + Copy, V: Walk, G: Gate, S>(
     ensures through { IfOk result (λ t. IsThrough begun.worker t.worker) }
     ensures tally { IfOk result (λ t. HasTallied (V.measure job.now.graph.now) t.worker t.tally) }
     ensures worked { IfOk result (HasWorked job.now.workers begun.worker) }
+    ensures of_pool { IfErr result (IsStopOf begun.worker.pool) }
 {
     let TalliedWorker { worker, tally } = begun;
     match PairedWorker::open(rt, job.alloc, job.pool, worker)? {
@@ -103,7 +107,8 @@ where
     let run = move || -> Result<TalliedWorker<A>, Stop>
         requires may { MayWork V.count V.roots V.pairs V.measure job.now begun.worker begun.tally }
         ensures { IfOk result (λ t. IsThrough begun.worker t.worker
-            × HasTallied (V.measure job.entry.now.graph.now) t.worker t.tally) }
+            × HasTallied (V.measure job.entry.now.graph.now) t.worker t.tally)
+            × IfErr result (IsStopOf begun.worker.pool) }
     { work(rt, job, begun, number) };
     match scope.spawn_with(duty, run) {
         Ok(thread) => Ok(thread),
@@ -214,6 +219,9 @@ pub fn join_all<T: Threads, A: Allocator, V: Measured>(
         → IsDutyUnder graph leader (get_or threads.items number t).promise)
         → AreBackUnder (V.measure graph) leader l.items) }
     ensures refused { IfErr result (λ e. (stop : Stop) × (e ≡ stopped stop)) }
+    ensures of_pool { IfErr result (λ e. (graph : _) (leader : Owner) → ((number : ℕ) (t : _) → number < vec_len threads
+        → IsDutyUnder graph leader (get_or threads.items number t).promise)
+        → IsFaultFrom leader.pool.first_tag e) }
 {
     let mut back = back;
     for thread in threads {
@@ -241,6 +249,7 @@ where
         (vec_len starting.tallies) }
     ensures run { IfOk result (λ s. HasRun (V.measure job.now.graph.now) job.now.workers starting.leader s.0
         s.1.items (vec_len s.1)) }
+    ensures of_pool { IfErr result (IsFaultFrom job.now.pool.now.first_tag) }
 {
     thread::scope(
         thread::scope_env(),
@@ -251,6 +260,7 @@ where
                 (vec_len starting.tallies) }
             ensures run { IfOk result (λ s. HasRun (V.measure job.entry.now.graph.now) job.entry.now.workers
                 starting.leader s.0 s.1.items (vec_len s.1)) }
+            ensures of_pool { IfErr result (IsFaultFrom job.entry.now.pool.now.first_tag) }
         {
             let started = start_all(rt, scope, job, starting)?;
             let back = join_all(rt, started.threads, back)?;
@@ -301,6 +311,7 @@ where
     ensures tally { IfOk result (λ s. HasTallied (V.measure job.now.graph.now) s.paired.worker s.tally) }
     ensures count { IfOk result (λ s. vec_len s.back ≡ job.now.workers) }
     ensures back { IfOk result (λ s. AreBackUnder (V.measure job.now.graph.now) s.paired.worker s.back.items) }
+    ensures of_pool { IfErr result (IsFaultFrom job.now.pool.now.first_tag) }
 {
     let PreparedLeader {
         paired: PairedWorker {

@@ -1,5 +1,8 @@
 //! The faults of markings without tokens, for tables of tests, and the tokens.
 
+ghost use Rattle.std.specs.Prelude.{◌≡◌, IfOk};
+ghost use Rattle.buffer_pool.specs.Calls.{first_tag_of};
+
 use crate::dumps::{graph_of, wide_array};
 use buffer_pool::SpentTag;
 use drain::inside::{StartHook, mark_where};
@@ -49,7 +52,9 @@ fn tag_spent_in<T: Threads + Wait + Sync>(
     rt: &T,
     alloc: Global,
     graph: &Graph<'_, Global>,
-) -> Result<SpentTag, Fail> {
+) -> Result<SpentTag, Fail>
+    ensures { IfOk result (λ token. first_tag_of token ≡ 281474976710655) }
+{
     let options = Options::new(1, 2, 4, Options::LAST_TAG)?;
     match mark(rt, alloc, graph, &options, &NoGate) {
         Err(RunFault::TagSpent(token)) => Ok(token),
@@ -71,7 +76,9 @@ fn thread_refused_in<T: Threads + Wait + Sync>(
 }
 
 /// Returns the token of a marking whose first tag is the last one.
-fn spent_tag<T: Threads + Wait + Sync>(rt: &T, alloc: Global) -> Result<SpentTag, Fail> {
+fn spent_tag<T: Threads + Wait + Sync>(rt: &T, alloc: Global) -> Result<SpentTag, Fail>
+    ensures { IfOk result (λ token. first_tag_of token ≡ 281474976710655) }
+{
     let dump = wide_array(alloc)?;
     let skip = Skip::none(alloc);
     let graph = graph_of(rt, alloc, dump.as_slice(), &skip)?;
@@ -90,8 +97,10 @@ fn refused_thread<T: Threads + Wait + Sync>(rt: &T, alloc: Global) -> Result<Ref
     token
 }
 
-/// Returns a token of each kind.
-pub fn make_tokens<T: Threads + Wait + Sync>(rt: &T, alloc: Global) -> Result<Tokens, Fail> {
+/// Returns a token of each kind. The spent tag is that of a pool whose first tag is the last one.
+pub fn make_tokens<T: Threads + Wait + Sync>(rt: &T, alloc: Global) -> Result<Tokens, Fail>
+    ensures { IfOk result (λ tokens. first_tag_of tokens.spent_tag ≡ 281474976710655) }
+{
     Ok(Tokens {
         spent_tag: spent_tag(rt, alloc)?,
         refused_thread: refused_thread(rt, alloc)?,

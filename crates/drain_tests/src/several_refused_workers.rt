@@ -1,6 +1,8 @@
 //! Which fault is returned if several workers are stopped.
 
-ghost use Rattle.std.specs.Prelude.{◌≡◌, ◌<◌, ◌≤◌, ℕ, IfOk, get_or, length, vec_capacity, vec_len};
+ghost use Rattle.std.specs.Prelude.{◌≡◌, ◌<◌, ◌≤◌, ℕ, IfErr, IfOk, IfSome, get_or, length, vec_capacity, vec_len};
+ghost use Rattle.buffer_pool.specs.Calls.{PoolId, first_tag_of};
+ghost use Rattle.work_pair.specs.CallEffects.{IsStopOf};
 ghost use Rattle.drain.specs.working.AtWork.{IsFree, IsThrough, Leads};
 ghost use Rattle.drain.specs.working.Duties.{IsDutyUnder};
 ghost use Rattle.drain.specs.working.Tallying.{HasTallied};
@@ -8,7 +10,7 @@ ghost use Rattle.drain.specs.working.Tallying.{HasTallied};
 use crate::faults::{Fault, Tokens, make_tokens};
 use buffer_pool::{Edges, Pool, SpentTag, Worker};
 use drain::inside::{Duty, Measured, StartedWorker, TalliedWorker, Tally, join_all};
-use drain::{RefusedThread, RunFault};
+use drain::{Options, RefusedThread, RunFault};
 use std::alloc::Global;
 use std::snapshot::Snapshot;
 use std::sync::Wait;
@@ -49,7 +51,9 @@ impl Measured for Nothing {
 }
 
 /// Returns the stop for `fault`, with `token` if a tag was spent. No other fault stops a worker.
-fn stop_of(fault: Option<Fault>, token: SpentTag) -> Option<Stop> {
+fn stop_of(fault: Option<Fault>, token: SpentTag) -> Option<Stop>
+    ensures { IfSome result (λ stop. (pool : PoolId) → first_tag_of token ≡ pool.first_tag → IsStopOf pool stop) }
+{
     match fault {
         Some(Fault::TagSpent) => Some(Stop::TagSpent(token)),
         Some(Fault::OutOfMemory) => Some(Stop::OutOfMemory),
@@ -68,6 +72,7 @@ fn answer<'s, E, V: Measured + Sync>(
 ) -> Result<StartedWorker<Global, V>, RunFault>
     requires free { IsFree begun.worker }
     requires tally { HasTallied (V.measure graph.now) begun.worker begun.tally }
+    requires stop { IfSome stop (IsStopOf begun.worker.pool) }
     ensures owes { IfOk result (λ t. t.promise.begun.value ≡ begun.worker) }
     ensures graph { IfOk result (λ t. t.promise.graph.value ≡ graph.now) }
 {
@@ -78,8 +83,10 @@ fn answer<'s, E, V: Measured + Sync>(
     let run = move || -> Result<TalliedWorker<Global>, Stop>
         requires free { IsFree begun.worker }
         requires tally { HasTallied (V.measure graph.now) begun.worker begun.tally }
+        requires stop { IfSome stop (IsStopOf begun.worker.pool) }
         ensures { IfOk result (λ t. IsThrough begun.worker t.worker
-            × HasTallied (V.measure graph.entry.now) t.worker t.tally) }
+            × HasTallied (V.measure graph.entry.now) t.worker t.tally)
+            × IfErr result (IsStopOf begun.worker.pool) }
     {
         graph.recall_measure();
         match stop {
@@ -106,6 +113,7 @@ fn answer_all<'s, E, V: Measured + Sync>(
 ) -> Result<(Worker<Global>, Vec<StartedWorker<Global, V>>), RunFault>
     requires pool { leader.pool ≡ pool.now }
     requires share { length stops.now < leader.book.account.share }
+    requires token { first_tag_of tokens.spent_tag ≡ pool.now.first_tag }
     ensures leads { IfOk result (λ s. Leads leader s.0) }
     ensures finished { IfOk result (λ s. s.0.book.account.finished ≡ leader.book.account.finished) }
     ensures count { IfOk result (λ s. vec_len s.1 ≡ length stops.now) }
@@ -135,10 +143,11 @@ fn told<T: Threads + Wait, V: Measured + Sync>(
     stops: &[Option<Fault>],
     tokens: Tokens,
 ) -> Result<Option<RunFault>, Fail>
-    requires { length stops.now ≤ 64 }
+    requires few { length stops.now ≤ 64 }
+    requires token { first_tag_of tokens.spent_tag ≡ 281474976710655 }
 {
     let back = Vec::with_capacity(alloc, stops.len())?;
-    let Ok((pool, leader)) = Pool::new(alloc, graph, 4, 2, 0) else {
+    let Ok((pool, leader)) = Pool::new(alloc, graph, 4, 2, Options::LAST_TAG) else {
         return Err("the pool was refused".into());
     };
     let pool = &pool;
@@ -148,6 +157,7 @@ fn told<T: Threads + Wait, V: Measured + Sync>(
         move |scope| -> Result<Vec<TalliedWorker<Global>>, RunFault>
             requires pool { leader.pool ≡ pool.now }
             requires share { length stops.now < leader.book.account.share }
+            requires token { first_tag_of tokens.spent_tag ≡ pool.now.first_tag }
             requires room { (vec_len back ≡ 0) × (length stops.now ≤ vec_capacity back) }
         {
             let (_leader, threads) = answer_all(scope, alloc, graph, pool, leader, stops, tokens)?;

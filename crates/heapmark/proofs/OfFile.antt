@@ -10,7 +10,7 @@ use Rattle.heap_graph.specs.declared.skip.refusal.SkipRefusal.TheVariants as ski
 use Rattle.heapmark.specs.Answer.{IsAcceptedText, IsRefusalOf, IsRunRefusal, RefusesFirstFault, WritesReport}
 use Rattle.heapmark.specs.Answer.{bytes_read}
 use Rattle.heapmark.specs.BadOptions.{GivesTooFewBuffers, HasBadOptions}
-use Rattle.heapmark.specs.Causes.{HasCause, KnownCauses}
+use Rattle.heapmark.specs.Causes.{HasCause, HasCauseFor, KnownCauses}
 use Rattle.heapmark.specs.OfFile.{IsReason, PrintsReason, PrintsReasonFirst, WritesReportOfBytes, WritesReportOfFile}
 use Rattle.heapmark.specs.OfFile.{HasUnreadFile, bytes_of_file}
 use Rattle.front_end.specs.RefusalCodes.{bad_options_refusal, skip_refusal}
@@ -20,7 +20,6 @@ use Rattle.heapmark.specs.SecondLine.{PrintsHint, PrintsHintFor}
 use Rattle.heapmark.specs.SkippedFields.{HasBadList, IsSkipListOf}
 use Rattle.front_end.specs.declared.refusal.Refusal.{Refusal}
 use Rattle.heapmark.specs.working.NoReport.{HasTooFewBuffers, list_of}
-use Rattle.heapmark.proofs.Causing.{starved_cause}
 use Rattle.heapmark.proofs.Codes.{run_unplaced}
 use Rattle.histogram.specs.Counting.{AppendsBeginning}
 
@@ -150,11 +149,25 @@ unread_of_words : (is_unread : List ℕ → Type 0) (words : List (List ℕ)) (a
 unread_of_words is_unread words a given unread =
     subst (λ (file : Option (List ℕ)). IsSomeAnd file is_unread) (sym given.file) unread
 
+-- the first tag of the arguments is that of the words
+cause_of_words : (causes : KnownCauses) (words : List (List ℕ)) (a : Arguments) (refusal : Refusal) → AreGiven words a
+    → HasCause causes a.first_tag refusal → HasCauseFor causes words refusal
+cause_of_words causes words a refusal given cause = record {
+  spent_tag = λ code. (a.first_tag, given.first_tag, cause.spent_tag code);
+  refused_thread = cause.refused_thread;
+}
+
+starved_for : (causes : KnownCauses) (words : List (List ℕ)) → HasCauseFor causes words out_of_memory
+starved_for causes words = record {
+  spent_tag = λ code. absurd (omega (arith, code));
+  refused_thread = λ code. absurd (omega (arith, code));
+}
+
 pub told_of_words : (bytes_at : List ℕ → Option (List ℕ)) (is_unread : List ℕ → Type 0) (causes : KnownCauses)
     (words : List (List ℕ)) (a : Arguments) (before after : ℕ) (refusal : Refusal) (old new : Option (List ℕ))
     → AreGiven words a → IsReason (bytes_at a.file.now) before after refusal
     → (refusal.code ≡ 21 → HasTooFewBuffers a ⊎ HasBadList (list_of a))
-    → (refusal.code ≡ 19 → is_unread a.file.now) → HasCause causes refusal
+    → (refusal.code ≡ 19 → is_unread a.file.now) → HasCause causes a.first_tag refusal
     → AppendsBeginning old new (refusal_line refusal)
     → PrintsReason bytes_at is_unread causes words before after old new
 told_of_words bytes_at is_unread causes words a before after refusal old new given reason bad unread cause line =
@@ -163,7 +176,7 @@ told_of_words bytes_at is_unread causes words a before after refusal old new giv
       reason = subst (λ known. IsReason known before after refusal) (sym (named bytes_at words a given)) reason;
       options = λ code. bad_of_words words a given (bad code);
       unread = λ code. unread_of_words is_unread words a given (unread code);
-      cause = cause;
+      cause = cause_of_words causes words a refusal given cause;
       line = line;
     }
 
@@ -178,7 +191,7 @@ told_starved bytes_at is_unread causes words before after old new same line = re
       (starved_unread (bytes_of_file bytes_at words) before);
   options = λ code. absurd (omega (arith, code));
   unread = λ code. absurd (omega (arith, code));
-  cause = starved_cause causes;
+  cause = starved_for causes words;
   line = line;
 }
 

@@ -7,7 +7,7 @@ use Rattle.heapmark.specs.Answer.{IsAcceptedText, IsRefusalOf, IsRunRefusal, Ref
 use Rattle.heapmark.specs.Answer.{bytes_read}
 use Rattle.front_end.specs.RefusalCodes.{bad_options_refusal}
 use Rattle.heapmark.specs.BadOptions.{HasBadOptions}
-use Rattle.heapmark.specs.Causes.{HasCause, KnownCauses}
+use Rattle.heapmark.specs.Causes.{HasCauseFor, KnownCauses}
 use Rattle.heapmark.specs.RefusalText.{refusal_line}
 use Rattle.heapmark.specs.SecondLine.{PrintsHintFor}
 use Rattle.heapmark.specs.SkippedFields.{IsSkipListOf}
@@ -59,9 +59,9 @@ pub record PrintsReason (bytes_at : List ℕ → Option (List ℕ)) (is_unread :
   -- options are refused only if they are bad, and a file only if it could not be opened or read
   pub options : refusal.code ≡ 21 → HasBadOptions words
   pub unread : refusal.code ≡ 19 → HasUnreadFile is_unread words
-  -- a tag is spent only if a worker loaded a stack's last one, and a worker refused only if its thread could not be
-  -- started
-  pub cause : HasCause causes refusal
+  -- a tag is spent only if a worker of a pool with the first tag of `words` loaded a stack's last one, and a worker
+  -- refused only if its thread could not be started
+  pub cause : HasCauseFor causes words refusal
   pub line : AppendsBeginning old new (refusal_line refusal)
 
 -- Such a line was printed first. After it, at most one more line was printed, about the file or an option.

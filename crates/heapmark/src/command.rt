@@ -215,7 +215,7 @@ fn report_file<T: Causes + Dumps + AllocGlobal + Threads + Wait + Sync, W: Write
         → HasTooFewBuffers arguments.now ⊎ HasBadList (list_of arguments.now)) }
     ensures unread { IfErr result (λ reason. (refusal_of reason).code ≡ 19
         → T.is_unread rt.now arguments.now.file.now) }
-    ensures cause { IfErr result (λ reason. HasCause (T.causes rt.now) (refusal_of reason)) }
+    ensures cause { IfErr result (λ reason. HasCause (T.causes rt.now) arguments.now.first_tag (refusal_of reason)) }
     ensures not_run { HasTooFewBuffers arguments.now ⊎ HasBadList (list_of arguments.now)
         → failures_of out.new ≡ failures_of out.old }
     ensures of_file { OnOk result (IfSome (T.bytes_at rt.now arguments.now.file.now) (λ bytes.

@@ -1,6 +1,7 @@
 //! The refusal of a run whose marking failed.
 
-ghost use Rattle.std.specs.Prelude.{◌≡◌};
+ghost use Rattle.std.specs.Prelude.{ℕ, ◌≡◌};
+ghost use Rattle.drain.specs.Stops.{IsFaultFrom};
 ghost use Rattle.heapmark.specs.Causes.{HasCause};
 ghost use Rattle.heapmark.specs.RefusalCodes.{run_refusal};
 
@@ -12,7 +13,7 @@ use front_end::Refusal;
 /// `rt`.
 pub(crate) fn refusal_of_marking<T: Causes>(rt: &T, fault: RunFault) -> Refusal
     ensures value { result ≡ run_refusal fault }
-    ensures cause { HasCause (T.causes rt.now) result }
+    ensures cause { (first : ℕ) → IsFaultFrom first fault → HasCause (T.causes rt.now) first result }
 {
     match fault {
         RunFault::OutOfMemory => Refusal::OUT_OF_MEMORY,

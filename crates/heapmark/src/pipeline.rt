@@ -81,9 +81,9 @@ where
         (IsAcceptedText (bytes_read given) → ⊥) → IsErrAnd result (IsRefusalOf (bytes_read given))) }
     ensures known { IfErr result IsRunRefusal }
 
-    // A tag is spent only if a worker loaded a stack's last one. A worker is refused only if its thread could not be
-    // started.
-    ensures cause { IfErr result (HasCause (T.causes rt.now)) }
+    // A tag is spent only if a worker of a pool with the first tag of `options` loaded a stack's last one. A worker is
+    // refused only if its thread could not be started.
+    ensures cause { IfErr result (HasCause (T.causes rt.now) options.now.first_tag) }
 
     // The bytes read were taken from the reader, and no others: no read is made after the limit is reached.
     ensures consumed { OnOk result
@@ -160,7 +160,7 @@ where
     ensures refusal { IfErr result (λ refusal. RefusesFirstFault bytes.now refusal ⊎ (refusal ≡ out_of_memory)
         ⊎ (IsAcceptedText bytes.now × (15 ≤ refusal.code))) }
     ensures known { IfErr result (λ refusal. IsRunRefusal refusal × (refusal.code ≢ 19)) }
-    ensures cause { IfErr result (HasCause (T.causes rt.now)) }
+    ensures cause { IfErr result (HasCause (T.causes rt.now) options.now.first_tag) }
     ensures fault { HasCode result 20 ↔ (failures_of writer.new ≡ failures_of writer.old + 1) }
     ensures no_fault { (HasCode result 20 → ⊥) → failures_of writer.new ≡ failures_of writer.old }
     ensures beginning { HasCode result 20 → WritesBeginning bytes.now skip.now
@@ -194,7 +194,7 @@ where
     ensures refusal { IfErr result (λ refusal. RefusesFirstFault bytes.now refusal ⊎ (refusal ≡ out_of_memory)
         ⊎ (IsAcceptedText bytes.now × IsOfMarking refusal)) }
     ensures known { IfErr result (λ refusal. IsRunRefusal refusal × (refusal.code ≤ 18)) }
-    ensures cause { IfErr result (HasCause (T.causes rt.now)) }
+    ensures cause { IfErr result (HasCause (T.causes rt.now) options.now.first_tag) }
 {
     let team = Team::at_most(rt, options.workers());
     let graph = match graph_of(&team, alloc, bytes, skip) {
@@ -225,7 +225,7 @@ where
         → IsGraphOfText text skip graph.now → IsReport text skip (report_of (histogram_of report))) }
     ensures refusal { IfErr result (λ refusal. (refusal ≡ out_of_memory) ⊎ IsOfMarking refusal) }
     ensures known { IfErr result (λ refusal. IsRunRefusal refusal × (refusal.code ≤ 18)) }
-    ensures cause { IfErr result (HasCause (T.causes rt.now)) }
+    ensures cause { IfErr result (HasCause (T.causes rt.now) options.now.first_tag) }
 {
     let marked = match mark(rt, alloc, graph, options, gate) {
         Ok(marked) => marked,

@@ -2,14 +2,13 @@
 use Rattle.std.proofs.Common.{◌≡◌, ℕ, ◌<◌, List, [], ◌∷◌, ◌++◌, Contains, cond}
 use Rattle.std.proofs.Common.{eq-eqb, ap, sym, subst, ◌∙◌, inl, arith}
 use Rattle.std.proofs.lemmas.List.FromFn.{length-range_with_len, get_or-range_with_len}
-use Rattle.atomic_table.specs.Seated.{TableId}
 use Rattle.mark_core.specs.declared.which.Which.{Which}
 use Rattle.mark_core.specs.Lists.{times, only}
 use Rattle.mark_core.specs.World.{Setup}
 use Rattle.mark_core.specs.Events.{CanClaim}
 use Rattle.mark_core.proofs.Sums.{sum_of-append}
 use Rattle.buffer_pool.specs.Book.{Book, claimed}
-use Rattle.buffer_pool.specs.Calls.{HeldBuffer, Owner, Pops}
+use Rattle.buffer_pool.specs.Calls.{HeldBuffer, Owner, PoolId, Pops}
 use Rattle.buffer_pool.specs.declared.answers.Popped.{Popped}
 use Rattle.buffer_pool.specs.declared.answers.Popped.TheVariants as pop
 use Rattle.work_pair.specs.CallEffects.{CallEffect}
@@ -28,18 +27,18 @@ is_root n o below = (
   omega (arith, get_or-range_with_len 0 n o o below),
 )
 
-pub may_claim : (n o : ℕ) (pool : TableId) (w : Owner) → IsWorker n pool w → o < n
+pub may_claim : (n o : ℕ) (pool : PoolId) (w : Owner) → IsWorker n pool w → o < n
     → CanClaim w.book.setup o w.book.account
 may_claim n o pool w worker below = inl (subst (λ (rs : List ℕ). Contains rs o) (sym worker.roots) (is_root n o below))
 
 -- a worker whose setup and idle number stay
-pub still_worker : (n : ℕ) (pool : TableId) (old new : Owner) → IsWorker n pool old → new.pool ≡ old.pool
+pub still_worker : (n : ℕ) (pool : PoolId) (old new : Owner) → IsWorker n pool old → new.pool ≡ old.pool
     → new.book.setup ≡ old.book.setup → new.book.account.idle ≡ old.book.account.idle → IsWorker n pool new
 still_worker n pool old new w same setup idle =
     record { same = same ∙ w.same; roots = ap (λ (e : Setup). e.roots) setup ∙ w.roots; idle = idle ∙ w.idle }
 
 -- after one pop
-pub popped_worker : (n : ℕ) (pool : TableId) (q : Which) (old new : Owner) (r : Popped HeldBuffer)
+pub popped_worker : (n : ℕ) (pool : PoolId) (q : Which) (old new : Owner) (r : Popped HeldBuffer)
     → IsWorker n pool old → new.pool ≡ old.pool → Pops q old.book new.book r → IsWorker n pool new
 popped_worker n pool q old new (pop.Took h) w same popped =
     let e = move_effect (Took q h) old.book new.book popped in still_worker n pool old new w same e.setup e.idle
@@ -68,7 +67,7 @@ claimed_backed p o found old new is white backed =
     }
 
 -- after a call
-pub ready_after : (n : ℕ) (pool : TableId) (old new : Owner) (p q : PairState) (put got : List ℕ) → IsWorker n pool old
+pub ready_after : (n : ℕ) (pool : PoolId) (old new : Owner) (p q : PairState) (put got : List ℕ) → IsWorker n pool old
     → new.pool ≡ old.pool → IsOpen q → CallEffect p old.book put got q new.book → IsReady n pool new q
 ready_after n pool old new p q put got w same going effect =
     record {
@@ -78,7 +77,7 @@ ready_after n pool old new p q put got w same going effect =
     }
 
 -- after a claim
-pub claimed_worker : (n : ℕ) (pool : TableId) (old new : Owner) (o found : ℕ) → IsWorker n pool old
+pub claimed_worker : (n : ℕ) (pool : PoolId) (old new : Owner) (o found : ℕ) → IsWorker n pool old
     → new.pool ≡ old.pool
     → new.book ≡ claimed o found old.book → IsWorker n pool new
 claimed_worker n pool old new o found w same is =

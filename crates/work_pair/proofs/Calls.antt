@@ -4,9 +4,8 @@ use Rattle.std.proofs.Common.{None, Result, Ok, Err, refl, sym, ap, subst, ◌�
 use Rattle.mark_core.specs.declared.which.Which.{Which}
 use Rattle.mark_core.specs.declared.which.Which.TheVariants.{Full, Empty}
 use Rattle.std.proofs.lemmas.List.{append-nil}
-use Rattle.atomic_table.specs.Seated.{TableId}
 use Rattle.buffer_pool.specs.Book.{Book}
-use Rattle.buffer_pool.specs.Calls.{HeldBuffer, Owner}
+use Rattle.buffer_pool.specs.Calls.{HeldBuffer, Owner, PoolId}
 use Rattle.work_pair.specs.CallEffects.{GivesLowerPart, lower_part, push_of}
 use Rattle.work_pair.specs.Moves.{Move, Took, Gave, FoundNone, IsOnFull, HasPushOnFull, WasSeenEmpty}
 use Rattle.work_pair.specs.Moves.{shelf_of, shelving_of}
@@ -117,7 +116,7 @@ pub some_items : (xs : List ℕ) → 0 < length xs → xs ≢ []
 some_items xs some none = omega (arith, some, ap length none)
 
 -- the positions of a pair that may be traded may be renewed
-module _ {p : PairState} {w : Owner} {pool : TableId} {besides : List ℕ} (may : MayTrade w pool p besides) where
+module _ {p : PairState} {w : Owner} {pool : PoolId} {besides : List ℕ} (may : MayTrade w pool p besides) where
   may_renew : (position : Option HeldBuffer) → IsBackedAt position w.book → MayRenew w pool position p.third
   may_renew position backed = record { same = may.same; vacant = may.third; backed = backed; busy = may.busy }
 
@@ -127,7 +126,7 @@ module _ {p : PairState} {w : Owner} {pool : TableId} {besides : List ℕ} (may 
   pub may_renew_second : MayRenew w pool p.second p.third
   may_renew_second = may_renew p.second (second_backed may.backed)
 
-module _ {f s t : Option HeldBuffer} {w : Owner} {pool : TableId} {besides : List ℕ}
+module _ {f s t : Option HeldBuffer} {w : Owner} {pool : PoolId} {besides : List ℕ}
     (may : MayTrade w pool (positions f s t) besides) where
   -- both buffers were full and exchanged positions, and then the first position was renewed
   module _ {p y : Option HeldBuffer} (p_is : p ≡ s) (y_is : y ≡ f) (n third : Option HeldBuffer) (c : Book) where

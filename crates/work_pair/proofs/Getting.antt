@@ -4,9 +4,8 @@ use Rattle.std.proofs.lemmas.Bool.{false≢true}
 use Rattle.std.proofs.lemmas.List.{append-nil}
 use Rattle.mark_core.specs.declared.which.Which.TheVariants.{Full}
 use Rattle.mark_core.specs.Events.{IsBusy}
-use Rattle.atomic_table.specs.Seated.{TableId}
 use Rattle.buffer_pool.specs.Book.{Book}
-use Rattle.buffer_pool.specs.Calls.{HeldBuffer, Owner}
+use Rattle.buffer_pool.specs.Calls.{HeldBuffer, Owner, PoolId}
 use Rattle.work_pair.specs.CallEffects.{Refills}
 use Rattle.work_pair.specs.Moves.{Move, Spent, FoundNone, Took, shelving_of}
 use Rattle.work_pair.specs.PairState.{PairState, items_at, pair_items, IsBacked}
@@ -87,7 +86,7 @@ module _ {A : Type 0} {old : PairState} {b₀ : Book} (backed : IsBacked old [] 
       backed_here : IsBackedAt q.first b
       backed_here = first_backed (backed_after backed looked)
 
-      pub may_put_out : (w : Owner) (pool : TableId) → w.pool ≡ pool → w.book ≡ mid → IsBusy b₀.account
+      pub may_put_out : (w : Owner) (pool : PoolId) → w.pool ≡ pool → w.book ≡ mid → IsBusy b₀.account
           → MayRenew w pool q.first q.third
       may_put_out w pool same book busy =
           record {

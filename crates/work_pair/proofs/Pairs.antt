@@ -5,10 +5,9 @@ use Rattle.std.proofs.Common.{arith}
 use Rattle.std.proofs.lemmas.Bool.{false≢true}
 use Rattle.mark_core.specs.declared.which.Which.TheVariants.{Full, Empty}
 use Rattle.mark_core.specs.Lists.{times}
-use Rattle.atomic_table.specs.Seated.{TableId}
 use Rattle.mark_core.specs.Events.{IsBusy}
 use Rattle.buffer_pool.specs.Book.{Book}
-use Rattle.buffer_pool.specs.Calls.{HeldBuffer, Owner}
+use Rattle.buffer_pool.specs.Calls.{HeldBuffer, Owner, PoolId}
 use Rattle.work_pair.specs.CallEffects.{Balances, CallEffect, Disposes, Gets, GetsBy, IsTagSpent, PopsNoneFromFull}
 use Rattle.work_pair.specs.CallEffects.{PublishesBoth, Puts, Refills, ShelvesAll}
 use Rattle.work_pair.specs.Moves.{Move, FoundNone, EndAtLastTag, WasSeenEmpty}
@@ -68,7 +67,7 @@ module _ {A : Type 0} {v : PairState} (i : Inside A) (is : seen_as i ≡ v) wher
   pub inner : {put : List ℕ} {b : Book} → IsBacked v put b → IsBacked (as_pair i.buffers) put b
   inner backed = beside refl (seen backed)
 
-  pub may_trade : {w : Owner} {pool : TableId} {put : List ℕ} → w.pool ≡ pool → IsOpen v → IsBacked v put w.book
+  pub may_trade : {w : Owner} {pool : PoolId} {put : List ℕ} → w.pool ≡ pool → IsOpen v → IsBacked v put w.book
       → IsBusy w.book.account → MayTrade w pool (as_pair i.buffers) put
   may_trade same going backed busy =
       record {

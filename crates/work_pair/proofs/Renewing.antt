@@ -2,7 +2,6 @@
 use Rattle.std.proofs.Common.{◌≡◌, ◌≢◌, ℕ, ◌+◌, Bool, true, false, Contains, List, [], ◌∷◌, ◌++◌, Option, Some, None}
 use Rattle.std.proofs.Common.{Ok, Err, refl, sym, ap, subst, ◌∙◌, inl, inr, ⊎_elim, arith, length, ◌-◌, ◌/◌}
 use Rattle.std.proofs.lemmas.List.{append-nil, length-take, take-append-drop}
-use Rattle.atomic_table.specs.Seated.{TableId}
 use Rattle.mark_core.specs.declared.which.Which.{Which}
 use Rattle.mark_core.specs.declared.which.Which.TheVariants.{Full, Empty}
 use Rattle.mark_core.specs.Events.{IsBusy}
@@ -10,7 +9,7 @@ use Rattle.mark_core.specs.Lists.{times, only, IsPart}
 use Rattle.mark_core.specs.World.{Setup}
 use Rattle.mark_core.proofs.Sums.{only-same, times_stands, sum_of-append}
 use Rattle.buffer_pool.specs.Book.{Book}
-use Rattle.buffer_pool.specs.Calls.{HeldBuffer, Owner}
+use Rattle.buffer_pool.specs.Calls.{HeldBuffer, Owner, PoolId}
 use Rattle.work_pair.specs.CallEffects.{lower_part, upper_half}
 use Rattle.work_pair.specs.Moves.{Move, Took, Gave, FoundNone, Spent, Moved, Moves, IsFilled, AreFilled, HasPushOnFull}
 use Rattle.work_pair.specs.Moves.{IsFromFull, IsOnFull, HasPopFromFull, popped_items, popped_numbers, pushed_items}
@@ -78,7 +77,7 @@ from_full Full h took = tt
 from_full Empty h none = absurd none
 
 -- a position that may be renewed and is as it was
-module _ {w : Owner} {pool : TableId} {position third : Option HeldBuffer} (may : MayRenew w pool position third) where
+module _ {w : Owner} {pool : PoolId} {position third : Option HeldBuffer} (may : MayRenew w pool position third) where
   left_sized : IsOfSize w.book.setup.size third
   left_sized = rw may.vacant tt
 

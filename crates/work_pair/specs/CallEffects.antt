@@ -3,7 +3,7 @@ use Rattle.std.specs.Prelude.{◌≡◌, ◌≢◌, ◌⊎◌, ℕ, ◌-◌, ◌
 use Rattle.std.specs.Prelude.{take, drop, Option, Some, None}
 use Rattle.mark_core.specs.declared.which.Which.TheVariants.{Full, Empty}
 use Rattle.buffer_pool.specs.Book.{Book}
-use Rattle.buffer_pool.specs.Calls.{HeldBuffer}
+use Rattle.buffer_pool.specs.Calls.{HeldBuffer, PoolId, first_tag_of}
 use Rattle.work_pair.specs.Moves.{Move, Took, Gave, FoundNone, Moves, popped_items, popped_numbers, pushed_items}
 use Rattle.work_pair.specs.Moves.{pushed_numbers, AreFilled, HasPushOnFull, HasPopFromFull, EndAtLastTag, shelving_of}
 use Rattle.work_pair.specs.PairState.{PairState, buffered_items, pair_items, items_at, numbers_of, empty_pair}
@@ -16,6 +16,11 @@ use Rattle.work_pair.specs.declared.stop.Stop.TheVariants.{TagSpent, OutOfMemory
 abbrev pub IsTagSpent : Stop → Type 0
 IsTagSpent (TagSpent token) = Unit {0}
 IsTagSpent OutOfMemory = ⊥
+
+-- if the stop has a token, it is of a pool with the same first tag
+abbrev pub IsStopOf : PoolId → Stop → Type 0
+IsStopOf pool (TagSpent token) = first_tag_of token ≡ pool.first_tag
+IsStopOf pool OutOfMemory = Unit {0}
 
 -- the worker has the same share, the same idle number, the same objects seen and finished, and the same setup of its
 -- pool

@@ -21,8 +21,9 @@ pub(crate) struct Buffers<A: Allocator> {
 }
 
 impl<A: Allocator> Buffers<A> {
-    ghost use Rattle.std.specs.Prelude.{◌≡◌, ◌≢◌, None, [], ◌∷◌};
+    ghost use Rattle.std.specs.Prelude.{◌≡◌, ◌≢◌, None, [], ◌∷◌, IfErr};
     ghost use Rattle.mark_core.specs.Events.{IsBusy};
+    ghost use Rattle.work_pair.specs.CallEffects.{IsStopOf};
     ghost use Rattle.work_pair.specs.PairState.{HasRoomAt, IsBacked, pair_items};
     ghost use Rattle.work_pair.specs.working.Asks.{MayTrade};
     ghost use Rattle.work_pair.specs.working.Buffers.{as_pair};
@@ -42,8 +43,8 @@ impl<A: Allocator> Buffers<A> {
     ) -> Result<bool, Stop>
         requires may { MayTrade worker.old pool.now (as_pair self.old) (object ∷ []) }
         requires full { HasRoomAt self.old.first → ⊥ }
-        ensures { PutsObject (HasRoomAt self.old.second) object (as_pair self.old) worker.old (as_pair self.new)
-            worker.new result }
+        ensures { PutsObject pool.now (HasRoomAt self.old.second) object (as_pair self.old) worker.old
+            (as_pair self.new) worker.new result }
     {
         swap(&mut self.first, &mut self.second);
         if put_at(&mut self.first, object) {
@@ -78,7 +79,7 @@ impl<A: Allocator> Buffers<A> {
         worker: &mut Worker<A>,
     ) -> Result<Option<u32>, Stop>
         requires { MayTrade worker.old pool.now (as_pair self.old) [] }
-        ensures { GetsObject (as_pair self.old) worker.old (as_pair self.new) worker.new result }
+        ensures { GetsObject pool.now (as_pair self.old) worker.old (as_pair self.new) worker.new result }
     {
         for _ in rt.forever() {
             if let Some(object) = self.take() {
@@ -105,6 +106,7 @@ impl<A: Allocator> Buffers<A> {
         requires busy { pair_items (as_pair self.old) ≢ [] → IsBusy worker.old.book.account }
         ensures pool { worker.new.pool ≡ worker.old.pool }
         ensures clears { ClearAnswers (as_pair self.old) worker.old.book (as_pair self.new) worker.new.book result }
+        ensures of_pool { IfErr result (IsStopOf pool.now) }
     {
         clear_at(rt, pool, worker, &mut self.first)?;
         clear_at(rt, pool, worker, &mut self.second)?;

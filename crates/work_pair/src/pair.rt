@@ -54,9 +54,9 @@ impl<A: Allocator> Pair<A> {
     ghost use Rattle.std.specs.Prelude.{IfErr, IfNone, IfOk, IfSome, IsOk, OnOk, length};
     ghost use Rattle.mark_core.specs.Events.{IsBusy};
     ghost use Rattle.mark_core.specs.declared.which.Which.TheVariants.{Empty, Full};
-    ghost use Rattle.work_pair.specs.CallEffects.{Balances, CallEffect, Disposes, Gets, HasMore, IsTagSpent, OpensNone};
-    ghost use Rattle.work_pair.specs.CallEffects.{OpensTwo, PopsNoneFromFull, PublishesBoth, Puts, ShelvesAll};
-    ghost use Rattle.work_pair.specs.CallEffects.{TouchesNoFull};
+    ghost use Rattle.work_pair.specs.CallEffects.{Balances, CallEffect, Disposes, Gets, HasMore, IsStopOf, IsTagSpent};
+    ghost use Rattle.work_pair.specs.CallEffects.{OpensNone, OpensTwo, PopsNoneFromFull, PublishesBoth, Puts};
+    ghost use Rattle.work_pair.specs.CallEffects.{ShelvesAll, TouchesNoFull};
     ghost use Rattle.work_pair.specs.Moves.{FoundNone, WasSeenEmpty};
     ghost use Rattle.work_pair.specs.PairState.{AreAlike, HasRoom, HasStopped, IsBacked, IsNew, IsOpen, PairState};
     ghost use Rattle.work_pair.specs.PairState.{buffered_items, count_at, pair_items, empty_pair};
@@ -108,6 +108,7 @@ impl<A: Allocator> Pair<A> {
         ensures not_found { IfOk result (λ r. IfNone r (OpensNone worker.old.book worker.new.book)) }
         ensures spent { IfErr result (λ s. IsTagSpent s × ((left : PairState) × (left.stopped ≡ true)
             × TouchesNoFull empty_pair worker.old.book left worker.new.book)) }
+        ensures of_pool { IfErr result (IsStopOf pool.now) }
     {
         let Some(first) = pop_one(rt, pool, worker, Which::Empty)? else {
             return Ok(None);
@@ -149,6 +150,7 @@ impl<A: Allocator> Pair<A> {
             × (effect.moves ≡ FoundNone Empty ∷ []))) }
         ensures spent { IfErr result (λ e. IsTagSpent e.1 → (self.new.stopped ≡ true) × (self.new.starved
             ≡ self.old.starved)) }
+        ensures of_pool { IfErr result (λ e. IsStopOf pool.now e.1) }
     {
         if put_at(&mut self.buffers.first, object) {
             return Ok(());
@@ -195,6 +197,7 @@ impl<A: Allocator> Pair<A> {
         ensures going { OnOk result (IsOpen self.new) }
         ensures spent { IfErr result (λ s. IsTagSpent s × (self.new.stopped ≡ true) × CallEffect self.old
             worker.old.book [] [] self.new worker.new.book) }
+        ensures of_pool { IfErr result (IsStopOf pool.now) }
     {
         if let Some(object) = self.spill.pop() {
             return Ok(Some(object));
@@ -227,6 +230,7 @@ impl<A: Allocator> Pair<A> {
         ensures going { OnOk result (IsOpen self.new) }
         ensures spent { IfErr result (λ s. IsTagSpent s × (self.new.stopped ≡ true) × PopsNoneFromFull self.old
             worker.old.book self.new worker.new.book) }
+        ensures of_pool { IfErr result (IsStopOf pool.now) }
     {
         let result = self.buffers.balance(rt, pool, worker);
         self.stopped = result.is_err();
@@ -256,6 +260,7 @@ impl<A: Allocator> Pair<A> {
         ensures going { OnOk result (IsOpen self.new) }
         ensures spent { IfErr result (λ s. IsTagSpent s × (self.new.stopped ≡ true) × PopsNoneFromFull self.old
             worker.old.book self.new worker.new.book) }
+        ensures of_pool { IfErr result (IsStopOf pool.now) }
     {
         let result = self.buffers.publish(rt, pool, worker);
         self.stopped = result.is_err();
@@ -281,6 +286,7 @@ impl<A: Allocator> Pair<A> {
         ensures shelved { OnOk result (ShelvesAll self worker.old.book worker.new.book) }
         ensures spent { IfErr result (λ e. IsTagSpent e.1 × (e.0.stopped ≡ true) × (e.0.spill ≡ [])
             × Disposes self worker.old.book e.0 worker.new.book) }
+        ensures of_pool { IfErr result (λ e. IsStopOf pool.now e.1) }
     {
         let Pair {
             mut buffers,

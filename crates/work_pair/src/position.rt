@@ -1,11 +1,12 @@
 //! A position for a buffer in a pair. The positions of a bare pair are vacant. The third is vacant until a call is
 //! stopped; after that any position may be vacant.
 ghost use Rattle.std.specs.Prelude.{◌≡◌, ◌≢◌, ◌↔◌, ◌<◌, ℕ, [], ◌∷◌, ◌++◌, Some, None, IsTrue, length};
-ghost use Rattle.std.specs.Prelude.{true, false, IsOk, MatchOption};
+ghost use Rattle.std.specs.Prelude.{true, false, IfErr, IsOk, MatchOption};
 ghost use Rattle.std.specs.Bool.{OnTrue, OnFalse};
 ghost use Rattle.mark_core.specs.Events.{IsBusy};
 ghost use Rattle.mark_core.specs.declared.which.Which.TheVariants.{Empty};
 ghost use Rattle.buffer_pool.specs.Calls.{HeldBuffer};
+ghost use Rattle.work_pair.specs.CallEffects.{IsStopOf};
 ghost use Rattle.work_pair.specs.PairState.{items_at, count_at, HasRoomAt, IsOfSize};
 ghost use Rattle.work_pair.specs.working.Asks.{IsBackedAt, MayRenew};
 ghost use Rattle.work_pair.specs.working.Steps.{ClearsAt, PublishesAt, PutsOut, RenewAnswers, next_of};
@@ -89,6 +90,7 @@ pub(crate) fn put_out<R: Wait, A: Allocator>(
     requires { MayRenew worker.old pool.now position.old third.old }
     ensures pool { worker.new.pool ≡ worker.old.pool }
     ensures out { PutsOut position.old next worker.old.book position.new third.new worker.new.book result }
+    ensures of_pool { IfErr result (IsStopOf pool.now) }
 {
     let Some(held) = position.replace(next) else {
         return Ok(());
@@ -114,6 +116,7 @@ pub(crate) fn clear_at<R: Wait, A: Allocator>(
     requires busy { items_at position.old ≢ [] → IsBusy worker.old.book.account }
     ensures pool { worker.new.pool ≡ worker.old.pool }
     ensures clears { ClearsAt position.old worker.old.book position.new worker.new.book result }
+    ensures of_pool { IfErr result (IsStopOf pool.now) }
 {
     let Some(held) = position.take() else {
         return Ok(());
@@ -140,6 +143,7 @@ pub(crate) fn renew<R: Wait, A: Allocator>(
     ensures pool { worker.new.pool ≡ worker.old.pool }
     ensures renews { RenewAnswers false Empty position.old worker.old.book position.new third.new worker.new.book
         result }
+    ensures of_pool { IfErr result (IsStopOf pool.now) }
 {
     let Some(next) = pop_one(rt, pool, worker, Which::Empty)? else {
         return Ok(false);
@@ -161,6 +165,7 @@ pub(crate) fn halve<R: Wait, A: Allocator>(
     ensures pool { worker.new.pool ≡ worker.old.pool }
     ensures renews { RenewAnswers true Empty position.old worker.old.book position.new third.new worker.new.book
         result }
+    ensures of_pool { IfErr result (IsStopOf pool.now) }
 {
     let Some(mut upper) = pop_one(rt, pool, worker, Which::Empty)? else {
         return Ok(false);
@@ -183,6 +188,7 @@ pub(crate) fn publish_at<R: Wait, A: Allocator>(
     ensures publishes { PublishesAt position.old worker.old.book position.new third.new worker.new.book result }
     ensures none { items_at position.old ≡ [] → (position.new ≡ position.old) × (third.new ≡ third.old)
         × (worker.new ≡ worker.old) × IsOk result }
+    ensures of_pool { IfErr result (IsStopOf pool.now) }
 {
     if len_at(position) == 0 {
         return Ok(());

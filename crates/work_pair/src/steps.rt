@@ -1,7 +1,8 @@
 //! One pop, and one push on the stack for buffers with items or for those without.
-ghost use Rattle.std.specs.Prelude.{◌≡◌, ◌≢◌, [], Contains};
+ghost use Rattle.std.specs.Prelude.{◌≡◌, ◌≢◌, [], Contains, IfErr};
 ghost use Rattle.mark_core.specs.Events.{IsBusy};
 ghost use Rattle.mark_core.specs.Lists.{IsPart};
+ghost use Rattle.work_pair.specs.CallEffects.{IsStopOf};
 ghost use Rattle.work_pair.specs.working.Steps.{PopsOne, Shelves};
 
 use crate::stop::Stop;
@@ -21,6 +22,7 @@ pub(crate) fn pop_one<R: Wait, A: Allocator>(
     requires busy { IsBusy worker.old.book.account }
     ensures pool { worker.new.pool ≡ worker.old.pool }
     ensures pops { PopsOne which worker.old.book worker.new.book result }
+    ensures of_pool { IfErr result (IsStopOf pool.now) }
 {
     match pool.pop(rt, worker, which) {
         Popped::Took(held) => Ok(Some(held)),

@@ -25,7 +25,7 @@ impl<A: Allocator> Pool<A> {
             buffers,
             objects,
         } = self;
-        let Worker { seat, finished } = worker;
+        let Worker { seat, finished, .. } = worker;
         let first_mark = mark_word(buffers, 0);
         let mut closed = table.close_with(seat);
         empty_slots(&mut closed);

@@ -66,13 +66,23 @@ impl<A: Allocator> Pool<A> {
         ensures new { IsNewcomer worker.log result.1.log }
         ensures apart { result.1.log.number ≢ result.0.log.number }
     {
-        let Worker { mut seat, finished } = worker;
+        let Worker {
+            mut seat,
+            finished,
+            first_tag,
+        } = worker;
         let other = give_part(&self.table.shared, &mut seat, u64::from(units));
         let newcomer = Worker {
             seat: other,
             finished: 0,
+            first_tag,
         };
-        (Worker { seat, finished }, newcomer)
+        let worker = Worker {
+            seat,
+            finished,
+            first_tag,
+        };
+        (worker, newcomer)
     }
 
     /// Joins `other` to `worker`: adds the shares and counts of the two, and unites their buffers, their charges, and
@@ -86,15 +96,21 @@ impl<A: Allocator> Pool<A> {
         ensures did { Did worker.log (Join other.log.number ∷ []) result.log }
         ensures knows { EndsStory other.log result.log.story }
     {
-        let Worker { mut seat, finished } = worker;
+        let Worker {
+            mut seat,
+            finished,
+            first_tag,
+        } = worker;
         let Worker {
             seat: other,
             finished: finished_by_other,
+            ..
         } = other;
         take_in(&self.table.shared, &mut seat, other);
         Worker {
             seat,
             finished: finished + finished_by_other,
+            first_tag,
         }
     }
 }

@@ -12,8 +12,8 @@ use std::sync::Wait;
 use work_pair::Stop;
 
 impl<A: Allocator> PairedWorker<A> {
-    ghost use Rattle.std.specs.Prelude.{◌≡◌, [], IfOk, OnOk};
-    ghost use Rattle.work_pair.specs.CallEffects.{ShelvesAll};
+    ghost use Rattle.std.specs.Prelude.{◌≡◌, [], IfErr, IfOk, OnOk};
+    ghost use Rattle.work_pair.specs.CallEffects.{IsStopOf, ShelvesAll};
     ghost use Rattle.drain.specs.declared.paired_worker.PairedWorker.{PairedWorker};
     ghost use Rattle.drain.specs.working.AtWork.{CameFrom, HasAtHand, HasNoneLeft, IsAtWork, IsThrough, WorksOn};
     ghost use Rattle.drain.specs.working.Idle.{IsAwake};
@@ -42,6 +42,7 @@ impl<A: Allocator> PairedWorker<A> {
         ensures none { OnOk result (HasNoneLeft self.new.pair self.new.worker) }
         ensures idle { OnOk result (self.new.worker.book.account.idle ≡ 1) }
         ensures worked { OnOk result (HasWorkedOff job.now.workers self.old self.new) }
+        ensures of_pool { IfErr result (IsStopOf job.now.pool.now) }
     {
         let mut seen = RecentlySeen::new();
         self.offer(rt, job.pool)?;
@@ -72,6 +73,7 @@ impl<A: Allocator> PairedWorker<A> {
         ensures tally { IfOk result (λ t. HasTallied (V.measure job.now.graph.now) t.worker t.tally) }
         ensures worked { IfOk result (λ t. (last : PairedWorker A) × HasWorkedOff job.now.workers self last
             × ShelvesAll last.pair last.worker.book t.worker.book) }
+        ensures of_pool { IfErr result (IsStopOf job.now.pool.now) }
     {
         let mut paired = self;
         let mut tally = tally;
@@ -93,6 +95,7 @@ impl<A: Allocator> PairedWorker<A> {
         ensures shelved { IfOk result (λ t. ShelvesAll self.pair self.worker.book t.worker.book) }
         ensures tally { IfOk result (λ t. (m : Measure) → HasTallied m self.worker tally
             → HasTallied m t.worker t.tally) }
+        ensures of_pool { IfErr result (IsStopOf pool.now) }
     {
         let worker = self.close(rt, pool)?;
         Ok(TalliedWorker { worker, tally })
@@ -111,6 +114,7 @@ impl<A: Allocator> PairedWorker<A> {
         ensures at_work { OnOk result (IsAtWork self.new.pair [] self.new.worker) }
         ensures tally { OnOk result (HasTallied (V.measure job.now.graph.now) self.new.worker tally.new) }
         ensures none { OnOk result (HasNoneLeft self.new.pair self.new.worker) }
+        ensures of_pool { IfErr result (IsStopOf job.now.pool.now) }
     {
         let mut seen = RecentlySeen::new();
         for _ in rt.forever() {

@@ -11,8 +11,9 @@ use std::sync::Wait;
 use work_pair::Stop;
 
 impl<A: Allocator> PairedWorker<A> {
-    ghost use Rattle.std.specs.Prelude.{◌≡◌, [], IfOk, OnOk};
+    ghost use Rattle.std.specs.Prelude.{◌≡◌, [], IfErr, IfOk, OnOk};
     ghost use Rattle.mark_core.specs.Events.{IsBusy};
+    ghost use Rattle.work_pair.specs.CallEffects.{IsStopOf};
     ghost use Rattle.drain.specs.working.AtWork.{GoesOn, HasGiven, IsAtWork, IsFree, IsThrough, SawRoots};
     ghost use Rattle.drain.specs.working.Jobs.{IsOnJob};
     ghost use Rattle.drain.specs.working.Tallying.{HasTallied};
@@ -25,6 +26,7 @@ impl<A: Allocator> PairedWorker<A> {
         ensures goes_on { OnOk result (GoesOn self.old.worker self.new.worker) }
         ensures at_work { OnOk result (IsAtWork self.new.pair [] self.new.worker) }
         ensures saw { OnOk result (SawRoots self.new.worker) }
+        ensures of_pool { IfErr result (IsStopOf pool.now) }
     {
         for root in roots {
             if self.claim(pool, *root) {
@@ -44,6 +46,7 @@ impl<A: Allocator> PairedWorker<A> {
         ensures at_work { OnOk result (IsAtWork self.new.pair [] self.new.worker) }
         ensures saw { OnOk result (SawRoots self.new.worker) }
         ensures given { OnOk result (HasGiven self.new.pair self.new.worker) }
+        ensures of_pool { IfErr result (IsStopOf pool.now) }
     {
         self.claim_roots(rt, pool, roots)?;
         self.publish(rt, pool)
@@ -68,6 +71,7 @@ impl<A: Allocator> PairedWorker<A> {
         ensures at_work { IfOk result (λ p. IsAtWork p.pair [] p.worker) }
         ensures saw { IfOk result (λ p. SawRoots p.worker) }
         ensures given { IfOk result (λ p. HasGiven p.pair p.worker) }
+        ensures of_pool { IfErr result (IsStopOf pool.now) }
     {
         let mut paired = PairedWorker::open_or_bare(rt, alloc, pool, leader)?;
         paired.begin(rt, pool, roots)?;
@@ -84,6 +88,7 @@ impl<A: Allocator> PairedWorker<A> {
         requires { IsOnJob V.count V.roots V.pairs V.measure job.now [] self tally }
         ensures through { IfOk result (λ t. IsThrough self.worker t.worker) }
         ensures tally { IfOk result (λ t. HasTallied (V.measure job.now.graph.now) t.worker t.tally) }
+        ensures of_pool { IfErr result (IsStopOf job.now.pool.now) }
     {
         let mut paired = self;
         let mut tally = tally;

@@ -14,7 +14,8 @@ use work_pair::Stop;
 
 impl<A: Allocator> PairedWorker<A> {
     ghost use Rattle.std.specs.Prelude.{◌≡◌, ◌<◌, ◌↔◌, ◌∷◌, ◌++◌, [], ℕ, All, Contains, IfOk, List, OnOk, false};
-    ghost use Rattle.std.specs.Prelude.{option_to_list};
+    ghost use Rattle.std.specs.Prelude.{IfErr, option_to_list};
+    ghost use Rattle.work_pair.specs.CallEffects.{IsStopOf};
     ghost use Rattle.std.specs.Iterator.{AlwaysYields, IsFinite};
     ghost use Rattle.drain.specs.working.AtWork.{AreClaimed, HasNoneLeft, IsAtWork, MayClaim, WorksOn};
     ghost use Rattle.drain.specs.working.Jobs.{HasScanned, IsOnJob, ScansNext};
@@ -39,6 +40,7 @@ impl<A: Allocator> PairedWorker<A> {
         ensures claimed { OnOk result (AreClaimed (option_to_list known) self.old.pair self.old.worker
             self.new.pair self.new.worker) }
         ensures seen { OnOk result (HasSeenAll seen.new self.new.worker) }
+        ensures of_pool { IfErr result (IsStopOf pool.now) }
     {
         let Some(object) = known else {
             return Ok(());
@@ -71,6 +73,7 @@ impl<A: Allocator> PairedWorker<A> {
         ensures scanned { OnOk result (HasScanned (V.measure job.now.graph.now) self.old self.new seen.new tally.new) }
         ensures finished { OnOk result (self.new.worker.book.account.finished
             ≡ self.old.worker.book.account.finished ++ object ∷ []) }
+        ensures of_pool { IfErr result (IsStopOf job.now.pool.now) }
     {
         let (class, mut rest) = given;
         self.claim_known(rt, job.pool, seen, class)?;
@@ -99,6 +102,7 @@ impl<A: Allocator> PairedWorker<A> {
         ensures scanned { OnOk result (HasScanned (V.measure job.now.graph.now) self.old self.new seen.new tally.new) }
         ensures finished { OnOk result (self.new.worker.book.account.finished
             ≡ self.old.worker.book.account.finished ++ object ∷ []) }
+        ensures of_pool { IfErr result (IsStopOf job.now.pool.now) }
     {
         let visit = job.graph.visit(object);
         self.scan(rt, job, object, (None, visit), seen, tally)
@@ -121,6 +125,7 @@ impl<A: Allocator> PairedWorker<A> {
         ensures scanned { OnOk result (HasScanned (V.measure job.now.graph.now) self.old self.new seen.new tally.new) }
         ensures finished { OnOk result (self.new.worker.book.account.finished
             ≡ self.old.worker.book.account.finished ++ object ∷ []) }
+        ensures of_pool { IfErr result (IsStopOf job.now.pool.now) }
     {
         match job.graph.visit(object).by_kind() {
             ByKind::Nothing(class, rest) => self.scan(rt, job, object, (class, rest), seen, tally),
@@ -147,6 +152,7 @@ impl<A: Allocator> PairedWorker<A> {
         ensures scanned { OnOk result (HasScanned (V.measure job.now.graph.now) self.old self.new seen.new tally.new) }
         ensures scans { IfOk result (ScansNext self.old self.new) }
         ensures none { IfOk result (λ more. more ≡ false → HasNoneLeft self.new.pair self.new.worker) }
+        ensures of_pool { IfErr result (IsStopOf job.now.pool.now) }
     {
         let Some(object) = self.pair.get(rt, job.pool, &mut self.worker)? else {
             return Ok(false);

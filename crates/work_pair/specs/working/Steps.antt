@@ -1,13 +1,13 @@
 -- The effect of each part of a call of a pair.
 use Rattle.std.specs.Prelude.{◌≡◌, ◌≢◌, ◌⊎◌, ℕ, ◌+◌, false, Bool, true, List, [], ◌∷◌, ◌++◌, Option, Some, None, Result}
-use Rattle.std.specs.Prelude.{IsOk, Ok, Err}
+use Rattle.std.specs.Prelude.{IfErr, IsOk, Ok, Err}
 use Rattle.mark_core.specs.declared.which.Which.{Which}
 use Rattle.mark_core.specs.declared.which.Which.TheVariants.{Full, Empty}
 use Rattle.mark_core.specs.Lists.{times}
 use Rattle.buffer_pool.specs.Book.{Book}
-use Rattle.buffer_pool.specs.Calls.{HeldBuffer, Owner}
-use Rattle.work_pair.specs.CallEffects.{FillsNext, FindsNoOwn, GetsBy, Gives, HasMore, Publishes, PublishesPosition}
-use Rattle.work_pair.specs.CallEffects.{TakesOwn, lower_part, upper_half}
+use Rattle.buffer_pool.specs.Calls.{HeldBuffer, Owner, PoolId}
+use Rattle.work_pair.specs.CallEffects.{FillsNext, FindsNoOwn, GetsBy, Gives, HasMore, IsStopOf, Publishes}
+use Rattle.work_pair.specs.CallEffects.{PublishesPosition, TakesOwn, lower_part, upper_half}
 use Rattle.work_pair.specs.Moves.{Move, Took, Gave, FoundNone, Spent, Moved, Moves, popped_items, popped_numbers}
 use Rattle.work_pair.specs.Moves.{pushed_items, pushed_numbers, AreFilled, HasPushOnFull, HasPopFromFull, EndAtLastTag}
 use Rattle.work_pair.specs.Moves.{WasSeenEmpty, shelf_of, shelving_of}
@@ -165,18 +165,20 @@ GetAnswers old before new after (Ok None) =
 GetAnswers old before new after (Err stop) = Ends old before new after stop
 
 -- a put into the buffers, with the effect on the worker, which did nothing if there was room
-pub record PutsObject (there_is_room : Type 0) (object : ℕ) (old : PairState) (before : Owner) (new : PairState)
-    (after : Owner) (result : Result Bool Stop) : Type 0 where
+pub record PutsObject (pool_id : PoolId) (there_is_room : Type 0) (object : ℕ) (old : PairState) (before : Owner)
+    (new : PairState) (after : Owner) (result : Result Bool Stop) : Type 0 where
   pub pool : after.pool ≡ before.pool
   pub puts : PutAnswers object old before.book new after.book result
   pub room : there_is_room → (after ≡ before) × (result ≡ Ok true)
+  pub of_pool : IfErr result (IsStopOf pool_id)
 
 -- a get from the buffers; if they had an object the worker did nothing
-pub record GetsObject (old : PairState) (before : Owner) (new : PairState) (after : Owner)
+pub record GetsObject (pool_id : PoolId) (old : PairState) (before : Owner) (new : PairState) (after : Owner)
     (result : Result (Option ℕ) Stop) : Type 0 where
   pub pool : after.pool ≡ before.pool
   pub gets : GetAnswers old before.book new after.book result
   pub own : pair_items old ≢ [] → (after ≡ before) × IsOk result
+  pub of_pool : IfErr result (IsStopOf pool_id)
 
 abbrev pub BalanceAnswers : PairState → Book → PairState → Book → Result Unit Stop → Type 0
 BalanceAnswers old before new after (Ok done) =

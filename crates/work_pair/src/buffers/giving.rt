@@ -11,8 +11,8 @@ use std::sync::Wait;
 const FEW: u32 = 4;
 
 impl<A: Allocator> Buffers<A> {
-    ghost use Rattle.std.specs.Prelude.{◌≡◌, [], IsOk};
-    ghost use Rattle.work_pair.specs.CallEffects.{HasMore};
+    ghost use Rattle.std.specs.Prelude.{◌≡◌, [], IfErr, IsOk};
+    ghost use Rattle.work_pair.specs.CallEffects.{HasMore, IsStopOf};
     ghost use Rattle.work_pair.specs.PairState.{pair_items};
     ghost use Rattle.work_pair.specs.working.Asks.{MayTrade};
     ghost use Rattle.work_pair.specs.working.Buffers.{as_pair};
@@ -32,6 +32,7 @@ impl<A: Allocator> Buffers<A> {
             result }
         ensures few { (HasMore (as_pair self.old) → ⊥) → (as_pair self.new ≡ as_pair self.old)
             × (worker.new ≡ worker.old) × IsOk result }
+        ensures of_pool { IfErr result (IsStopOf pool.now) }
     {
         if len_at(&self.second) > 0 {
             renew(rt, pool, worker, &mut self.second, &mut self.third)?;
@@ -54,6 +55,7 @@ impl<A: Allocator> Buffers<A> {
             result }
         ensures nothing { pair_items (as_pair self.old) ≡ [] → (as_pair self.new ≡ as_pair self.old)
             × (worker.new ≡ worker.old) × IsOk result }
+        ensures of_pool { IfErr result (IsStopOf pool.now) }
     {
         publish_at(rt, pool, worker, &mut self.first, &mut self.third)?;
         publish_at(rt, pool, worker, &mut self.second, &mut self.third)

@@ -16,6 +16,7 @@ returns g c =
       share = omega (arith, joined.share, ended.share);
       free = joined.free;
       tally = joined.tally;
+      of_pool = tt;
     }
 
 pub join_shares-requires-clause-pool : goal.join_shares-requires-clause-pool

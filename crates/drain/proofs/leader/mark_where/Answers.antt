@@ -1,4 +1,5 @@
 -- The leader that closes the pool saw all roots and is free, so what the close says of marks and tally is the result.
+use Rattle.std.proofs.lemmas.Result.{err_from_is_err_and}
 use Rattle.drain.proofs.Words.{Book, IsMarkingOf, MarkedObjects, Setup, ap, arith, object_count, rules, subst, sym, ◌∙◌}
 use Rattle.mark_core.specs.Shares.{whole}
 use Rattle.buffer_pool.specs.Faults.{Refuses}
@@ -6,6 +7,7 @@ use Rattle.buffer_pool.specs.Ranges.{IsInside}
 use Rattle.drain.specs.ExactlyReachable.{ExactlyReachable}
 use Rattle.drain.proofs.Closes.{exactly_marked, opened_setup}
 use Rattle.drain.proofs.Markings.{marking_of}
+use Rattle.drain.proofs.Tokens.{of_same_tag}
 use Rattle.drain.proofs.leader.mark_where.Goals as goal
 
 pub unreachable-requires : goal.unreachable-requires
@@ -47,7 +49,15 @@ returns g c =
     record {
       exactly_reachable = subst (λ (m : MarkedObjects). ExactlyReachable graph m.marks) (sym c.new-2.ensures) exact;
       made = subst (IsMarkingOf graph) (sym c.new-2.ensures) made;
+      of_options = tt;
     }
 
 pub new-requires-2-clause-finished : goal.new-requires-2-clause-finished
 new-requires-2-clause-finished g c = c.close.ensures.1.emptied c.in_ok-tallied.ensures.led.free.open_push
+
+-- the pool began with the first tag of the options
+pub returns-in_err-tallied-clause-of_options : goal.returns-in_err-tallied-clause-of_options
+returns-in_err-tallied-clause-of_options g c =
+    let exit = err_from_is_err_and c.from_residual.result c.from_residual.ensures.1 in
+    rw (exit.1, exit.2)
+    (of_same_tag c.in_err-tallied.field-0.0 (c.in-Ok.ensures.4 ∙ c.first_tag.ensures) c.in_err-tallied.ensures.of_pool)

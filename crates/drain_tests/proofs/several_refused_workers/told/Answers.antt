@@ -5,4 +5,9 @@ use Rattle.drain_tests.proofs.several_refused_workers.told.Goals as goal
 pub scoped-outcome-requires : goal.scoped-outcome-requires
 scoped-outcome-requires g c =
     let sent = c.type_bounds.sync-V.shared in
-    record { at = λ _. (search rules, (search (rules, arith), (search (rules, arith), record { shared = sent }))) }
+    record {
+      at = λ _. (
+        search rules,
+        (search (rules, arith), (search (rules, arith), (search (rules, arith), record { shared = sent }))),
+      );
+    }

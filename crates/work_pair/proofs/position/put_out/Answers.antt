@@ -1,5 +1,6 @@
 -- The worker holds the buffer that was at the position, so it may push it. A push that returned it loaded the last tag.
-use Rattle.std.proofs.Common.{sym, ◌∙◌}
+use Rattle.std.proofs.Common.{subst, sym, ◌∙◌, ◌≡◌}
+use Rattle.buffer_pool.specs.Calls.{PoolId, first_tag_of}
 use Rattle.work_pair.specs.Moves.{shelf_of}
 use Rattle.work_pair.proofs.Effects.{loaded_last_tag}
 use Rattle.work_pair.proofs.Renewing.{stands}
@@ -20,3 +21,9 @@ pub spent_tag-requires : goal.spent_tag-requires
 spent_tag-requires g c =
     loaded_last_tag (shelf_of c.in-Some.held.items) c.args.worker.now.book c.shelve.new.worker.book
     c.in-Err.ensures.shelves.1
+
+-- the token is of the worker's pool
+pub returns-in-Err-clause-of_pool : goal.returns-in-Err-clause-of_pool
+returns-in-Err-clause-of_pool g c =
+    subst (λ (p : PoolId). first_tag_of c.spent_tag.result ≡ p.first_tag) (c.shelve.ensures.pool ∙ c.requires.same)
+    c.spent_tag.ensures

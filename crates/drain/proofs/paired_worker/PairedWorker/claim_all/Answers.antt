@@ -39,7 +39,7 @@ pub loop-object-preserved-in-Continue-1 : goal.loop-object-preserved-in-Continue
 loop-object-preserved-in-Continue-1 g c =
     let met = c.loop-object.invariant.2 in
     let claim = c.claim_unless_seen.ensures in
-    let puts = c.in_ok-put.ensures in
+    let puts = c.in_ok-put.ensures.put in
     let step = subst (λ r. g.I.Iterator.next_gives c.loop-object.objects r c.next.new.self) c.in-Some.is
     c.next.ensures.steps in (
       search rules,

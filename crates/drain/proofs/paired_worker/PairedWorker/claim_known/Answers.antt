@@ -25,4 +25,4 @@ returns-in_ok-put-clause-claimed g c =
     let old = c.args.self.now in
     let new = c.put.new.self in
     subst (λ known. AreClaimed (option_to_list known) old.pair old.worker new.pair new.worker) (sym c.in-Some.is)
-    (white_claimed c.if-claim_unless_seen.true c.claim_unless_seen.ensures.claimed c.in_ok-put.ensures)
+    (white_claimed c.if-claim_unless_seen.true c.claim_unless_seen.ensures.claimed c.in_ok-put.ensures.put)

@@ -29,7 +29,7 @@ loop-root-preserved g c =
     let are : AreClaimed (root ∷ []) old.pair old.worker new.pair new.worker =
     elim c.if-claim.branch [
       | then-claim+in_ok-put w ↦
-          rw w.self-is (white_claimed w.if-claim.true c.claim.ensures.claimed w.in_ok-put.ensures)
+          rw w.self-is (white_claimed w.if-claim.true c.claim.ensures.claimed w.in_ok-put.ensures.put)
       | else-claim w ↦ rw w.self-is (marked_claimed w.if-claim.false c.claim.ensures.claimed)
     ] in (
       goes_on_again was.0 are.goes_on,

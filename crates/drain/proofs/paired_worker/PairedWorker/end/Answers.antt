@@ -11,4 +11,5 @@ returns g c =
       through =
           on_if_ok c.leave.result left.through (λ t through. (came_again drained.goes_on.came through.0, through.1));
       tally = on_if_ok c.leave.result left.tally (λ t tallied. tallied _ drained.tally);
+      of_pool = left.of_pool;
     }

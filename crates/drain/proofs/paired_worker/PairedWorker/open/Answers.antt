@@ -6,8 +6,8 @@ use Rattle.work_pair.specs.Moves.{WasSeenEmpty}
 use Rattle.drain.proofs.AtHand.{free_hand, goes_on_after, gone_free, hand_after}
 use Rattle.drain.proofs.paired_worker.PairedWorker.open.Goals as goal
 
-pub returns-in-None : goal.returns-in-None
-returns-in-None g c =
+pub returns-in-None-clause-opened : goal.returns-in-None-clause-opened
+returns-in-None-clause-opened g c =
     let old = c.args.worker in
     let new = c.open.new.worker in
     let told = subst

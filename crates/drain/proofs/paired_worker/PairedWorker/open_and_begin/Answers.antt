@@ -5,8 +5,8 @@ use Rattle.drain.proofs.paired_worker.PairedWorker.open_and_begin.Goals as goal
 
 pub begin-requires-clause-roots : goal.begin-requires-clause-roots
 begin-requires-clause-roots g c =
-    c.requires.roots ∙ sym (ap (λ (e : Setup). e.roots) c.in_ok-paired.ensures.0.came.setup)
+    c.requires.roots ∙ sym (ap (λ (e : Setup). e.roots) c.in_ok-paired.ensures.opened.0.came.setup)
 
 pub returns-clause-goes_on : goal.returns-clause-goes_on
 returns-clause-goes_on g c =
-    goes_on_again c.in_ok-paired.ensures.0 c.in_ok-begin.ensures.goes_on
+    goes_on_again c.in_ok-paired.ensures.opened.0 c.in_ok-begin.ensures.goes_on

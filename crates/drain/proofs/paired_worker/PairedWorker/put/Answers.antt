@@ -11,7 +11,7 @@ put-requires-clause-backed g c =
 pub put-requires-clause-busy : goal.put-requires-clause-busy
 put-requires-clause-busy g c = c.requires.at_hand.1.busy
 
-pub returns-in-Ok : goal.returns-in-Ok
-returns-in-Ok g c =
+pub returns-in-Ok-clause-put : goal.returns-in-Ok-clause-put
+returns-in-Ok-clause-put g c =
     let puts = c.in-Ok.ensures in
     is_put c.args.self.now.worker c.put.new.worker puts.pool puts.put.0 puts.going

@@ -89,4 +89,5 @@ returns-in_default g c =
       };
       scans = subst (λ r. Gets old.pair old.worker.book r c.get.new.self new.book) none (got.gets spilled);
       none = λ _. (told.1, at_none _ object got.closed none, at_none _ object got.found none);
+      of_pool = tt;
     }

@@ -11,4 +11,5 @@ returns g c =
       through = on_if_ok c.leave.result left.through (λ t through. (came_again worked.came through.0, through.1));
       tally = on_if_ok c.leave.result left.tally (λ t tallied. tallied _ worked.tally);
       worked = on_if_ok c.leave.result left.shelved (λ t shelved. (c.work_off.new.self, worked.worked, shelved));
+      of_pool = left.of_pool;
     }

@@ -42,6 +42,7 @@ returns-in-Some-take g c =
       gets = got c.requires.backed c.loop.self so_far.trades.0 so_far.third so_far.trades.1 so_far.trades.2
           c.take.new.self c.in-Some-take.object c.in-Some-take.ensures;
       own = λ some. ((so_far.own some).0, refl);
+      of_pool = tt;
     }
 
 pub pop_one-requires-clause-busy : goal.pop_one-requires-clause-busy
@@ -57,6 +58,7 @@ returns-in_err-next g c =
       gets = pop_stopped c.requires.backed c.loop.self so_far.trades.0 so_far.third c.take.new.self
           c.in_default.ensures c.pop_one.new.worker.book c.in_err-next.field-0.0 c.in_err-next.ensures.pops;
       own = λ some. none_own g (goal.at.returns-in_err-next g c).In_default some;
+      of_pool = c.in_err-next.ensures.of_pool;
     })
 
 pub returns-in_default-2 : goal.returns-in_default-2
@@ -68,6 +70,7 @@ returns-in_default-2 g c =
           so_far.trades.1 so_far.trades.2 c.pop_one.new.worker.book
           (rw c.in_default-2.is at c.in_ok-next.ensures.pops);
       own = λ some. none_own g (goal.at.returns-in_default-2 g c).In_default some;
+      of_pool = tt;
     }
 
 pub put_out-requires : goal.put_out-requires
@@ -104,4 +107,5 @@ returns-in_err-put_out g c =
           c.in_default.ensures c.in-Some-2.next c.pop_one.new.worker.book (popped g at.In-Some-2) c.put_out.new.position
           c.put_out.new.third c.put_out.new.worker.book c.in_err-put_out.field-0.0 c.in_err-put_out.ensures.out;
       own = λ some. none_own g at.In_default some;
+      of_pool = c.in_err-put_out.ensures.of_pool;
     })

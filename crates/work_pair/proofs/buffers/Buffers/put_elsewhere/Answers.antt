@@ -21,6 +21,7 @@ returns-then-put_at g c =
         inl (inr (rw c.swap.ensures.x_after at c.if-put_at.ensures.had_room), refl),
       );
       room = λ has. (refl, refl);
+      of_pool = tt;
     }
 
 pub renew-requires : goal.renew-requires
@@ -36,6 +37,7 @@ returns-in_err-renew g c =
           c.renew.new.position c.renew.new.third c.renew.new.worker.book c.in_err-renew.field-0.0
           c.in_err-renew.ensures.renews;
       room = λ has. absurd (c.if-put_at.ensures.no_room (rw c.swap.ensures.x_after has));
+      of_pool = c.in_err-renew.ensures.of_pool;
     })
 
 pub returns-then-not-branch : goal.returns-then-not-branch
@@ -46,6 +48,7 @@ returns-then-not-branch g c =
           c.renew.new.position c.renew.new.third c.renew.new.worker.book
           (rw c.if-not-branch.true at c.in_ok-renew.ensures.renews);
       room = λ has. absurd (c.if-put_at.ensures.no_room (rw c.swap.ensures.x_after has));
+      of_pool = tt;
     }
 
 pub returns : goal.returns
@@ -62,4 +65,5 @@ returns g c =
           (λ k is none. false≢true
           (sym c.if-put_at.false ∙ c.put_at.ensures.room k (sym c.if-put_at.ensures.full ∙ is) none));
       room = λ has. absurd (c.if-put_at.ensures.no_room (rw c.swap.ensures.x_after has));
+      of_pool = tt;
     })

@@ -3,7 +3,7 @@
 -- list, or back to the caller if an allocation fails.
 use Rattle.std.proofs.Common.{◌≡◌, ℕ, true, [], ◌∷◌, ◌++◌, Err, Ok, ap, inl, refl}
 use Rattle.mark_core.specs.declared.which.Which.TheVariants.{Empty}
-use Rattle.work_pair.specs.CallEffects.{CallEffect, PopsNoneFromFull, Puts}
+use Rattle.work_pair.specs.CallEffects.{CallEffect, IsStopOf, PopsNoneFromFull, Puts}
 use Rattle.work_pair.specs.Moves.{FoundNone}
 use Rattle.work_pair.specs.PairState.{PairState, AreAlike, IsOpen}
 use Rattle.work_pair.specs.declared.stop.Stop.{Stop}
@@ -108,3 +108,10 @@ returns-in-Err-clause-back g c =
     let told = stops c.self.inside c.self.view_is b c.put_elsewhere.new.self c.put_elsewhere.new.worker.book backed
     c.in-Err.stop refl answer in
     (refl, ap (λ (w : PairState). w.spill) c.self.view_is, told.2)
+
+pub returns-in-Ok-false-clause-of_pool : goal.returns-in-Ok-false-clause-of_pool
+returns-in-Ok-false-clause-of_pool g c =
+    if_starved c.spill_over.result c.spill_over.new.self
+    (listed (as_pair c.put_elsewhere.new.self) c.self.inside.spill c.self.inside.stopped true)
+    (c.args.object, OutOfMemory) (λ (e : ℕ × Stop) (w : PairState). IsStopOf c.args.pool.now e.1)
+    c.spill_over.ensures.starved tt
