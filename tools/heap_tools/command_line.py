@@ -1,6 +1,7 @@
 """The command line of a tool: its options, its help, and how it ends."""
 
 import argparse
+import gc
 import re
 import signal
 import sys
@@ -103,7 +104,9 @@ def number(least: int = 0, most: int = 10**19 - 1) -> Callable[[str], int]:
 
 def run(tool: str, main: Callable[[Sequence[str]], int]) -> NoReturn:
     """Runs `main` of the tool with the words of the command line, and ends with the status that it returns. Warnings of
-    Python are for those who write tools: they are ignored, also if PYTHONWARNINGS makes them errors."""
+    Python are for those who write tools: they are ignored, also if PYTHONWARNINGS makes them errors. Cycles are not
+    looked for: a tool makes few, and to go through its millions of small objects took a twelfth of its time."""
+    gc.disable()
     warnings.simplefilter("ignore")
     heeded = [each for each in ENDING if signal.getsignal(each) != signal.SIG_IGN]
     for each in heeded:

@@ -1,13 +1,14 @@
 """Which instances of a heap dump have a value in a field."""
 
 from array import array
-from typing import Dict, Iterable, List, Set, Tuple
+from collections import defaultdict
+from heapq import merge
+from itertools import repeat
+from typing import DefaultDict, Dict, Iterable, Iterator, List, Set, Tuple
 
 from heap_tools import hprof_format as hprof
-from heap_tools.heap_dump import Span
-from heap_tools.heap_objects import FEWEST_SEGMENTS, FieldValue, HeapObjects
-from heap_tools.object_records import instances_in
-from heap_tools.parallel import shared
+from heap_tools.heap_objects import FieldValue, HeapObjects
+from heap_tools.object_places import places_by_class
 
 #: From how many different identifiers in a field on no more are looked for: all that is asked is whether it is one.
 SEVERAL = 2
@@ -47,41 +48,19 @@ class FieldValues:
             self._places.append(value)
         return len(self._places) >= 2 * self.most and len(self.targets) >= SEVERAL
 
-    def add_all(self, others: "FieldValues") -> None:
-        """Adds what others have that come later in the file."""
-        self.targets |= others.targets
-        self.nulls += others.nulls[: self.most_null - len(self.nulls)]
-        self._places += others._places[: 2 * self.most - len(self._places)]
-
 
 def values_by_field(objects: HeapObjects, fields: Iterable[str], most: int, most_null: int) -> Dict[str, FieldValues]:
     """Returns what instances have in each of `fields`, names such as `java/util/HashMap.table`: at most `most` values,
-    and at most `most_null` instances in which it is null. Walks over all objects as far as it takes if all fields have
-    more values; then instances in which they are null may be missing."""
-    dump, names = objects.dump, sorted(set(fields))
-    places = objects.places_in_instances(names, hprof.OBJECT)
-
-    def values_in(segments: List[Span]) -> Dict[str, FieldValues]:
-        found, wanted = {name: FieldValues(most, most_null) for name in names}, dict(places)
-        id_at, data = dump.unpack_id, dump.bytes
-        for at, _, class_id in instances_in(dump, segments, wanted):
-            for name, place in wanted[class_id]:
-                if found[name].add(at, at + place, id_at(data, at + place)[0]):
-                    _leave_out(name, wanted)
-        return found
-
-    every = {name: FieldValues(most, most_null) for name in names}
-    for part in shared(values_in, dump.segments, FEWEST_SEGMENTS) if places else ():
-        for name, values in part.items():
-            every[name].add_all(values)
+    and at most `most_null` instances in which it is null. Of a field that has more values, instances in which it is
+    null may be missing."""
+    dump, placed = objects.dump, places_by_class(objects.dump)
+    every = {name: FieldValues(most, most_null) for name in fields}
+    uses: DefaultDict[str, List[Iterator[Tuple[int, int]]]] = defaultdict(list)
+    for class_id, of_class in objects.places_in_instances(every, hprof.OBJECT).items():
+        for name, place in of_class:
+            uses[name].append(zip(placed.get(class_id, ()), repeat(place)))
+    for name, of_field in uses.items():
+        for at, place in merge(*of_field):
+            if every[name].add(at, at + place, dump.id(at + place)):
+                break
     return every
-
-
-def _leave_out(name: str, places: Dict[int, List[Tuple[str, int]]]) -> None:
-    """Removes a field from `places`, which has the fields of each class and their places in instances."""
-    for class_id, of_class in list(places.items()):
-        left = [each for each in of_class if each[0] != name]
-        if left:
-            places[class_id] = left
-        else:
-            del places[class_id]

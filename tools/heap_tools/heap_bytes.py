@@ -56,20 +56,23 @@ def measure(dump: HeapDump) -> None:
 
 
 def _sizes_of(dumps: Sequence[DumpRuns]) -> List[Measured]:
-    """Returns the sizes in each dump, or why its layout is not known. Dumps are looked into at once."""
+    """Returns the sizes in each dump, or why its layout is not known: of an earlier one roughly if it has the layout of
+    the last, by which the rows of both are counted. Dumps are looked into at once."""
 
     def sizes_of(some: List[DumpRuns]) -> List[Measured]:
-        return [_sizes_or_why(each.dump) for each in some]
+        return [_sizes_or_why(each.dump, each is not dumps[-1]) for each in some]
 
-    return [each for part in shared(sizes_of, [*dumps], least=1) for each in part]
+    found = [each for part in shared(sizes_of, [*dumps], least=1) for each in part]
+    layouts = [it if isinstance(it, str) else it.layout for it in found]
+    return [it if of == layouts[-1] else _sizes_or_why(each.dump) for each, it, of in zip(dumps, found, layouts)]
 
 
-def _sizes_or_why(dump: HeapDump) -> Measured:
+def _sizes_or_why(dump: HeapDump, is_rough: bool = False) -> Measured:
     """Returns the sizes in a dump, or why its layout is not known."""
     if dump in KNOWN:
         return KNOWN[dump]
     try:
-        return ObjectSizes(dump).rows
+        return ObjectSizes(dump, is_rough).rows
     except UnknownLayout as unknown:
         return str(unknown)
 

@@ -2,21 +2,21 @@
 
 import sys
 from array import array
-from typing import Dict, Iterable, Iterator, List, NamedTuple, Optional, Set, Tuple
+from typing import Dict, Iterable, List, NamedTuple, Optional, Sequence, Set, Tuple
 from weakref import WeakKeyDictionary
 
 from heap_tools import hprof_format as hprof
 from heap_tools.class_names import CLASSES, PRIMITIVES, family
 from heap_tools.heap_dump import Field, HeapDump, Span
 from heap_tools.label_text import Place, in_object
+from heap_tools.object_places import FEWEST_SEGMENTS, SomeOfClass, shared_by_class
 from heap_tools.object_records import chosen_objects
 from heap_tools.parallel import shared
 from heap_tools.span_order import order_of_segments
 
-#: The fewest segments for which a process of its own pays. Those of a virtual machine have a million bytes each.
-FEWEST_SEGMENTS = 16
-
-
+#: A field of the instances of a class: the class that declares it, where its value is, counted from the begin of an
+#: instance, and the field.
+PlacedField = Tuple[int, int, Field]
 #: The class of threads, which have their names in its field `name`.
 THREAD_CLASS = "java/lang/Thread"
 #: The names of the threads of those dumps that are still read, by their serial numbers.
@@ -39,6 +39,10 @@ class HeapObjects:
         self.dump = dump
         #: Which identifier of an instance a reference is, by the class and where it is in the instance.
         self._numbers: Dict[Tuple[int, int], int] = {}
+        #: The fields of the instances of a class, by its identifier.
+        self._fields: Dict[int, Sequence[PlacedField]] = {}
+        #: Where a field's value is in the instances of a class: by that class, and the field's class, name and type.
+        self._places: Dict[Tuple[int, str, str, int], Optional[int]] = {}
 
     def thread_names(self) -> Dict[int, str]:
         """Returns the names of the threads by their serial numbers. Walks over all objects up to three times, once for
@@ -83,7 +87,7 @@ class HeapObjects:
 
         def found_in(some: List[Span]) -> Dict[int, int]:
             found: Dict[int, int] = {}
-            for at, identifier, _ in chosen_objects(self.dump, some, wanted):
+            for at, identifier in chosen_objects(self.dump, some, wanted):
                 found[identifier] = at
                 if len(found) == len(wanted):
                     break
@@ -147,16 +151,23 @@ class HeapObjects:
         """Returns where an element of the array of references at `at` is. The first has the number 0."""
         return at + 9 + (2 + number) * self.dump.id_size
 
-    def fields_of(self, class_id: int) -> Iterator[Tuple[int, int, Field]]:
-        """Yields the fields of an instance of a class, inherited ones too: the class that declares each, where its
-        value is, counted from the begin of the instance, and the field."""
+    def fields_of(self, class_id: int) -> Sequence[PlacedField]:
+        """Returns the fields of an instance of a class, its own first, then those that it inherits."""
+        found = self._fields.get(class_id)
+        if found is None:
+            found = self._fields[class_id] = self._fields_of(class_id)
+        return found
+
+    def _fields_of(self, class_id: int) -> Sequence[PlacedField]:
+        found: List[PlacedField] = []
         place = 9 + 2 * self.dump.id_size
         while class_id in self.dump.classes:
             for each in self.dump.classes[class_id].fields:
                 if not each.is_static:
-                    yield class_id, place, each
+                    found.append((class_id, place, each))
                     place += self.dump.value_sizes[each.kind]
             class_id = self.dump.classes[class_id].superclass
+        return found
 
     def place_of(self, value: FieldValue) -> Place:
         """Returns the place of a reference as labels have it: among the identifiers of its object, of which the first
@@ -176,21 +187,21 @@ class HeapObjects:
     ) -> List[FieldValue]:
         """Returns the values of all instances in `fields`, names such as `java/util/HashMap.table` whose class stands
         for all hidden classes of its name. `targets`: only the values that are one of these identifiers. `kind` is the
-        code of the fields' type: a class may have a field of the same name and of another type. Walks over all
-        objects."""
+        code of the fields' type: a class may have a field of the same name and of another type. They are in the order
+        of the file."""
         dump, places = self.dump, self.places_in_instances(fields, kind)
+        id_at, data = dump.unpack_id, dump.bytes
 
-        def values_in(segments: List[Span]) -> List[FieldValue]:
-            found: List[FieldValue] = []
-            id_at, data = dump.unpack_id, dump.bytes
-            for at, _, class_id in chosen_objects(dump, segments, (), places):
-                for _, place in places[class_id]:
-                    if targets is None or id_at(data, at + place)[0] in targets:
-                        found.append(FieldValue(at, at + place))
-            return found
+        def values_in(parts: List[SomeOfClass]) -> List[FieldValue]:
+            return [
+                FieldValue(at, at + place)
+                for class_id, objects in parts
+                for _, place in places[class_id]
+                for at in objects
+                if targets is None or id_at(data, at + place)[0] in targets
+            ]
 
-        parts = shared(values_in, dump.segments, FEWEST_SEGMENTS) if places else []
-        return [each for part in parts for each in part]
+        return sorted(shared_by_class(dump, places, values_in)) if places else []
 
     def places_in_instances(self, fields: Iterable[str], kind: int) -> Dict[int, List[Tuple[str, int]]]:
         """Returns for each class the names of those of `fields` that its instances have, and where the values are,
@@ -213,9 +224,17 @@ class HeapObjects:
     def place_of_value(self, at: int, class_name: str, field: str, kind: int) -> Optional[int]:
         """Returns where the value of an instance's field is that the class `class_name` declares, or None. `kind` is
         the code of its type: a class may have a field of the same name and of another type."""
-        for owner, place, each in self.fields_of(self.class_of(at)):
+        key = self.class_of(at), class_name, field, kind
+        if key not in self._places:
+            self._places[key] = self._place_in(*key)
+        place = self._places[key]
+        return None if place is None else at + place
+
+    def _place_in(self, class_id: int, class_name: str, field: str, kind: int) -> Optional[int]:
+        """Returns where the value of such a field is in the instances of a class, counted from the begin of one."""
+        for owner, place, each in self.fields_of(class_id):
             if (each.name, each.kind) == (field, kind) and self.dump.names[owner] == class_name:
-                return at + place
+                return place
         return None
 
     def reference(self, at: int, class_name: str, field: str) -> int:

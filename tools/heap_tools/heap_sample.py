@@ -8,8 +8,8 @@ of their references), all objects of some ranges of addresses are found by a wal
 from bisect import bisect_left, bisect_right
 from collections import Counter
 from functools import reduce
-from itertools import chain, groupby, islice, tee
-from operator import or_
+from itertools import chain, islice, tee
+from operator import itemgetter, lt, or_, sub
 from typing import Counter as Counts
 from typing import Dict, Iterable, Iterator, List, NamedTuple, Sequence, Set, Tuple
 
@@ -21,11 +21,13 @@ from heap_tools.span_order import ASCENDING, SpanOrder
 
 #: How many objects a sample has, about: enough that the classes which matter are in it.
 SAMPLED = 200_000
+#: How many times as many objects as a rough sample has, which is enough to see the layout.
+ROUGH = 5
 #: In how many parts of the file the sample is taken. The first and the last are longer: they have the objects of the
 #: virtual machine's start.
 PARTS = 40
-#: How many objects of a sample are enough: if the parts have fewer, more parts are read.
-ENOUGH_SAMPLED = 50_000
+#: How much of a sample is enough: if the parts have fewer objects, more parts are read.
+ENOUGH_SAMPLED = 0.25
 #: What is farther from the next object, besides its elements of so many bytes at most, is not taken as its neighbour:
 #: there may be others that the dump does not have.
 LONGEST, LONGEST_VALUE = 1 << 16, 8
@@ -76,6 +78,8 @@ MOST_SPECIAL, SOME_CLASSES, ENOUGH, SEARCHED = 32, 8, 3, 16 << 20
 HEADER = 16
 #: What a class object has as the code of its elements' type.
 CLASS_OBJECT = -1
+#: What is known of an object but its identifier.
+WITHOUT_ID = itemgetter(1, 2, 3)
 
 
 class Neighbour(NamedTuple):
@@ -98,29 +102,31 @@ class Sample(NamedTuple):
     is_ascending: bool
 
 
-def sample_of(dump: HeapDump) -> Sample:
-    """Takes a sample of the objects of `dump`, the class objects between them included."""
-    spans = short_spans(dump)
-    stretches = _stretches(dump, spans)
+def sample_of(dump: HeapDump, is_rough: bool = False) -> Sample:
+    """Takes a sample of the objects of `dump`, the class objects between them included. `is_rough`: fewer, and none are
+    looked for of which there are few."""
+    spans, count = short_spans(dump), SAMPLED // ROUGH if is_rough else SAMPLED
+    stretches = _stretches(dump, spans, count)
     classes = sorted(dump.classes)
     if _ascending(stretches) >= ASCENDING:
-        stretches += _with_their_next(dump, spans, _special(dump, stretches))
+        stretches += [] if is_rough else _with_their_next(dump, spans, _special(dump, stretches))
         return _sample([_with_classes(each, classes) for each in stretches], True)
-    ranges = _ranges(dump, stretches)
+    special = [] if is_rough else [each >> RANGE_BITS for each in _special(dump, [])]
+    ranges = _ranges(dump, stretches, count).union([*dict.fromkeys(special)][:MOST_SPECIAL])
     parts = shared(lambda some: _within(dump, some, ranges), spans, FEWEST_SPANS)
     between = [_class_object(each) for each in classes if each >> RANGE_BITS in ranges]
     return _sample([sorted(chain(between, *parts))], False)
 
 
-def _stretches(dump: HeapDump, spans: Sequence[Span]) -> List[List[HeapObject]]:
-    """Returns the first objects of some parts of the file, in the order of the file: of more parts if these have few
-    objects, since large arrays fill them. What goes on from one part to the next is one stretch."""
+def _stretches(dump: HeapDump, spans: Sequence[Span], wanted: int) -> List[List[HeapObject]]:
+    """Returns the first objects of some parts of the file, about `wanted`, in the order of the file: of more parts if
+    these have few objects, since large arrays fill them. What goes on from one part to the next is one stretch."""
     found: Dict[int, List[HeapObject]] = {}
     whole: Set[int] = set()
-    for some in _parts(len(spans)):
+    for some in _parts(len(spans), wanted):
         found.update({number: _beginning(dump, spans[number], count) for number, count in some.items()})
         whole.update(number for number, count in some.items() if len(found[number]) < count)
-        if sum(map(len, found.values())) >= ENOUGH_SAMPLED:
+        if sum(map(len, found.values())) >= ENOUGH_SAMPLED * wanted:
             break
     stretches: List[List[HeapObject]] = []
     for number in sorted(found):
@@ -131,12 +137,12 @@ def _stretches(dump: HeapDump, spans: Sequence[Span]) -> List[List[HeapObject]]:
     return stretches
 
 
-def _parts(count: int) -> Iterator[Dict[int, int]]:
-    """Yields which of `count` parts of the file are read first, and how many objects of each; then which others may be
-    read, a few at a time."""
+def _parts(count: int, wanted: int) -> Iterator[Dict[int, int]]:
+    """Yields which of `count` parts of the file are read first, and how many objects of each, `wanted` together; then
+    which others may be read, a few at a time."""
     numbers = sorted({number * (count - 1) // (PARTS - 1) for number in range(PARTS)})
     ends = {numbers[0], numbers[-1]}
-    share = SAMPLED // (len(numbers) + 4 * len(ends))
+    share = wanted // (len(numbers) + 4 * len(ends))
     yield {number: 5 * share if number in ends else share for number in numbers}
     others = sorted(set(range(count)).difference(numbers))
     times = -(-len(others) // PARTS)
@@ -153,10 +159,17 @@ def _ascending(stretches: Iterable[List[HeapObject]]) -> float:
     """Returns the share of objects after which one with a larger identifier comes, but not with a far larger one."""
     total = near = 0
     for stretch in stretches:
-        total += max(0, len(stretch) - 1)
-        gaps = ((one, after[0] - one[0]) for one, after in _pairs_of(stretch))
-        near += sum(0 < gap <= LONGEST or gap > 0 and _is_near(*one[2:], gap) for one, gap in gaps)
+        gaps = _gaps_in(stretch)
+        total += len(gaps)
+        near += sum(0 < gap <= LONGEST for gap in gaps)
+        near += sum(gap > LONGEST and _is_near(*one[2:], gap) for one, gap in zip(stretch, gaps))
     return near / max(1, total)
+
+
+def _gaps_in(stretch: List[HeapObject]) -> List[int]:
+    """Returns how far it is from each object of a stretch but the last to the one after it."""
+    identifiers = [each[0] for each in stretch]
+    return list(map(sub, islice(identifiers, 1, None), identifiers))
 
 
 def _pairs_of(stretch: List[HeapObject]) -> Iterator[Tuple[HeapObject, HeapObject]]:
@@ -172,7 +185,8 @@ def _class_object(class_id: int) -> HeapObject:
 def _with_classes(stretch: List[HeapObject], classes: List[int]) -> List[HeapObject]:
     """Returns the objects of a stretch, and those class objects of the sorted list `classes` that are between two of
     them, each where it is. What follows at a lower address is not the neighbour of what is before it."""
-    if all(one[0] < after[0] for one, after in _pairs_of(stretch)):
+    identifiers = [each[0] for each in stretch]
+    if all(map(lt, identifiers, islice(identifiers, 1, None))):
         return sorted(chain(stretch, _between(classes, stretch[:1], stretch[-1:])))
     found: List[HeapObject] = []
     for one, after in _pairs_of(stretch):
@@ -224,20 +238,18 @@ def _around(dump: HeapDump, span: Span, wanted: List[int]) -> List[List[HeapObje
     return found
 
 
-def _ranges(dump: HeapDump, stretches: Iterable[List[HeapObject]]) -> Set[int]:
-    """Returns ranges of addresses, each as an address without its last bits, that have as many objects as a sample is
-    to have: of those of the objects in `stretches` all, or some from the lowest to the highest; and those of special
-    objects."""
+def _ranges(dump: HeapDump, stretches: Iterable[List[HeapObject]], wanted: int) -> Set[int]:
+    """Returns ranges of addresses, each as an address without its last bits, that have about `wanted` objects: of those
+    of the objects in `stretches` all, or some from the lowest to the highest."""
     met = sorted(each for stretch in stretches for each in stretch)
     if not met:
         return set()
     values = sum(length * dump.value_sizes[kind] if kind else length for _, _, kind, length in met)
-    count = max(1, SAMPLED * (values // len(met) + HEADER) >> RANGE_BITS)
+    count = max(1, wanted * (values // len(met) + HEADER) >> RANGE_BITS)
     even = {each[0] >> RANGE_BITS for each in met}
     if len(even) > count:
         even = {met[number * len(met) // count][0] >> RANGE_BITS for number in range(count)}
-    special = dict.fromkeys(each >> RANGE_BITS for each in _special(dump, []))
-    return even | set(list(special)[:MOST_SPECIAL])
+    return even
 
 
 def _within(dump: HeapDump, spans: List[Span], ranges: Set[int]) -> List[HeapObject]:
@@ -248,12 +260,18 @@ def _within(dump: HeapDump, spans: List[Span], ranges: Set[int]) -> List[HeapObj
 def _sample(stretches: Sequence[List[HeapObject]], is_ascending: bool) -> Sample:
     """Returns what is known of the objects in some stretches, in each of which no other object is between two. What the
     last one of a stretch has for its neighbour is not known. Two stretches may have an object in common."""
-    every = sorted(
-        (*one, after[0] - one[0]) for stretch in stretches for one, after in _pairs_of(stretch) if one[0] < after[0]
-    )
-    found = Counter(each[1:] for each, _ in groupby(every))
-    near = Counter({Neighbour(*each): count for each, count in found.items() if _is_near(*each[1:])})
-    return Sample(near, reduce(or_, (each[0] for each in every), 0), is_ascending)
+    found: Counts[Tuple[Tuple[int, int, int], int]] = Counter()
+    known: Set[int] = set()
+    for stretch in stretches:
+        identifiers = [each[0] for each in stretch[:-1]]
+        alike: Iterable[Tuple[Tuple[int, int, int], int]] = zip(map(WITHOUT_ID, stretch), _gaps_in(stretch))
+        if not known.isdisjoint(identifiers):
+            alike = [each for identifier, each in zip(identifiers, alike) if identifier not in known]
+        found.update(alike)
+        known.update(identifiers)
+    every = ((Neighbour(*shape, gap), count) for (shape, gap), count in found.items())
+    near = Counter({each: count for each, count in every if each.gap > 0 and _is_near(*each[1:])})
+    return Sample(near, reduce(or_, known, 0), is_ascending)
 
 
 def _is_near(kind: int, length: int, gap: int) -> bool:

@@ -3,7 +3,7 @@
 import struct
 from array import array as packed
 from collections import defaultdict
-from typing import Callable, Collection, Container, DefaultDict, Dict, Iterable, Iterator, List, Optional, Tuple
+from typing import Callable, Container, DefaultDict, Dict, Iterable, Iterator, List, Optional, Sequence, Tuple
 
 from heap_tools import hprof_format as hprof
 from heap_tools.heap_dump import HeapDump, Span, UnknownTag
@@ -11,14 +11,12 @@ from heap_tools.heap_dump import HeapDump, Span, UnknownTag
 #: An object: its identifier, that of its class (0 for an array of primitive values), the code of its elements' type (0
 #: for an instance), and how many elements it has, or how many bytes of fields. A plain tuple, since there are millions.
 HeapObject = Tuple[int, int, int, int]
-#: Where an object is, its identifier, and that of its class, 0 for an array.
-PlacedObject = Tuple[int, int, int]
+#: Where an object is, and its identifier.
+PlacedObject = Tuple[int, int]
 #: Up to JDK 8 a heap below 2 GB is one record. To be read in parts, records longer than this are cut.
 LONG_RECORD = 4 << 20
 #: How long the parts are into which a long record is cut, and how many objects are read to see that a cut is right.
 PART, PROOF = 1 << 20, 100
-#: Of how many classes it is looked at most whether a part of the file has their identifiers.
-MOST_LOOKED_FOR = 20
 #: The class whose instances show where a record can be cut: any dump has many of them.
 FREQUENT = "java/lang/String"
 
@@ -47,12 +45,9 @@ def heap_objects(dump: HeapDump, spans: Iterable[Span]) -> Iterator[HeapObject]:
                 at = _end_of_other(dump, tag, at)
 
 
-def chosen_objects(
-    dump: HeapDump, spans: Iterable[Span], identifiers: Container[int], classes: Container[int] = ()
-) -> Iterator[PlacedObject]:
-    """Yields the objects in some parts of the file, in its order, that have one of these identifiers or are instances
-    of one of these classes. This is `heap_objects` once more, since a walk that yields every object takes twice the
-    time."""
+def chosen_objects(dump: HeapDump, spans: Iterable[Span], identifiers: Container[int]) -> Iterator[PlacedObject]:
+    """Yields the objects in some parts of the file, in its order, that have one of these identifiers. This is
+    `heap_objects` once more, since a walk that yields every object takes twice the time."""
     data, size, sizes = dump.bytes, dump.id_size, dump.value_sizes
     instance, array, primitive = _heads(size)
     head = 9 + 2 * size
@@ -60,40 +55,39 @@ def chosen_objects(
         while at < end:
             tag = data[at]
             if tag == hprof.INSTANCE:
-                identifier, class_id, length = instance(data, at + 1)
-                if class_id in classes or identifier in identifiers:
-                    yield at, identifier, class_id
+                identifier, _, length = instance(data, at + 1)
+                if identifier in identifiers:
+                    yield at, identifier
                 at += head + length
             elif tag == hprof.PRIMITIVE_ARRAY:
                 identifier, length, kind = primitive(data, at + 1)
                 if identifier in identifiers:
-                    yield at, identifier, 0
+                    yield at, identifier
                 at += 10 + size + length * sizes[kind]
             elif tag == hprof.OBJECT_ARRAY:
-                identifier, length, class_id = array(data, at + 1)
+                identifier, length, _ = array(data, at + 1)
                 if identifier in identifiers:
-                    yield at, identifier, 0
+                    yield at, identifier
                 at += head + length * size
             else:
                 at = _end_of_other(dump, tag, at)
 
 
-def referring_places(dump: HeapDump, spans: Iterable[Span], classes: Container[int]) -> Dict[int, "packed[int]"]:
-    """Returns where in some parts of the file the objects are that may refer to others, in its order: instances of
-    `classes` by their class, arrays of references and class dumps by 0. This is the third walk, since a function called
-    for each object would take twice the time."""
+def placed_objects(dump: HeapDump, spans: Iterable[Span]) -> Dict[int, "packed[int]"]:
+    """Returns where in some parts of the file objects are, in its order: instances by their class; by 0, arrays of
+    references, but empty ones, and class dumps. This is the third walk, since a function called for each object would
+    take twice the time."""
     data, size, sizes = dump.bytes, dump.id_size, dump.value_sizes
     instance, array, primitive = _heads(size)
-    head = 9 + 2 * size
-    found: DefaultDict[int, "packed[int]"] = defaultdict(lambda: packed("Q"))
+    head, number = 9 + 2 * size, "I" if dump.size < 1 << 32 else "Q"
+    found: DefaultDict[int, "packed[int]"] = defaultdict(lambda: packed(number))
     others = found[0]
     for at, end in spans:
         while at < end:
             tag = data[at]
             if tag == hprof.INSTANCE:
                 _, class_id, length = instance(data, at + 1)
-                if class_id in classes:
-                    found[class_id].append(at)
+                found[class_id].append(at)
                 at += head + length
             elif tag == hprof.PRIMITIVE_ARRAY:
                 _, length, kind = primitive(data, at + 1)
@@ -108,24 +102,6 @@ def referring_places(dump: HeapDump, spans: Iterable[Span], classes: Container[i
                     others.append(at)
                 at = _end_of_other(dump, tag, at)
     return dict(found)
-
-
-def instances_in(dump: HeapDump, spans: Iterable[Span], classes: Collection[int]) -> Iterator[PlacedObject]:
-    """Yields the instances of `classes` in some parts of the file, in its order. The caller may remove classes: when
-    none is left, nothing more is read. Parts that cannot have any are not walked over."""
-    for span in spans:
-        for each in chosen_objects(dump, [span], (), classes) if classes and _may_have(dump, span, classes) else ():
-            yield each
-            if not classes:
-                return
-
-
-def _may_have(dump: HeapDump, span: Span, classes: Collection[int]) -> bool:
-    """Tests whether a part of the file has the identifier of one of `classes`: to look for some bytes takes a tenth of
-    the time of a walk. A long part, or one for many classes, may have it."""
-    if span[1] - span[0] > LONG_RECORD or len(classes) > MOST_LOOKED_FOR:
-        return True
-    return any(dump.bytes.find(each.to_bytes(dump.id_size, "big"), *span) >= 0 for each in classes)
 
 
 def _heads(size: int) -> List[Callable[..., Tuple[int, ...]]]:
@@ -171,17 +147,28 @@ def short_spans(dump: HeapDump) -> List[Span]:
     return spans
 
 
-def some_instances(dump: HeapDump, classes: Iterable[int], searched: int) -> List[int]:
+def some_instances(dump: HeapDump, classes: Sequence[int], searched: int) -> List[int]:
     """Returns the identifiers of the first instances of each of some classes among the first and among the last
     `searched` bytes of the heap, if there are any. They may be those of no object: other bytes may look like one."""
     if not dump.segments:
         return []
-    patterns, begin, end = [_head_of(dump, each) for each in classes], dump.segments[0][0], dump.segments[-1][1]
-    found: List[int] = []
-    for first in {begin, max(begin, end - searched)}:
-        places = (dump.bytes.find(each, first, min(end, first + searched)) - 5 - dump.id_size for each in patterns)
-        found += [dump.id(each + 1) for each in places if each >= first and dump.bytes[each] == hprof.INSTANCE]
-    return found
+    begin, end = dump.segments[0][0], dump.segments[-1][1]
+    spans = {(first, min(end, first + searched)) for first in (begin, max(begin, end - searched))}
+    places = (_first_instance(dump, each, span) for span in sorted(spans) for each in classes)
+    return [dump.id(at + 1) for at in places if at is not None]
+
+
+def _first_instance(dump: HeapDump, class_id: int, span: Span) -> Optional[int]:
+    """Returns where the first instance of a class seems to be in a part of the file. It is looked for by the identifier
+    of the class alone: what has a byte in it that is rare is found three times as fast."""
+    head, find = _head_of(dump, class_id), dump.bytes.find
+    found = find(head[: dump.id_size], *span)
+    while found >= 0:
+        at = found - 5 - dump.id_size
+        if at >= span[0] and dump.bytes[at] == hprof.INSTANCE and dump.bytes.startswith(head, found):
+            return at
+        found = find(head[: dump.id_size], found + 1, span[1])
+    return None
 
 
 def _head_of(dump: HeapDump, class_id: int) -> bytes:

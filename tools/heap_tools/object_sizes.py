@@ -77,10 +77,10 @@ class RowSizes(NamedTuple):
 
 class ObjectSizes:
     """What each object of `dump` takes in the heap, by the layout that a sample of the objects shows. Raises
-    `UnknownLayout` if it shows none."""
+    `UnknownLayout` if it shows none. `is_rough`: only the layout is as that of the whole sample."""
 
-    def __init__(self, dump: HeapDump) -> None:
-        sample = sample_of(dump)
+    def __init__(self, dump: HeapDump, is_rough: bool = False) -> None:
+        sample = sample_of(dump, is_rough)
         self.dump, self.fields, self.is_ascending = dump, fields_by_class(dump), sample.is_ascending
         self.stacks = {class_id for class_id, name in dump.names.items() if name == STACK}
         self.layout = layout_of(sample, self.fields, dump.id_size, self.stacks)

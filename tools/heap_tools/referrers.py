@@ -3,15 +3,11 @@ reference from all of them."""
 
 import collections
 import struct
-from array import array
 from typing import AbstractSet, Callable, Counter, Dict, Iterable, Iterator, List, NamedTuple, Sequence, Set, Tuple
-from weakref import WeakKeyDictionary
 
 from heap_tools import hprof_format as hprof
-from heap_tools.heap_objects import FEWEST_SEGMENTS, HeapObjects
-from heap_tools.heap_dump import HeapDump, Span
-from heap_tools.object_records import referring_places
-from heap_tools.parallel import shared
+from heap_tools.heap_objects import HeapObjects
+from heap_tools.object_places import SomeOfClass, shared_by_class
 
 #: The largest number of objects of one class that name what all of them refer to by one field: what more refer to is
 #: shared, and they say nothing of it. Twelve topics may have one queue; a thousand messages have one sender.
@@ -19,16 +15,8 @@ MOST_OWNERS = 12
 #: From how many objects a search goes up at most that nobody has asked for yet: as many take no longer than one, but
 #: what refers to all of them has to fit into memory.
 MOST_AHEAD = 20_000
-#: How many objects a process reads at once, and for how many times as many a process of its own pays.
-AT_ONCE, FEWEST_TIMES = 20_000, 8
-
 #: Reads the references of an instance: from the bytes of the dump, and where it begins.
 Reader = Callable[[bytes, int], Tuple[int, ...]]
-#: Objects of one class, by that and their places.
-SomeOfClass = Tuple[int, "array[int]"]
-#: The objects of those dumps that are still read which may refer to others. To know their places takes a fiftieth of
-#: the memory that a dump does, and makes a search a quarter as long as a walk.
-PLACES: "WeakKeyDictionary[HeapDump, List[SomeOfClass]]" = WeakKeyDictionary()
 #: What those have in common that refer to an object from one class, by one field: the tag of their records, the name of
 #: the class, and that of the field.
 ReferrerKind = Tuple[int, str, str]
@@ -84,8 +72,6 @@ class Referrers:
         """Yields what refers to `wanted`: of many from one class by one field the first."""
         self.searches += 1
         self._readers = self._readers or dict(self._readers_by_class())
-        if self.dump not in PLACES:
-            PLACES[self.dump] = list(self._places())
         data, apart = self.dump.bytes, frozenset(wanted).isdisjoint
 
         def found_in(parts: List[SomeOfClass]) -> List[Referrer]:
@@ -95,8 +81,7 @@ class Referrers:
                 found += [at for at in places if not apart(read(data, at))]
             return self._few(each for at in found for each in self._referrers_at(at, wanted))
 
-        every = shared(found_in, PLACES[self.dump], FEWEST_TIMES)
-        yield from self._few(each for part in every for each in part)
+        yield from self._few(shared_by_class(self.dump, {0, *self._readers}, found_in))
 
     def _few(self, referrers: Iterable[Referrer]) -> List[Referrer]:
         """Returns the first of those that refer to one object from one class by one field."""
@@ -138,14 +123,3 @@ class Referrers:
             if places:
                 skipped = [at - end for at, end in zip(places, [0, *(at + size for at in places)])]
                 yield class_id, struct.Struct(">" + "".join(f"{it}x{number}" for it in skipped)).unpack_from
-
-    def _places(self) -> Iterator[SomeOfClass]:
-        """Yields all objects that may refer to others. Walks over the dump."""
-
-        def places_in(segments: List[Span]) -> Dict[int, "array[int]"]:
-            return referring_places(self.dump, segments, self._readers)
-
-        for part in shared(places_in, self.dump.segments, FEWEST_SEGMENTS):
-            for class_id, places in part.items():
-                for begin in range(0, len(places), AT_ONCE):
-                    yield class_id, places[begin : begin + AT_ONCE]

@@ -1,15 +1,14 @@
-"""Tests which instances are found to have a value in a field, and how far a dump is read for that."""
+"""Tests which instances are found to have a value in a field, and how many of them are looked at."""
 
 import random
 import unittest
-from typing import Any, Dict, Iterator, List, Tuple
+from typing import Dict, List, Tuple
 from unittest import mock
 
-from heap_tools import object_records
 from heap_tools.field_values import FieldValues, values_by_field
-from heap_tools.heap_dump import HeapDump, Span
-from heap_tools.heap_objects import FEWEST_SEGMENTS, HeapObjects
-from heap_tools.object_records import PlacedObject, chosen_objects
+from heap_tools.heap_dump import HeapDump
+from heap_tools.heap_objects import HeapObjects
+from heap_tools.object_places import FEWEST_SEGMENTS
 from tests.support.dump_writer import DumpWriter
 from tests.support.laid_out_heap import read
 
@@ -70,7 +69,7 @@ class ValuesTest(unittest.TestCase):
             self.assertEqual(values(dump, NAMES[2:], 5, 3)[NAMES[2]].targets, wanted)
 
     def test_cost(self) -> None:
-        """Once there are more values of all fields, nothing is read any more; till then no field that has more."""
+        """Once there are more values of a field, no more of it are read."""
         chats, mails = [(CHAT, [7 + number % 2]) for number in range(200)], [(MAIL, [7, number]) for number in range(9)]
         added = FieldValues.add
         for instances, names, calls in (
@@ -82,21 +81,6 @@ class ValuesTest(unittest.TestCase):
             with mock.patch.object(FieldValues, "add", autospec=True, side_effect=added) as add:
                 values(dump_of(instances), names, 5, 3)
             self.assertEqual(add.call_count, calls, names)
-
-    def test_parts(self) -> None:
-        """Only such parts of the file are walked over as have the identifier of a class whose field still counts; with
-        very many classes, all."""
-        dump, walked = dump_of([(CHAT, [7])] * 20 + [(MAIL, [7, 8])] * 10 + [(CHAT, [7])] * 20), []
-
-        def noted(of: HeapDump, some: List[Span], *words: Any) -> Iterator[PlacedObject]:
-            walked.extend(some)
-            return chosen_objects(of, some, *words)
-
-        for most, numbers in (20, [0, 3]), (0, range(6)):
-            with mock.patch.multiple(object_records, MOST_LOOKED_FOR=most, chosen_objects=noted):
-                self.assertEqual(values(dump, NAMES[1:2], 99, 3)[NAMES[1]].count, 10)
-            self.assertEqual(walked, [dump.segments[number] for number in numbers])
-            walked.clear()
 
 
 if __name__ == "__main__":

@@ -9,8 +9,9 @@ from heap_tools import heap_dump, hprof_format, parallel
 from heap_tools.dump_file import whole_content, state_of
 from heap_tools.dump_runs import DumpRuns
 from heap_tools.faults import UNREADABLE, Fault
-from heap_tools.heap_objects import FEWEST_SEGMENTS, HeapObjects
+from heap_tools.heap_objects import HeapObjects
 from heap_tools.heapmark import Heapmark
+from heap_tools.object_places import FEWEST_SEGMENTS
 from heap_tools.referrers import MOST_OWNERS, Referrers
 from heap_tools.thread_counts import grown_thread_counts, number_of_threads
 from tests.support.dump_writer import BYTE, FRAME, LONG, ROOT_THREAD_OBJECT, STRING, TRACE, DumpWriter, word

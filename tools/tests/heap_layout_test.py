@@ -222,11 +222,23 @@ class SampleTest(WithLayout):
         for number in range(20_000):
             heap.values(BYTE, 900 + 8 * (number % 31)) if number % 20 else heap.instance(order)
         dump = heap.read()
-        with mock.patch.multiple(heap_sample, LONGEST=512, PARTS=3, SAMPLED=2600):
+        with mock.patch.multiple(heap_sample, LONGEST=512, PARTS=3, SAMPLED=2600, ENOUGH_SAMPLED=20):
             self.assertEqual(found_in(dump), COMPRESSED)
             self.assertGreater(sum(sample_of(dump).neighbours.values()), 5000)
-            with mock.patch.object(heap_sample, "ENOUGH_SAMPLED", 1):
+            with mock.patch.object(heap_sample, "ENOUGH_SAMPLED", 0):
                 self.require_unknown(dump, "too few objects have a neighbour")
+
+    def test_rough(self) -> None:
+        """A rough sample has a fifth of the objects, and shows the same layout, in any order of the file."""
+        heap = LaidOutHeap(COMPRESSED)
+        heap.mixed(9000)
+        for shuffled in (False, True):
+            dump = heap.read(shuffled)
+            with mock.patch.multiple(heap_sample, PARTS=8, SAMPLED=8000):
+                whole, rough = (sample_of(dump, is_rough) for is_rough in (False, True))
+            fields = fields_by_class(dump)
+            self.assertEqual([layout_of(each, fields, dump.id_size) for each in (whole, rough)], [COMPRESSED] * 2)
+            self.assertLess(2 * sum(rough.neighbours.values()), sum(whole.neighbours.values()))
 
     def test_all_ranges(self) -> None:
         """If a sample has room for all objects, those that are alone in their range of addresses are in it."""

@@ -4,7 +4,7 @@ import unittest
 from typing import List, Tuple
 from unittest import mock
 
-from heap_tools import referrers
+from heap_tools import object_places
 from heap_tools.heap_dump import HeapDump
 from heap_tools.heap_objects import HeapObjects
 from heap_tools.referrers import MOST_OWNERS, Referrers
@@ -47,12 +47,12 @@ class ReferrersTest(unittest.TestCase):
     def test_many(self) -> None:
         """Of objects of one class that refer by one field one more is known than may name something, in one process or
         in several; those of another field are all known."""
-        for at_once in (referrers.AT_ONCE, 1):
+        for at_once in (object_places.AT_ONCE, 1):
             dump = DumpWriter()
             dump.of_class(20, "shop/Order", fields=["next", "first"])
             for number in range(100):
                 dump.instance(500 + number, 20, 300, 300 if number > 95 else 0)
-            with mock.patch.object(referrers, "AT_ONCE", at_once):
+            with mock.patch.object(object_places, "AT_ONCE", at_once):
                 (found,) = self.found(dump, 300)
             by_next = [(500 + number, "next") for number in range(MOST_OWNERS + 1)]
             self.assertEqual(found, by_next + [(500 + number, "first") for number in range(96, 100)])

@@ -2,13 +2,14 @@
 
 import random
 import unittest
-from typing import Iterator, List, Sequence
+from typing import Container, Iterator, List, Sequence
 from unittest import mock
 
 from heap_tools import hprof_format as hprof
-from heap_tools import heap_objects, object_records
+from heap_tools import heap_objects, object_places, object_records
 from heap_tools.heap_dump import HeapDump, Span
 from heap_tools.heap_objects import HeapObjects
+from heap_tools.object_places import places_by_class
 from heap_tools.object_records import PlacedObject
 from heap_tools.span_order import SpanOrder, order_of_segments
 from tests.support.dump_writer import BYTE, DumpWriter
@@ -86,10 +87,10 @@ class PlacesTest(unittest.TestCase):
         order_of_segments(dump)
         spans: List[Span] = []
 
-        def noted(of: HeapDump, some: List[Span], *words: object) -> Iterator[PlacedObject]:
+        def noted(of: HeapDump, some: List[Span], identifiers: Container[int]) -> Iterator[PlacedObject]:
             for each in some:
                 spans.append(each)
-                yield from object_records.chosen_objects(of, [each], *words)  # type: ignore[arg-type]
+                yield from object_records.chosen_objects(of, [each], identifiers)
 
         with mock.patch.object(heap_objects, "chosen_objects", noted):
             HeapObjects(dump).places_of(wanted)
@@ -123,20 +124,32 @@ class ChosenTest(unittest.TestCase):
     """chosen_objects"""
 
     def test_chosen(self) -> None:
-        """Objects are chosen by their identifiers, and instances by their classes."""
+        """Objects are chosen by their identifiers."""
         for id_size in (4, 8):
             identifiers = mixed(30)
             dump = dump_of(identifiers, id_size)
-            instances = identifiers[::3]
-            for some, classes, wanted in (
-                (identifiers[4:9], (), identifiers[4:9]),
-                ((), (ORDER, ORDERS), instances),
-                (identifiers[1:2], (ORDER,), sorted([*instances, identifiers[1]], key=identifiers.index)),
-            ):
-                found = list(object_records.chosen_objects(dump, dump.segments, some, classes))
-                self.assertEqual([identifier for _, identifier, _ in found], wanted)
-                self.assertEqual([dump.id(at + 1) for at, _, _ in found], wanted)
-                self.assertEqual([of for _, _, of in found], [ORDER if it in instances else 0 for it in wanted])
+            for some in (identifiers[4:9], identifiers, identifiers[:0]):
+                found = list(object_records.chosen_objects(dump, dump.segments, [*some]))
+                self.assertEqual([identifier for _, identifier in found], some)
+                self.assertEqual([dump.id(at + 1) for at, _ in found], some)
+
+
+class PlacesByClassTest(unittest.TestCase):
+    """places_by_class"""
+
+    def test_places(self) -> None:
+        """Instances are found by their class, in one process or several, and with 0 what else may refer to others; the
+        objects are walked over once for each dump."""
+        for id_size in (4, 8):
+            identifiers = mixed(300)
+            dump = dump_of(identifiers, id_size)
+            with mock.patch.object(object_places, "placed_objects", wraps=object_records.placed_objects) as walks:
+                for _ in range(2):
+                    found = places_by_class(dump)
+            self.assertEqual([dump.id(at + 1) for at in found[ORDER]], identifiers[::3])
+            others = {dump.bytes[at] for at in found[0]}
+            self.assertEqual(others, {hprof.CLASS_DUMP, hprof.OBJECT_ARRAY})
+            self.assertLessEqual(walks.call_count, 1)  # none, if other processes did it
 
 
 if __name__ == "__main__":
