@@ -8,7 +8,7 @@
 # threads; and Filler with MEGABYTES (500) by G1, ZGC and Shenandoah. Filler wants Java 16. Then the programs of
 # bench/java/sizes, by each collector, in Java 11 also by CMS: pools of threads with their jobs, large arrays among few
 # small objects, classes with few objects, and classes whose superclasses have fields (up to Java 14 also with
-# references first, or uncompressed).
+# references first or together, without compact fields, or uncompressed).
 # Then prints a table, as bench/size_figures.py says, and fails if a comparison does. Java is that of JAVA_HOME, else
 # that of PATH; bench/debian_jdk.sh unpacks others: JAVA_HOME=$(bench/debian_jdk.sh 11 bullseye). Names of dumps of 32
 # bits have `-32-bit`: JAVA_HOME=$(bench/debian_jdk.sh 17 bookworm i386) makes such ones.
@@ -116,6 +116,9 @@ special shenandoah -XX:+UseShenandoahGC
 special z -XX:+UseZGC
 if [ "$number" -lt 15 ]; then
     compared "$jdk-hierarchies-references-first" -Xmx500m -XX:FieldsAllocationStyle=0 Hierarchies 10
+    compared "$jdk-hierarchies-references-together" -Xmx500m -XX:FieldsAllocationStyle=2 Hierarchies 10
+    compared "$jdk-hierarchies-with-gaps" -Xmx500m -XX:-CompactFields Hierarchies 10
+    compared "$jdk-hierarchies-first-with-gaps" -Xmx500m -XX:FieldsAllocationStyle=0 -XX:-CompactFields Hierarchies 10
     compared "$jdk-hierarchies-uncompressed" -Xmx500m -XX:-UseCompressedOops Hierarchies 10
 fi
 large large-g1 -XX:+UseG1GC

@@ -18,11 +18,24 @@ WORD = 8
 
 class Placing(Enum):
     """How fields are placed: `FILLED` from JDK 15 on; before, each class by itself, its references after its other
-    fields (-XX:FieldsAllocationStyle=1, which is the default) or before them (0)."""
+    fields (-XX:FieldsAllocationStyle=1, which is the default) or before them (0). With gaps, nothing fills what is
+    empty before the first value of 8 bytes of a class (-XX:-CompactFields)."""
 
     FILLED = "filled"
     REFERENCES_LAST = "references last"
     REFERENCES_FIRST = "references first"
+    LAST_WITH_GAPS = "references last, with gaps"
+    FIRST_WITH_GAPS = "references first, with gaps"
+
+    @property
+    def is_first(self) -> bool:
+        """Tests whether the references of a class come before its other fields."""
+        return self in (Placing.REFERENCES_FIRST, Placing.FIRST_WITH_GAPS)
+
+    @property
+    def has_gaps(self) -> bool:
+        """Tests whether nothing fills the gap before a value of 8 bytes."""
+        return self in (Placing.LAST_WITH_GAPS, Placing.FIRST_WITH_GAPS)
 
 
 class OwnFields(NamedTuple):
@@ -46,14 +59,14 @@ class OwnFields(NamedTuple):
         """The bytes of the fields that are no references."""
         return 8 * self.longs + 4 * self.ints + 2 * self.shorts + self.bytes
 
-    def end(self, begin: int, reference: int, is_first: bool) -> int:
+    def end(self, begin: int, reference: int, placing: Placing) -> int:
         """Returns where these fields end if they begin at `begin`, both multiples of `reference`, the bytes of a
-        reference. `is_first`: references come before the other fields."""
-        last = 0 if is_first else self.references
+        reference, and are placed by themselves."""
+        last = 0 if placing.is_first else self.references
         begin += (self.references - last) * reference
         gap = -begin % WORD if self.longs else 0
-        filled = self._filled(gap)
-        if last and gap - filled >= reference:
+        filled = 0 if placing.has_gaps else self._filled(gap)
+        if last and gap - filled >= reference and not placing.has_gaps:
             last -= 1
         return aligned(begin + gap + self.other - filled, reference) + last * reference
 
@@ -93,7 +106,7 @@ def end_of(fields: Fields, header: int, reference: int, placing: Placing) -> int
         return header + fields.references * reference + fields.other
     end = header
     for own in fields.declared:
-        end = own.end(end, reference, placing is Placing.REFERENCES_FIRST)
+        end = own.end(end, reference, placing)
     return end
 
 

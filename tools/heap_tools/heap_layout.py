@@ -26,6 +26,8 @@ APART = {
     Placing.FILLED: "",
     Placing.REFERENCES_LAST: ", fields begin after those of superclasses",
     Placing.REFERENCES_FIRST: ", fields begin after those of superclasses, references first",
+    Placing.LAST_WITH_GAPS: ", fields begin after those of superclasses, with gaps",
+    Placing.FIRST_WITH_GAPS: ", fields begin after those of superclasses, references first, with gaps",
 }
 #: The headers of instances and of arrays that virtual machines have, by the bytes of an identifier. That of an instance
 #: is one word (compact headers, or 32 bits), a word and a compressed class, or two words; an array has its length after

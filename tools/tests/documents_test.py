@@ -22,7 +22,7 @@ class Maybe(NamedTuple):
 AMOUNT = {"objects": int, "bytes": int}
 HEAD = {"format": int, "tool": {"grown", "held", "holders", "leaks", "sizes"}, "version": str, "notes": [str]}
 UNIT = {"objects", "bytes"}
-PLACING = {"filled", "references last", "references first"}
+PLACING = {"filled", *(f"references {at}{gaps}" for at in ("first", "last") for gaps in ("", ", with gaps"))}
 FILE = {
     "path": str,
     "kind": {"dump", "report", "histogram"},

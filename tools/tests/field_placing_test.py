@@ -51,6 +51,11 @@ class PlacingTest(unittest.TestCase):
         """JDK 11.0.24, -XX:-UseCompressedOops."""
         self.check(Placing.REFERENCES_LAST, 16, 8, [24, 32, 40, 48, 56, 56, 40, 56, 88, 104, 40, 48])
 
+    def test_with_gaps(self) -> None:
+        """JDK 11.0.24, -XX:-CompactFields, with both values of -XX:FieldsAllocationStyle."""
+        for placing in (Placing.LAST_WITH_GAPS, Placing.FIRST_WITH_GAPS):
+            self.check(placing, 12, 4, [16, 24, 24, 32, 32, 40, 24, 40, 64, 80, 32, 40])
+
     def test_filled(self) -> None:
         """JDK 17, G1 and ZGC, and JDK 25 with compact headers."""
         self.check(Placing.FILLED, 12, 4, [16, 16, 16, 16, 24, 24, 24, 40, 56, 64, 32, 32])
@@ -58,7 +63,8 @@ class PlacingTest(unittest.TestCase):
         self.check(Placing.FILLED, 8, 4, [16, 16, 16, 16, 16, 24, 24, 32, 48, 64, 24, 32])
 
     def test_gap(self) -> None:
-        """What is before the first value of 8 bytes has one value of 4, or some of 2 and 1, or else a reference."""
+        """What is before the first value of 8 bytes has one value of 4, or some of 2 and 1, or else a reference; with
+        gaps it has none."""
         cases: List[Tuple[List[int], int, int]] = [
             ([], 12, 24),
             ([], 16, 24),
@@ -73,7 +79,9 @@ class PlacingTest(unittest.TestCase):
         ]
         for others, begin, end in cases:
             own = OwnFields.of([hprof.LONG, *others])
-            self.assertEqual(own.end(begin, 4, False), end, (others, begin))
+            self.assertEqual(own.end(begin, 4, Placing.REFERENCES_LAST), end, (others, begin))
+            unfilled = aligned(begin, 8) + aligned(own.other, 4) + 4 * own.references
+            self.assertEqual(own.end(begin, 4, Placing.LAST_WITH_GAPS), unfilled, (others, begin))
 
 
 if __name__ == "__main__":

@@ -70,7 +70,9 @@ class LayoutTest(WithLayout):
                 flag = heap.of_class("shop/Flag", has_byte=True)
                 flags = heap.of_class("shop/Flags", 0, 0, flag, has_byte=True)
                 pair = heap.of_class("shop/Pair", 2, has_long=True)
-                for each in (flags, heap.of_class("shop/Link", 0, 1, pair), pair, flag):
+                named = heap.of_class("shop/Named", 1, has_long=True)
+                timed = heap.of_class("shop/Timed", 0, 1, has_long=True)
+                for each in (named, timed, flags, heap.of_class("shop/Link", 0, 1, pair), pair, flag):
                     heap.instance(each)
                 self.assertEqual(found_in(heap.read(shuffled)), layout)
 
@@ -158,6 +160,12 @@ class LayoutTest(WithLayout):
                 "12 bytes, of an array 16",
                 "4 (compressed)",
                 ", fields begin after those of superclasses",
+            ),
+            (
+                COMPRESSED._replace(placing=Placing.FIRST_WITH_GAPS),
+                "12 bytes, of an array 16",
+                "4 (compressed)",
+                ", fields begin after those of superclasses, references first, with gaps",
             ),
         ):
             text = f"header {header}, references {references}, sizes are multiples of 8{more}"
