@@ -1,8 +1,8 @@
 """Of which classes it is not sure what their objects take in the heap.
 
 It is sure of a class if an object has a neighbour that is as far as it is long. Else there may be an addition to the
-class between, or a hole; and if no object has a neighbour, its fields may be placed in another way than the others
-show, unless these refute that.
+class between, or a hole; it may be shorter, if its neighbour is nearer; and if no object has a neighbour, its fields
+may be placed in another way than the others show, unless these refute that.
 """
 
 from collections import Counter, defaultdict
@@ -32,7 +32,7 @@ def doubts(
     for class_id in fields:
         if class_id in gaps:
             beyond = min(gaps[class_id]) - size(class_id)
-            found[class_id] = beyond if beyond >= layout.aligned(layout.header) else 0
+            found[class_id] = beyond if beyond >= layout.aligned(layout.header) else max(0, -beyond)
         else:
             found[class_id] = max((_difference(layout, each, fields[class_id]) for each in rivals), default=0)
     return {class_id: off for class_id, off in found.items() if off and class_id not in stacks}

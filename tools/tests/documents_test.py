@@ -188,6 +188,10 @@ class DocumentsTest(ToolTest):
         self.assertEqual([each["time_ms"] for each in found["files"]], [3600000, 7200000, 10800000])
         found = self.document("grown", "--top", "1", "--own", "--more-than", "3", "1.hprof", "2.hprof", status=3)
         self.assertEqual((len(found["classes"]), found["hidden"], found["unit"]), (1, 0, "objects"))
+        every = self.document("grown", "1.hprof", "2.hprof")["classes"]
+        found = self.document("grown", "--top", "1", "1.hprof", "2.hprof")
+        self.assertEqual((found["classes"], found["hidden"]), (every[:1], len(every) - 1))
+        self.assertGreater(len(every), 1)
         self.assertEqual(self.document("grown", "1.hprof", "1.hprof")["classes"], [])
         with open("r", "w") as file:
             file.write(report((1, 8, "A"), unreachable=(3, 4)))

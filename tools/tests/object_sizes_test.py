@@ -1,13 +1,16 @@
 """Tests of what objects take in the heap, by a dump of it."""
 
+import itertools
 import lzma
 import pathlib
+import random
 import unittest
 from typing import Dict, List, Sequence, Tuple
 
 from heap_tools.class_names import CLASSES
+from heap_tools.field_placing import OwnFields, aligned
 from heap_tools.heap_dump import HeapDump
-from heap_tools.heap_layout import STACK, Layout
+from heap_tools.heap_layout import STACK, Layout, UnknownLayout
 from heap_tools.object_sizes import Linear, ObjectSizes
 from heap_tools.object_totals import Total, totals_of
 from heap_tools.reports import Amount, Report, Row, read_text
@@ -252,6 +255,17 @@ class DoubtsTest(unittest.TestCase):
             rows = [Row("shop/Order", Amount(5, 1)), Row("shop/Other", Amount(9, 1))]
             self.assertEqual(found.rows.unsure(rows), (len(off), 5 * off.get("shop/Order", 0)))
 
+    def test_nearer(self) -> None:
+        """Of those that are nearer to the next than they are long."""
+        cases: List[Tuple[List[int], Dict[str, int]]] = [([0, 0], {}), ([0, -8], {"shop/Order": 8})]
+        for added, off in cases:
+            heap = LaidOutHeap(COMPRESSED)
+            order = heap.of_class("shop/Order", 3, 1)  # 28 bytes
+            for more in added:
+                heap.instance(order, more)
+            found = sizes_of(heap)
+            self.assertEqual((found.instance(order), found.rows.doubts), (32, off), added)
+
     def test_smallest_of_cms(self) -> None:
         """What is smaller than any object is no hole."""
         heap = LaidOutHeap(COMPRESSED)
@@ -271,6 +285,64 @@ class DoubtsTest(unittest.TestCase):
                 heap.instance(flags, more)
             found = sizes_of(heap)
             self.assertEqual((found.instance(three), found.rows.doubts.get("shop/Three", 0)), (16, of_three), instances)
+
+
+def end_up_to_jdk_14(declared: Sequence[OwnFields], style: int, is_compact: bool) -> int:
+    """Returns where the fields of an instance end, after a header of 12 bytes and with references of 4, as HotSpot
+    places them with -XX:FieldsAllocationStyle=`style`, and -XX:-CompactFields unless `is_compact`: a second time, by
+    the steps of its source."""
+    end = last_reference = 12
+    for own in declared:
+        references, ints, small, begin = own.references, own.ints, own.bytes, end
+        is_first = style == 0 or style == 2 and begin == last_reference > 12
+        if is_first:
+            end += 4 * references
+            last_reference = end if references else last_reference
+        gap = -end % 8 if own.longs else 0
+        end += gap
+        if is_compact and gap:
+            if ints:
+                ints -= 1
+            else:
+                gap -= min(small, gap)
+                small -= min(small, 4)
+                if gap == 4 and references and not is_first:
+                    references, last_reference = references - 1, end
+        end += 8 * own.longs + 4 * ints + small
+        if references and not is_first:
+            end = last_reference = aligned(end, 4) + 4 * references
+        end = aligned(end, 4)
+    return end
+
+
+class OldPlacingTest(unittest.TestCase):
+    """Heaps of virtual machines up to JDK 14."""
+
+    def test_hierarchies(self) -> None:
+        """Of classes in deep hierarchies, with small fields and with many or few objects, what these take is right, or
+        it is not sure; with options that are no known placing there may be no layout."""
+        for seed, (style, is_compact) in enumerate(itertools.product((0, 1, 2), (True, False))):
+            generator, heap = random.Random(seed), LaidOutHeap(COMPRESSED)
+            sizes: Dict[int, int] = {}
+            for number in range(40):
+                superclass = generator.choice([0, *list(sizes)[-8:]])
+                references, ints = generator.choices([0, 1, 2], [3, 1, 1], k=2)
+                small, long = generator.random() < 0.6, generator.random() < 0.3
+                of_class = heap.of_class(f"shop/C{number}", references, ints, superclass, has_byte=small, has_long=long)
+                fields = heap.classes[of_class]
+                end = end_up_to_jdk_14(fields.declared, style, is_compact)
+                sizes[of_class] = aligned(end, 8)
+                for _ in range(generator.choice([1, 3, 50, 400])):
+                    heap.instance(of_class, end - COMPRESSED.instance(fields))
+            try:
+                found = sizes_of(heap, shuffled=seed % 2 == 1)
+            except UnknownLayout:
+                self.assertEqual(style, 2)
+                continue
+            off = {found.dump.names[each]: found.instance(each) - size for each, size in sizes.items()}
+            silent = [name for name, more in off.items() if more and found.rows.doubts.get(name, 0) < abs(more)]
+            self.assertEqual(silent, [], (style, is_compact))
+            self.assertEqual(style < 2 and any(off.values()), False, (style, is_compact))
 
 
 class RowsTest(unittest.TestCase):
