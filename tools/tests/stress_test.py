@@ -319,6 +319,7 @@ def ended_of(
         stdout=subprocess.PIPE,
         stderr=subprocess.PIPE,
         preexec_fn=limit,
+        timeout=100,
         check=False,
     )
     return Ended(ran.returncode, ran.stdout.decode(), ran.stderr.decode())

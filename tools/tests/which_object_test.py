@@ -38,6 +38,13 @@ def said(field: str, found: Sequence[HoldingObject]) -> str:
     return sentence(field, found) if found else ""
 
 
+def with_class(dump: Queues, number: int, of_class: int) -> Queues:
+    """Gives the queue `number` the class `of_class`, and returns the dump."""
+    head = b"\x21" + dump.form.spell([number]) + bytes(4)
+    dump.heap = dump.heap.replace(head + dump.form.spell([4]), head + dump.form.spell([of_class]))
+    return dump
+
+
 def with_others(dump: Threads, count: int, size: int) -> Threads:
     """Writes `count` more buffers of `size` bytes, which a static field has, and returns the dump."""
     dump.of_class(21, "[Lshop/Buffer;")
@@ -393,9 +400,15 @@ class GrewTest(unittest.TestCase):
         dump.instance(500, 20, 501, first + 1)
         dump.string(501, owner)
         dump.root(500)
-        head = b"\x21" + dump.form.spell([first + 1]) + bytes(4)
-        dump.heap = dump.heap.replace(head + dump.form.spell([4]), head + dump.form.spell([of_class]))
-        return dump
+        return with_class(dump, first + 1, of_class)
+
+    def test_class(self) -> None:
+        """An object with a name that one of another class had before is not that one."""
+        for of_class, wanted in ((4, [True]), (21, [])):
+            after = Queues([9000, 4000, 10])
+            after.of_class(21, "shop/LateQueue", superclass=4)
+            found = self.grown(Queues([9000, 100, 10]), with_class(after, 1001, of_class))
+            self.assertEqual([each.has_gained for each in found], wanted, of_class)
 
     def test_elements(self) -> None:
         """Elements of a list that grew are measured in both dumps, too."""
