@@ -352,6 +352,20 @@ class RunsTest(ToolTest):
                 self.runs(dump, f"truncate -s {length} dump\ncat << 'END'\n{report((1, 8, 'shop/Order'))}END")
             self.assertEqual((raised.exception.status, str(raised.exception)), (UNREADABLE, SHRUNK), length)
 
+    def test_no_records(self) -> None:
+        """If a file was changed in place, with the time of change that it had, it may have no records: a length is too
+        large, or a type unknown. That is the file's fault, too."""
+        dump = Service()
+        dump.objects(300)
+        dump.values(400, BYTE, b"text")
+        content = dump.bytes()
+        for at in (36, content.rindex(b"text") - 1):
+            change = f"printf '\\377' | dd of=dump bs=1 seek={at} conv=notrunc 2> /dev/null"
+            text = f"cp -p dump kept; {change}; touch -r kept dump\ncat << 'END'\n{report((1, 8, 'shop/Order'))}END"
+            with self.assertRaises(Fault) as raised:
+                self.runs(dump, text)
+            self.assertEqual((raised.exception.status, str(raised.exception)), (UNREADABLE, SHRUNK), at)
+
 
 class RootsTest(HprofTest):
     """Which number each root has among all roots."""

@@ -13,6 +13,7 @@ from heap_tools.faults import NO_HEAPMARK, UNREADABLE, Fault
 from heap_tools.heapmark import Heapmark
 from heap_tools.proved_program import LaterFault
 from tests.support.tool_test import ToolTest, report
+from tests.support.waiting import time_limit
 
 
 class HeapmarkTest(ToolTest):
@@ -61,12 +62,13 @@ class HeapmarkTest(ToolTest):
             ("exit 1", "status 1: is it heapmark?"),
         ):
             heapmark = self.heapmark(text)
-            with self.assertRaises(Fault) as raised:
+            with self.assertRaises(Fault) as raised, time_limit(60):
                 heapmark.first_report("dump")
             self.assertEqual(str(raised.exception), f"{heapmark.program}: run 1 on dump failed: {ended}")
             self.assertEqual(raised.exception.status, NO_HEAPMARK)
-        self.assertEqual(self.heapmark("exec yes").version(), "")
-        self.heapmark("exec yes").check_fields("A.b")
+        with time_limit(60):
+            self.assertEqual(self.heapmark("exec yes").version(), "")
+            self.heapmark("exec yes").check_fields("A.b")
         with mock.patch.dict(os.environ, HEAPMARK="", PATH="/nowhere"), mock.patch.object(sys, "argv", ["/no/leaks"]):
             with mock.patch("os.access", return_value=False):
                 heapmark = Heapmark()

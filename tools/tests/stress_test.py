@@ -70,7 +70,7 @@ FILES = Lack(resource.RLIMIT_NOFILE, range(5, 24, 6))
 TENTHS, ENOUGH = range(1, 10), 15
 #: The program that runs the tools, as the system names it.
 PYTHON = os.path.realpath(sys.executable)
-#: Stand-ins for heapmark with as much memory as it wants, though the tool is limited, and with a limit of its own.
+#: Stand-ins for a program with as much memory as it wants, though the tool is limited, and with a limit of its own.
 AS_MUCH = 'ulimit -S -v unlimited\nexec HEAPMARK "$@"'
 LIMITED = 'ulimit -v KILOBYTES\nexec HEAPMARK "$@"'
 
@@ -193,6 +193,17 @@ class StressTest(ToolTest):
                 ended = self.of_tool(words, HEAPMARK=self.program(LIMITED.replace("KILOBYTES", str(kilobytes))))
                 self.require_right_or_line(ended, words, self.rightly(words))
                 self.assertEqual(ended.status == 0 or tenth < ENOUGH, True, ended.said)
+
+    def test_memory_of_retained(self) -> None:
+        """With some tenths of that memory for retained."""
+        self.with_large_arrays()
+        most = memory_of_heapmark("friday")
+        for words, tenth in itertools.product((each for each in COMMANDS if each[0] in ASKING), TENTHS[::4]):
+            with self.subTest(words=words, tenth=tenth):
+                kilobytes = most * tenth // 10 // 1024
+                text = LIMITED.replace("HEAPMARK", "RETAINED").replace("KILOBYTES", str(kilobytes))
+                ended = self.of_tool(words, RETAINED=self.program(text))
+                self.require_right_or_line(ended, words, self.rightly(words))
 
     def lacking(self, what: str, words: Sequence[str]) -> Ended:
         """Runs a tool to which the system gives none of something."""
