@@ -10,7 +10,7 @@ from heap_tools.child_process import Call, Child, Children, Ran
 from heap_tools.console import as_heapmark_spells, is_terminal, say
 from heap_tools.faults import UNREADABLE, WRONG_USE, Fault
 from heap_tools.gzip_dump import readable_name
-from heap_tools.proved_program import STANDARD_INPUT, ProvedProgram
+from heap_tools.proved_program import STANDARD_INPUT, ProvedProgram, why_unreadable
 from heap_tools.reports import LARGEST_DUMP, Report, ReportBound, read_report
 from heap_tools.retained_program import RetainedProgram
 
@@ -106,7 +106,7 @@ def _reason(said: Sequence[str], path: str) -> str:
     code = next((line.split()[1] for line in lines if re.match("refused [0-9]", line)), "")
     reason = REASONS.get(code, "no dump that heapmark accepts")
     advice = next((line[len(name) :] for line in lines if line.startswith(name)), reason)
-    return f"{advice.replace(ONE_WORKER, '')}{ALSO.get(code, '')} ({lines[0]})"
+    return f"{advice.replace(ONE_WORKER, '')}{ALSO.get(code, '')}{why_unreadable(path)} ({lines[0]})"
 
 
 def opened(path: str) -> BinaryIO:

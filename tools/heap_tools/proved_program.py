@@ -29,6 +29,12 @@ def nearest(name: str) -> str:
     return next((place for place in places if os.access(place, os.X_OK)), name)
 
 
+def why_unreadable(name: str) -> str:
+    """Returns why a program cannot read what it gets by a name of one of its open files, empty if it can."""
+    is_open_file = name.startswith(("/dev/fd/", STANDARD_INPUT))
+    return f": it reads by {name}, which needs /proc" if is_open_file and not os.path.exists(name) else ""
+
+
 class ProvedProgram:
     """The program `name`, as it was found: the one that the variable with its name names, else the nearest one. `runs`:
     how often it ran on a dump."""
@@ -69,6 +75,6 @@ class ProvedProgram:
             ended = ": ".join([f"status {ran.status}", *ran.said[:1]])
         if number == 1 and (ran.status >= 0 or ran.was_stopped):
             ended += f": is it {self.name}?"
-        if "refused 19 " in ended and not os.path.exists(STANDARD_INPUT):
-            ended += f": it reads by {STANDARD_INPUT}, which needs /proc"
+        if "refused 19 " in ended:
+            ended += why_unreadable(STANDARD_INPUT)
         return LaterFault(NO_HEAPMARK, f"{self.program}: run {number} on {path} failed: {ended}")

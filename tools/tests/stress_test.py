@@ -1,6 +1,7 @@
 """Tests that each tool ends in a line and with its status, by no signal and without a traceback, whatever becomes of a
 dump while it is read, and whatever the system lacks."""
 
+import gzip
 import itertools
 import os
 import pathlib
@@ -218,7 +219,7 @@ class StressTest(ToolTest):
             self.require_line(ended, words, [5], " cannot be run: Resource temporarily unavailable: see ulimit -u\n")
 
     def test_no_proc(self) -> None:
-        """Without /proc, retained cannot read what it gets."""
+        """Without /proc, retained cannot read what it gets, and heapmark no compressed dump."""
         apart = ["unshare", "--mount", "sh", "-c", 'mount -t tmpfs none /proc && exec "$@"', "sh"]
         if not shutil.which("unshare") or subprocess.run([*apart, "true"], stderr=subprocess.DEVNULL).returncode:
             self.skipTest("/proc cannot be hidden")
@@ -228,6 +229,9 @@ class StressTest(ToolTest):
                 self.require_line(ended, words, [1, 5], ": it reads by /dev/stdin, which needs /proc\n")
             else:
                 self.assertEqual(ended.out, self.rightly(words))
+        pathlib.Path("packed").write_bytes(gzip.compress(pathlib.Path("friday").read_bytes()))
+        ended = ended_of([str(TOOLS / "sizes"), "packed"], apart)
+        self.require_line(ended, ["sizes"], [1], ", which needs /proc (refused 19 ")
 
     def test_endless(self) -> None:
         """A program that prints rows, or something else, without end in place of a report is ended, by its first run or
