@@ -56,8 +56,9 @@ variable or a thread down, stand before it: in `A > B`, A holds all that B does.
 Line 1 is the accumulation point: the last place on the path where most of the
 growth is still together, in objects that both dumps have. On one path, fields
 of your own come before collections and fields of the JDK. What did not grow at
-each step between several dumps comes last. If only new objects hold what grew,
-line 1 is the topmost one, such as a thread.
+each step between several dumps comes last, and what gained nearly all in one
+step after what grew evenly. If only new objects hold what grew, line 1 is the
+topmost one, such as a thread.
 
 Each other line is the same of what the lines above it leave: the references of
 these are cut, and it is asked again, until less than a tenth of the growth is
