@@ -15,6 +15,8 @@ from heap_tools.reports import Report
 from heap_tools.thread_counts import pattern_of, shown_name
 
 STATIC, FIELD, LOCAL, THREAD, THREADS = "static", "field", "local", "thread", "threads"
+#: The kind of roots that are no candidates: those of the virtual machine and of native code.
+MACHINE = "machine"
 WEAK = "java/lang/ref/Reference.referent"
 #: The links of the virtual machine's list of references that are not in their queues yet. Its head is a root of dumps
 #: of JDK 17, and the collection before a dump fills it.

@@ -95,8 +95,9 @@ class HeapDump:
         self.segments: List[Span] = []
         self.classes: Dict[int, Class] = {}
         self.roots: List[Root] = []
-        #: Where the identifiers of all roots are that were read. No others are before or between them.
-        self._root_places: List[int] = []
+        #: Where the identifiers of all roots are that were read, in the order of the file. No others are before or
+        #: between them.
+        self.root_places: List[int] = []
         self.field_names: Dict[int, str] = {}
         self._read_records()
         self._read_heap(nameless)
@@ -199,7 +200,7 @@ class HeapDump:
             _, ends_with_object = self._read_segment(rest.popleft(), classes, threads)
         while rest and (threads or not begins_with_object or self._has_roots(rest)):
             begins_with_object, _ = self._read_segment(rest.pop(), classes, threads)
-        self._root_places.sort()
+        self.root_places.sort()
 
     def _has_roots(self, segments: Iterable[Span]) -> bool:
         """Tests whether segments that were not read may have roots, by what they begin with: virtual machines write
@@ -208,7 +209,7 @@ class HeapDump:
 
     def root_number(self, place: int) -> int:
         """Returns the number of the root whose identifier is at `place`, among all roots of the dump."""
-        return bisect_left(self._root_places, place)
+        return bisect_left(self.root_places, place)
 
     def _read_segment(self, segment: Span, classes: Set[int], threads: Set[int]) -> Tuple[bool, bool]:
         """Reads the class dumps and roots in a segment, and takes them from the `classes` and `threads` to be met.
@@ -252,7 +253,7 @@ class HeapDump:
 
     def _note_root(self, at: int, tag: int, threads: Set[int]) -> None:
         """Notes a root, and takes its thread from the `threads` to be met."""
-        self._root_places.append(at + 1)
+        self.root_places.append(at + 1)
         if tag in hprof.THREAD_ROOTS:
             after = at + 1 + self.id_size
             frame = self.number(after + 4, 4) if tag in hprof.FRAME_ROOTS else None

@@ -12,6 +12,7 @@ from heap_tools.leak_notes import Notes, grown_own_classes
 from heap_tools.leak_options import Options
 from heap_tools.one_dump import HeapAnswer, contents_of
 from heap_tools.one_dump_notes import HeapNotes
+from heap_tools.path_roots import RootsAbove
 from heap_tools.probe import Probe
 from heap_tools.reports import Amount, Report, Row
 from heap_tools.which_object import HoldingObject
@@ -137,6 +138,7 @@ def line_entry(line: Line, is_growth: bool) -> JsonObject:
         "elements_before": line.elements_before,
         "elements": line.elements,
         "objects": objects_entry(line.objects),
+        "held_by": roots_entry(line.roots),
     }
 
 
@@ -150,6 +152,14 @@ def objects_entry(found: Optional[LineObjects]) -> Optional[JsonObject]:
     if not found:
         return None
     return {"field": candidates_entry(found.held.candidates), "objects": [object_entry(each) for each in found.objects]}
+
+
+def roots_entry(found: Optional[RootsAbove]) -> Optional[JsonObject]:
+    """Returns the roots above a path that begins at a field."""
+    if not found:
+        return None
+    roots = [{"kind": each.kind, "name": each.name, "text": str(each)} for each in found.roots]
+    return {"roots": roots, "are_all": found.are_all}
 
 
 def object_entry(found: HoldingObject) -> JsonObject:

@@ -14,6 +14,7 @@ from heap_tools.line_features import Features, evenness
 from heap_tools.line_order import CHAIN, HARDLY_ANY, MOST, MOST_ASKED, NEARLY, LineOrder, Scoring
 from heap_tools.object_parts import MOST_OBJECTS, FieldUses
 from heap_tools.joint_search import by_amount, deepened, joint_answers
+from heap_tools.path_roots import PathRoots, RootsAbove
 from heap_tools.probe import GrowthProbe, Probe, Retained
 from heap_tools.reference_paths import ReferencePaths, is_root
 from heap_tools.reports import Amount
@@ -38,7 +39,8 @@ class LineObjects(NamedTuple):
 class Line(NamedTuple):
     """What was found: what it held, what it holds, the share of all that is asked for in percent, what is above it, how
     many instances have it and had it, what it held in dumps between, the objects that gained most of it, or of what is
-    above it or below it, and how many elements the containers have and had to which it leads, if that is known."""
+    above it or below it, how many elements the containers have and had to which it leads, if that is known, and the
+    roots above it, if its path begins at a field."""
 
     held: Retained
     before: Amount
@@ -50,6 +52,7 @@ class Line(NamedTuple):
     objects: Optional[LineObjects] = None
     elements: Optional[int] = None
     elements_before: Optional[int] = None
+    roots: Optional[RootsAbove] = None
 
     def path(self) -> str:
         """Returns the way from the top down to what was found."""
@@ -307,7 +310,8 @@ def explains(held: Retained) -> bool:
 
 class Ranking(NamedTuple):
     """What a search has found, the answer first, whether some of it lasts, what asked for it, of dumps between, too,
-    what is above what, and the objects that gained most of the answer, or of what is above it or below it."""
+    what is above what, the objects that gained most of the answer, or of what is above it or below it, and what leads
+    to paths that begin at a field."""
 
     ranked: List[Retained]
     is_lasting: bool
@@ -315,20 +319,22 @@ class Ranking(NamedTuple):
     between: Sequence[Probe]
     paths: ReferencePaths
     objects: Optional[LineObjects]
+    roots: PathRoots
 
     def line(self, number: int, whole: Probe) -> Line:
         """Returns what was found as a line; its share and its instances are of what `whole` asks for."""
         held, probe = self.ranked[number], self.probe
-        group = held.candidates
+        group, above = held.candidates, self.paths.above(held)
         return Line(
             held,
             probe.before(group).amount,
             probe.unit.percent(probe.gain(group), whole.growth),
-            self.paths.above(held),
+            above,
             whole.instances(group),
             whole.instances_before(group),
             [each.retained(group).amount for each in self.between],
             self.objects if number == 0 else None,
+            roots=self.roots.above([*above, held]),
         )
 
 
@@ -340,4 +346,5 @@ def ranking_of(search: Search, between: Sequence[Probe], above: FrozenSet[GroupK
     objects = lines.object_of_several() if lines.ask_below() else objects
     ranked, is_lasting = lines.sorted(), lines.lasts()
     paths = ReferencePaths(search.probe, [*search.found, *search.steady])
-    return Ranking(ranked, is_lasting, search.probe, between, paths, objects)
+    roots = PathRoots(search.probe, lines.uses)
+    return Ranking(ranked, is_lasting, search.probe, between, paths, objects, roots)

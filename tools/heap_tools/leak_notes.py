@@ -85,6 +85,12 @@ def objects_words(lines: Sequence[Line]) -> List[str]:
     return [f"line {number}: {sentence(joint_name(it.held.candidates), it.objects)}" for number, it in known]
 
 
+def roots_words(lines: Sequence[Line]) -> List[str]:
+    """Returns the roots above each line whose path begins at a field, of those of which some are known."""
+    known = [(number, line.roots) for number, line in enumerate(lines, 1) if line.roots]
+    return [f"line {number}: {joint_name(it.first.candidates)}: {it}" for number, it in known]
+
+
 def elements_words(lines: Sequence[Line]) -> List[str]:
     """Returns how many elements the container of each line has, and had, of those of which that is known."""
     known = [(number, line) for number, line in enumerate(lines, 1) if line.elements is not None]

@@ -12,6 +12,7 @@ from heap_tools.page_content import (
     layout_sentence,
     objects_of,
     program_of,
+    roots_above,
     sentence_of,
     share_entries,
 )
@@ -53,6 +54,9 @@ def share_of_one(amount: Amount, probe: Probe) -> page.HeldShare:
 
 def suspect_of(line: Line, probe: Probe) -> page.SuspectEntry:
     """Returns what the page shows of a line."""
-    above = [page.StepEntry(fields_of(each.candidates), share_of_one(each.amount, probe)) for each in line.above]
+    above = [
+        *roots_above(line.roots),
+        *(page.StepEntry(fields_of(each.candidates), share_of_one(each.amount, probe)) for each in line.above),
+    ]
     held = share_of_one(line.held.amount, probe)
     return page.SuspectEntry(fields_of(line.held.candidates), line.instances, held, above, elements_of(line))

@@ -20,6 +20,7 @@ from heap_tools.leak_lines import Line
 from heap_tools.leak_notes import Notes, elements_of
 from heap_tools.leak_options import Options
 from heap_tools.omissions import on_page
+from heap_tools.path_roots import RootsAbove
 from heap_tools.plain_dumps import is_dump
 from heap_tools.probe import GrowthProbe, Probe
 from heap_tools.program_facts import facts_of
@@ -146,7 +147,10 @@ def holder_of(line: Line, probe: GrowthProbe, between: Dict[int, Amount]) -> pag
         before=share_of(line.before, probe.earlier),
         after=share_of(line.held.amount, probe),
         share=line.share,
-        above=[page.StepEntry(fields_of(each.candidates), share_of(each.amount, probe)) for each in line.above],
+        above=[
+            *roots_above(line.roots),
+            *(page.StepEntry(fields_of(each.candidates), share_of(each.amount, probe)) for each in line.above),
+        ],
         instances_before=line.instances_before,
         between=between,
         elements=elements_of(line),
@@ -156,6 +160,11 @@ def holder_of(line: Line, probe: GrowthProbe, between: Dict[int, Amount]) -> pag
 def fields_of(candidates: Sequence[Candidate]) -> List[page.FieldEntry]:
     """Returns what the page shows of candidates that hold something together."""
     return [page.FieldEntry(each.kind, each.name) for each in sorted(candidates, key=str)]
+
+
+def roots_above(found: Optional[RootsAbove]) -> List[page.StepEntry]:
+    """Returns the first step of a path that begins at a field: the nearest of the roots that lead there."""
+    return [page.StepEntry([page.FieldEntry(*found.roots[0])], others=found.others)] if found else []
 
 
 def share_of(amount: Amount, probe: Probe) -> page.HeldShare:

@@ -7,7 +7,7 @@ from typing import Any, Dict, Iterator, List, NamedTuple, Tuple
 
 from heap_tools.documents import document, path_entry
 from tests.support.held_objects import DUMPS
-from tests.support.services import cache, handler, of_customer, reporters
+from tests.support.services import cache, dispatched, handler, of_customer, reporters
 from tests.sizes_test import shop
 from tests.support.tool_test import TOP, ToolTest, histogram, report
 
@@ -33,6 +33,7 @@ FILE = {
     "unresolved": Maybe(int),
 }
 FIELD = {"kind": {"static", "field", "local", "thread", "threads"}, "name": str, "text": str}
+ROOT = {"kind": {"static", "local", "thread", "machine"}, "name": str, "text": str}
 FORMS: Dict[str, Dict[str, Any]] = {
     "grown": {
         **HEAD,
@@ -79,6 +80,7 @@ FORMS: Dict[str, Dict[str, Any]] = {
                         ],
                     }
                 ),
+                "held_by": Maybe({"roots": [ROOT], "are_all": bool}),
             }
         ],
         "hidden": int,
@@ -268,6 +270,12 @@ class DocumentsTest(ToolTest):
             self.assertEqual("alice" in one["names"][0]["text"], is_shown)
             self.assertEqual("alice" in json.dumps(found), is_shown)
             self.assertEqual([len(found["files"]), found["ran_out"]], [2, []])
+        self.assertIsNone(line["held_by"])
+        dispatched(20).write("before.hprof")
+        dispatched(80).write("after.hprof")
+        held_by = self.document("leaks", "before.hprof", "after.hprof")["lines"][0]["held_by"]
+        thread = {"kind": "thread", "name": "HTTP-Dispatcher", "text": 'thread "HTTP-Dispatcher"'}
+        self.assertEqual((held_by["roots"][0], len(held_by["roots"]), held_by["are_all"]), (thread, 9, True))
         reporters(1).write("before.hprof")
         reporters(9, 60).write("after.hprof")
         (threads,) = self.document("leaks", "before.hprof", "after.hprof")["more_threads"]

@@ -21,6 +21,7 @@ from tests.support.services import (
     baskets,
     buffers,
     cache,
+    dispatched,
     emptied,
     finalizers,
     handler,
@@ -186,6 +187,16 @@ class LeaksTest(ToolTest):
         both = f"together static shop/Screen.SHOWN, {timer}"
         rows = self.found(owned_twice[0], owned_twice[1], "--all")
         self.assertEqual([row[-1] for row in rows[:2]], [f"{both} > {queue}", both])
+
+    def test_roots(self) -> None:
+        """A path that begins at a field has the roots in a message: of many threads none holds it."""
+        (row,) = self.found(dispatched(20), dispatched(80))
+        server = "sun/net/httpserver/ServerImpl"
+        self.assertEqual(row[-1], f"java/lang/Thread.target > {server}$Task.this$0 > {server}.contexts")
+        held = 'leaks: line 1: java/lang/Thread.target: held by thread "HTTP-Dispatcher" and 8 more\n'
+        self.assertTrue(self.ran("before", "after").said.startswith(held))
+        said = self.ran("--top=2", "after").said.splitlines(True)
+        self.assertEqual(said[1], held.replace("line 1", "line 2"))
 
     def test_running_calls(self) -> None:
         """Calls that are running do not hide what holds the growth, and what they hold is none, in whichever dump."""

@@ -380,6 +380,18 @@ class PageOfTwoTest(HtmlOfPage):
         it = leak(holders=[dataclasses.replace(first, above=nameless)])
         self.assertIn("reached through thread without a name threads without a name", self.top_of(it))
 
+    def test_roots_of_a_path(self) -> None:
+        """A path that begins at a field has the nearest root before it, and how many more there are."""
+        first = leak().holders[0]
+        for kind, name, others, wanted in (
+            (page.THREAD, "HTTP-Dispatcher", " and 8 more", 'thread "HTTP-Dispatcher" and 8 more'),
+            (page.STATIC, "shop/Main.SERVER", " and others", "static shop/Main.SERVER and others"),
+            (page.MACHINE, "", "", "the virtual machine"),
+        ):
+            root = page.StepEntry([page.FieldEntry(kind, name)], others=others)
+            it = leak(holders=[dataclasses.replace(first, above=[root, page_sample.step("shop/Server.contexts")])])
+            self.assertIn(f"reached through {wanted} shop/Server.contexts", self.top_of(it))
+
     def test_long_ways(self) -> None:
         """Of a long path the first steps and the last are shown, and how many are between."""
         above = [page_sample.step(f"a/B.c{number}") for number in range(9)]

@@ -52,6 +52,17 @@ class PageOfOneTest(HtmlOfPage):
             ],
         )
 
+    def test_roots_of_a_path(self) -> None:
+        """A path that begins at a field is drawn from the nearest root on, and with how many more there are."""
+        first = one_dump().suspects[0]
+        for kind, name, others, wanted in (
+            (page.THREAD, "HTTP-Dispatcher", " and 8 more", 'thread "HTTP-Dispatcher" and 8 more field a/B.c'),
+            (page.MACHINE, "", " and 1 more", "root of the virtual machine and 1 more field a/B.c"),
+        ):
+            root = page.StepEntry([page.FieldEntry(kind, name)], others=others)
+            above = [root, page_sample.step("a/B.c")]
+            self.check_texts(one_dump(suspects=[dataclasses.replace(first, above=above)], objects=[]), wanted)
+
     def test_share_of_object(self) -> None:
         """At the end of the path is what the object holds of the heap, which is less than it holds of the line."""
         name = '1 of 500 com/acme/mail/Tenant its field name "tenant-317"'

@@ -26,6 +26,7 @@ from heap_tools.leak_notes import (
     notes_words,
     objects_words,
     rest_words,
+    roots_words,
     without_values,
 )
 from heap_tools.leak_options import Bounds, Options
@@ -237,8 +238,8 @@ def print_growth(paths: Sequence[str], options: Options, output: Output) -> None
     has_heads = is_terminal(sys.stdout) and answer.lines
     above = lines_above(comparison, comparison.probe, width_of(answer.lines)) if has_heads else ""
     cost = output.cost(answer.search.all)
-    sentences = [*comparison.why, *objects_words(answer.lines), *elements_words(answer.lines), *notes_words(notes)]
-    sentences += remainder(answer, comparison, options)
+    of_lines = [*roots_words(answer.lines), *objects_words(answer.lines), *elements_words(answer.lines)]
+    sentences = [*comparison.why, *of_lines, *notes_words(notes), *remainder(answer, comparison, options)]
     changed = [words for each in dumps.dumps for words in each.changed_words()]
     sentences += [*filter(None, [dumps.words]), *changed, str(cost)]
     if output.is_json:

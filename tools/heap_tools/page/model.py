@@ -61,10 +61,11 @@ class HeldShare:
 @dataclass(frozen=True)
 class StepEntry:
     """A step of a path: the fields that lead on together, most often one, and what they hold in the last dump, if that
-    is known."""
+    is known. `others`: in words what else leads on, of the roots of which no one holds all that comes after it."""
 
     fields: List[FieldEntry]
     held: Optional[HeldShare] = None
+    others: str = ""
 
 
 @dataclass(frozen=True)

@@ -6,7 +6,7 @@ from dataclasses import dataclass
 from typing import List, Sequence
 
 from heap_tools import class_names
-from heap_tools.candidates import FIELD, LOCAL, STATIC, THREAD, THREADS
+from heap_tools.candidates import FIELD, LOCAL, MACHINE, STATIC, THREAD, THREADS
 from heap_tools.page.model import FieldEntry, Limits, StepEntry
 from heap_tools.page.templates import Html, escaped, fill, joined, plain
 from heap_tools.thread_counts import NAMELESS
@@ -30,6 +30,7 @@ KINDS = {
     LOCAL: KindWords("local variables of", "local variables of", "hold"),
     THREAD: KindWords("thread", "threads", "holds"),
     THREADS: KindWords("threads", "threads", "hold"),
+    MACHINE: KindWords("root", "roots", "holds"),
 }
 
 
@@ -72,6 +73,8 @@ def field_name(field: FieldEntry, limits: Limits) -> Html:
     """Returns the name of what holds: of a thread in quotes, of all else as a name of Java."""
     if field.kind == THREADS and not field.name:
         return escaped("of all names")
+    if field.kind == MACHINE:
+        return escaped("of the virtual machine")
     if field.kind in (THREAD, THREADS):
         return thread_name(field.name, limits)
     return name_of(field.name, limits.name)
@@ -124,6 +127,8 @@ def verb_of(fields: Sequence[FieldEntry]) -> str:
 def step_words(field: FieldEntry, longest: int) -> str:
     """Returns a field of a path in words, with at most `longest` characters of its name."""
     name = plain(field.name, longest)
+    if field.kind == MACHINE:
+        return "the virtual machine"
     if field.kind in (THREAD, THREADS):
         return f'{field.kind} "{name}"' if name else f"{field.kind} {NAMELESS}"
     return name if field.kind == FIELD else f"{field.kind} {name}"
@@ -137,13 +142,14 @@ def names_in_words(fields: Sequence[FieldEntry], longest: int) -> str:
     return f"{', '.join(shown[:-1])} and {shown[-1]}" if len(shown) > 1 else "".join(shown)
 
 
-def step_name(fields: Sequence[FieldEntry], limits: Limits) -> Html:
-    """Returns a step of a path: a field, or the fields that lead there only together."""
+def step_name(step: StepEntry, limits: Limits) -> Html:
+    """Returns a step of a path: a field, the fields that lead there only together, or the first of some roots."""
+    fields = step.fields
     number = len(fields) if len(fields) <= SHOWN_TOGETHER else SHOWN_TOGETHER - 1
     shown = [breakable(step_words(field, limits.name)) for field in fields[:number]]
     if len(fields) > number:
         shown.append(escaped(f"{len(fields) - number:,} more"))
-    return joined([listed(shown), " together" if len(fields) > 1 else ""])
+    return joined([listed(shown), " together" if len(fields) > 1 else "", escaped(step.others)])
 
 
 def shown_steps(above: Sequence[StepEntry], limits: Limits) -> List[StepEntry]:
@@ -156,7 +162,7 @@ def path_to(above: Sequence[StepEntry], limits: Limits) -> Html:
     if not above:
         return Html()
     shown = shown_steps(above, limits)
-    steps = [step_name(step.fields, limits) for step in shown]
+    steps = [step_name(step, limits) for step in shown]
     if len(above) > len(shown):
         steps.insert(len(steps) - 1, escaped(f"{len(above) - len(shown)} more"))
     return fill("path", steps=joined((fill("item", text=step) for step in steps), " "))

@@ -10,7 +10,7 @@ from heap_tools.page.names import kind_of, name_of, names_of, path_row, shown_st
 from heap_tools.page.objects import frames, names_of_object, object_table
 from heap_tools.page.sections import Section, next_steps
 from heap_tools.page.tables import left_out, share, table
-from heap_tools.page.templates import Html, fill, joined
+from heap_tools.page.templates import Html, escaped, fill, joined
 from heap_tools.page.words import figure, figure_in
 
 
@@ -47,7 +47,8 @@ def chain(dump: OneDump, limits: Limits) -> Html:
     links = []
     for step in shown_steps(last.above, limits):
         kind = "main" if step.fields == first.fields else "step"
-        links.append(link(kind, kind_of(step.fields), names_of(step.fields, limits), held_by(step.held, dump)))
+        name = joined([names_of(step.fields, limits), escaped(step.others)])
+        links.append(link(kind, kind_of(step.fields), name, held_by(step.held, dump)))
     if len(last.above) > len(links):
         links.insert(len(links) - 1, fill("chain_gap", text=f"{len(last.above) - len(links)} more"))
     kind = "main" if last is first else "step"

@@ -99,6 +99,31 @@ def handler(count: int, name: str = "http-0") -> Service:
     return dump
 
 
+def dispatched(count: int, workers: str = "abcdefgh") -> Service:
+    """A server of the JDK has the orders. The threads that are its dispatcher and its workers lead to it, a weak
+    reference does, and a task that nothing leads to."""
+    dump = Service()
+    dump.of_class(6, "java/lang/Thread", fields=["name", "target"])
+    dump.of_class(7, "java/lang/String", fields=["value", "coder"])
+    dump.of_class(8, "sun/net/httpserver/ServerImpl", fields=["contexts"])
+    dump.of_class(9, "sun/net/httpserver/ServerImpl$Task", fields=["this$0", "owner"])
+    dump.of_class(10, "java/lang/ref/Reference", fields=["referent"])
+    dump.of_class(11, "java/lang/ref/WeakReference", {"FIRST": 650}, superclass=10)
+    dump.instance(600, 8, 5000)
+    dump.instance(601, 9, 600, 600)
+    dump.instance(650, 11, 600)
+    for number, name in enumerate(["HTTP-Dispatcher", *(f"worker {each}" for each in workers)], 1):
+        at = 700 + 10 * number
+        dump.thread(number, at)
+        dump.instance(at, 6, at + 1, at + 3)
+        dump.instance(at + 1, 7, at + 2, b"\0")
+        dump.values(at + 2, BYTE, name.encode())
+        dump.instance(at + 3, 9, 600, at)
+    dump.orders(count)
+    dump.root(11)
+    return dump
+
+
 def journal(count: int) -> Service:
     """Two static fields of different classes hold the orders, only together."""
     dump = Service()
