@@ -194,7 +194,7 @@ class LeaksTest(ToolTest):
         server = "sun/net/httpserver/ServerImpl"
         self.assertEqual(row[-1], f"java/lang/Thread.target > {server}$Task.this$0 > {server}.contexts")
         held = 'leaks: line 1: java/lang/Thread.target: held by thread "HTTP-Dispatcher" and 8 more\n'
-        self.assertTrue(self.ran("before", "after").said.startswith(held))
+        self.assertIn(held, self.ran("before", "after").said)
         said = self.ran("--top=2", "after").said.splitlines(True)
         self.assertEqual(said[1], held.replace("line 1", "line 2"))
 
