@@ -5,7 +5,7 @@ connection has such a list, too: so that field has many instances, and no field 
 alone or with others. What leads to the client does, but they pile up in the client.
 """
 
-from typing import Dict, List, Optional, Set
+from typing import Dict, List, NamedTuple, Optional, Set
 
 from heap_tools.candidates import FEW, FIELD, STATIC, Candidate
 from heap_tools.container_sizes import ContainerSizes
@@ -69,14 +69,23 @@ def _targets(probe: Probe, held: Retained, uses: FieldUses) -> Set[int]:
     return {id_at(each.value) for each in uses.of(field).values}
 
 
-def part_of_one(probe: Probe, held: Retained) -> float:
-    """Returns the part of what `held` holds by several fields, or of what it gained, that one object surely has which
-    has all these fields: what the largest holds now, less what the largest held before. Returns 0 if more than `FEW`
-    have them."""
-    now = _of_largest(probe, held.candidates)
-    was = _of_largest(probe.earlier, held.candidates) if isinstance(probe, GrowthProbe) else 0
+class PartsOfObjects(NamedTuple):
+    """The parts of what is held by several fields, or of what was gained, that objects have which have all these
+    fields: the one that surely has most of it, and all of them together, each by its own fields."""
+
+    of_one: float = 0.0
+    of_each: float = 0.0
+
+
+def parts_of_objects(probe: Probe, held: Retained) -> PartsOfObjects:
+    """Returns the parts of what `held` holds by several fields, or of what it gained. One object surely has what the
+    largest holds now, less what the largest held before. Both are 0 if more than `FEW` have these fields."""
+    now = _amounts(probe, held.candidates)
+    was = _amounts(probe.earlier, held.candidates) if isinstance(probe, GrowthProbe) else [0]
     whole = probe.unit.of(held.amount.minus(probe.before(held.candidates).amount))
-    return max(0, now - was) / whole if whole > 0 else 0.0
+    if whole <= 0:
+        return PartsOfObjects()
+    return PartsOfObjects(max(0, max(now) - max(was)) / whole, max(0, sum(now) - sum(was)) / whole)
 
 
 def object_with_most(probe: Probe, held: Retained) -> Optional[HoldingObject]:
@@ -92,10 +101,10 @@ def object_with_most(probe: Probe, held: Retained) -> Optional[HoldingObject]:
     return HoldingObject(class_name, names[at], every[at], percent, of=of, instances=of)
 
 
-def _of_largest(probe: Probe, fields: Several) -> int:
-    """Returns how much the object holds by `fields` that holds most, of those that have a value in each: nothing if
-    there are none, or more than `FEW`."""
-    return max(map(probe.unit.of, _objects_with(probe, fields).values()), default=0)
+def _amounts(probe: Probe, fields: Several) -> List[int]:
+    """Returns how much each object holds by `fields` that has a value in each: one 0 if there are none, or more than
+    `FEW`."""
+    return [*map(probe.unit.of, _objects_with(probe, fields).values())] or [0]
 
 
 def _objects_with(probe: Probe, fields: Several) -> Dict[int, Amount]:

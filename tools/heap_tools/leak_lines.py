@@ -7,7 +7,7 @@ from typing import FrozenSet, List, NamedTuple, Optional, Sequence
 
 from heap_tools.candidates import FEW, FIELD, STATIC, Candidate, joint_name
 from heap_tools.dump_side import GroupKey, Several, key_of
-from heap_tools.fields_of_object import find_below, object_with_most, part_of_one
+from heap_tools.fields_of_object import find_below, object_with_most, parts_of_objects
 from heap_tools.heap_objects import HeapObjects
 from heap_tools.lasting_elements import LastingElements
 from heap_tools.line_features import Features, evenness
@@ -150,22 +150,21 @@ class Lines:
             self.features[number] = dataclasses.replace(line, of_elements=of_elements)
 
     def ask_below(self) -> bool:
-        """Asks of several fields below the answer whether one object gained most by them; if the answer leads to no
-        container, searches for such fields. Returns whether they are the answer now."""
+        """Asks of several fields below the answer whether one object gained most by them, or each its part; if the
+        answer leads to no container, searches for such fields. Returns whether they are the answer now."""
         answer = self._order().answer()
         if answer is None:
             return False
         for number, held in enumerate(self.found):
             if len(held.candidates) > 1 and all(each.kind == FIELD for each in held.candidates):
                 if number != answer and self._holds(answer, number):
-                    self.features[number] = dataclasses.replace(self.features[number], of_one=self._of_one(held))
+                    self.features[number] = self._with_parts(self.features[number], held)
         for upper in find_below(self.search, self.every[answer], self.uses):
-            of_one = self._of_one(upper)
             group = by_amount(self.probe, deepened(self.probe, upper.candidates))
             held = self.probe.retained(group)._replace(candidates=group)
             self.search.found.append(held)
             self.every.append(held)
-            self.features.append(dataclasses.replace(self._features(held, True), of_one=of_one))
+            self.features.append(self._with_parts(self._features(held, True), upper))
         return self._order().answer() != answer
 
     def object_of_several(self) -> Optional[LineObjects]:
@@ -177,10 +176,11 @@ class Lines:
         found = object_with_most(self.probe, held)
         return LineObjects(held, [found]) if found and tell_apart([found]) else None
 
-    def _of_one(self, held: Retained) -> float:
-        """Returns the part of what several fields gained that one object has, if it is most."""
-        part = part_of_one(self.probe, held)
-        return part if part >= MOST else 0.0
+    def _with_parts(self, line: Features, held: Retained) -> Features:
+        """Returns a line that knows the parts of what several fields gained that one object has, and that all have
+        which have these fields, if that is most."""
+        of_one, of_each = (part if part >= MOST else 0.0 for part in parts_of_objects(self.probe, held))
+        return dataclasses.replace(line, of_one=of_one, of_each=of_each)
 
     def _objects_of(self, held: Retained) -> List[HoldingObject]:
         """Returns which objects gained most of what `held` did, or of one dump hold most."""

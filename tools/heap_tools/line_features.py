@@ -12,7 +12,8 @@ class Features:
     `instances` have the field, `with_value` of them with a value in it; in the first dump these were `instances_before`
     and `with_value_before`. `amount` and `before` are what they hold and held, in the unit of the question. `heap` is
     the number of all objects that they hold, `gains` of how many objects they gained by class. `of_one` is the part of
-    its gain that one object has, if that is most, `of_elements` that of elements of the answer's container that were
+    its gain that one object has, if that is most, `of_each` that of all objects which have all of several fields, each
+    by its own ones, `of_elements` that of elements of the answer's container that were
     there before. `of_largest` is the part of `amount` that as many of the largest instances hold as came, None if it is
     not known: the most that new ones can hold. `evenness`: how evenly it gained over several dumps. `is_chain`: most of
     its instances have a value, and it holds most of them. `is_line`: it gained enough; else it only shows what was held
@@ -32,6 +33,7 @@ class Features:
     gains: Mapping[str, int] = field(default_factory=dict)
     evenness: float = 1.0
     of_one: float = 0.0
+    of_each: float = 0.0
     of_elements: float = 0.0
     of_largest: Optional[float] = None
     is_chain: bool = False

@@ -52,10 +52,10 @@ class Scoring(enum.Enum):
 
 def says(line: Features) -> int:
     """Returns how much a line's name says of what it is for: `OF_PROGRAM`, or of the JDK or several together if one
-    object gained most; 2 of the JDK, `TOGETHER`, 0 of a collection, several of the JDK or with a thread, a variable of
-    a lambda or a thread."""
+    object gained most, of several also if each gained its part by its own; 2 of the JDK, `TOGETHER`, 0 of a collection,
+    several of the JDK or with a thread, a variable of a lambda or a thread."""
     if len(line.kinds) > 1:
-        several = OF_PROGRAM if line.of_one else TOGETHER
+        several = OF_PROGRAM if line.of_one or line.of_each else TOGETHER
         return several if line.is_own and not {THREAD, THREADS} & set(line.kinds) else 0
     if line.is_collection or line.is_thread or "$$Lambda" in line.name:
         return 0

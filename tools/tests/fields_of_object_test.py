@@ -3,7 +3,7 @@
 import unittest
 from typing import List, Sequence
 
-from heap_tools.fields_of_object import leads_to_container, object_with_most, part_of_one
+from heap_tools.fields_of_object import PartsOfObjects, leads_to_container, object_with_most, parts_of_objects
 from heap_tools.heap_objects import HeapObjects
 from heap_tools.leak_answer import answer_of
 from heap_tools.leak_options import Bounds
@@ -57,6 +57,28 @@ class Clients(DumpWriter):
         self.array(number + 10_000_000, 6, *elements)
 
 
+def several_stores(count: int, number_of: int) -> DumpWriter:
+    """Returns a dump of a list of so many stores, each of which has so many packs in two arrays, by a field of its own
+    and one that it inherits."""
+    dump = DumpWriter(time=60_000 * count)
+    dump.of_class(1, "shop/Service", {"LIST": 99})
+    dump.of_class(2, "shop/Base", fields=["listed"])
+    dump.of_class(3, "shop/Store", fields=["stored"], superclass=2)
+    dump.of_class(4, "[Lshop/Pack;")
+    dump.of_class(5, "shop/Pack", fields=["content"])
+    dump.array(99, 4, *range(100, 100 + number_of))
+    for store in range(number_of):
+        packs = range(10_000 * (store + 1), 10_000 * (store + 1) + count)
+        dump.instance(100 + store, 3, 500 + store, 600 + store)
+        for number in (500 + store, 600 + store):
+            dump.array(number, 4, *packs)
+        for pack in packs:
+            dump.instance(pack, 5, pack + 5_000)
+            dump.values(pack + 5_000, BYTE, bytes(100))
+    dump.root(1)
+    return dump
+
+
 def stores(count: int, is_shared: bool) -> DumpWriter:
     """Returns a dump of a store with so many packs in two lists, by a field of its own and one that it inherits, or in
     one list, to which both lead."""
@@ -100,6 +122,13 @@ class BelowTest(unittest.TestCase):
             paths = self.paths(stores(70, is_shared), stores(300, is_shared))
             self.assertEqual(paths[0], wanted)
 
+    def test_each_of_some(self) -> None:
+        """Two lists of each of some objects are the answer; of many objects the container of these is."""
+        both = "static shop/Service.LIST > together shop/Base.listed, shop/Store.stored"
+        for number_of, wanted in ((3, both), (FEW + 1, "static shop/Service.LIST")):
+            paths = self.paths(several_stores(7, number_of), several_stores(30, number_of))
+            self.assertEqual(paths[0], wanted)
+
     def test_several_objects(self) -> None:
         """The fields of several clients are found, too, but do not say where it piles up."""
         paths = self.paths(*(Clients([count] * 3, is_listed=True) for count in (30, 90)))
@@ -131,13 +160,17 @@ class BelowTest(unittest.TestCase):
 
 
 class PartTest(unittest.TestCase):
-    """part_of_one"""
+    """parts_of_objects"""
 
     def part(self, before: DumpWriter, after: DumpWriter) -> float:
         """Returns the part of what clients gained by both fields that one of them has."""
+        return self.parts(before, after).of_one
+
+    def parts(self, before: DumpWriter, after: DumpWriter) -> PartsOfObjects:
+        """Returns the parts of what clients gained by both fields."""
         probe = growth_of(before, after)
         both = [each for name in ("Client.hosts", "Part.parts") for each in held_by(probe, f"shop/{name}").candidates]
-        return part_of_one(probe, probe.retained(both))
+        return parts_of_objects(probe, probe.retained(both))
 
     def test_part(self) -> None:
         """It is all of it if there is one client, which may have come; of several it is what the largest has more than
@@ -149,6 +182,16 @@ class PartTest(unittest.TestCase):
         self.assertEqual(self.part(Clients([70, 1]), Clients([1, 300])), 1.0)
         self.assertEqual(self.part(Clients([0] * FEW), Clients([9] * (FEW + 1))), 0.0)
         self.assertEqual(self.part(Clients([300]), Clients([70])), 0.0)
+
+    def test_of_each(self) -> None:
+        """What all have that have both fields, each by its own: nothing of what two hold together."""
+        for before, after, wanted in (
+            (Clients([70] * 3), Clients([300] * 3), 1.0),
+            (Clients([70]), Clients([300] * 3), 1.0),
+            (Clients([0] * FEW), Clients([9] * (FEW + 1)), 0.0),
+            (Clients([300] * 3), Clients([70] * 3), 0.0),
+        ):
+            self.assertEqual(self.parts(before, after).of_each, wanted)
 
     def test_object(self) -> None:
         """The object that has most by both fields, among how many, and its share; none if too many have them."""

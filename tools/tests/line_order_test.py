@@ -24,6 +24,7 @@ SPOKEN: Dict[str, Dict[str, Any]] = {
     "had": {"before": 400},
     "one": {"of_one": 0.9},
     "half": {"of_one": 0.6},
+    "each": {"of_each": 1.0},
     "largest": {"of_largest": 0.8},
     "elements": {"of_elements": 0.9},
     "unsteady": {"evenness": 0.0},
@@ -121,6 +122,7 @@ rules 2 and 4, of what does not last no collection: java/util/HashMap.table (990
 rules 3 and 4, one of the JDK below several together: two (together) > *java/lang/Thread.threadLocals
 rules 3 and 4, several of one object below a single one: static shop/A.a > *two (9..99 together one)
 rules 3 and 4, several of several objects below a single one: *static shop/A.a > two (together)
+rules 3 and 4, several of each of some objects below a single one: static shop/A.a > *two (9..9 together each)
 rules 3 and 4, several together above a collection: *two (together) > java/util/HashMap.table
 rules 3 and 4, several together below several half: two (together) > *fields (500 together)
 rules 3 and 4, several together below several less: *two (together) > fields (499 together)
