@@ -1,5 +1,6 @@
 """What `leaks` asks about the growth between dumps of one program."""
 
+import functools
 from dataclasses import dataclass
 from typing import List, NamedTuple, Optional, Sequence, Tuple, TypeVar
 
@@ -14,6 +15,7 @@ from heap_tools.gzip_dump import forget
 from heap_tools.heap_bytes import measure
 from heap_tools.heapmark import Heapmark
 from heap_tools.humanize import counted
+from heap_tools.leak_answer import RunningCalls
 from heap_tools.leak_options import Options
 from heap_tools.omissions import more_unreachable
 from heap_tools.dump_side import Several, ask
@@ -21,7 +23,7 @@ from heap_tools.probe import GrowthProbe, Probe
 from heap_tools.reports import Amount, Report, Unit
 from heap_tools.same_program import Taken, other_main, other_program, wrong_order
 from heap_tools.weak_growth import MUCH_WEAKLY_HELD, Followed, followed_of, grown, weakly_held_words
-from heap_tools.what_counts import PASSING, Way, WhatCounts, side_of, without_running_calls
+from heap_tools.what_counts import PASSING, Way, WhatCounts, side_of, sides_with_calls, without_running_calls
 
 #: A dump, or its number.
 Dump = TypeVar("Dump")
@@ -51,7 +53,7 @@ class Asked(NamedTuple):
 class Comparison:
     """The dumps of a command line, the earliest first, the memory of direct buffers in the first and the last, what
     asks these two, which weak references are followed, and what counts. `why`: in words what was decided about the
-    question."""
+    question. `growth`: how much more is asked for than in the first, with running calls."""
 
     dumps: Sequence[DumpRuns]
     direct: Tuple[DirectMemory, DirectMemory]
@@ -59,6 +61,7 @@ class Comparison:
     followed: Followed
     way: Way
     why: Sequence[str]
+    growth: Amount
 
     @property
     def first(self) -> DumpRuns:
@@ -88,11 +91,26 @@ class Comparison:
         """Returns some dumps between the first and the last: at most `BETWEEN`."""
         return spread(self.dumps[1:-1], BETWEEN)
 
-    def probes_between(self, groups: Sequence[Several], cut: Several) -> List[Probe]:
-        """Returns what knows what `groups` hold in the dumps between, without what is `cut`."""
-        sides = [side_of(each, self.way).without(cut) for each in self.between]
+    def probes_between(self, groups: Sequence[Several], cut: Several, way: Optional[Way] = None) -> List[Probe]:
+        """Returns what knows what `groups` hold in the dumps between, without what is `cut`: by the way in which these
+        dumps count, or by another `way`."""
+        sides = [side_of(each, way or self.way).without(cut) for each in self.between]
         ask([(side, groups) for side in sides])
         return [Probe(side, self.probe.families, self.probe.unit) for side in sides]
+
+    def running_calls(self, least: float) -> Optional[RunningCalls]:
+        """Returns what asks the same if running calls count. Returns None if they do anyway, or if only they hold less
+        than `least` percent of what grew."""
+        unit, probe = self.probe.unit, self.probe
+        if not self.way.calls or unit.percent(self.growth.minus(probe.growth), self.growth) < least:
+            return None
+
+        def without(cut: Several) -> Probe:
+            first, last = sides_with_calls((self.first, self.last), self.way, cut)
+            return GrowthProbe(first, last, probe.families, unit)
+
+        way = self.way._replace(calls=None)
+        return RunningCalls(self.growth, without, functools.partial(self.probes_between, way=way))
 
     def more_unreachable(self) -> Amount:
         """Returns how much more is unreachable in the last dump than in the first."""
@@ -151,7 +169,9 @@ def comparison_of(dumps: Sequence[DumpRuns], options: Options) -> Comparison:
     way = without_running_calls(counts, followed.follows, reports, asked.families, asked.unit, growth, percent)
     first, last = counts.sides(way)
     probe = GrowthProbe(first, last, asked.families, asked.unit)
-    return Comparison(dumps, direct, probe, followed, way, [*filter(None, [followed.why]), *asked.why])
+    was, now = (each.total(asked.families) for each in reports)
+    why = [*filter(None, [followed.why]), *asked.why]
+    return Comparison(dumps, direct, probe, followed, way, why, now.minus(was))
 
 
 def families_asked(options: Options, runs: DumpRuns) -> Optional[List[str]]:

@@ -2,10 +2,11 @@
 
 The first line is the answer to the question. Then the references that it is about are cut, in each dump, and the same
 is asked again of what is left: the answer is the second line, and so on. So no object counts in two lines, and shares
-add up. A line after the first must hold something that lasts: what only new objects hold is no second leak.
+add up. A line after the first must hold something that lasts: what only new objects hold is no second leak. If nothing
+that lasts is left, running calls count: what they hold beside all lines may be a line, too.
 """
 
-from typing import Callable, FrozenSet, List, NamedTuple, Sequence
+from typing import Callable, FrozenSet, List, NamedTuple, Optional, Sequence
 
 from heap_tools.candidates import Candidate
 from heap_tools.dump_side import GroupKey, Several
@@ -20,20 +21,31 @@ from heap_tools.search import Search
 Between = Callable[[Sequence[Several], Several], List[Probe]]
 
 
+class RunningCalls(NamedTuple):
+    """The same question if running calls count, which do not for the first lines. `whole`: how much is asked for then,
+    which shares are of. `without` returns what asks for what some candidates leave, `between` knows dumps between."""
+
+    whole: Amount
+    without: Callable[[Several], Probe]
+    between: Between
+
+
 class Answer(NamedTuple):
-    """The lines, how many more there are if all are shown, what was looked for first, and how much of what is asked for
-    no line holds. `lasts`: something that lasts holds what the first line does, not only new objects."""
+    """The lines, how many more there are if all are shown, what was looked for first, how much there is of what is
+    asked for, of which shares are, and how much of that no line holds. `lasts`: something that lasts holds what the
+    first line does, not only new objects."""
 
     lines: List[Line]
     hidden: int
     search: Search
+    whole: Amount
     left: Amount
     lasts: bool
 
     @property
     def left_percent(self) -> float:
         """The share of what is asked for that no line holds, in percent."""
-        return self.search.probe.unit.percent(self.left, self.search.probe.growth)
+        return self.search.probe.unit.percent(self.left, self.whole)
 
 
 def nothing_between(groups: Sequence[Several], cut: Several) -> List[Probe]:
@@ -41,11 +53,16 @@ def nothing_between(groups: Sequence[Several], cut: Several) -> List[Probe]:
     return []
 
 
-def answer_of(whole: Probe, bounds: Bounds, between: Between = nothing_between) -> Answer:
-    """Searches what `whole` asks for what holds it, and returns the lines."""
+def answer_of(
+    whole: Probe, bounds: Bounds, between: Between = nothing_between, calls: Optional[RunningCalls] = None
+) -> Answer:
+    """Searches what `whole` asks for what holds it, and returns the lines. `calls`: running calls hold as much as a
+    line must, and do not count at first."""
     search = searched(whole, bounds.first)
     found = ranked(search, between)
-    answer = every_line(search, found, bounds) if bounds.shows_all else one_by_one(search, found, bounds, between)
+    answer = (
+        every_line(search, found, bounds) if bounds.shows_all else one_by_one(search, found, bounds, between, calls)
+    )
     return answer._replace(lines=with_elements(answer.lines, whole))
 
 
@@ -60,31 +77,61 @@ def with_elements(lines: Sequence[Line], whole: Probe) -> List[Line]:
 def every_line(search: Search, found: Ranking, bounds: Bounds) -> Answer:
     """Returns all that was found, each as a line."""
     whole, count = search.probe, min(bounds.top, len(found.ranked))
-    lines = [found.line(number, whole) for number in range(count)]
+    lines = [found.line(number, whole, whole.growth) for number in range(count)]
     left = whole.growth.minus(whole.gain(found.ranked[0].candidates)) if lines else whole.growth
-    return Answer(lines, len(found.ranked) - count, search, left, found.is_lasting)
+    return Answer(lines, len(found.ranked) - count, search, whole.growth, left, found.is_lasting)
 
 
-def one_by_one(search: Search, first: Ranking, bounds: Bounds, between: Between) -> Answer:
+def one_by_one(
+    search: Search, first: Ranking, bounds: Bounds, between: Between, calls: Optional[RunningCalls]
+) -> Answer:
     """Returns the lines of which each holds nothing that those above it do."""
-    whole, found = search.probe, first
-    lines: List[Line] = []
-    cut: List[Candidate] = []
-    left = whole.growth
-    while found.ranked and (not lines or found.is_lasting):
-        lines.append(found.line(0, whole))
-        group, probe = found.ranked[0].candidates, found.probe
-        left, cut = left.minus(probe.gain(group)), [*cut, *group]
-        if len(lines) == bounds.top or whole.unit.percent(left, whole.growth) < bounds.others:
-            break
-        of_left = bounds.others * whole.unit.of(whole.growth) / whole.unit.of(left)
-        above = frozenset(each.key for line in lines for each in line.above)
-        found = ranked(searched(probe.without(group), of_left), between, cut, above)
-    return Answer(lines, 0, search, left, first.is_lasting)
+    whole = calls.whole if calls else search.probe.growth
+    found = LinesInTurn(search.probe, bounds, whole)
+    found.add(first, between)
+    if calls and found.lines and not found.is_done:
+        found.add(found.ranked(calls.without(found.cut), calls.between), calls.between)
+    return Answer(found.lines, 0, search, whole, found.left, first.is_lasting)
+
+
+class LinesInTurn:
+    """Lines of which each holds nothing that those before it do. `asked` is what asks first, `of` what shares are of,
+    and `left` how much of it no line holds. `cut` is what the lines are about."""
+
+    def __init__(self, asked: Probe, bounds: Bounds, of: Amount) -> None:
+        self.asked, self.bounds, self.of, self.left = asked, bounds, of, of
+        self.lines: List[Line] = []
+        self.cut: List[Candidate] = []
+
+    @property
+    def is_done(self) -> bool:
+        """Tests whether there are as many lines as are shown, or too little is left for another one."""
+        return len(self.lines) == self.bounds.top or self.is_little(self.left)
+
+    def is_little(self, amount: Amount) -> bool:
+        """Tests whether an amount is too little for a line."""
+        return self.asked.unit.percent(amount, self.of) < self.bounds.others
+
+    def add(self, found: Ranking, between: Between) -> None:
+        """Adds the answer as a line, then that to what it leaves open, and so on: of those after the first what
+        lasts."""
+        while found.ranked and (not self.lines or found.is_lasting):
+            self.lines.append(found.line(0, self.asked, self.of))
+            group, probe = found.ranked[0].candidates, found.probe
+            self.left, self.cut = self.left.minus(probe.gain(group)), [*self.cut, *group]
+            if self.is_done or self.is_little(probe.growth.minus(probe.gain(group))):
+                break
+            found = self.ranked(probe.without(group), between)
+
+    def ranked(self, probe: Probe, between: Between) -> Ranking:
+        """Returns what holds as much as a line must of what the lines leave, for which `probe` asks."""
+        search = searched(probe, self.bounds.others * probe.unit.of(self.of) / probe.unit.of(probe.growth))
+        above = frozenset(each.key for line in self.lines for each in line.above)
+        return ranked(search, between, self.cut, above)
 
 
 def ranked(search: Search, between: Between, cut: Several = (), above: FrozenSet[GroupKey] = frozenset()) -> Ranking:
-    """Returns what a search has found without the candidates `cut`, in its order. What is named in `above` is no line:
-    it is above one that there is already, and holds more than that only by what is in no other line."""
+    """Returns what a search has found without the candidates `cut`, in its order. What is named in `above` is no
+    line."""
     asked = between([held.candidates for held in search.found], cut) if search.found else []
     return ranking_of(search, asked, above)

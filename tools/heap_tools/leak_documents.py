@@ -62,7 +62,7 @@ def fields_of_growth(comparison: Comparison, answer: Answer, notes: Notes, cost:
         "files": [dump_entry(each) for each in comparison.dumps],
         **question_entry(probe, answer, comparison.follows_weak),
         "whole": amount_entry(probe.whole),
-        "growth": amount_entry(probe.growth),
+        "growth": amount_entry(answer.whole),
         **lines_entry(answer, is_growth=True),
         "contents": contents_entry(contents_of(lines[0].held, probe.unit)) if lines else [],
         "own_classes": own_classes_entry([each.report for each in comparison.dumps]),

@@ -321,8 +321,9 @@ class Ranking(NamedTuple):
     objects: Optional[LineObjects]
     roots: PathRoots
 
-    def line(self, number: int, whole: Probe) -> Line:
-        """Returns what was found as a line; its share and its instances are of what `whole` asks for."""
+    def line(self, number: int, whole: Probe, of: Amount) -> Line:
+        """Returns what was found as a line: its share is of `of`, its instances are those of what `whole` asks for, or
+        those of running calls if these count only now."""
         held, probe = self.ranked[number], self.probe
         group, above = held.candidates, self.paths.above(held)
         return Line(
@@ -330,8 +331,8 @@ class Ranking(NamedTuple):
             probe.before(group).amount,
             probe.unit.percent(probe.gain(group), whole.growth),
             above,
-            whole.instances(group),
-            whole.instances_before(group),
+            max(whole.instances(group), probe.instances(group)),
+            max(whole.instances_before(group), probe.instances_before(group)),
             [each.retained(group).amount for each in self.between],
             self.objects if number == 0 else None,
             roots=self.roots.above([*above, held]),

@@ -1,19 +1,20 @@
 """What fills the heap of one dump: the lines, and what is in the first."""
 
 from dataclasses import dataclass
-from typing import List
+from typing import List, Optional
 
 from heap_tools.class_objects import require_objects
 from heap_tools.comparison import families_asked
 from heap_tools.dump_runs import DumpRuns
+from heap_tools.dump_side import Several
 from heap_tools.heap_dump import HeapDump
-from heap_tools.leak_answer import Answer
+from heap_tools.leak_answer import Answer, RunningCalls, nothing_between
 from heap_tools.leak_lines import Line
 from heap_tools.leak_options import Options
 from heap_tools.probe import Probe, Retained
-from heap_tools.reports import Row, Unit
+from heap_tools.reports import Amount, Row, Unit
 from heap_tools.weak_growth import Followed, followed_of
-from heap_tools.what_counts import PASSING, WhatCounts, without_running_calls
+from heap_tools.what_counts import PASSING, Way, WhatCounts, sides_with_calls, without_running_calls
 
 #: The share of what is reachable from which on the first line is shown, in percent.
 AT_LEAST = 20
@@ -21,16 +22,32 @@ AT_LEAST = 20
 
 @dataclass(frozen=True)
 class HeapQuestion:
-    """A dump, what asks it, and which weak references are followed."""
+    """A dump, what asks it, which weak references are followed, what counts, and how much of what is asked for only
+    running calls hold that do not."""
 
     runs: DumpRuns
     probe: Probe
     followed: Followed
+    way: Way
+    in_calls: Amount
 
     @property
     def dump(self) -> HeapDump:
         """The records of the dump."""
         return self.runs.dump
+
+    def running_calls(self, least: float) -> Optional[RunningCalls]:
+        """Returns what asks the same if running calls count. Returns None if they do anyway, or if only they hold less
+        than `least` percent."""
+        probe = self.probe
+        if probe.unit.percent(self.in_calls, probe.growth) < least:
+            return None
+
+        def without(cut: Several) -> Probe:
+            (side,) = sides_with_calls([self.runs], self.way, cut)
+            return Probe(side, probe.families, probe.unit)
+
+        return RunningCalls(probe.growth, without, nothing_between)
 
 
 @dataclass(frozen=True)
@@ -59,8 +76,10 @@ def question_of(runs: DumpRuns, options: Options) -> HeapQuestion:
     if families:
         require_objects(families[0], runs, base)
     whole, percent = unit.of(base.total(families)), max(PASSING, options.bounds.first - 1)
-    (side,) = counts.sides(without_running_calls(counts, followed.follows, [base], families, unit, whole, percent))
-    return HeapQuestion(runs, Probe(side, families, unit, runs.report.total(families)), followed)
+    way = without_running_calls(counts, followed.follows, [base], families, unit, whole, percent)
+    (side,) = counts.sides(way)
+    in_calls = base.total(families).minus(side.base.total(families))
+    return HeapQuestion(runs, Probe(side, families, unit, runs.report.total(families)), followed, way, in_calls)
 
 
 def contents_of(held: Retained, unit: Unit) -> List[Row]:

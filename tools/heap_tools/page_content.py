@@ -43,7 +43,7 @@ def content_of(
         grown=grown,
         holders=[holder_of(line, probe, measured_between(line, comparison)) for line in answer.lines],
         last=reports[-1].families,
-        growth=probe.growth,
+        growth=answer.whole,
         omitted=on_page(comparison.more_unreachable()),
         making=making,
         by=probe.unit,

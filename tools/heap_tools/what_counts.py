@@ -92,6 +92,15 @@ def side_of(runs: DumpRuns, way: Way) -> DumpSide:
     return DumpSide(runs, candidates, [*side.cut, *cut_by(side, way)], side.roots)
 
 
+def sides_with_calls(dumps: Sequence[DumpRuns], way: Way, cut: Several) -> List[DumpSide]:
+    """Returns dumps as they are asked by a way, but for running calls, which count, without some candidates: what each
+    other one holds is known."""
+    sides = [side_of(each, way._replace(calls=None)).without(cut) for each in dumps]
+    groups = first_groups(sides[-1])
+    ask([(side, groups) for side in sides])
+    return sides
+
+
 def cut_by(side: DumpSide, way: Way) -> List[Place]:
     """Returns the places of the references that a way does not follow."""
     calls = side.candidates.running(way.calls.value) if way.calls else []

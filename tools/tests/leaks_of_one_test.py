@@ -6,7 +6,7 @@ import unittest
 
 from tests.support.dump_writer import BYTE
 from tests.support.outline import Outline
-from tests.support.services import add_capacity, buffers, cache, finalizers, handler, of_customer
+from tests.support.services import add_capacity, batch, buffers, cache, finalizers, handler, of_customer
 from tests.support.tool_test import ToolTest
 
 SECOND = "leaks: one dump shows what is held, not what is more than usual: a second one, taken later, shows that"
@@ -49,6 +49,15 @@ class LeaksOfOneTest(ToolTest):
             f"{said[0]}\nleaks: no field, local variable or thread alone holds 90% of 18,028 bytes: see --at-least\n*"
         )
         self.expect(["cache.hprof", "--at-least", "90"], "", none)
+
+    def test_calls_with_little(self) -> None:
+        """What only a running call holds is a line if it is a tenth of the heap, after what fields hold."""
+        for size, count in ((2500, 3), (1500, 2)):
+            batch(400, size).write("batch.hprof")
+            rows = self.ran("batch.hprof").out.splitlines()
+            shares = [int(each.split("%")[0][-3:]) for each in rows]
+            self.assertEqual(shares, {3: [70, 18, 12], 2: [74, 18]}[count])
+            self.assertEqual("local shop/Batch.run > shop/Row.text" in rows[-1], count == 3)
 
     def test_second(self) -> None:
         """What holds a tenth of what line 1 leaves is the second line, and nothing is said to have grown."""

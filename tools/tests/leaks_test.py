@@ -19,6 +19,7 @@ from tests.support.services import (
     MINUTE,
     Service,
     baskets,
+    batch,
     buffers,
     cache,
     dispatched,
@@ -130,6 +131,39 @@ class LeaksTest(ToolTest):
             self.assertEqual(rows[0][-1], "static shop/Upload.UPLOAD > shop/Upload.chunks")
 
     def test_hidden_classes(self) -> None:
+    def test_above_a_line(self) -> None:
+        """What is above a line is a line if elements came into its container; not if they only became larger."""
+        tasks = "static shop/Timer.TASKS > java/util/ArrayList.elementData"
+        first = f"{tasks} > shop/Task.service > shop/Service.log"
+        rows = self.found(scheduled(20, 8), scheduled(80, 32))
+        self.assertEqual([row[-1] for row in rows], [first, "static shop/Timer.TASKS"])
+        self.assertIn("leaks: line 2: static shop/Timer.TASKS: 8, then 32 elements\n", self.ran("before", "after").said)
+        for before in 32, 31:
+            rows = self.found(scheduled(20, before), scheduled(80, 32, 60))
+            self.assertEqual([row[-1] for row in rows], [first, f"{tasks} > shop/Task.text"])
+
+    def test_calls_with_little(self) -> None:
+        """What only a running call holds is a line if it is a tenth of the growth, and no other line holds it: all
+        shares are of the growth with it then."""
+        row = "thread > local shop/Batch.run > shop/Row.text"
+        for size, shares, path in ((600, ["78%", "22%"], row), (300, ["88%", "12%"], row), (200, ["100%"], self.PATH)):
+            rows = self.found(batch(20, 8), batch(80, size))
+            self.assertEqual(([each[2] for each in rows], rows[-1][-1]), (shares, path))
+            self.assertEqual(rows[0][-1], self.PATH)
+            self.assertEqual({each[5] for each in rows}, {"1"})
+        self.assertNotIn("in no line", self.ran("before", "after").said)
+        self.assertEqual([each[2] for each in self.found(batch(20, 8), batch(80, 600), "--top=1")], ["78%"])
+        self.assertIn(
+            "leaks: 22% of the growth are in no line: see --top\n", self.ran("--top=1", "before", "after").said
+        )
+        self.assertEqual([each[2] for each in self.found(batch(20, 8), batch(80, 600), "--at-least=25")], ["100%"])
+        batch(50, 300, minutes=30).write("middle")
+        batch(80, 600, minutes=60).write("after")
+        self.assertEqual(len(self.ran("before", "middle", "after").out.splitlines()), 2)
+        for name, count in (("shop/Batch", 2), ("java/util/Batch", 2)):
+            self.assertEqual(len(self.found(batch(20, 8, name), batch(80, 600, name))), count)
+        self.assertEqual(len(self.found(batch(20, 600), batch(80, 600))), 1)
+
         """Names of hidden classes differ, and BEFORE may lack a class. What their fields are is said."""
         for before in (lambdas(20, "00aa"), lambdas(0, "")):
             rows = self.found(before, lambdas(80, "00bb"), "--all")

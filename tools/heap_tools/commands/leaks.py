@@ -66,8 +66,9 @@ these are cut, and it is asked again, until less than a tenth of the growth is
 left. So no object counts twice. With --all, each field that holds much has a
 line, the answer first, also those above it and below it.
 
-Calls that are running do not count, if nearly all of the growth is held without
-them: their local variables lead into containers that fields hold.
+Calls that are running do not count, if most of the growth is held without them:
+their local variables lead into containers that fields hold. What only they hold
+can be a line after all others.
 
 The growth is that of the reachable bytes, or of the objects and bytes of CLASS.
 If no more bytes are reachable than before, it is that of the objects of all
@@ -231,7 +232,9 @@ def print_growth(paths: Sequence[str], options: Options, output: Output) -> None
         progress.show("asking what each field holds")
         with nothing_too(dumps.dumps, options, output):
             comparison = comparison_of(dumps.dumps, options)
-        answer = as_shown(answer_of(comparison.probe, options.bounds, comparison.probes_between), options)
+        calls = comparison.running_calls(options.bounds.others)
+        answer = answer_of(comparison.probe, options.bounds, comparison.probes_between, calls)
+        answer = as_shown(answer, options)
         notes = notes_of(comparison, answer.lines)
     finally:
         progress.clear()
@@ -261,7 +264,8 @@ def print_one(path: str, options: Options, output: Output) -> None:
         progress.show("asking what each field holds")
         with nothing_too(dumps.dumps, options, output):
             question = question_of(dumps.dump, options)
-        answer = HeapAnswer(question, as_shown(answer_of(question.probe, options.bounds), options))
+        calls = question.running_calls(options.bounds.others)
+        answer = HeapAnswer(question, as_shown(answer_of(question.probe, options.bounds, calls=calls), options))
         notes = notes_of_one(answer)
     finally:
         progress.clear()

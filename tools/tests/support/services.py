@@ -162,6 +162,38 @@ def running(count: int, methods: Sequence[str] = ("callAppenders",), name: str =
     return dump
 
 
+def scheduled(count: int, tasks: int, size: int = 30) -> Service:
+    """A list has tasks with texts of so many bytes. Each leads to the one service, which has the orders."""
+    dump = Service()
+    dump.of_class(6, "shop/Timer", {"TASKS": 600})
+    dump.of_class(7, "java/util/ArrayList", fields=["elementData", "size"])
+    dump.of_class(8, "shop/Task", fields=["service", "text"])
+    dump.of_class(9, "shop/Service", fields=["log"])
+    dump.instance(600, 7, 601, word(tasks))
+    dump.array(601, 4, *range(700, 700 + tasks))
+    for number in range(700, 700 + tasks):
+        dump.instance(number, 8, 602, number + 1000)
+        dump.values(number + 1000, BYTE, bytes(size))
+    dump.instance(602, 9, 5000)
+    dump.orders(count)
+    dump.root(6)
+    return dump
+
+
+def batch(count: int, size: int, name: str = "shop/Batch", minutes: int = 0) -> Service:
+    """Like `cache`, while a thread is in a call of the class `name`, which has a row of so many bytes."""
+    dump = cache(count, minutes)
+    dump.of_class(8, name)
+    dump.of_class(9, "java/lang/Thread")
+    dump.of_class(12, "shop/Row", fields=["text"])
+    dump.thread(1, 700, [(8, "run")])
+    dump.instance(700, 9)
+    dump.local(1, 0, 900)
+    dump.instance(900, 12, 901)
+    dump.values(901, BYTE, bytes(size))
+    return dump
+
+
 def swapped(count: int, is_green: bool) -> Service:
     """A store has its stock in one of two fields; another static field holds the orders."""
     dump = cache(count)
