@@ -14,7 +14,7 @@ from heap_tools.faults import Fault
 from heap_tools.heap_dump import HeapDump
 from heap_tools.heapmark import Heapmark
 from heap_tools.label_text import Place
-from heap_tools.reports import Unit
+from heap_tools.reports import Amount, Unit
 from heap_tools.weak_growth import Followed
 from heap_tools.what_counts import Calls, Way, Weak
 from tests.support.dump_writer import DumpWriter
@@ -72,12 +72,14 @@ class BetweenTest(unittest.TestCase):
             probe: Any = mock.Mock(families=["shop/Order"], unit=Unit.BYTES)
             dumps: Any = [None, between, None]
             none = DirectMemory(), DirectMemory()
-            comparison = Comparison(dumps, none, probe, Followed(way.follows), way, [])
+            comparison = Comparison(dumps, none, probe, Followed(way.follows), way, [], Amount())
             (found,) = comparison.probes_between([known.statics()], [])
             self.assertEqual(found.side.cut, cut, way)
             (found,) = comparison.probes_between([known.statics()], known.statics())
             self.assertEqual(found.side.cut, [*cut, *(place for each in known.statics() for place in each.places)])
             self.assertEqual((found.families, found.unit), (["shop/Order"], Unit.BYTES))
+            (found,) = comparison.probes_between([known.statics()], [], way._replace(calls=None))
+            self.assertEqual(found.side.cut, [each for each in cut if each not in every])
 
     def test_other_main(self) -> None:
         """Dumps with the same own classes are refused if they have other main classes."""

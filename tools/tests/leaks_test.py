@@ -192,6 +192,11 @@ class LeaksTest(ToolTest):
             self.assertNotRegex(row[6], '(^| )threads?($| [^"])')
         said = self.ran("--html", "page.html", "before", "after").said
         self.assertIn('leaks: 10 threads more: threads "report-*": 2, then 12; most are in shop/Reporter.run\n', said)
+        words = (
+            "nothing that lasts holds a quarter of what grew: only new objects do, and line 1 is the topmost of these"
+        )
+        self.assertIn(f"leaks: {words}\n", said)
+        self.assertNotIn("nothing that lasts", self.ran("monday", "friday").said)
         self.assertIn("Threads by name", pathlib.Path("page.html").read_text(encoding="utf-8"))
 
     def test_together(self) -> None:
@@ -521,6 +526,7 @@ class LeaksTest(ToolTest):
         """The help, and wrong words."""
         self.check_help("Shows what holds the objects that grew between heap dumps of one program: ")
         self.check_wrong_words([], ["--every", "monday", "friday"], ["monday", "friday", "--top", "0"], ["--class"])
+        self.assertIn("required: <DUMP>: ", self.ran().said)
 
     def test_names_of_files(self) -> None:
         """Names that a tool or a shell may take for something else."""

@@ -52,6 +52,12 @@ class PageOfTwoTest(HtmlOfPage):
             "only tested",
         )
 
+    def test_elements(self) -> None:
+        """How many elements the containers of a line have, and had, is below its name."""
+        first = dataclasses.replace(leak().holders[0], elements="20, then 80 elements")
+        self.check_texts(leak(holders=[first]), "20, then 80 elements")
+        self.check_texts(page_sample.one_dump(), "40,000 elements")
+
     def test_what_was_dumped(self) -> None:
         """The program and the date are at the top; what the dumps do not have is skipped."""
         for wanted in [

@@ -106,6 +106,9 @@ class PagesTest(unittest.TestCase):
         self.assertEqual(re.findall(r"^## (.*)$", page, re.M), SECTIONS)
         for name in ("LEAK", "OPTIONS", "JSON", "HISTOGRAM", "LABELS", "PERFORMANCE", "PROOFS", "ASSUMPTIONS", "GATE"):
             self.assertIn(f"](docs/{name}.md", page)
+        self.assertIn("**Without it**, ask the owner", section("README.md", "## Install"))
+        for tool in ("grown --own", "leaks"):
+            self.assertIn(f"    {tool} --more-than ", section("README.md", "## In a build"))
         self.assertIn("](FORMAT.md", read("docs/OPTIONS.md"))
 
     def test_options(self) -> None:
