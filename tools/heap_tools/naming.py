@@ -2,7 +2,7 @@
 
 import re
 from collections import Counter
-from typing import Dict, Iterable, List, Mapping, NamedTuple, Optional, Sequence, Tuple
+from typing import Dict, Iterable, List, Mapping, NamedTuple, Sequence, Tuple
 
 from heap_tools.class_names import printable
 
@@ -45,11 +45,6 @@ def likeliest_first(name: Name) -> Tuple[bool, Name]:
     """Returns what names of owners are sorted by: those come first whose last field is called as what names is, and has
     a text."""
     return not (name.text and is_naming(re.split("[ .]", name.how)[-1])), name
-
-
-def best_of(named: Mapping[str, str]) -> Optional[str]:
-    """Returns which of the fields with these texts names their object best, or None."""
-    return next(iter(likely_names(named)), None)
 
 
 def likely_names(named: Mapping[str, str]) -> List[str]:
