@@ -5,7 +5,8 @@ from typing import Optional
 from heap_tools import hprof_format as hprof
 from heap_tools.heap_dump import HeapDump
 from heap_tools.heap_objects import HeapObjects
-from heap_tools.program_facts import array_elements, pairs_in, static_value
+from heap_tools.map_entries import MapEntries
+from heap_tools.program_facts import first_nodes, static_value
 
 #: The class of the JDK that keeps how much memory direct buffers may have in all: as much as the heap, unless the
 #: option -XX:MaxDirectMemorySize says otherwise, which is then among the properties that the same class keeps.
@@ -33,6 +34,5 @@ def _has_option(objects: HeapObjects) -> bool:
     """Tests whether the option is among the properties, or these cannot be read."""
     at = objects.places_of([static_value(objects.dump, MEMORY_CLASS, SAVED)])
     tables = [objects.reference(each, "java/util/HashMap", "table") for each in at.values()]
-    nodes = [node for each in objects.places_of(tables).values() for node in array_elements(objects.dump, each)]
-    keys = {key for key, _ in pairs_in(objects, nodes)}
+    keys = {key for table in tables for key, _ in MapEntries(objects, first_nodes(objects, table)).pairs()}
     return not keys or OPTION in objects.texts(keys).values()

@@ -32,17 +32,29 @@ class MapEntries:
         """Returns what the map has under its keys: where it is, and where the reference to it is. If most values are
         the same few objects, as in a set, these are the keys. Returns nothing if a chain is longer than
         `LONGEST_CHAIN`. Walks over all objects for each entry of the longest chain."""
-        entries, last, id_at = list(self.first), list(self.first), self.objects.dump.id
-        for _ in range(LONGEST_CHAIN):
-            last = list(self.objects.places_of(id_at(place) for _, place in self._places(last, NEXT)).values())
-            entries += last
-        if last:
+        (entries, left), id_at = self._followed(), self.objects.dump.id
+        if left:
             return []
         of_values = self._references(entries, VALUES)
         are_shared = 2 * len({id_at(place) for _, place in of_values}) < len(entries)
         found = [(*each, id_at(each[1])) for each in (self._references(entries, KEYS) if are_shared else of_values)]
         known = self.objects.places_of(key for _, _, key in found)
         return [FieldValue(known[key], place, entry) for entry, place, key in found if key in known]
+
+    def pairs(self) -> List[Tuple[int, int]]:
+        """Returns the identifiers of keys and values of the entries, of a longer chain only those of its first ones."""
+        entries, id_at = self._followed()[0], self.objects.dump.id
+        keys, values = dict(self._places(entries, KEYS)), dict(self._places(entries, VALUES))
+        return [(id_at(keys[at]), id_at(values[at])) for at in entries if at in keys and at in values]
+
+    def _followed(self) -> Tuple[List[int], List[int]]:
+        """Returns the entries of all chains, at most the first `LONGEST_CHAIN` of each and one, and those that come
+        last in longer chains."""
+        entries, last, id_at = list(self.first), list(self.first), self.objects.dump.id
+        for _ in range(LONGEST_CHAIN):
+            last = list(self.objects.places_of(id_at(place) for _, place in self._places(last, NEXT)).values())
+            entries += last
+        return entries, last
 
     def _references(self, entries: Sequence[int], fields: Sequence[Tuple[str, str]]) -> List[Tuple[int, int]]:
         """Returns entries and where their references in these fields are, by class and name, which are not null."""

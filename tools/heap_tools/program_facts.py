@@ -1,11 +1,12 @@
 """What a dump says of the program that it is of: how it was started, its process, and its virtual machine."""
 
-from typing import Dict, Iterable, List, NamedTuple, Optional, Set, Tuple
+from typing import Dict, List, NamedTuple, Optional, Set
 
 from heap_tools import hprof_format as hprof
 from heap_tools.class_names import printable
 from heap_tools.heap_dump import HeapDump
 from heap_tools.heap_objects import HeapObjects
+from heap_tools.map_entries import MapEntries
 
 #: The static fields that hold a program's properties and its process, and the name of the thread that starts it.
 PROPERTIES, PROCESS, MAIN = ("java/lang/System", "props"), ("java/lang/ProcessHandleImpl", "current"), "main"
@@ -14,14 +15,6 @@ WAYS = [
     [("java/util/Properties", "map"), ("java/util/concurrent/ConcurrentHashMap", "table")],
     [("java/util/Hashtable", "table")],
 ]
-#: The fields of a node for its key, its value, and the next node: of the tables of both ways, and of other maps.
-NODES = [
-    ("java/util/concurrent/ConcurrentHashMap$Node", "key", "val", "next"),
-    ("java/util/Hashtable$Entry", "key", "value", "next"),
-    ("java/util/HashMap$Node", "key", "value", "next"),
-]
-#: The most nodes of a chain that are followed. Each is a walk over all objects, and a table has few long chains.
-MOST_NODES = 6
 COMMAND, MACHINE, JAVA_VERSION = "sun.java.command", "java.vm.name", "java.version"
 
 
@@ -78,45 +71,25 @@ def static_value(dump: HeapDump, class_name: str, field: str) -> int:
 
 def properties(objects: HeapObjects, wanted: Set[str]) -> Dict[str, str]:
     """Returns those properties of the program whose names are `wanted`."""
-    pairs = pairs_in(objects, property_table(objects))
+    pairs = MapEntries(objects, property_nodes(objects)).pairs()
     texts = objects.texts(each for pair in pairs for each in pair)
     return {texts[key]: texts[value] for key, value in pairs if texts.get(key) in wanted and value in texts}
 
 
-def property_table(objects: HeapObjects) -> List[int]:
-    """Returns the identifiers in the table of the program's properties, none if the dump has none."""
+def property_nodes(objects: HeapObjects) -> List[int]:
+    """Returns where the first nodes of the program's properties are, none if the dump has none."""
     root = static_value(objects.dump, *PROPERTIES)
     for way in WAYS:
         identifier = root
         for class_name, field in way:
             at = objects.places_of([identifier]).get(identifier)
             identifier = 0 if at is None else objects.reference(at, class_name, field)
-        at = objects.places_of([identifier]).get(identifier)
-        if at is not None:
-            return array_elements(objects.dump, at)
+        if identifier:
+            return first_nodes(objects, identifier)
     return []
 
 
-def array_elements(dump: HeapDump, at: int) -> List[int]:
-    """Returns the identifiers in the array of objects at `at`, none if there is another object."""
-    if dump.bytes[at] != hprof.OBJECT_ARRAY:
-        return []
-    size = dump.id_size
-    begin = at + 9 + 2 * size
-    return [dump.id(begin + number * size) for number in range(dump.number(at + 5 + size, 4))]
-
-
-def pairs_in(objects: HeapObjects, nodes: Iterable[int]) -> List[Tuple[int, int]]:
-    """Returns the identifiers of the keys and values in the chains that begin with `nodes`."""
-    pairs: List[Tuple[int, int]] = []
-    for _ in range(MOST_NODES):
-        places = objects.places_of(nodes).values()
-        following = []
-        for class_name, key, value, after in NODES:
-            for at in places:
-                pair = objects.reference(at, class_name, key), objects.reference(at, class_name, value)
-                if all(pair):
-                    pairs.append(pair)
-                    following.append(objects.reference(at, class_name, after))
-        nodes = following
-    return pairs
+def first_nodes(objects: HeapObjects, table: int) -> List[int]:
+    """Returns where the objects are that the array with this identifier refers to, none if it is no such array."""
+    arrays = [at for at in objects.places_of([table]).values() if objects.dump.bytes[at] == hprof.OBJECT_ARRAY]
+    return [*objects.places_of(each for at in arrays for each in objects.elements_of(at)).values()]
