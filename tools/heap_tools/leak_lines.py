@@ -23,8 +23,7 @@ from heap_tools.which_object import (
     HoldingObject,
     PartsOfField,
     object_leading_to,
-    objects_that_grew,
-    objects_that_hold,
+    objects_with_most,
     tell_apart,
 )
 
@@ -101,7 +100,7 @@ class Lines:
         self._ask_for_new()
         several = None
         for number in self._order().to_ask():
-            objects = self._objects_of(self.every[number])
+            objects = objects_with_most(self.probe, self.every[number], self.uses)
             if len(objects) == 1 and not objects[0].is_element:
                 of_one = objects[0].of_gain / 100
                 self.features[number] = dataclasses.replace(self.features[number], of_one=of_one)
@@ -182,12 +181,6 @@ class Lines:
         which have these fields, if that is most."""
         of_one, of_each = (part if part >= MOST else 0.0 for part in parts_of_objects(self.probe, held))
         return dataclasses.replace(line, of_one=of_one, of_each=of_each)
-
-    def _objects_of(self, held: Retained) -> List[HoldingObject]:
-        """Returns which objects gained most of what `held` did, or of one dump hold most."""
-        if isinstance(self.probe, GrowthProbe):
-            return objects_that_grew(self.probe, held, self.uses)
-        return objects_that_hold(self.probe, held, self.uses)
 
     def _order(self) -> LineOrder:
         return LineOrder(self.features, self._holds, self.probe.unit.of(self.probe.growth), self.scoring)

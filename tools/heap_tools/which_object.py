@@ -203,20 +203,6 @@ def ways(probe: Probe, held: Retained, uses: Optional[FieldUses]) -> Iterator[Pa
                 yield found
 
 
-def objects_that_hold(probe: Probe, held: Retained, uses: Optional[FieldUses] = None) -> List[HoldingObject]:
-    """Returns the objects that hold most of what the field `held` holds in one dump, the heaviest first. Returns
-    nothing if many hold a little each, or if it is no question about some of many objects. `uses` may know the values
-    of the field."""
-    for parts in ways(probe, held, uses):
-        found = parts.shares.heaviest(held.amount)
-        if sum(probe.unit.percent(each.amount, held.amount) for each in found) >= OF_ALL:
-            return [it._replace(least_gain=it.percent) for it in parts.described(found, held.amount)]
-        for name, alike in parts.of_threads().items():
-            if sum(probe.unit.percent(each.amount, held.amount) for each in alike) >= OF_ALL:
-                return parts.described(alike, held.amount, name)
-    return []
-
-
 def object_leading_to(
     probe: Probe, held: Retained, at: int, amount: Amount, uses: Optional[FieldUses] = None
 ) -> Optional[HoldingObject]:
@@ -228,12 +214,12 @@ def object_leading_to(
     return parts.described([Holding(found[0], amount)], held.amount)[0] if len(found) == 1 else None
 
 
-def objects_that_grew(probe: GrowthProbe, held: Retained, uses: Optional[FieldUses] = None) -> List[HoldingObject]:
-    """Returns the objects that gained most of what the field `held` gained, the heaviest first: with what they gained
-    if that was measured in both dumps, else with what they hold now. Returns nothing if many gained a little each, if
-    it is not known which did, or if it is no question about some of many objects. `uses` may know the values of the
-    field in the later dump."""
-    gain = probe.gain(held.candidates)
+def objects_with_most(probe: Probe, held: Retained, uses: Optional[FieldUses] = None) -> List[HoldingObject]:
+    """Returns the objects that gained most of what the field `held` gained, or of one dump hold most of what it holds,
+    the heaviest first: with what they gained if that was measured in both dumps, else with what they hold now. Returns
+    nothing if many have a little each, if it is not known which gained most, or if it is no question about some of many
+    objects. `uses` may know the values of the field in the later dump."""
+    gain = held.amount.minus(probe.before(held.candidates).amount)
     if probe.unit.of(gain) <= 0:
         return []
     every = (GrownParts(probe, held, parts, gain).find() for parts in ways(probe, held, uses))
@@ -241,11 +227,12 @@ def objects_that_grew(probe: GrowthProbe, held: Retained, uses: Optional[FieldUs
 
 
 class GrownParts:
-    """A search for those of `now`, the parts of the field `held`, that gained most of `gain`, what the field gained."""
+    """A search for those of `now`, the parts of the field `held`, that gained most of `gain`, what the field gained: of
+    one dump all that it holds."""
 
-    def __init__(self, probe: GrowthProbe, held: Retained, now: PartsOfField, gain: Amount) -> None:
+    def __init__(self, probe: Probe, held: Retained, now: PartsOfField, gain: Amount) -> None:
         self.probe, self.held, self.now, self.gain = probe, held, now, gain
-        self.before = probe.earlier.retained(held.candidates)
+        self.before = probe.before(held.candidates)
         #: The most that an object of which it is not known what it held before held then, in percent of the gain.
         self.most_before = self.percent(self.before.amount)
         #: What the objects held before of which that is known, by their places.
@@ -262,7 +249,8 @@ class GrownParts:
         if sum(self.percent(each.amount) for each in found) < OF_ALL:
             return self._of_threads()
         certain = self._grown(found)
-        if sum(self.percent(each.amount) for each in certain) - self.most_before >= OF_ALL:
+        is_certain = sum(self.percent(each.amount) for each in certain) - self.most_before >= OF_ALL
+        if is_certain or not isinstance(self.probe, GrowthProbe):
             return self._described(certain)
         earlier = PartsOfField(self.probe.earlier, self.before, self.now.parts.are_elements)
         same = same_objects(self.now, [each.value.instance for each in found], earlier)
@@ -284,9 +272,9 @@ class GrownParts:
         """Returns the objects that several threads have by one thread-local, if these gained most together, though none
         of them gained much."""
         heavy = {name: of for name, of in self.now.of_threads().items() if self._together(of) >= OF_ALL}
-        if not heavy:
-            return []
-        before = PartsOfField(self.probe.earlier, self.before, self.now.parts.are_elements).of_threads()
+        before: Dict[Name, List[Holding]] = {}
+        if heavy and isinstance(self.probe, GrowthProbe):
+            before = PartsOfField(self.probe.earlier, self.before, self.now.parts.are_elements).of_threads()
         for name, alike in heavy.items():
             if self._together(alike) - self._together(before.get(name, [])) >= OF_ALL:
                 return self.now.described(alike, self.held.amount, name)

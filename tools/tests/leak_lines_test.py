@@ -70,7 +70,7 @@ class LinesTest(unittest.TestCase):
         """Asks of the mails which objects gained most: `objects` are what is found, of one line after another. Returns
         what is noted, the line that is the answer then, and how often it was asked."""
         lines = self.lines([ROOT, INBOX, TEXT], [], MAILS, before=0)
-        with mock.patch("heap_tools.leak_lines.objects_that_grew", side_effect=objects) as asked:
+        with mock.patch("heap_tools.leak_lines.objects_with_most", side_effect=objects) as asked:
             found = lines.ask_for_objects()
         return found, [str(held.candidates[0]) for held in lines.sorted()], asked.call_count
 
@@ -94,7 +94,7 @@ class LinesTest(unittest.TestCase):
         lines.uses = mock.Mock(**{"of.return_value": Parts([FieldValue(77, 78)])})
         (found,) = holding(100)
         found = found if named else found._replace(names=[])
-        with mock.patch("heap_tools.leak_lines.objects_that_grew", return_value=[]):
+        with mock.patch("heap_tools.leak_lines.objects_with_most", return_value=[]):
             with mock.patch("heap_tools.leak_lines.object_leading_to", return_value=found) as asked:
                 leading = lines.ask_for_objects()
         self.assertEqual({call[0][2] for call in asked.call_args_list} - {77}, set())

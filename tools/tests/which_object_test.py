@@ -11,6 +11,7 @@ from heap_tools.heap_objects import HeapObjects
 from heap_tools.map_entries import LONGEST_CHAIN
 from heap_tools.object_parts import FieldUses
 from heap_tools.object_shares import OF_ONE
+from heap_tools.probe import Probe
 from heap_tools.reports import Amount
 from heap_tools.which_object import (
     OF_ALL,
@@ -18,8 +19,7 @@ from heap_tools.which_object import (
     PartsOfField,
     hidden,
     object_leading_to,
-    objects_that_grew,
-    objects_that_hold,
+    objects_with_most,
     sentence,
     tell_apart,
 )
@@ -63,7 +63,7 @@ class HoldsTest(unittest.TestCase):
     def holding(self, dump: DumpWriter, field: str = CONTENT) -> List[HoldingObject]:
         """Returns the objects that hold most of what the field holds."""
         probe = probe_of(dump)
-        return objects_that_hold(probe, held_by(probe, field))
+        return objects_with_most(probe, held_by(probe, field))
 
     def test_one(self) -> None:
         """One of many is found by its size, and is named by its text."""
@@ -125,14 +125,14 @@ class HoldsTest(unittest.TestCase):
     def test_no_question(self) -> None:
         """One instance is no question, and neither are several fields, a local variable or a thread."""
         probe = probe_of(Queues([100]))
-        self.assertEqual(objects_that_hold(probe, held_by(probe, CONTENT)), [])
+        self.assertEqual(objects_with_most(probe, held_by(probe, CONTENT)), [])
         dump = Queues([100, 9_000])
         dump.thread(1, 1000, [(1, "run")])
         dump.local(1, 0, 1001)
         probe = probe_of(dump)
         both = [held_by(probe, name).candidates[0] for name in (CONTENT, "shop/Queue.name")]
         for group in (both, probe.candidates.locals(), probe.candidates.threads()):
-            self.assertEqual(objects_that_hold(probe, probe.retained(group)), [])
+            self.assertEqual(objects_with_most(probe, probe.retained(group)), [])
 
     def test_one_value(self) -> None:
         """If only one of several instances has a value in the field, it is named, by what the others do not have."""
@@ -148,7 +148,7 @@ class HoldsTest(unittest.TestCase):
         dump.root(20)
         probe = probe_of(dump)
         held = held_by(probe, "shop/Channel.unsent")
-        words = said("shop/Channel.unsent", objects_that_hold(probe, held))
+        words = said("shop/Channel.unsent", objects_with_most(probe, held))
         wanted = '1 of 5 shop/Channel.unsent holds most: shop/Channel (its field name "channel 603"): 100%'
         self.assertEqual(words, wanted)
 
@@ -175,7 +175,7 @@ class HoldsTest(unittest.TestCase):
         probe = probe_of(dump)
         held = held_by(probe, "shop/Queues.ALL")
         runs = RETAINED.runs
-        self.assertEqual(objects_that_hold(probe, held._replace(amount=Amount(1, 90_000))), [])
+        self.assertEqual(objects_with_most(probe, held._replace(amount=Amount(1, 90_000))), [])
         self.assertEqual(RETAINED.runs, runs + 1)
 
     def test_map(self) -> None:
@@ -256,7 +256,7 @@ class HoldsTest(unittest.TestCase):
             held = held_by(probe, "a/A.a")
             values = FieldUses(HeapObjects(probe.runs.dump)).of(held.candidates[0]).values
             self.assertEqual([probe.runs.dump.id(each.value) for each in values], [400, 401, 402])
-            (found,) = objects_that_hold(probe, held)
+            (found,) = objects_with_most(probe, held)
             self.assertEqual(found.amount.bytes, 9_000)
 
     def test_nested(self) -> None:
@@ -308,7 +308,7 @@ class GrewTest(unittest.TestCase):
     def grown(self, before: DumpWriter, after: DumpWriter, field: str = CONTENT) -> List[HoldingObject]:
         """Returns the objects that gained most of what the field gained."""
         probe = growth_of(before, after)
-        return objects_that_grew(probe, held_by(probe, field))
+        return objects_with_most(probe, held_by(probe, field))
 
     def expect(self, before: DumpWriter, after: DumpWriter, wanted: str, field: str = CONTENT) -> None:
         """Compares what is said of the objects that grew with a pattern."""
@@ -329,7 +329,7 @@ class GrewTest(unittest.TestCase):
         held = held_by(probe, CONTENT)
         probe.earlier.retained(held.candidates)
         known = probe.earlier.runs.heapmark.runs
-        words = said(CONTENT, objects_that_grew(probe, held))
+        words = said(CONTENT, objects_with_most(probe, held))
         self.assertEqual(words, '1 of 4 shop/Queue.content holds most: shop/Queue (its field name "queue 1"): 98%')
         self.assertEqual(probe.earlier.runs.heapmark.runs, known)
 
@@ -461,7 +461,7 @@ class RandomTest(unittest.TestCase):
             probe = growth_of(writers[0], writers[1])
             held = held_by(probe, CONTENT)
             gain = probe.gain(held.candidates).bytes
-            found = objects_that_grew(probe, held)
+            found = objects_with_most(probe, held)
             percent = {name: 100 * (size - before.get(name, 0)) / max(1, gain) for name, size in after.items()}
             by_size = {size: name for name, size in after.items()}
             with self.subTest(seed=seed):
@@ -492,7 +492,8 @@ class RandomTest(unittest.TestCase):
                 held = probe.retained([field])
                 if held.amount.bytes <= 0:
                     continue
-                for found in (objects_that_hold(probe, held), objects_that_grew(probe, held)):
+                for asked in (Probe(probe.side, None, probe.unit), probe):
+                    found = objects_with_most(asked, held)
                     with self.subTest(seed=seed, field=str(field)):
                         self.assertLessEqual(sum(each.percent for each in found), 100.001)
                         self.assertLessEqual(sum(each.amount.bytes for each in found), held.amount.bytes)
