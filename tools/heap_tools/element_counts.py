@@ -5,9 +5,8 @@ from typing import Dict, Iterable, List, Optional, Sequence, Set
 from heap_tools import hprof_format as hprof
 from heap_tools.candidates import FIELD, STATIC, Candidate
 from heap_tools.heap_objects import HeapObjects
-from heap_tools.line_order import MOST
 from heap_tools.object_parts import FieldUses
-from heap_tools.probe import GrowthProbe, Probe, Retained
+from heap_tools.probe import Probe
 
 #: The number of elements that a container keeps, as an int.
 NUMBERS = {
@@ -128,22 +127,6 @@ def element_counts(probe: Probe, lines: Sequence[Sequence[Candidate]]) -> List[O
     known = ElementCounts(objects).of(each for of_field in targets.values() for each in of_field)
     counts = [[known.get(each) for each in targets.get(line[0].key, ())] if len(line) == 1 else [] for line in lines]
     return [sum(filter(None, each)) if each and None not in each else None for each in counts]
-
-
-def gained_elements(probe: GrowthProbe, found: Sequence[Retained]) -> List[bool]:
-    """Tests of each of what was found whether elements came into the containers to which it leads, and are at least
-    half as large a part of all elements as of what it holds is what it gained: so it is they that piled up there."""
-    fields = [each.candidates for each in found]
-    counts = zip(element_counts(probe, fields), element_counts(probe.earlier, fields))
-    return [
-        now is not None and was is not None and came(probe, held, now, was) for held, (now, was) in zip(found, counts)
-    ]
-
-
-def came(probe: GrowthProbe, held: Retained, now: int, was: int) -> bool:
-    """Tests whether elements that came, of which there are so many now and were so many, are what `held` gained."""
-    amount, gain = probe.unit.of(held.amount), probe.unit.of(probe.gain(held.candidates))
-    return now > was and (now - was) * amount >= MOST * now * gain
 
 
 def containers_of(probe: Probe, field: Candidate, uses: FieldUses) -> Set[int]:

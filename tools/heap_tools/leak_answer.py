@@ -10,7 +10,7 @@ from typing import Callable, FrozenSet, List, NamedTuple, Optional, Sequence
 
 from heap_tools.candidates import Candidate
 from heap_tools.dump_side import GroupKey, Several
-from heap_tools.element_counts import element_counts, gained_elements
+from heap_tools.element_counts import element_counts
 from heap_tools.leak_lines import Line, Ranking, ranking_of, searched
 from heap_tools.leak_options import Bounds
 from heap_tools.probe import GrowthProbe, Probe
@@ -126,18 +126,8 @@ class LinesInTurn:
     def ranked(self, probe: Probe, between: Between) -> Ranking:
         """Returns what holds as much as a line must of what the lines leave, for which `probe` asks."""
         search = searched(probe, self.bounds.others * probe.unit.of(self.of) / probe.unit.of(probe.growth))
-        return ranked(search, between, self.cut, explaining_nothing(search, self.lines))
-
-
-def explaining_nothing(search: Search, lines: Sequence[Line]) -> FrozenSet[GroupKey]:
-    """Returns the names of what is above a line, and is none itself: it holds more than that line only by what is in no
-    other one. But if elements came into its container, such as tasks into a queue, these piled up there."""
-    names = {each.key for line in lines for each in line.above}
-    above = [held for held in search.found if held.key in names]
-    if above and isinstance(search.probe, GrowthProbe):
-        piled_up = gained_elements(search.probe, above)
-        names -= {held.key for held, is_place in zip(above, piled_up) if is_place}
-    return frozenset(names)
+        above = frozenset(each.key for line in self.lines for each in line.above)
+        return ranked(search, between, self.cut, above)
 
 
 def ranked(search: Search, between: Between, cut: Several = (), above: FrozenSet[GroupKey] = frozenset()) -> Ranking:

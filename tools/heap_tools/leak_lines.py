@@ -60,8 +60,7 @@ class Line(NamedTuple):
 
 class Lines:
     """What a search has found, in the order of `line_order`: of one dump by what it holds. `between` are dumps between
-    the first and the last. What is named in `above` is none: it is above a line that there is already, and explains no
-    more than that."""
+    the first and the last. What is named in `above` is none: it is above a line that there is already."""
 
     def __init__(
         self,
@@ -323,7 +322,7 @@ class Ranking(NamedTuple):
         return Line(
             held,
             probe.before(group).amount,
-            probe.unit.percent(probe.gain(group), of),
+            probe.unit.percent(probe.gain(group), whole.growth),
             above,
             max(whole.instances(group), probe.instances(group)),
             max(whole.instances_before(group), probe.instances_before(group)),

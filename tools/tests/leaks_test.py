@@ -37,7 +37,6 @@ from tests.support.services import (
     referents,
     reporters,
     running,
-    scheduled,
     swapped,
     twofold,
     uploads,
@@ -131,6 +130,7 @@ class LeaksTest(ToolTest):
             rows = self.found(uploads(1), uploads(10), *words)
             self.assertEqual(rows[0][-1], "static shop/Upload.UPLOAD > shop/Upload.chunks")
 
+    def test_hidden_classes(self) -> None:
     def test_above_a_line(self) -> None:
         """What is above a line is a line if elements came into its container; not if they only became larger."""
         tasks = "static shop/Timer.TASKS > java/util/ArrayList.elementData"
@@ -164,7 +164,6 @@ class LeaksTest(ToolTest):
             self.assertEqual(len(self.found(batch(20, 8, name), batch(80, 600, name))), count)
         self.assertEqual(len(self.found(batch(20, 600), batch(80, 600))), 1)
 
-    def test_hidden_classes(self) -> None:
         """Names of hidden classes differ, and BEFORE may lack a class. What their fields are is said."""
         for before in (lambdas(20, "00aa"), lambdas(0, "")):
             rows = self.found(before, lambdas(80, "00bb"), "--all")
