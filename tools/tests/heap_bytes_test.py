@@ -153,6 +153,15 @@ class FilesTest(unittest.TestCase):
                 in_common_bytes([self.histogram, other], dump_bytes)
         self.assertTrue(pathlib.Path("few").exists())
 
+    def test_same_sizes(self) -> None:
+        """What is the same in two dumps takes the same, though the padding of the arrays in their samples differs:
+        nothing grew."""
+        report = MarkedRuns(heap(7).read()).report
+        files = [self.written(heap(lengths), path, report) for lengths, path in ((1, "short"), (7, "long"))]
+        for some in files, files[::-1]:
+            found, _ = in_common_bytes(some, False)
+            self.assertEqual(growths([each.report for each in found], Unit.BYTES), [])
+
     def test_uneven_arrays(self) -> None:
         """A dump has as many bytes as a histogram of the same heap, though the mean padding of its arrays is another in
         the sample: nothing grew."""
