@@ -90,7 +90,9 @@ def one_by_one(
     found = LinesInTurn(search.probe, bounds, whole)
     found.add(first, between)
     if calls and found.lines and not found.is_done:
-        found.add(found.ranked(calls.without(found.cut), calls.between), calls.between)
+        probe = calls.without(found.cut)
+        if not found.is_little(probe.growth):
+            found.add(found.ranked(probe, calls.between), calls.between)
     return Answer(found.lines, 0, search, whole, found.left, first.is_lasting)
 
 

@@ -59,6 +59,7 @@ def content_of(
         contents=contents_of_growth(answer.lines[0], probe) if answer.lines else [],
         shares=share_entries(answer.lines, options.bounds.shows_all),
         shows_all=options.bounds.shows_all,
+        counts_calls=answer.whole != probe.growth,
     )
 
 

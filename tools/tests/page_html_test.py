@@ -97,6 +97,11 @@ class PageOfTwoTest(HtmlOfPage):
             "or running calls hold does not count.",
         )
         self.check_texts(
+            leak(growth=page.Amount(600_000, 16_900_000), counts_calls=True),
+            "+16.4 MB of +16.9 MB, without weak references",
+            "That of the heap is +17.1 MB: what only weak references hold does not count.",
+        )
+        self.check_texts(
             leak(growth=page.Amount(602_801, 17_076_436)),
             "+17.1 MB of all reachable bytes. What only weak references or running calls hold does not count.",
         )

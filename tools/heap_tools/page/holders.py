@@ -40,7 +40,8 @@ def about(leak: Leak) -> str:
     ]
     if is_less(leak):
         of_heap = f"That of the heap is {rise}: what" if growth != rise else "What"
-        texts.append(f"{of_heap} only weak references or running calls hold does not count.")
+        calls = " or running calls" * (not leak.counts_calls)
+        texts.append(f"{of_heap} only weak references{calls} hold does not count.")
     return " ".join(texts)
 
 

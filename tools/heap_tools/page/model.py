@@ -184,7 +184,8 @@ class Leak:
     objects, if the bytes are those of the heap and not those of the dumps. `contents`: the classes of what the first
     holder holds, with their amounts in the first dump and in the last, in the order in which they are shown. `shares`:
     parts of the last heap by what holds them, as far as that is known; all else is shown by package. `shows_all`: all
-    holders are shown, also above the first and below it; else each holds nothing that those before it do."""
+    holders are shown, also above the first and below it; else each holds nothing that those before it do.
+    `counts_calls`: the growth has what only running calls hold."""
 
     dumps: List[DumpEntry]
     grown: List[GrownClass]
@@ -206,6 +207,7 @@ class Leak:
     contents: List[GrownClass] = field(default_factory=list)
     shares: List[ShareEntry] = field(default_factory=list)
     shows_all: bool = False
+    counts_calls: bool = False
 
     @property
     def is_of_all(self) -> bool:

@@ -119,7 +119,7 @@ def growth_tile(leak: Leak, holder: HolderEntry) -> Html:
     if not leak.is_of_all:
         note += f" of {in_java(leak.of_class) if leak.of_class else 'the classes that grew'}"
     elif is_less(leak):
-        note += ", without weak references and running calls"
+        note += ", without weak references" + " and running calls" * (not leak.counts_calls)
     return fill("tile", name="Its share of the growth", value=percent(holder.share), note=note)
 
 
