@@ -174,9 +174,9 @@ class Candidates:
         found = (self._statics if field.is_static else self._fields).get(name)
         return [it for owner, it in zip(found.declared_by, found.places) if owner == class_id] if found else []
 
-    def values_of_static(self, key: Key) -> List[int]:
+    def values_of_static(self, key: Key) -> Set[int]:
         """Returns the identifiers in the static field that is called `key`, of all classes of its name or pattern."""
-        return [value for each in self._of_static(key[1]) for value in each.values if value]
+        return {value for each in self._of_static(key[1]) for value in each.values if value}
 
     def _of_static(self, name: str) -> List[DumpedField]:
         """Returns the static fields that `name` means: that of classes of one name, or those of a pattern of names."""

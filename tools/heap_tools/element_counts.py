@@ -132,7 +132,7 @@ def element_counts(probe: Probe, lines: Sequence[Sequence[Candidate]]) -> List[O
 def containers_of(probe: Probe, field: Candidate, uses: FieldUses) -> Set[int]:
     """Returns the identifiers of that to which a field leads, none if that is not asked."""
     if field.kind == STATIC:
-        return set(probe.candidates.values_of_static(field.key))
+        return probe.candidates.values_of_static(field.key)
     values = uses.of(field).values
     if len(values) > min(MOST_CONTAINERS, probe.instances([field])):
         return set()

@@ -65,7 +65,7 @@ def _targets(probe: Probe, held: Retained, uses: FieldUses) -> Set[int]:
         return set()
     field, id_at = held.candidates[0], probe.runs.dump.id
     if field.kind == STATIC:
-        return set(probe.candidates.values_of_static(field.key))
+        return probe.candidates.values_of_static(field.key)
     return {id_at(each.value) for each in uses.of(field).values}
 
 

@@ -5,7 +5,6 @@ from typing import Iterator, List, NamedTuple, Sequence, Set, Tuple
 from heap_tools.dump_side import ask_places
 from heap_tools.heap_objects import FieldValue, HeapObjects
 from heap_tools.held_table import HeldTable
-from heap_tools.label_text import Place
 from heap_tools.probe import Probe
 from heap_tools.reports import Amount
 
@@ -26,13 +25,15 @@ class Holding(NamedTuple):
 
 
 class ObjectShares:
-    """What objects hold by their references `values` in the dump that `probe` asks: `together` is what all of them do.
-    In `table` all have the label `first`, and each one of those after it. `heavy` are the numbers of those that hold
-    most in the dump's bytes, at most `HEAVIEST`: what they hold in the heap is looked up only of these."""
+    """What objects hold by their references `values` in the dump that `probe` asks, in one run: `together` is what all
+    of them do. In `table` all have the label 0, and each one of those after it. `heavy` are the numbers of those that
+    hold most in the dump's bytes, at most `HEAVIEST`: what they hold in the heap is looked up only of these."""
 
-    def __init__(self, probe: Probe, values: Sequence[FieldValue], table: HeldTable, first: int) -> None:
-        self.probe, self.values, self.table, self.first = probe, values, table, first
-        self.together = held_amount(probe, table, first)
+    def __init__(self, probe: Probe, values: Sequence[FieldValue]) -> None:
+        self.probe, self.values, objects = probe, values, HeapObjects(probe.runs.dump)
+        places = [objects.place_of(value) for value in values]
+        (self.table,) = ask_places([(probe.side, [places, *([it] for it in places)])])
+        self.together = held_amount(probe, self.table, 0)
         self._names = probe.names()
         self._held = [0] * len(values)
         lines = list(self._lines())
@@ -48,9 +49,8 @@ class ObjectShares:
 
     def _lines(self) -> Iterator[Tuple[int, List[int]]]:
         """Yields how much some of the objects hold together that no others do, in the dump's bytes, and these."""
-        labels = range(self.first + 1, self.first + 1 + len(self.values))
-        for each in self.table.sets_with(self.first):
-            numbers = [label - labels.start for label in self.table.labels_of(each) if label in labels]
+        for each in self.table.sets_with(0):
+            numbers = [label - 1 for label in self.table.labels_of(each) if label]
             if numbers:
                 yield self.probe.unit.of(self.table.total(each, self._names)), numbers
 
@@ -59,7 +59,7 @@ class ObjectShares:
         return self._amount(self.values.index(value))
 
     def _amount(self, number: int) -> Amount:
-        return held_amount(self.probe, self.table, self.first + 1 + number)
+        return held_amount(self.probe, self.table, 1 + number)
 
     def most(self, whole: Amount) -> float:
         """Returns the most that one of them holds, in percent of `whole`."""
@@ -68,7 +68,7 @@ class ObjectShares:
     def part_of_largest(self, count: int) -> float:
         """Returns the part of what all hold together that `count` of them hold by themselves, those that hold most so,
         by the dump's bytes."""
-        whole = sum(self.probe.unit.of(self.table.total(it, self._names)) for it in self.table.sets_with(self.first))
+        whole = sum(self.probe.unit.of(self.table.total(it, self._names)) for it in self.table.sets_with(0))
         return sum(sorted(self._nearest, reverse=True)[:count]) / max(1, whole)
 
     def heaviest(self, whole: Amount) -> List[Holding]:
@@ -77,7 +77,7 @@ class ObjectShares:
         unit, found = self.probe.unit, []
         taken: Set[int] = set()
         for number in self.heavy:
-            amount, sets = self._amount(number), self.table.sets_with(self.first + 1 + number)
+            amount, sets = self._amount(number), self.table.sets_with(1 + number)
             is_heavy = unit.percent(amount, whole) >= OF_ONE and self._nearest[number] >= BY_ITSELF * self._held[number]
             if is_heavy and sets.isdisjoint(taken):
                 taken |= sets
@@ -88,18 +88,6 @@ class ObjectShares:
 def held_amount(probe: Probe, table: HeldTable, label: int) -> Amount:
     """Returns how much a label holds of what is asked for."""
     return probe.amount_of(probe.side.held(table, table.sets_with(label)))
-
-
-def shares_of(probe: Probe, lists: Sequence[Sequence[FieldValue]]) -> List[ObjectShares]:
-    """Returns what the objects of several lists hold, asked in one run."""
-    objects, first = HeapObjects(probe.runs.dump), []
-    places: List[List[Place]] = []
-    for values in lists:
-        each = [objects.place_of(value) for value in values]
-        first.append(len(places))
-        places += [each, *([it] for it in each)]
-    (table,) = ask_places([(probe.side, places)])
-    return [ObjectShares(probe, values, table, label) for values, label in zip(lists, first)]
 
 
 def amounts_of(probe: Probe, lists: Sequence[Sequence[FieldValue]]) -> List[Amount]:

@@ -84,12 +84,9 @@ class Probe:
             self.ask([group])
             table = self.side.knows(key)
             assert table
-            self._known[key] = self.retained_by(group, self.side.held(table.table, table.sets(key)))
+            held = self.side.held(table.table, table.sets(key))
+            self._known[key] = Retained(group, self.amount_of(held), held.heap, held.families)
         return self._known[key]
-
-    def retained_by(self, group: Several, held: Held) -> Retained:
-        """Returns what a group holds, of which it is known what that is."""
-        return Retained(group, self.amount_of(held), held.heap, held.families)
 
     def amount_of(self, held: Held) -> Amount:
         """Returns how much of what is asked for is held."""

@@ -1,13 +1,13 @@
 """Which objects of many hold most of what a field holds, or gained most of what it gained, and what names them."""
 
-from typing import Dict, Iterator, List, NamedTuple, Optional, Sequence, Set
+from typing import Dict, Iterator, List, NamedTuple, Optional, Sequence
 
-from heap_tools.candidates import FIELD, STATIC, Candidate
+from heap_tools.candidates import FIELD, STATIC
 from heap_tools.heap_objects import FieldValue, HeapObjects
 from heap_tools.naming import Name, alone_in
 from heap_tools.object_names import ObjectNames
 from heap_tools.object_parts import MOST_OBJECTS, FieldUses, elements
-from heap_tools.object_shares import OF_ONE, Holding, ObjectShares, shares_of
+from heap_tools.object_shares import OF_ONE, Holding, ObjectShares
 from heap_tools.probe import GrowthProbe, Probe, Retained
 from heap_tools.reports import Amount
 from heap_tools.thread_locals import BY_THREAD_LOCAL, ThreadLocals
@@ -101,15 +101,11 @@ class PartsOfField:
         self._shares: Optional[ObjectShares] = None
         field, uses = held.candidates[0], uses or FieldUses(self.objects)
         if as_elements:
-            lists = {uses.only_target(field)} if field.kind == FIELD else self._values_of_static(field)
+            lists = {uses.only_target(field)} if field.kind == FIELD else probe.candidates.values_of_static(field.key)
             self.parts = elements(self.objects, lists, most, probe.runs.report.unresolved)
         else:
             self.parts = uses.of(field)
         self.names = ObjectNames(self.objects.dump)
-
-    def _values_of_static(self, field: Candidate) -> Set[int]:
-        """Returns the identifiers in a static field of all classes of its name."""
-        return set(self.probe.candidates.values_of_static(field.key))
 
     @property
     def is_question(self) -> bool:
@@ -127,14 +123,8 @@ class PartsOfField:
     @property
     def shares(self) -> ObjectShares:
         """What each of them holds."""
-        if not self._shares:
-            ask_for_shares([self])
-        assert self._shares
+        self._shares = self._shares or ObjectShares(self.probe, self.parts.values)
         return self._shares
-
-    def learn(self, shares: ObjectShares) -> None:
-        """Notes what each of them holds."""
-        self._shares = shares
 
     @property
     def count(self) -> int:
@@ -184,13 +174,6 @@ class PartsOfField:
             )
             for value, amount in found
         ]
-
-
-def ask_for_shares(every: Sequence[PartsOfField]) -> None:
-    """Asks in one run what each of the objects of several fields holds, all of one dump."""
-    if every:
-        for parts, shares in zip(every, shares_of(every[0].probe, [each.parts.values for each in every])):
-            parts.learn(shares)
 
 
 def ways(probe: Probe, held: Retained, uses: Optional[FieldUses]) -> Iterator[PartsOfField]:

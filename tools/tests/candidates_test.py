@@ -131,7 +131,7 @@ class CandidatesTest(unittest.TestCase):
         known = self.candidates(self.classes("shop/$Proxy1", "shop/$Proxy2"))
         (alike,) = known.statics_alike()
         self.assertEqual((str(alike), alike.is_own), ("static shop/$Proxy*.ALL", True))
-        self.assertEqual((known.instances(alike.key, Report()), known.values_of_static(alike.key)), (2, [350, 351]))
+        self.assertEqual((known.instances(alike.key, Report()), known.values_of_static(alike.key)), (2, {350, 351}))
         self.assertEqual([*known.places(alike.key)], [*alike.places])
         self.assertEqual(self.named(known.few())[1:4], [*self.named(known.statics())[1:], str(alike)])
         earlier = self.candidates(self.classes("shop/$Proxy7"))
@@ -259,7 +259,7 @@ class CandidatesTest(unittest.TestCase):
             self.assertEqual(known.places(key), wanted, key)
         for kind in (STATIC, FIELD, LOCAL, THREAD):
             self.assertFalse(known.places((kind, "other")))
-        self.assertEqual(known.values_of_static((STATIC, "shop/Order.FIRST")), [300])
+        self.assertEqual(known.values_of_static((STATIC, "shop/Order.FIRST")), {300})
 
     def test_side(self) -> None:
         """The lists of a group's threads and of references that wait for their queues are cut, as weak references are
