@@ -165,7 +165,10 @@ def fields_of(candidates: Sequence[Candidate]) -> List[page.FieldEntry]:
 
 def roots_above(found: Optional[RootsAbove]) -> List[page.StepEntry]:
     """Returns the first step of a path that begins at a field: the nearest of the roots that lead there."""
-    return [page.StepEntry([page.FieldEntry(*found.roots[0])], others=found.others)] if found else []
+    if not found:
+        return []
+    nearest = found.roots[0]
+    return [page.StepEntry([page.FieldEntry(nearest.kind, nearest.name)], others=found.others)]
 
 
 def share_of(amount: Amount, probe: Probe) -> page.HeldShare:

@@ -27,10 +27,12 @@ STEPS_UP, MOST_ABOVE = 10, 2_000
 
 
 class RootAbove(NamedTuple):
-    """A root that leads to an object: its kind and its name, as a candidate has them."""
+    """A root that leads to an object: its kind and its name, as a candidate has them, and the serial number of its
+    thread, 0 if it is of none."""
 
     kind: str
     name: str = ""
+    thread: int = 0
 
     @property
     def rank(self) -> Tuple[int, str]:
@@ -101,7 +103,8 @@ class PathRoots:
 
 class RootSearch:
     """A search for the roots that lead to some objects, in the dump of `side`, by the references that count. `found`
-    are the roots, the nearest first. `is_done`: all were found that lead there by no other one of them."""
+    are the roots, the nearest first; of each thread one: the thread, or if only local variables of its calls lead
+    there, the nearest. `is_done`: all were found that lead there by no other one of them."""
 
     def __init__(self, side: DumpSide, identifiers: Set[int]) -> None:
         self.side, self.dump, self.objects = side, side.runs.dump, HeapObjects(side.runs.dump)
@@ -119,13 +122,21 @@ class RootSearch:
             self.referrers.look_up(last - threads)
             above = [each for key in sorted(last - threads) for each in self._leading(key)]
             found = {each for key in last for each in roots.get(key, ())}
-            found.update(self._static(each) for each in above if self._is_class(each))
-            self.found += sorted(found.difference(self.found), key=lambda each: each.rank)
+            self._add(found.union(self._static(each) for each in above if self._is_class(each)))
             last = {self.dump.id(each.place + 1) for each in above if not self._is_class(each)} - seen
             seen |= last
             if not last or len(seen) > MOST_ABOVE:
                 break
         self.is_done = self.is_done and not last
+
+    def _add(self, found: Set[RootAbove]) -> None:
+        """Adds the roots that are so many references up."""
+        for root in sorted(found, key=lambda each: each.rank):
+            same = [at for at, it in enumerate(self.found) if it == root or it.thread == root.thread != 0]
+            if not same:
+                self.found.append(root)
+            elif root.kind == THREAD:
+                self.found[same[0]] = root
 
     def _leading(self, key: int) -> List[Referrer]:
         """Returns what leads to an object by a reference that counts. Of many of one class not all are known."""
@@ -172,5 +183,5 @@ class RootSearch:
         """Returns the local variable or the thread that a root of a thread is."""
         frame = self.dump.frame(root.thread, root.frame)
         if frame:
-            return RootAbove(LOCAL, f"{family(frame.class_name)}.{frame.method}")
-        return RootAbove(THREAD, shown_name(names.get(root.thread, "")))
+            return RootAbove(LOCAL, f"{family(frame.class_name)}.{frame.method}", root.thread)
+        return RootAbove(THREAD, shown_name(names.get(root.thread, "")), root.thread)

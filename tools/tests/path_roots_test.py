@@ -18,7 +18,7 @@ from tests.support.services import dispatched
 
 #: The tag of a root of native code.
 JNI_GLOBAL = 0x01
-DISPATCHER = RootAbove(THREAD, "HTTP-Dispatcher")
+DISPATCHER = RootAbove(THREAD, "HTTP-Dispatcher", 1)
 TARGET, TASK, SERVER = "java/lang/Thread.target", "sun/net/httpserver/ServerImpl$Task.this$0", "ServerImpl.contexts"
 
 
@@ -50,6 +50,20 @@ class RootSearchTest(unittest.TestCase):
         self.assertEqual(self.found(dispatched(3)), wanted)
         self.assertTrue(self.search(dispatched(3)).is_done)
 
+    def test_of_one_thread(self) -> None:
+        """A thread counts once, however many of its calls lead there: as the thread if its object does, too. Two threads
+        of one name are two."""
+        for target, main in (0, "local shop/Main.main"), (791, "thread"):
+            dump = dispatched(3, "aa")
+            dump.of_class(60, "shop/Main")
+            dump.thread(9, 790, [(60, "main"), (60, "run")])
+            dump.instance(790, 6, 0, target)
+            dump.instance(791, 9, 600, 0)
+            dump.local(9, 0, 600)
+            dump.local(9, 1, 600)
+            wanted = [main, 'thread "HTTP-Dispatcher"', 'thread "worker a"', 'thread "worker a"']
+            self.assertEqual(self.found(dump), wanted)
+
     def test_many(self) -> None:
         """Of many objects of one class that refer to it not all are known: so there may be more roots."""
         found = self.search(dispatched(3, "abcdefghijklmnopqrst"))
@@ -65,10 +79,13 @@ class RootSearchTest(unittest.TestCase):
         dump.instance(600, 22, 0)
         dump.instance(610, 22, 600)
         dump.instance(611, 22, 600)
-        dump.thread(1, 700, [(20, "main"), (21, "wait")])
+        dump.thread(1, 700, [(20, "main"), (20, "start")])
+        dump.thread(2, 701, [(21, "wait")])
         dump.instance(700, 23)
+        dump.instance(701, 23)
         dump.local(1, 0, 600)
-        dump.local(1, 1, 611)
+        dump.local(1, 1, 600, 610)
+        dump.local(2, 0, 611)
         dump.heap += dump.form.root(JNI_GLOBAL, 600) + dump.form.spell([1])
         dump.root(20, 21)
         of_calls = {"local shop/Main.main", "local java/util/Timers.wait"}
