@@ -27,7 +27,7 @@ SECOND = "one dump shows what is held, not what is more than usual: a second one
 
 
 class LocalPlace(NamedTuple):
-    """A method whose local variable is a line, and a thread with a call of it."""
+    """A method whose local variable is a line or above one, and a thread with a call of it."""
 
     method: str
     thread: ThreadPlace
@@ -39,7 +39,7 @@ class LocalPlace(NamedTuple):
 @dataclass(frozen=True)
 class HeapNotes:
     """How many bytes the heap may have, if the dump says it, the threads that ran out of memory, those whose local
-    variables are lines, the memory of direct buffers, a sentence on weak references, empty if they hold little, and
+    variables are lines or above them, the memory of direct buffers, a sentence on weak references, empty if they hold little, and
     other sentences."""
 
     capacity: Optional[int]
@@ -90,8 +90,9 @@ def contents_words(contents: Sequence[Row]) -> str:
 
 
 def local_places(answer: HeapAnswer) -> List[LocalPlace]:
-    """Returns which threads have the local variables of lines."""
-    methods = [each.name for line in answer.lines for each in line.held.candidates if each.kind == LOCAL]
+    """Returns which threads have the local variables of lines, or those above them."""
+    steps = (step for line in answer.lines for step in [*line.above, line.held])
+    methods = dict.fromkeys(each.name for step in steps for each in step.candidates if each.kind == LOCAL)
     dump = answer.question.dump
     return [LocalPlace(method, place) for method in methods for place in threads_in(dump, method)[:SHOWN_THREADS]]
 

@@ -54,10 +54,12 @@ class LeaksOfOneTest(ToolTest):
         """What only a running call holds is a line if it is a tenth of the heap, after what fields hold."""
         for size, count in ((2500, 3), (1500, 2)):
             batch(400, size).write("batch.hprof")
-            rows = self.ran("batch.hprof").out.splitlines()
+            ended = self.ran("batch.hprof")
+            rows = ended.out.splitlines()
             shares = [int(each.split("%")[0][-3:]) for each in rows]
             self.assertEqual(shares, {3: [70, 18, 12], 2: [74, 18]}[count])
             self.assertEqual("local shop/Batch.run > shop/Row.text" in rows[-1], count == 3)
+            self.assertEqual(ended.said.count("leaks: local shop/Batch.run is of thread without a name"), count == 3)
 
     def test_second(self) -> None:
         """What holds a tenth of what line 1 leaves is the second line, and nothing is said to have grown."""
