@@ -14,7 +14,7 @@ from heap_tools.dump_side import DumpSide, GroupKey
 from heap_tools.heap_dump import Root
 from heap_tools.heap_objects import FieldValue, HeapObjects
 from heap_tools.label_text import Place, in_class, in_root
-from heap_tools.line_order import MOST
+from heap_tools.line_order import NEARLY
 from heap_tools.object_parts import MOST_OBJECTS, FieldUses
 from heap_tools.object_shares import shares_of
 from heap_tools.probe import Probe, Retained
@@ -75,7 +75,7 @@ class PathRoots:
     def above(self, path: Sequence[Retained]) -> Optional[RootsAbove]:
         """Returns the roots above a path. They lead to all of it, so they are looked for from the step of which there
         are the fewest objects. Returns None if the path begins with a root, if even these are many of which no few hold
-        most, or if no root was found."""
+        nearly all, or if no root was found."""
         if any(each.kind != FIELD for each in path[0].candidates):
             return None
         step = min(path, key=lambda it: it.instances)
@@ -87,7 +87,7 @@ class PathRoots:
         return found._replace(first=path[0]) if found else None
 
     def _heaviest(self, field: Candidate) -> Sequence[FieldValue]:
-        """Returns the fewest values of a field that hold most of what it does, none if they are many."""
+        """Returns the fewest values of a field that hold nearly all that it does, none if they are many."""
         values = self.uses.of(field).values
         if len(values) == 1 or len(values) > MOST_OBJECTS:
             return values[:1] if len(values) == 1 else ()
@@ -96,7 +96,7 @@ class PathRoots:
         for value in (values[number] for number in shares.heavy[:MOST_OWNERS]):
             found.append(value)
             held += unit.of(shares.amount(value))
-            if held >= MOST * unit.of(shares.together):
+            if held >= NEARLY * unit.of(shares.together):
                 return found
         return ()
 

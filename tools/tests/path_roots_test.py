@@ -143,7 +143,7 @@ class PathRootsTest(unittest.TestCase):
         self.assertIsNone(self.above(dispatched(30), TARGET, TASK))
 
     def test_one_of_many(self) -> None:
-        """Of many objects that have the field it is asked of the few that hold most."""
+        """Of many objects that have the field it is asked of the few that hold nearly all."""
         dump = DumpWriter()
         dump.of_class(20, "shop/Main", {"LARGE": 600, "LARGE_TOO": 600, "SMALL": 620})
         dump.of_class(21, "lib/Buffer", fields=["content"])
@@ -155,6 +155,10 @@ class PathRootsTest(unittest.TestCase):
         found = self.above(dump, "lib/Buffer.content")
         assert found
         self.assertEqual(list(map(str, found.roots)), ["static shop/Main.LARGE", "static shop/Main.LARGE_TOO"])
+        with mock.patch.object(path_roots, "NEARLY", 0.995):
+            found = self.above(dump, "lib/Buffer.content")
+        assert found
+        self.assertEqual([str(each) for each in found.roots][2:], ["static shop/Main.SMALL", "the virtual machine"])
         with mock.patch.object(path_roots, "MOST_OBJECTS", 2):
             self.assertIsNone(self.above(dump, "lib/Buffer.content"))
         with mock.patch.object(path_roots, "MOST_OWNERS", 0):
