@@ -15,11 +15,10 @@ from heap_tools.gzip_dump import forget
 from heap_tools.heap_bytes import measure
 from heap_tools.heapmark import Heapmark
 from heap_tools.humanize import counted
-from heap_tools.leak_answer import RunningCalls
 from heap_tools.leak_options import Options
 from heap_tools.omissions import more_unreachable
 from heap_tools.dump_side import Several, ask
-from heap_tools.probe import GrowthProbe, Probe
+from heap_tools.probe import GrowthProbe, Probe, RunningCalls
 from heap_tools.reports import Amount, Report, Unit
 from heap_tools.same_program import Taken, other_main, other_program, wrong_order
 from heap_tools.weak_growth import MUCH_WEAKLY_HELD, Followed, followed_of, grown, weakly_held_words

@@ -6,28 +6,16 @@ add up. A line after the first must hold something that lasts: what only new obj
 that lasts is left, running calls count: what they hold beside all lines may be a line, too.
 """
 
-from typing import Callable, FrozenSet, List, NamedTuple, Optional, Sequence
+from typing import FrozenSet, List, NamedTuple, Optional, Sequence
 
 from heap_tools.candidates import Candidate
 from heap_tools.dump_side import GroupKey, Several
 from heap_tools.element_counts import element_counts
 from heap_tools.leak_lines import Line, Ranking, ranking_of, searched
 from heap_tools.leak_options import Bounds
-from heap_tools.probe import GrowthProbe, Probe
+from heap_tools.probe import Between, GrowthProbe, Probe, RunningCalls, nothing_between
 from heap_tools.reports import Amount
 from heap_tools.search import Search
-
-#: Returns what knows of some groups what they hold in dumps between the first and the last, without what is cut.
-Between = Callable[[Sequence[Several], Several], List[Probe]]
-
-
-class RunningCalls(NamedTuple):
-    """The same question if running calls count, which do not for the first lines. `whole`: how much is asked for then,
-    which shares are of. `without` returns what asks for what some candidates leave, `between` knows dumps between."""
-
-    whole: Amount
-    without: Callable[[Several], Probe]
-    between: Between
 
 
 class Answer(NamedTuple):
@@ -46,11 +34,6 @@ class Answer(NamedTuple):
     def left_percent(self) -> float:
         """The share of what is asked for that no line holds, in percent."""
         return self.search.probe.unit.percent(self.left, self.whole)
-
-
-def nothing_between(groups: Sequence[Several], cut: Several) -> List[Probe]:
-    """Returns what knows of dumps between the first and the last, if there are none."""
-    return []
 
 
 def answer_of(

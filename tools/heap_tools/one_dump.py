@@ -8,10 +8,10 @@ from heap_tools.comparison import families_asked
 from heap_tools.dump_runs import DumpRuns
 from heap_tools.dump_side import Several
 from heap_tools.heap_dump import HeapDump
-from heap_tools.leak_answer import Answer, RunningCalls, nothing_between
+from heap_tools.leak_answer import Answer
 from heap_tools.leak_lines import Line
 from heap_tools.leak_options import Options
-from heap_tools.probe import Probe, Retained
+from heap_tools.probe import Probe, Retained, RunningCalls, nothing_between
 from heap_tools.reports import Amount, Row, Unit
 from heap_tools.weak_growth import Followed, followed_of
 from heap_tools.what_counts import PASSING, Way, WhatCounts, sides_with_calls, without_running_calls

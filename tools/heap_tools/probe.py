@@ -1,6 +1,6 @@
 """What candidates retain, looked up in tables of a dump: and how much of the growth between two."""
 
-from typing import Dict, List, NamedTuple, Optional, Sequence, Set
+from typing import Callable, Dict, List, NamedTuple, Optional, Sequence, Set
 
 from heap_tools.candidates import Candidates
 from heap_tools.class_names import family
@@ -192,3 +192,21 @@ def asked_without(probe: Probe, group: Several) -> List[DumpSide]:
     groups = first_groups(sides[0])
     ask([(side, groups) for side in sides])
     return sides
+
+
+#: Returns what knows of some groups what they hold in dumps between the first and the last, without what is cut.
+Between = Callable[[Sequence[Several], Several], List[Probe]]
+
+
+class RunningCalls(NamedTuple):
+    """The same question if running calls count, which do not for the first lines. `whole`: how much is asked for then,
+    which shares are of. `without` returns what asks for what some candidates leave, `between` knows dumps between."""
+
+    whole: Amount
+    without: Callable[[Several], Probe]
+    between: Between
+
+
+def nothing_between(groups: Sequence[Several], cut: Several) -> List[Probe]:
+    """Returns what knows of dumps between the first and the last, if there are none."""
+    return []
