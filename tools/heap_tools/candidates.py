@@ -16,7 +16,7 @@ from heap_tools.thread_counts import pattern_of, shown_name
 
 STATIC, FIELD, LOCAL, THREAD, THREADS = "static", "field", "local", "thread", "threads"
 #: The kind of roots that are no candidates: those of the virtual machine and of native code.
-MACHINE = "machine"
+OF_MACHINE = "machine"
 WEAK = "java/lang/ref/Reference.referent"
 #: The links of the virtual machine's list of references that are not in their queues yet. Its head is a root of dumps
 #: of JDK 17, and the collection before a dump fills it.
@@ -341,9 +341,9 @@ class Candidates:
             self._locals = self._by_name(LOCAL, roots)
         return self._locals
 
-    def running(self, only_jdk: bool) -> List[Place]:
-        """Returns the places of local variables: of all, or of those of methods of the JDK."""
-        return [place for each in self.locals() if not (only_jdk and each.is_own) for place in each.places]
+    def calls_of_jdk(self) -> List[Candidate]:
+        """Returns the local variables of methods of the JDK."""
+        return [each for each in self.locals() if not each.is_own]
 
     def threads(self) -> List[Candidate]:
         """Returns the threads, by name."""

@@ -1,8 +1,9 @@
 """What counts in dumps: which weak references are followed, and whether local variables are.
 
 Calls run while a dump is made, and their local variables lead into what fields hold: they mostly do not count. Mostly
-nothing else is known than what is reachable without weak references and without local variables; if that is not enough,
-one run for each dump shows what is reachable by each other way to count.
+nothing else is known than what is reachable without weak references and without local variables. If that is not enough,
+it is asked with local variables, by which it is known, too, without those of the JDK's calls; and at last one run for
+each dump shows what is reachable by each other way to count.
 """
 
 import enum
@@ -20,10 +21,10 @@ PASSING = 5.0
 
 
 class Calls(enum.Enum):
-    """Which calls do not count. The value says whether only those of the JDK do not."""
+    """Which calls do not count."""
 
-    ALL = False
-    OF_JDK = True
+    ALL = enum.auto()
+    OF_JDK = enum.auto()
 
 
 class Weak(enum.Enum):
@@ -40,8 +41,8 @@ class Way(NamedTuple):
     calls: Optional[Calls] = None
 
 
-#: The way that is tried first.
-USUAL = Way(Weak.NONE, Calls.ALL)
+#: The way that is tried first, then that with all calls, by which it is known how that is which is tried third.
+USUAL, WITH_CALLS, WITH_OWN_CALLS = (Way(Weak.NONE, calls) for calls in (Calls.ALL, None, Calls.OF_JDK))
 #: All other ways.
 OTHER_WAYS = [
     Way(follows, calls)
@@ -60,18 +61,20 @@ class WhatCounts:
         self._reports: Dict[Way, List[Report]] = {}
 
     def sides(self, way: Way) -> List[DumpSide]:
-        """Returns the dumps as they are asked by a way: what each candidate holds is known, and what all fields of a
-        class do."""
+        """Returns the dumps as they are asked by a way: what each candidate holds is known, what all fields of a class
+        do, and what the JDK's calls do."""
         if way not in self._sides:
             sides = self._sides[way] = [side_of(each, way) for each in self.dumps]
             groups = first_groups(sides[-1])
-            ask([(side, groups) for side in sides])
+            ask([(side, [*groups, side.candidates.calls_of_jdk()]) for side in sides])
         return self._sides[way]
 
     def reports(self, way: Way) -> List[Report]:
         """Returns the reports of the dumps by a way."""
-        if way in self._sides or way == USUAL:
+        if way in self._sides or way in (USUAL, WITH_CALLS):
             return [side.base for side in self.sides(way)]
+        if way == WITH_OWN_CALLS:
+            return [side.report_of_rest(side.candidates.calls_of_jdk()) for side in self.sides(WITH_CALLS)]
         if not self._reports:
             self._ask()
         return self._reports[way]
@@ -103,8 +106,8 @@ def sides_with_calls(dumps: Sequence[DumpRuns], way: Way, cut: Several) -> List[
 
 def cut_by(side: DumpSide, way: Way) -> List[Place]:
     """Returns the places of the references that a way does not follow."""
-    calls = side.candidates.running(way.calls.value) if way.calls else []
-    return [*weak_places(side, way.follows), *calls]
+    calls = {None: [], Calls.ALL: side.candidates.locals(), Calls.OF_JDK: side.candidates.calls_of_jdk()}[way.calls]
+    return [*weak_places(side, way.follows), *(place for each in calls for place in each.places)]
 
 
 def weak_places(side: DumpSide, follows: Union[Weak, WeakKind]) -> List[Place]:

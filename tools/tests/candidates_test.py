@@ -146,9 +146,7 @@ class CandidatesTest(unittest.TestCase):
         dump.local(2, 0, 300)
         known = self.candidates(dump)
         self.assertEqual(self.named(known.locals()), ["local java/lang/Object.wait", "local shop/Order.sell"])
-        of_jdk, of_order = (each.places for each in known.locals())
-        self.assertEqual(known.running(only_jdk=True), of_jdk)
-        self.assertEqual(known.running(only_jdk=False), [*of_jdk, *of_order])
+        self.assertEqual(self.named(known.calls_of_jdk()), ["local java/lang/Object.wait"])
 
     def test_holders(self) -> None:
         """Of static fields those that are not null hold, of fields the instances of the class and of those below it."""

@@ -59,7 +59,8 @@ class BetweenTest(unittest.TestCase):
         dump.local(8, 0, 5000)
         between = self.runs(dump)
         known = Candidates(between.dump, between.report)
-        every, of_jdk, weak = known.running(False), known.running(True), list(known.places((FIELD, WEAK)))
+        every, of_jdk = ([place for it in of for place in it.places] for of in (known.locals(), known.calls_of_jdk()))
+        weak = list(known.places((FIELD, WEAK)))
         self.assertEqual((len(every), len(of_jdk), len(weak)), (2, 1, 1))
         cases: List[Tuple[Way, List[Place]]] = [
             (Way(Weak.NONE, Calls.ALL), [*weak, *every]),

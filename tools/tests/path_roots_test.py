@@ -5,7 +5,7 @@ from typing import List, Optional, Tuple
 from unittest import mock
 
 from heap_tools import path_roots
-from heap_tools.candidates import FIELD, MACHINE, THREAD, Candidate
+from heap_tools.candidates import FIELD, OF_MACHINE, THREAD, Candidate
 from heap_tools.heap_objects import HeapObjects
 from heap_tools.object_parts import FieldUses
 from heap_tools.path_roots import PathRoots, RootAbove, RootsAbove, RootSearch
@@ -186,7 +186,7 @@ class WordsTest(unittest.TestCase):
     def test_words(self) -> None:
         """The first, and how many more there are."""
         first = Retained([Candidate(FIELD, "shop/A.a", 1)], Amount(), Amount(), {})
-        machine = RootAbove(MACHINE)
+        machine = RootAbove(OF_MACHINE)
         cases: List[Tuple[List[RootAbove], bool, str]] = [
             ([DISPATCHER], True, 'held by thread "HTTP-Dispatcher"'),
             ([DISPATCHER], False, 'held by thread "HTTP-Dispatcher" and others'),

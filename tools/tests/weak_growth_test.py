@@ -96,8 +96,9 @@ class FollowedTest(unittest.TestCase):
         )
 
     def test_asked_once(self) -> None:
-        """Each dump is asked once without weak references, and once for all ways if much is lost without them."""
-        for kept, counts, runs in ((20_000, {"soft": 2}, 2), (1500, {"soft": 2}, 4), (1500, {"final": 30}, 4)):
+        """Each dump is asked once without weak references and running calls; if much is lost so, once with these, and
+        if it is that by weak references, once for all ways."""
+        for kept, counts, runs in ((20_000, {"soft": 2}, 2), (1500, {"soft": 2}, 6), (1500, {"final": 30}, 6)):
             both, before = (referring(1000, {}), referring(kept, counts)), RETAINED.runs
             followed_of(WhatCounts(both), None, Unit.BYTES)
             self.assertEqual(RETAINED.runs - before, runs, counts)

@@ -137,7 +137,7 @@ def largest(side: DumpSide, places: Sequence[Place]) -> Tuple[Report, Report]:
     local variables that are not among these if that makes the larger difference. A call that runs hides what others
     hold, by its local variables; but fields below the local variables of a call, such as those of a server in `main`,
     hold nothing without it."""
-    calls = [each for each in side.candidates.running(only_jdk=False) if each not in places]
+    calls = [place for each in side.candidates.locals() for place in each.places if place not in places]
     (table,) = ask_places([(side, [places, calls, [*places, *calls]])])
     without, idle, silent = (side.report_without(table, label) for label in range(3))
     pairs = (without, side.base), (silent, idle)
