@@ -4,12 +4,11 @@ import struct
 import unittest
 from typing import Optional
 
-from heap_tools.element_counts import MOST_CONTAINERS, ElementCounts, element_counts, gained_elements
+from heap_tools.element_counts import MOST_CONTAINERS, ElementCounts, element_counts
 from heap_tools.heap_dump import HeapDump
 from heap_tools.heap_objects import HeapObjects
 from tests.support.dump_writer import BYTE, DumpWriter, word
-from tests.support.marked import growth_of, held_by, probe_of
-from tests.support.services import scheduled
+from tests.support.marked import held_by, probe_of
 
 
 def long(number: int) -> bytes:
@@ -98,31 +97,6 @@ class OfLinesTest(unittest.TestCase):
             probe = probe_of(dump)
             both = [*held_by(probe, "shop/Shop.LIST").candidates, *held_by(probe, "shop/Shop.ALL").candidates]
             self.assertEqual(element_counts(probe, [both, []]), [None, None])
-
-
-class GainedTest(unittest.TestCase):
-    """gained_elements"""
-
-    def gained(self, before: DumpWriter, after: DumpWriter, name: str) -> bool:
-        """Tests whether elements came into the container to which a field leads, and are what it gained."""
-        probe = growth_of(before, after)
-        (found,) = gained_elements(probe, [held_by(probe, name)])
-        return found
-
-    def test_gained(self) -> None:
-        """As large a part of the elements must have come as is half of the part that was gained."""
-        for before, after, is_so in (
-            (scheduled(5, 10, 60), scheduled(5, 20, 60), True),  # half came, half was gained
-            (scheduled(5, 10, 20), scheduled(5, 20, 60), True),
-            (scheduled(5, 18, 20), scheduled(5, 20, 200), False),  # a tenth came, and nearly all was gained
-            (scheduled(5, 20, 20), scheduled(5, 20, 60), False),
-            (scheduled(5, 21, 20), scheduled(5, 20, 60), False),
-        ):
-            self.assertEqual(self.gained(before, after, "shop/Timer.TASKS"), is_so)
-
-    def test_none(self) -> None:
-        """What leads to no container gained no elements."""
-        self.assertFalse(self.gained(scheduled(5, 10), scheduled(50, 20), "shop/Task.service"))
 
 
 if __name__ == "__main__":

@@ -37,6 +37,7 @@ from tests.support.services import (
     referents,
     reporters,
     running,
+    scheduled,
     swapped,
     twofold,
     uploads,
@@ -130,17 +131,12 @@ class LeaksTest(ToolTest):
             rows = self.found(uploads(1), uploads(10), *words)
             self.assertEqual(rows[0][-1], "static shop/Upload.UPLOAD > shop/Upload.chunks")
 
-    def test_hidden_classes(self) -> None:
     def test_above_a_line(self) -> None:
-        """What is above a line is a line if elements came into its container; not if they only became larger."""
+        """What is above a line is none, though it holds more than that line."""
         tasks = "static shop/Timer.TASKS > java/util/ArrayList.elementData"
-        first = f"{tasks} > shop/Task.service > shop/Service.log"
         rows = self.found(scheduled(20, 8), scheduled(80, 32))
-        self.assertEqual([row[-1] for row in rows], [first, "static shop/Timer.TASKS"])
-        self.assertIn("leaks: line 2: static shop/Timer.TASKS: 8, then 32 elements\n", self.ran("before", "after").said)
-        for before in 32, 31:
-            rows = self.found(scheduled(20, before), scheduled(80, 32, 60))
-            self.assertEqual([row[-1] for row in rows], [first, f"{tasks} > shop/Task.text"])
+        self.assertEqual([row[-1] for row in rows], [f"{tasks} > shop/Task.service > shop/Service.log"])
+        self.assertRegex(self.ran("before", "after").said, "leaks: [0-9]+% of the growth are in no line")
 
     def test_calls_with_little(self) -> None:
         """What only a running call holds is a line if it is a tenth of the growth, and no other line holds it: all
@@ -164,6 +160,7 @@ class LeaksTest(ToolTest):
             self.assertEqual(len(self.found(batch(20, 8, name), batch(80, 600, name))), count)
         self.assertEqual(len(self.found(batch(20, 600), batch(80, 600))), 1)
 
+    def test_hidden_classes(self) -> None:
         """Names of hidden classes differ, and BEFORE may lack a class. What their fields are is said."""
         for before in (lambdas(20, "00aa"), lambdas(0, "")):
             rows = self.found(before, lambdas(80, "00bb"), "--all")
