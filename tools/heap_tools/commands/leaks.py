@@ -53,6 +53,8 @@ instances that have the field, in the first dump too if it was another, and the
 field. A static field has one instance; those of a local variable are the
 threads in its method. Fields above a field, from a static field, a local
 variable or a thread down, stand before it: in `A > B`, A holds all that B does.
+If several roots lead to a path, and none holds all of it, a message names the
+nearest, and says how many others there are.
 
 Line 1 is the accumulation point: the last place on the path where most of the
 growth is still together, in objects that both dumps have. On one path, fields
