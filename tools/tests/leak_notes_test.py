@@ -58,8 +58,7 @@ class LeakNotesTest(unittest.TestCase):
 
     def test_rest(self) -> None:
         """What is in no line, and which option shows more."""
-        probe = mock.Mock(unit=Unit.BYTES, growth=Amount(9, 90))
-        search = mock.Mock(probe=probe)
+        search = mock.Mock(probe=mock.Mock(unit=Unit.BYTES))
         bounds, more = Bounds(30, 10, 2), "18 bytes"
         for count, hidden, left, of, said in (
             (0, 0, 90, bounds, ["no field, local variable or thread alone holds 30% of 18 bytes: see --at-least"]),
@@ -72,7 +71,7 @@ class LeakNotesTest(unittest.TestCase):
             (2, 2, 9, Bounds(30, 10, 2, True), ["2 more hold 30% or more: see --top"]),
             (2, 0, 9, Bounds(30, 10, 9, True), []),
         ):
-            answer = Answer([OWN] * count, hidden, search, Amount(0, left), True)
+            answer = Answer([OWN] * count, hidden, search, Amount(9, 90), Amount(0, left), True)
             self.assertEqual(rest_words(answer, of, more), said)
 
     def test_nothing_lasts(self) -> None:
