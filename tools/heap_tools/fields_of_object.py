@@ -21,20 +21,22 @@ from heap_tools.search import Search
 from heap_tools.which_object import HoldingObject
 
 
-def find_below(search: Search, upper: Retained, uses: FieldUses) -> List[Retained]:
-    """Finds what fields that the instances of one class have, inherited ones too, hold only together, of what `upper`
-    holds, if that leads to no container, and what fields of few instances do. `uses` may know the values of fields."""
+def find_below(search: Search, upper: Optional[Retained], uses: FieldUses) -> List[Retained]:
+    """Finds what fields that the instances of one class have, inherited ones too, hold only together: of what `upper`
+    holds, if that leads to no container, and what fields of few instances do; or of all that grew, if nothing that
+    lasts holds it. `uses` may know the values of fields."""
     probe = search.probe
-    if leads_to_container(probe, upper, uses):
+    if upper and leads_to_container(probe, upper, uses):
         return []
-    units = {key_of(unit): unit for name, unit in probe.candidates.units().items() if name in upper.lost}
+    every = probe.candidates.units().items()
+    units = {key_of(unit): unit for name, unit in every if not upper or name in upper.lost}
     heavy = [unit for unit in units.values() if probe.share(unit) >= search.at_least]
     needed = [each for each in (needed_of(probe, search.at_least, unit) for unit in heavy) if each]
-    lower = JointSearch(probe, search.at_least, fields_below(probe, upper)).find()
+    lower = JointSearch(probe, search.at_least, fields_below(probe, upper)).find() if upper else []
     needed += [lower] if len(lower) > 1 and lead_apart(probe, lower, uses) else []
     known = {held.key for held in search.found}
-    every = {key_of(each): by_amount(probe, each) for each in needed if key_of(each) not in known}
-    return [probe.retained(each)._replace(candidates=each) for each in every.values()]
+    found = {key_of(each): by_amount(probe, each) for each in needed if key_of(each) not in known}
+    return [probe.retained(each)._replace(candidates=each) for each in found.values()]
 
 
 def fields_below(probe: Probe, upper: Retained) -> List[Candidate]:

@@ -150,7 +150,8 @@ class Lines:
 
     def ask_below(self) -> bool:
         """Asks of several fields below the answer whether one object gained most by them, or each its part; if the
-        answer leads to no container, searches for such fields. Returns whether they are the answer now."""
+        answer leads to no container, or only new objects hold it, searches for such fields. Returns whether they are
+        the answer now."""
         answer = self._order().answer()
         if answer is None:
             return False
@@ -158,7 +159,7 @@ class Lines:
             if len(held.candidates) > 1 and all(each.kind == FIELD for each in held.candidates):
                 if number != answer and self._holds(answer, number):
                     self.features[number] = self._with_parts(self.features[number], held)
-        for upper in find_below(self.search, self.every[answer], self.uses):
+        for upper in find_below(self.search, self.every[answer] if self.lasts() else None, self.uses):
             group = by_amount(self.probe, deepened(self.probe, upper.candidates))
             held = self.probe.retained(group)._replace(candidates=group)
             self.search.found.append(held)

@@ -134,6 +134,17 @@ class BelowTest(unittest.TestCase):
         paths = self.paths(*(Clients([count] * 3, is_listed=True) for count in (30, 90)))
         self.assertEqual((paths[0], [it for it in paths if it.endswith(f" > {TOGETHER}")]), (LIST, paths[2:3]))
 
+    def test_many_ways(self) -> None:
+        """If several classes lead to the client, so that no few hold the hosts, its fields are the answer, too; but not
+        if something holds most."""
+        for ways, wanted in ((4, TOGETHER), (0, f"{POOL} > {TOGETHER}")):
+            dumps = [Clients([count]) for count in (70, 300)]
+            for dump in dumps:
+                for number, letter in enumerate("ABCD"[:ways], 20):
+                    dump.of_class(number, f"shop/Way{letter}", {"CLIENT": 1000})
+                    dump.root(number)
+            self.assertEqual(self.paths(*dumps)[0], wanted)
+
     def test_collection(self) -> None:
         """The fields of a collection are not tried: that it holds what is in it says nothing."""
         paths = self.paths(*(Clients([count], names=("shop/PartList", "shop/ClientMap")) for count in (70, 300)))
