@@ -16,7 +16,7 @@ from heap_tools.thread_counts import pattern_of, shown_name
 
 STATIC, FIELD, LOCAL, THREAD, THREADS = "static", "field", "local", "thread", "threads"
 #: The kind of roots that are no candidates: those of the virtual machine and of native code.
-OF_MACHINE = "machine"
+MACHINE_ROOT = "machine"
 WEAK = "java/lang/ref/Reference.referent"
 #: The links of the virtual machine's list of references that are not in their queues yet. Its head is a root of dumps
 #: of JDK 17, and the collection before a dump fills it.

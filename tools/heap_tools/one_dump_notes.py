@@ -39,8 +39,8 @@ class LocalPlace(NamedTuple):
 @dataclass(frozen=True)
 class HeapNotes:
     """How many bytes the heap may have, if the dump says it, the threads that ran out of memory, those whose local
-    variables are lines or above them, the memory of direct buffers, a sentence on weak references, empty if they hold little, and
-    other sentences."""
+    variables are lines or above them, the memory of direct buffers, a sentence on weak references, empty if they hold
+    little, and other sentences."""
 
     capacity: Optional[int]
     ran_out: List[ThreadPlace]

@@ -8,7 +8,7 @@ all the same: so the roots are looked up that lead to the object with the first 
 from typing import Dict, List, NamedTuple, Optional, Sequence, Set, Tuple
 
 from heap_tools import hprof_format as hprof
-from heap_tools.candidates import FIELD, LOCAL, OF_MACHINE, STATIC, THREAD, Candidate, reference_fields
+from heap_tools.candidates import FIELD, LOCAL, MACHINE_ROOT, STATIC, THREAD, Candidate, reference_fields
 from heap_tools.class_names import family
 from heap_tools.dump_side import DumpSide, GroupKey
 from heap_tools.heap_dump import Root
@@ -37,11 +37,11 @@ class RootAbove(NamedTuple):
     @property
     def rank(self) -> Tuple[int, str]:
         """What comes first of roots that are equally near: what is own, a thread, what is of the JDK."""
-        is_own = self.kind != OF_MACHINE and Candidate(self.kind, self.name, 1).is_own
-        return [STATIC, THREAD, LOCAL, OF_MACHINE].index(self.kind) + 4 * (not is_own), self.name
+        is_own = self.kind != MACHINE_ROOT and Candidate(self.kind, self.name, 1).is_own
+        return [STATIC, THREAD, LOCAL, MACHINE_ROOT].index(self.kind) + 4 * (not is_own), self.name
 
     def __str__(self) -> str:
-        return "the virtual machine" if self.kind == OF_MACHINE else str(Candidate(self.kind, self.name, 1))
+        return "the virtual machine" if self.kind == MACHINE_ROOT else str(Candidate(self.kind, self.name, 1))
 
 
 class RootsAbove(NamedTuple):
@@ -176,7 +176,7 @@ class RootSearch:
                 found.setdefault(self.dump.id(root.place), []).append(self._of_thread(root, names))
         for place in self.dump.root_places:
             if place not in known:
-                found.setdefault(self.dump.id(place), []).append(RootAbove(OF_MACHINE))
+                found.setdefault(self.dump.id(place), []).append(RootAbove(MACHINE_ROOT))
         return found
 
     def _of_thread(self, root: Root, names: Dict[int, str]) -> RootAbove:

@@ -397,7 +397,7 @@ class PageOfTwoTest(HtmlOfPage):
         for kind, name, others, wanted in (
             (page.THREAD, "HTTP-Dispatcher", " and 8 more", 'thread "HTTP-Dispatcher" and 8 more'),
             (page.STATIC, "shop/Main.SERVER", " and others", "static shop/Main.SERVER and others"),
-            (page.MACHINE, "", "", "the virtual machine"),
+            (page.MACHINE_ROOT, "", "", "the virtual machine"),
         ):
             root = page.StepEntry([page.FieldEntry(kind, name)], others=others)
             it = leak(holders=[dataclasses.replace(first, above=[root, page_sample.step("shop/Server.contexts")])])

@@ -57,7 +57,7 @@ class PageOfOneTest(HtmlOfPage):
         first = one_dump().suspects[0]
         for kind, name, others, wanted in (
             (page.THREAD, "HTTP-Dispatcher", " and 8 more", 'thread "HTTP-Dispatcher" and 8 more field a/B.c'),
-            (page.OF_MACHINE, "", " and 1 more", "root of the virtual machine and 1 more field a/B.c"),
+            (page.MACHINE_ROOT, "", " and 1 more", "root of the virtual machine and 1 more field a/B.c"),
         ):
             root = page.StepEntry([page.FieldEntry(kind, name)], others=others)
             above = [root, page_sample.step("a/B.c")]

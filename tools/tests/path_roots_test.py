@@ -5,7 +5,7 @@ from typing import List, Optional, Tuple
 from unittest import mock
 
 from heap_tools import path_roots
-from heap_tools.candidates import FIELD, OF_MACHINE, THREAD, Candidate
+from heap_tools.candidates import FIELD, MACHINE_ROOT, THREAD, Candidate
 from heap_tools.heap_objects import HeapObjects
 from heap_tools.object_parts import FieldUses
 from heap_tools.path_roots import PathRoots, RootAbove, RootsAbove, RootSearch
@@ -51,8 +51,8 @@ class RootSearchTest(unittest.TestCase):
         self.assertTrue(self.search(dispatched(3)).is_done)
 
     def test_of_one_thread(self) -> None:
-        """A thread counts once, however many of its calls lead there: as the thread if its object does, too. Two threads
-        of one name are two."""
+        """A thread counts once, however many of its calls lead there: as the thread if its object does, too. Two of
+        one name are two."""
         for target, main in (0, "local shop/Main.main"), (791, "thread"):
             dump = dispatched(3, "aa")
             dump.of_class(60, "shop/Main")
@@ -186,7 +186,7 @@ class WordsTest(unittest.TestCase):
     def test_words(self) -> None:
         """The first, and how many more there are."""
         first = Retained([Candidate(FIELD, "shop/A.a", 1)], Amount(), Amount(), {})
-        machine = RootAbove(OF_MACHINE)
+        machine = RootAbove(MACHINE_ROOT)
         cases: List[Tuple[List[RootAbove], bool, str]] = [
             ([DISPATCHER], True, 'held by thread "HTTP-Dispatcher"'),
             ([DISPATCHER], False, 'held by thread "HTTP-Dispatcher" and others'),

@@ -14,7 +14,7 @@ import secrets
 import stat
 from typing import Callable, Union
 
-from heap_tools.candidates import FIELD, LOCAL, OF_MACHINE, STATIC, THREAD, THREADS
+from heap_tools.candidates import FIELD, LOCAL, MACHINE_ROOT, STATIC, THREAD, THREADS
 from heap_tools.page import comparison_page, dump_page, sizes_page
 from heap_tools.page.model import DumpEntry, FieldEntry, GrownClass, HeldShare, HolderEntry, Leak, Limits, Making
 from heap_tools.page.model import NameEntry, NextStep, ObjectEntry, OneDump, ProgramEntry, RanOutEntry, StepEntry
@@ -33,7 +33,7 @@ __all__ = [
     "LOCAL",
     "Leak",
     "Limits",
-    "OF_MACHINE",
+    "MACHINE_ROOT",
     "Making",
     "NameEntry",
     "NextStep",

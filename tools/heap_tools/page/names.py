@@ -6,7 +6,7 @@ from dataclasses import dataclass
 from typing import List, Sequence
 
 from heap_tools import class_names
-from heap_tools.candidates import FIELD, LOCAL, OF_MACHINE, STATIC, THREAD, THREADS
+from heap_tools.candidates import FIELD, LOCAL, MACHINE_ROOT, STATIC, THREAD, THREADS
 from heap_tools.page.model import FieldEntry, Limits, StepEntry
 from heap_tools.page.templates import Html, escaped, fill, joined, plain
 from heap_tools.thread_counts import NAMELESS
@@ -30,7 +30,7 @@ KINDS = {
     LOCAL: KindWords("local variables of", "local variables of", "hold"),
     THREAD: KindWords("thread", "threads", "holds"),
     THREADS: KindWords("threads", "threads", "hold"),
-    OF_MACHINE: KindWords("root", "roots", "holds"),
+    MACHINE_ROOT: KindWords("root", "roots", "holds"),
 }
 
 
@@ -73,7 +73,7 @@ def field_name(field: FieldEntry, limits: Limits) -> Html:
     """Returns the name of what holds: of a thread in quotes, of all else as a name of Java."""
     if field.kind == THREADS and not field.name:
         return escaped("of all names")
-    if field.kind == OF_MACHINE:
+    if field.kind == MACHINE_ROOT:
         return escaped("of the virtual machine")
     if field.kind in (THREAD, THREADS):
         return thread_name(field.name, limits)
@@ -127,7 +127,7 @@ def verb_of(fields: Sequence[FieldEntry]) -> str:
 def step_words(field: FieldEntry, longest: int) -> str:
     """Returns a field of a path in words, with at most `longest` characters of its name."""
     name = plain(field.name, longest)
-    if field.kind == OF_MACHINE:
+    if field.kind == MACHINE_ROOT:
         return "the virtual machine"
     if field.kind in (THREAD, THREADS):
         return f'{field.kind} "{name}"' if name else f"{field.kind} {NAMELESS}"
