@@ -8,6 +8,8 @@ from heap_tools.class_names import printable
 
 #: The fields of a text that names an object, the likeliest first. An object with one text only is named by that.
 NAMING = ("name", "id", "key", "destination", "topic", "queue", "title", "label", "path", "url", "host")
+#: A number that a program makes at random (RFC 4122). It names an object for programs, not for a reader.
+RANDOM = re.compile("[0-9a-f]{8}-(?:[0-9a-f]{4}-){3}[0-9a-f]{12}", re.IGNORECASE)
 #: How many names of an object are shown.
 NAMES_SHOWN = 2
 #: How many characters of a text are shown.
@@ -49,12 +51,14 @@ def likeliest_first(name: Name) -> Tuple[bool, Name]:
 
 def likely_names(named: Mapping[str, str]) -> List[str]:
     """Returns which of the fields with these texts name their object, the likeliest first. A text of several lines,
-    such as the stack where an object was made, is no name, and neither is what is called a trace."""
+    such as the stack where an object was made, is no name, and neither is what is called a trace, or has a random
+    number and is not called as a name is."""
     named = {
         field: text for field, text in named.items() if text and "\n" not in text and field[-5:].lower() != "trace"
     }
     likely = [field for field in NAMING if field in named] or [field for field in named if is_naming(field)]
-    return likely or (list(named) if len(named) == 1 else [])
+    telling = [field for field, text in named.items() if not RANDOM.search(text)]
+    return likely or (telling if len(telling) == 1 else [])
 
 
 def alone_in(names: Mapping[int, Sequence[Name]]) -> Dict[int, List[Name]]:

@@ -345,22 +345,30 @@ class NamesTest(unittest.TestCase):
 
     def test_neighbour(self) -> None:
         """The name of a neighbour, an object of the same class, names no object that it leads to, be it by one of the
-        class or not, and neither does the stack where an object was made; what an owner is made of does."""
+        class or not, and neither does the stack where an object was made, nor a random number that is not called as a
+        name; what an owner is made of does."""
         dump = Queues([])
         dump.of_class(20, "shop/Atom")
         dump.of_class(21, "shop/Link", {"FIRST": 310}, fields=["atom", "next", "name"])
         dump.of_class(22, "shop/Pooled", {"ONE": 320}, fields=["creationStackTrace"])
         dump.of_class(23, "shop/Traced", {"ONE": 321}, fields=["where"])
+        dump.of_class(24, "shop/Cached", {"ONE": 322}, fields=["guid"])
+        dump.of_class(25, "shop/Known", {"ONE": 323}, fields=["id"])
         dump.string(60_000, "eu")
         dump.string(60_001, "at shop.Pool.make")
         dump.string(60_002, "made\n at shop.Pool.make")
+        dump.string(60_003, "vm/127.0.0.1-8bdaf832-c041-40FF-8322-a9817f4aeead")
+        dump.string(60_004, "8bdaf832-c041-40ff-8322-a9817f4aeead")
         dump.instance(300, 20)
         dump.instance(310, 21, 300, 311, 0)
         dump.instance(311, 21, 0, 0, 60_000)
         dump.instance(320, 22, 60_001)
         dump.instance(321, 23, 60_002)
-        names = [[], ["static shop/Pooled.ONE"], ["static shop/Traced.ONE"]]
-        self.assertEqual(self.names(dump, 300, 320, 321), [["static shop/Link.FIRST"], *names[1:]])
+        dump.instance(322, 24, 60_003)
+        dump.instance(323, 25, 60_004)
+        names = [[f"static shop/{name}"] for name in ("Link.FIRST", "Pooled.ONE", "Traced.ONE", "Cached.ONE")]
+        random = ['its field id "8bdaf832-c041-40ff-8322-a9817f4aeead"']
+        self.assertEqual(self.names(dump, 300, 320, 321, 322, 323), [*names, random])
         chain = Queues([])
         chain.of_class(20, "shop/Reader", fields=["name"])
         chain.of_class(21, "shop/Stream", {"FIRST": 310}, fields=["next", "reader", "name"])
