@@ -5,7 +5,7 @@ class. How often holes are after objects whose size is known says which.
 """
 
 from collections import defaultdict
-from typing import Dict, Iterable, List, NamedTuple, Sequence
+from typing import Dict, Iterable, List, NamedTuple
 
 from heap_tools.heap_layout import Layout
 from heap_tools.heap_sample import Sample

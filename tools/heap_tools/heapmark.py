@@ -4,14 +4,14 @@ import contextlib
 import os
 import re
 import sys
-from typing import BinaryIO, NamedTuple, Optional, Sequence
+from typing import BinaryIO, NamedTuple, Sequence
 
 from heap_tools.child_process import Call, Child, Children, Ran
 from heap_tools.console import as_heapmark_spells, is_terminal, say
 from heap_tools.faults import UNREADABLE, WRONG_USE, Fault
 from heap_tools.gzip_dump import readable_name
 from heap_tools.proved_program import STANDARD_INPUT, ProvedProgram, why_unreadable
-from heap_tools.reports import LARGEST_DUMP, Report, ReportBound, read_report
+from heap_tools.reports import LARGEST_DUMP, Report, read_report, report_bound
 from heap_tools.retained_program import RetainedProgram
 
 #: The most bytes that heapmark prints at --version.
@@ -45,7 +45,7 @@ class Heapmark(ProvedProgram):
     def check_fields(self, fields: str) -> None:
         """Raises `Fault` if `fields` is no list. heapmark refuses such a text before it opens a file: with refusal 21,
         or with status 2 if the text is not UTF-8."""
-        ran = self.run(Call(["--skip=" + fields, "--", "/dev/null"], ReportBound(0)))
+        ran = self.run(Call(["--skip=" + fields, "--", "/dev/null"], report_bound(0)))
         if ran.status == 2 or any("refused 21 " in line for line in ran.said):
             raise Fault(WRONG_USE, f"{fields}: no list of 1 to 64 fields Class.field with commas between")
 
@@ -67,7 +67,7 @@ class Heapmark(ProvedProgram):
                 name.encode()
             except UnicodeEncodeError:  # heapmark takes no such name
                 name, stdin = STANDARD_INPUT, stack.enter_context(opened(path)).fileno()
-            bound = ReportBound(os.path.getsize(name) if os.path.isfile(name) else LARGEST_DUMP)
+            bound = report_bound(os.path.getsize(name) if os.path.isfile(name) else LARGEST_DUMP)
             call = Call([*options, "--", name], bound, stdin, to_terminal=to_terminal)
             child = self.started(call, children)
         return FirstRun(self, child, path, name)

@@ -8,7 +8,7 @@ import re
 from array import array
 from typing import Collection, Container, Dict, FrozenSet, Iterable, List, Optional, Set, Tuple
 
-from heap_tools.reports import LONGEST_LINE, Amount
+from heap_tools.reports import Amount, LineBound
 
 #: A line: the objects, their bytes, their set, and their class.
 TABLE_LINE = re.compile(rb" *([0-9]{1,19}) +([0-9]{1,19})  (-|[0-9]{1,19})  ([!-~]+)")
@@ -121,24 +121,10 @@ class HeldTable:
         return sum(self._lines[at + 2] for each in sets for at in self._by_set.get(each, ()))
 
 
-class TableBound:
-    """Tests whether what a process has printed so far may be the beginning of a table of a dump with `length` bytes, of
-    a text with `labels` labels: its first line is one, or not yet whole, it has no more lines than that may have
-    objects and labels, and no line is too long."""
-
-    def __init__(self, length: int, labels: int) -> None:
-        self._most_lines = length + labels
-        self._lines = self._at = self._line = 0
-
-    def __call__(self, text: bytes) -> bool:
-        """Tests it of `text`, which begins with the one before."""
-        self._lines += text.count(b"\n", self._at)
-        self._line = max(self._line, 1 + text.rfind(b"\n", self._at))
-        self._at = len(text)
-        if self._lines > self._most_lines or self._at - self._line >= LONGEST_LINE:
-            return False
-        first = text[: text.find(b"\n")] if self._line else b""
-        return not self._line or bool(TABLE_LINE.fullmatch(first) or JOINT.fullmatch(first))
+def table_bound(length: int, labels: int) -> LineBound:
+    """Returns the bound of a table of a dump with `length` bytes, of a text with `labels` labels: no more lines than
+    these may have objects and labels."""
+    return LineBound(length + labels, TABLE_LINE, JOINT)
 
 
 def read_table(text: bytes) -> Optional[HeldTable]:

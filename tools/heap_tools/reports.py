@@ -120,23 +120,28 @@ def lines_of(file: BinaryIO) -> Iterator[bytes]:
     return (line.rstrip(b"\r\n") for line in iter(lambda: file.readline(LONGEST_LINE), b""))
 
 
-class ReportBound:
-    """Tests whether what a process has printed so far may be the beginning of a report of heapmark on a dump with
-    `length` bytes: its first line is a row, or not yet whole, it has no more rows than the dump may have classes, and
-    no line is too long. What is printed without end is bounded so."""
+class LineBound:
+    """Tests whether what a process has printed so far may be the beginning of a text of at most `most` lines: its first
+    line is as one of `first`, or not yet whole, and no line is too long. What is printed without end is bounded so."""
 
-    def __init__(self, length: int) -> None:
-        self._most_rows = length // SMALLEST_CLASS + OTHER_ROWS
-        self._rows = self._at = self._line = 0
+    def __init__(self, most: int, *first: "re.Pattern[bytes]") -> None:
+        self._most, self._first = most, first
+        self._lines = self._at = self._line = 0
 
     def __call__(self, text: bytes) -> bool:
         """Tests it of `text`, which begins with the one before."""
-        self._rows += text.count(b"\n", self._at)
+        self._lines += text.count(b"\n", self._at)
         self._line = max(self._line, 1 + text.rfind(b"\n", self._at))
         self._at = len(text)
-        if self._rows > self._most_rows or self._at - self._line >= LONGEST_LINE:
+        if self._lines > self._most or self._at - self._line >= LONGEST_LINE:
             return False
-        return not self._line or bool(ROW.fullmatch(text, 0, text.find(b"\n")))
+        return not self._line or any(each.fullmatch(text, 0, text.find(b"\n")) for each in self._first)
+
+
+def report_bound(length: int) -> LineBound:
+    """Returns the bound of a report of heapmark on a dump with `length` bytes: no more rows than that may have
+    classes."""
+    return LineBound(length // SMALLEST_CLASS + OTHER_ROWS, ROW)
 
 
 def read_report(lines: Iterable[bytes], path: str) -> Optional[Report]:

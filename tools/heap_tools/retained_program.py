@@ -7,7 +7,7 @@ from typing import Dict, List, NamedTuple, Sequence
 from heap_tools.child_process import Call, Child, Children, Feed, Ran
 from heap_tools.console import say
 from heap_tools.gzip_dump import readable_name
-from heap_tools.held_table import HeldTable, TableBound, read_table
+from heap_tools.held_table import HeldTable, read_table, table_bound
 from heap_tools.label_text import Labels
 from heap_tools.parallel import processors
 from heap_tools.proved_program import STANDARD_INPUT, ProvedProgram
@@ -54,7 +54,7 @@ class RetainedProgram(ProvedProgram):
                 file.writelines(dump.labels.text())
 
         feed: Feed = write
-        bound = TableBound(dump.length, len(dump.labels.places))
+        bound = table_bound(dump.length, len(dump.labels.places))
         with contextlib.ExitStack() as stack:
             name = readable_name(dump.path)
             if not is_same_in_child(name):

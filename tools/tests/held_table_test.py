@@ -2,8 +2,6 @@
 
 import os
 import pathlib
-import subprocess
-import sys
 import tracemalloc
 import unittest
 from typing import Dict, List, Tuple
@@ -11,7 +9,7 @@ from unittest import mock
 
 from heap_tools.faults import NO_HEAPMARK, Fault
 from heap_tools.heap_dump import HeapDump
-from heap_tools.held_table import EMPTY, HeldTable, TableBound, read_table
+from heap_tools.held_table import EMPTY, read_table, table_bound
 from heap_tools.label_text import Labels, in_class, in_object, in_root
 from heap_tools.proved_program import LaterFault
 from heap_tools.reports import LONGEST_LINE, Amount
@@ -88,7 +86,7 @@ class TableTest(unittest.TestCase):
         cases = [(b"1 2  -  A\n", True), (b"1 2", True), (b"no\n", False), (b"set 3 = 1 + 2\n", True), (b"", True)]
         cases += [(b"1 2  -  A\n" * 12, False), (b"1 2  -  A\n" + b"A" * LONGEST_LINE, False)]
         for text, is_right in cases:
-            self.assertEqual(TableBound(8, 3)(text), is_right, text[:20])
+            self.assertEqual(table_bound(8, 3)(text), is_right, text[:20])
 
     def test_size(self) -> None:
         """A table of many labels and lines with long sets takes some hundred bytes a line."""

@@ -4,7 +4,7 @@ import io
 import unittest
 
 from heap_tools.faults import Fault
-from heap_tools.reports import LONGEST_LINE, Amount, Report, ReportBound, read_text
+from heap_tools.reports import LONGEST_LINE, Amount, Report, read_text, report_bound
 from tests.support.tool_test import histogram, report
 
 #: More bytes than a number of 32 bits has, and more than a file of heapmark can hold objects.
@@ -72,7 +72,7 @@ class BoundTest(unittest.TestCase):
             (0, row + b"x" * 99 + b"\n" + b"x" * (LONGEST_LINE - 1), True),
         ):
             for part in (1 << 30, 1 << 16, 1000):
-                bound = ReportBound(length)
+                bound = report_bound(length)
                 ends = [*range(part, len(text), part), len(text)]
                 self.assertEqual(all([bound(text[:end]) for end in ends]), is_report, (length, text[:60], part))
 
