@@ -1,6 +1,6 @@
 """What names an object by what it is made of: texts in its parts, and labels."""
 
-from typing import Dict, List, Mapping, NamedTuple, Sequence
+from typing import Dict, List, Mapping, NamedTuple, Sequence, Tuple
 
 from heap_tools import hprof_format as hprof
 from heap_tools.heap_objects import THREAD_CLASS, HeapObjects
@@ -41,20 +41,11 @@ class PartNames:
         fields that are called like names."""
         fields = {at: self.objects.references_of(at) for at in places}
         known = self.objects.places_of({target for of_object in fields.values() for target in of_object.values()})
-        parts = {at: self.texts_of_parts(at, of_object, known) for at, of_object in fields.items()}
-        texts = self.objects.texts({key for paths in parts.values() for key in paths.values()})
-        names = {
-            at: {
-                path: Name(f"its field {path}", shown_text(texts[key])) for path, key in paths.items() if texts.get(key)
-            }
-            for at, paths in parts.items()
-        }
-        alone = alone_in({at: list(paths.values()) for at, paths in names.items()})
+        names = self._named({at: [*self.texts_of_parts(at, it, known).items()] for at, it in fields.items()})
+        alone = alone_in({at: [name for _, name in found] for at, found in names.items()})
         return {
-            at: [
-                PartName(name, fields[at][path.partition(".")[0]]) for path, name in paths.items() if name in alone[at]
-            ]
-            for at, paths in names.items()
+            at: [PartName(name, fields[at][path.partition(".")[0]]) for path, name in found if name in alone[at]]
+            for at, found in names.items()
         }
 
     def by_label(self, places: Sequence[int], others: Sequence[int]) -> Dict[int, List[Name]]:
@@ -65,27 +56,28 @@ class PartNames:
         arrays = {at: self._arrays_of_parts(at, of_object, known) for at, of_object in fields.items()}
         inner = self.objects.places_of({target for paths in arrays.values() for target in paths.values()})
         elements = {target: self._few_elements(at) for target, at in inner.items()}
-        texts = self.objects.texts({each for of_array in elements.values() for each in of_array})
-        names = {
-            at: [
-                Name(f"its field {path}", shown_text(texts[each]))
-                for path, target in paths.items()
-                for each in elements.get(target, ())
-                if texts.get(each)
-            ]
+        every = {
+            at: [(path, each) for path, target in paths.items() for each in elements.get(target, ())]
             for at, paths in arrays.items()
         }
-        return alone_in(names)
+        return alone_in({at: [name for _, name in found] for at, found in self._named(every).items()})
+
+    def _named(self, strings: Mapping[int, Sequence[Tuple[str, int]]]) -> Dict[int, List[Tuple[str, Name]]]:
+        """Returns the names that texts give objects, by these and with the paths to them, of those of `strings` that
+        are texts."""
+        texts = self.objects.texts({key for of_object in strings.values() for _, key in of_object})
+        return {
+            at: [(path, Name(f"its field {path}", shown_text(texts[key]))) for path, key in found if texts.get(key)]
+            for at, found in strings.items()
+        }
 
     def _arrays_of_parts(self, at: int, fields: Mapping[str, int], known: Mapping[int, int]) -> Dict[str, int]:
         """Returns what may be arrays of the object at `at`: what its `fields` lead to, and what the fields of that do,
-        by the path to it. What an object of its own class has is that of a neighbour."""
-        own, found = self.objects.class_name(at), {}
-        for field, target in fields.items():
-            if target in known and self.objects.class_name(known[target]) != own:
-                found[field] = target
-                inner = self.objects.references_of(known[target]).items()
-                found.update({f"{field}.{name}": each for name, each in inner})
+        by the path to it."""
+        found: Dict[str, int] = {}
+        for field, part in self._parts(at, fields, known).items():
+            found[field] = fields[field]
+            found.update({f"{field}.{name}": each for name, each in self.objects.references_of(part).items()})
         return found
 
     def _few_elements(self, at: int) -> List[int]:
@@ -95,16 +87,15 @@ class PartNames:
 
     def texts_of_parts(self, at: int, fields: Mapping[str, int], known: Mapping[int, int]) -> Dict[str, int]:
         """Returns what the fields that are called like names lead to in the objects that the object at `at` has in
-        `fields`, by the path to it, such as `symbol.name`. An object of its own class, such as the next one of a chain,
-        is its neighbour: that has its own name."""
-        own = self.objects.class_name(at)
-        parts = {field: known[target] for field, target in fields.items() if target in known}
-        return {
-            f"{field}.{name}": target
-            for field, part in parts.items()
-            if self.objects.class_name(part) != own
-            for name, target in self._inner_texts(part).items()
-        }
+        `fields`, by the path to it, such as `symbol.name`."""
+        parts = self._parts(at, fields, known).items()
+        return {f"{field}.{name}": key for field, part in parts for name, key in self._inner_texts(part).items()}
+
+    def _parts(self, at: int, fields: Mapping[str, int], known: Mapping[int, int]) -> Dict[str, int]:
+        """Returns where what the object at `at` has in `fields` is. An object of its own class, such as the next one of
+        a chain, is no part but its neighbour: that has names of its own."""
+        own, found = self.objects.class_name(at), {field: known.get(target) for field, target in fields.items()}
+        return {field: part for field, part in found.items() if part and self.objects.class_name(part) != own}
 
     def _inner_texts(self, at: int) -> Dict[str, int]:
         """Returns the objects in those fields of the object at `at` that are called like names and say something of
