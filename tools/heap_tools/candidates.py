@@ -3,8 +3,7 @@
 import functools
 from collections import defaultdict
 from dataclasses import dataclass, field
-from typing import Callable, Counter, Dict, FrozenSet, Iterable, Iterator, List, NamedTuple, Optional
-from typing import Sequence, Set, Tuple
+from typing import Counter, Dict, FrozenSet, Iterable, Iterator, List, NamedTuple, Optional, Sequence, Set, Tuple
 
 from heap_tools.class_names import class_pattern_of, family, is_own
 from heap_tools.heap_dump import Field, HeapDump, Root
@@ -129,9 +128,6 @@ class Candidates:
                 self._add_fields(class_id)
         self._every_field: Optional[List[Candidate]] = None
         self._by_pattern: Optional[Dict[str, List[DumpedField]]] = None
-        self._names: Optional[Dict[int, str]] = None
-        self._threads: Optional[List[Candidate]] = None
-        self._locals: Optional[List[Candidate]] = None
         self._of_kind: Dict[str, Dict[Key, Candidate]] = {}
         self._known_ids: Dict[str, List[int]] = {}
 
@@ -209,15 +205,28 @@ class Candidates:
 
     def _root(self, key: Key) -> Optional[Candidate]:
         """Returns the local variable, the thread or the threads that are called `key`, or None."""
-        kind, name = key
-        if kind == THREADS and not name:
-            return self.all_threads()
+        return self.all_threads() if key == (THREADS, "") else self._roots(key[0]).get(key)
+
+    def _roots(self, kind: str) -> Dict[Key, Candidate]:
+        """Returns the candidates of a kind that roots are, by their keys. Those with few holders come first."""
         if kind not in self._of_kind:
-            listed: Dict[str, Callable[[], List[Candidate]]]
-            by_pattern = functools.partial(self._threads_by, THREADS, pattern_of)
-            listed = {LOCAL: self.locals, THREAD: self.threads, THREADS: by_pattern}
-            self._of_kind[kind] = {each.key: each for each in listed[kind]()}
-        return self._of_kind[kind].get(key)
+            roots: Dict[str, List[Root]] = defaultdict(list)
+            for root in self.dump.roots:
+                for name in self._names_of(kind, root):
+                    roots[name].append(root)
+            found = [self._of_roots(kind, name, of_name) for name, of_name in roots.items()]
+            self._of_kind[kind] = {each.key: each for each in sorted(found, key=lambda each: (each.count, each.name))}
+        return self._of_kind[kind]
+
+    def _names_of(self, kind: str, root: Root) -> Iterator[str]:
+        """Yields the name of the candidate of a kind that a root is part of, nothing if it is of none: the method of a
+        local variable, the name of its thread, or the pattern of that."""
+        frame = self.dump.frame(root.thread, root.frame) if kind == LOCAL else None
+        if frame:
+            yield f"{family(frame.class_name)}.{frame.method}"
+        if kind in (THREAD, THREADS):
+            name = HeapObjects(self.dump).thread_names().get(root.thread, "")
+            yield shown_name(name) if kind == THREAD else pattern_of(name)
 
     def not_counted(self) -> List[Place]:
         """Returns the places of what does not count: the list of references that wait for their queues, and that of a
@@ -332,14 +341,7 @@ class Candidates:
 
     def locals(self) -> List[Candidate]:
         """Returns the local variables, by method. The number of their holders is that of the threads in the method."""
-        if self._locals is None:
-            roots: Dict[str, List[Root]] = defaultdict(list)
-            for root in self.dump.roots:
-                frame = self.dump.frame(root.thread, root.frame)
-                if frame:
-                    roots[f"{family(frame.class_name)}.{frame.method}"].append(root)
-            self._locals = self._by_name(LOCAL, roots)
-        return self._locals
+        return [*self._roots(LOCAL).values()]
 
     def calls_of_jdk(self) -> List[Candidate]:
         """Returns the local variables of methods of the JDK."""
@@ -347,27 +349,11 @@ class Candidates:
 
     def threads(self) -> List[Candidate]:
         """Returns the threads, by name."""
-        if self._threads is None:
-            self._threads = self._threads_by(THREAD, shown_name)
-        return self._threads
+        return [*self._roots(THREAD).values()]
 
     def threads_alike(self) -> List[Candidate]:
         """Returns the threads of which several have names of one pattern, by the pattern."""
-        return [each for each in self._threads_by(THREADS, pattern_of) if each.count > 1 and each.name]
-
-    def _threads_by(self, kind: str, called: Callable[[str], str]) -> List[Candidate]:
-        """Returns the candidates of a kind that the threads are, by what their names are called."""
-        if self._names is None:
-            self._names = HeapObjects(self.dump).thread_names()
-        roots: Dict[str, List[Root]] = defaultdict(list)
-        for root in self.dump.roots:
-            roots[called(self._names.get(root.thread, ""))].append(root)
-        return self._by_name(kind, roots)
-
-    def _by_name(self, kind: str, roots: Dict[str, List[Root]]) -> List[Candidate]:
-        """Returns the candidates of a kind that the roots of each name are. Those with few holders come first."""
-        found = [self._of_roots(kind, name, of_name) for name, of_name in roots.items()]
-        return sorted(found, key=lambda each: (each.count, each.name))
+        return [each for each in self._roots(THREADS).values() if each.count > 1 and each.name]
 
     def _of_roots(self, kind: str, name: str, roots: Sequence[Root]) -> Candidate:
         """Returns the candidate that these roots are."""
