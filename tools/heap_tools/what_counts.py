@@ -106,8 +106,9 @@ def sides_with_calls(dumps: Sequence[DumpRuns], way: Way, cut: Several) -> List[
 
 def cut_by(side: DumpSide, way: Way) -> List[Place]:
     """Returns the places of the references that a way does not follow."""
-    calls = {None: [], Calls.ALL: side.candidates.locals(), Calls.OF_JDK: side.candidates.calls_of_jdk()}[way.calls]
-    return [*weak_places(side, way.follows), *(place for each in calls for place in each.places)]
+    calls = side.candidates.calls_of_jdk() if way.calls is Calls.OF_JDK else side.candidates.locals()
+    running = [place for each in calls for place in each.places] if way.calls else []
+    return [*weak_places(side, way.follows), *running]
 
 
 def weak_places(side: DumpSide, follows: Union[Weak, WeakKind]) -> List[Place]:
