@@ -55,6 +55,13 @@ relative to the folder of that program.
 Example:
   $ jcmd 4711 GC.heap_dump /tmp/app.hprof
   $ heapmark --workers 8 /tmp/app.hprof
+
+See also, each with its --help:
+  leaks    what holds what grew between dumps of a program, or most of one dump
+  grown    which classes grew
+  sizes    what the classes of a dump take in the heap
+  holders  which fields hold the objects of a class
+  held     what some fields hold
 ";
 
 /// The version, and the logic with which it is proved.
