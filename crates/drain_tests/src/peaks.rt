@@ -3,7 +3,7 @@
 //! - A word for each 32 objects and for each buffer, and 32 more. A pool copies them when it is opened, so they are in
 //!   use twice until then.
 //! - 48 bytes for each buffer, which are also in use twice until then, and 4 for each object that fits into it.
-//! - For each worker 96 bytes in lists of threads and workers.
+//! - For each worker 104 bytes in lists of threads and workers.
 //! - A tally for each worker and for the leader: 16 bytes for each of ten rows.
 //! - 4 bytes for each object in a spill list. The list doubles when it is full: while it moves, the old list and the
 //!   new one are in use.
@@ -24,7 +24,7 @@ type Team = (u32, u32, u32);
 const TALLY: usize = 10 * 16;
 
 /// The bytes for each worker, with its tally.
-const WORKER: usize = 96 + TALLY;
+const WORKER: usize = 104 + TALLY;
 
 /// A team, the number of instances that an array refers to, and the most bytes in use while they are marked.
 ///
