@@ -272,10 +272,10 @@ class LineOrder:
         """Returns two lines, first that which holds more."""
         return (other, one) if self.lines[other].heap > self.lines[one].heap else (one, other)
 
-    def _depth(self, number: int) -> Tuple[bool, bool, int, str]:
+    def _depth(self, number: int) -> Tuple[bool, int, str]:
         """Returns what the deepest line is the smallest by, among those with one score: a thread, if none says more."""
         line = self.lines[number]
-        return says(line) <= TOGETHER, says(line) == 0 and not line.is_thread, line.heap, line.name
+        return says(line) == 0 and not line.is_thread, line.heap, line.name
 
 
 def by_share(found: Iterable[Retained], share: Callable[[Sequence[Candidate]], float]) -> List[Retained]:
