@@ -323,7 +323,7 @@ class Ranking(NamedTuple):
         return Line(
             held,
             probe.before(group).amount,
-            probe.unit.percent(probe.gain(group), whole.growth),
+            probe.unit.percent(probe.gain(group), of),
             above,
             max(whole.instances(group), probe.instances(group)),
             max(whole.instances_before(group), probe.instances_before(group)),
