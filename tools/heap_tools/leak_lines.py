@@ -25,6 +25,7 @@ from heap_tools.which_object import (
     object_leading_to,
     objects_with_most,
     tell_apart,
+    thread_with_most,
 )
 
 
@@ -106,7 +107,13 @@ class Lines:
                 return LineObjects(self.every[number], objects)
             if several is None and tell_apart(objects):
                 several = LineObjects(self.every[number], objects)
-        return several or self._leading_to_answer()
+        return several or self._leading_to_answer() or self._thread_of_answer()
+
+    def _thread_of_answer(self) -> Optional[LineObjects]:
+        """Returns which thread gained most of what the answer did, if that is a method that several are in."""
+        answer = self._order().answer()
+        found = None if answer is None else thread_with_most(self.probe, self.every[answer], self.found)
+        return LineObjects(self.every[answer], [found]) if answer is not None and found else None
 
     def _ask_for_new(self) -> None:
         """Asks of lines that decide the order, and whose scores are averages, what their new instances can hold at

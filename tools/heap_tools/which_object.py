@@ -2,7 +2,9 @@
 
 from typing import Dict, Iterator, List, NamedTuple, Optional, Sequence
 
-from heap_tools.candidates import FIELD, STATIC
+from heap_tools import hprof_format as hprof
+from heap_tools.candidates import FIELD, LOCAL, STATIC, THREAD
+from heap_tools.heap_dump import HeapDump
 from heap_tools.heap_objects import FieldValue, HeapObjects
 from heap_tools.naming import Name, alone_in
 from heap_tools.object_names import ObjectNames
@@ -10,6 +12,7 @@ from heap_tools.object_parts import MOST_OBJECTS, FieldUses, elements
 from heap_tools.object_shares import OF_ONE, Holding, ObjectShares
 from heap_tools.probe import GrowthProbe, Probe, Retained
 from heap_tools.reports import Amount
+from heap_tools.thread_counts import shown_name
 from heap_tools.thread_locals import BY_THREAD_LOCAL, ThreadLocals
 
 #: Of how many objects it is asked at least which hold most: of one it is no question.
@@ -207,6 +210,34 @@ def objects_with_most(probe: Probe, held: Retained, uses: Optional[FieldUses] = 
         return []
     every = (GrownParts(probe, held, parts, gain).find() for parts in ways(probe, held, uses))
     return next(filter(None, every), [])
+
+
+def thread_with_most(probe: Probe, held: Retained, found: Sequence[Retained]) -> Optional[HoldingObject]:
+    """Returns the one of `found` that is a thread, and has most of what local variables of several threads in one
+    method gained, or of one dump hold. Returns None if there is none, or if `held` is something else."""
+    if held.instances == 1 or [each.kind for each in held.candidates] != [LOCAL]:
+        return None
+    whole = probe.gain(held.candidates)
+    for each in found:
+        percent = probe.unit.percent(probe.gain(each.candidates), whole)
+        is_thread = [(it.kind, it.count) for it in each.candidates] == [(THREAD, 1)]
+        if is_thread and percent >= OF_ALL and probe.holds_part(each, held, OF_ALL / 100):
+            name = each.candidates[0].name
+            class_name = _class_of_thread(probe.runs.dump, name)
+            has_gained, names = isinstance(probe, GrowthProbe), [Name("its field name", f'"{name}"', True)]
+            count = held.instances
+            return HoldingObject(
+                class_name, names, each.amount, min(100.0, percent), has_gained, count, instances=count
+            )
+    return None
+
+
+def _class_of_thread(dump: HeapDump, name: str) -> str:
+    """Returns the family of the class of the thread that is called so, as names of threads are shown."""
+    objects = HeapObjects(dump)
+    names, roots = objects.thread_names(), [each for each in dump.roots if each.kind == hprof.THREAD_OBJECT]
+    found = objects.places_of(dump.id(each.place) for each in roots if shown_name(names.get(each.thread, "")) == name)
+    return next(map(objects.class_name, found.values()), "")
 
 
 class GrownParts:

@@ -195,6 +195,18 @@ class LeaksTest(ToolTest):
         self.assertNotIn("nothing that lasts", self.ran("monday", "friday").said)
         self.assertIn("Threads by name", pathlib.Path("page.html").read_text(encoding="utf-8"))
 
+    def test_thread_in_a_call(self) -> None:
+        """Of several threads in a method it is said which gained most, or of one dump holds most; if several gained, it
+        is not."""
+        among = "leaks: line 1: 1 of 3 local shop/Reporter.run"
+        (row,) = self.found(reporters(3), reporters(3, rows=90))
+        self.assertEqual((row[-2], row[-1]), ("3", "local shop/Reporter.run"))
+        thread = 'java/lang/Thread (its field name "report-3")'
+        self.assertIn(f"{among} gained most: {thread}: 100%\n", self.ran("before", "after").said)
+        self.assertRegex(self.ran("after").said, re.escape(f"{among} holds most: {thread}: ") + "9[0-9]%\n")
+        self.found(reporters(2), reporters(12))
+        self.assertNotIn("gained most", self.ran("before", "after").said)
+
     def test_together(self) -> None:
         """Static fields that hold the growth only together."""
         rows = self.found(journal(20), journal(80))

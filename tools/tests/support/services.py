@@ -370,8 +370,9 @@ def buffers(count: int, orders: int, minutes: int = 0) -> bytes:
     return dump.bytes().replace(b"int_____", b"capacity")
 
 
-def reporters(count: int, minutes: int = 0) -> Service:
-    """Each of `count` threads `report-n` has 100 bytes in a local variable of its method."""
+def reporters(count: int, minutes: int = 0, rows: int = 0) -> Service:
+    """Each of `count` threads `report-n` has 100 bytes in a local variable of its method; the last one has so many rows
+    of 100 bytes there, if there are any."""
     dump = Service(minutes)
     dump.of_class(6, "java/lang/Thread", fields=["name"])
     dump.of_class(8, "shop/Reporter")
@@ -380,7 +381,11 @@ def reporters(count: int, minutes: int = 0) -> Service:
         dump.thread(number, 70000 + number, [(8, "run")])
         dump.instance(70000 + number, 6, 80000 + 2 * number)
         add_text(dump, 80000 + 2 * number, f"report-{number}")
-        dump.values(75000 + number, BYTE, bytes(100))
+        every = range(76000, 76000 + rows) if number == count else ()
+        for row in every or [75000 + number]:
+            dump.values(row, BYTE, bytes(100))
+        if every:
+            dump.array(75000 + number, 4, *every)
         dump.local(number, 0, 75000 + number)
     return dump
 
