@@ -237,8 +237,8 @@ class LineOrderTest(unittest.TestCase):
         self.assertEqual(LineOrder([], lambda upper, lower: False, GROWTH).sorted(), [])
 
     def test_lasts(self) -> None:
-        """Nothing lasts if no score is a quarter of the growth, or of what lines gained if that is less, as of one dump:
-        the answer is then the topmost line."""
+        """Nothing lasts if no score is a quarter of the growth, or of what lines gained if that is less, as of one
+        dump: the answer is then the topmost line."""
         for row, wanted in (
             ("static shop/A.a (249)", True),
             ("static shop/A.a (250), shop/Order.text (10..110)", True),
