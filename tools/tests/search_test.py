@@ -35,14 +35,18 @@ class NamesTest(unittest.TestCase):
 
     def test_lookup(self) -> None:
         """Local variables and threads are listed once, however many are looked up."""
-        holders = Candidates(mock.Mock(classes={}, names={}, roots=[]), Report())
+        holders = Candidates(mock.Mock(classes={}, names={}, roots=range(9)), Report())
+
+        def of_roots(kind: str, name: str, roots: List[int]) -> Candidate:
+            return Candidate(kind, name, 1, [f"root {each}" for each in roots])
+
         for kind in LOCAL, THREAD:
-            known = [Candidate(kind, f"name{number}", 1, [f"root {number}"]) for number in range(9)]
-            with mock.patch.object(holders, f"{kind}s", return_value=known) as listed:
-                for each in known:
-                    self.assertEqual(holders.places(each.key), each.places)
+            names = mock.Mock(side_effect=lambda _, root: [f"name{root}"])
+            with mock.patch.multiple(holders, _names_of=names, _of_roots=of_roots):
+                for number in range(9):
+                    self.assertEqual(holders.places((kind, f"name{number}")), [f"root {number}"])
                 self.assertEqual(holders.places((kind, "other")), ())
-            self.assertEqual(listed.call_count, 1)
+            self.assertEqual(names.call_count, 9)
 
 
 class SearchTest(unittest.TestCase):
