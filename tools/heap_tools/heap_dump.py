@@ -4,7 +4,6 @@ heapmark has accepted the dump, so its form is not tested here. Records that hea
 traces, are.
 """
 
-import hashlib
 import struct
 from bisect import bisect_left
 from collections import deque
@@ -81,7 +80,7 @@ class HeapDump:
 
     def __init__(self, content: bytes, nameless: bool = False, path: str = "") -> None:
         self.path, self.bytes, self.size = path, content, len(content)
-        self._digest = b""
+        self._digest: Optional[int] = None
         self.id_size = self.number(hprof.ID_SIZE_AT, 4)
         self.time = self.number(hprof.TIME_AT, 8)
         self.unpack_id = struct.Struct(">Q" if self.id_size == 8 else ">I").unpack_from
@@ -114,8 +113,10 @@ class HeapDump:
             return False
         return self._digest_of_content() == other._digest_of_content()
 
-    def _digest_of_content(self) -> bytes:
-        return self._digest or hashlib.sha256(self.bytes).digest()
+    def _digest_of_content(self) -> int:
+        """Returns the hash of the content, 64 bits with a key of this process. The module hashlib would load a library,
+        and prints a traceback if memory is too short for that."""
+        return hash(self.bytes) if self._digest is None else self._digest
 
     def number(self, at: int, size: int) -> int:
         """Reads the number in the `size` bytes at the offset `at`."""

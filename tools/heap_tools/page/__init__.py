@@ -10,7 +10,6 @@ fills, `names.py` and `words.py` spell; `page.html` has all templates, `page.css
 
 import contextlib
 import os
-import secrets
 import stat
 from typing import Callable, Union
 
@@ -90,7 +89,7 @@ def save(content: Content, file: str) -> None:
         write_into(os.open(file, os.O_WRONLY), written)
         return
     place = os.path.realpath(file)
-    part = os.path.join(os.path.dirname(place), f".leaks-{secrets.token_hex(8)}.part")
+    part = os.path.join(os.path.dirname(place), f".leaks-{os.urandom(8).hex()}.part")
     try:
         write_into(os.open(part, os.O_WRONLY | os.O_CREAT | os.O_EXCL, 0o666), written, os.fsync)
         os.replace(part, place)
