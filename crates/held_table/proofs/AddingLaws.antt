@@ -15,7 +15,7 @@ use Rattle.held_table.specs.working.Counting.{add_line, counted_at, key_of, line
 use Rattle.held_table.proofs.CountingLaws.{further, here, once_added, same_line_laws}
 
 abbrev pub same_key : Key → Key → Bool
-same_key a b = (a.set == b.set) && (a.row == b.row)
+same_key a b = (a.set == b.set) && ((a.row == b.row) && (a.remainder == b.remainder))
 
 keys_kept : (lines : List Line) (j bytes : ℕ) → map key_of (counted_at lines j bytes) ≡ map key_of lines
 keys_kept [] j bytes = refl

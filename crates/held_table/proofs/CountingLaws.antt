@@ -19,7 +19,7 @@ use Rattle.std.proofs.lemmas.List.Sorted.{All-permutation, Contains-permutation}
 use Rattle.std.proofs.lemmas.Map.Keys.{IsDistinct-IsPermutation, IsDistinct-cons, IsDistinct-head, IsDistinct-tail}
 use Rattle.heap_graph.specs.ObjectGraph.{ObjectGraph, bytes_at, row_at}
 use Rattle.heap_graph.specs.RowNumbers.{row_number}
-use Rattle.held_table.specs.Tally.{IsTally, is_in_line, is_number, objects_in, same_line}
+use Rattle.held_table.specs.Tally.{IsTally, is_in_line, is_number, objects_in, remainder_at, same_line}
 use Rattle.held_table.specs.declared.line.Line.{Line}
 use Rattle.heap_graph.specs.ObjectGraph.{object_count}
 use Rattle.heap_graph.specs.Whole.{IsWhole}
@@ -27,15 +27,21 @@ use Rattle.held_table.specs.working.Counting.{HasRoom, add_line, joined}
 
 pub same_line_laws : IsEquivalence same_line
 same_line_laws =
-    and_equiv (on_equiv (λ (l : Line). l.set) nat_eq_equiv) (on_equiv (λ (l : Line). l.row) nat_eq_equiv)
+    and_equiv (on_equiv (λ (l : Line). l.set) nat_eq_equiv)
+    (and_equiv (on_equiv (λ (l : Line). l.row) nat_eq_equiv) (on_equiv (λ (l : Line). l.remainder) nat_eq_equiv))
 
-pub same_parts : (a b : Line) → same_line a b ≡ true → (a.set ≡ b.set) × (a.row ≡ b.row)
+-- both are of one key
+abbrev pub AreOfOne : Line → Line → Type 0
+AreOfOne a b = (a.set ≡ b.set) × (a.row ≡ b.row) × (a.remainder ≡ b.remainder)
+
+pub same_parts : (a b : Line) → same_line a b ≡ true → AreOfOne a b
 same_parts a b e =
-    let both = and_parts (a.set == b.set) (a.row == b.row) e in
-    (eqb-true a.set b.set both.0, eqb-true a.row b.row both.1)
+    let some = and_parts (a.set == b.set) ((a.row == b.row) && (a.remainder == b.remainder)) e in
+    let others = and_parts (a.row == b.row) (a.remainder == b.remainder) some.1 in
+    (eqb-true a.set b.set some.0, eqb-true a.row b.row others.0, eqb-true a.remainder b.remainder others.1)
 
-pub same_from : (a b : Line) → a.set ≡ b.set → a.row ≡ b.row → same_line a b ≡ true
-same_from a b s r = rw (eq-eqb a.set b.set s, eq-eqb a.row b.row r) refl
+pub same_from : (a b : Line) → a.set ≡ b.set → a.row ≡ b.row → a.remainder ≡ b.remainder → same_line a b ≡ true
+same_from a b s r m = rw (eq-eqb a.set b.set s, eq-eqb a.row b.row r, eq-eqb a.remainder b.remainder m) refl
 
 Contains-cons : {X : Type 0} (y : X) (xs : List X) (x : X) → Contains xs x → Contains (y ∷ xs) x
 Contains-cons y xs x h = Contains-append_right (y ∷ []) xs x h
@@ -43,19 +49,20 @@ Contains-cons y xs x h = Contains-append_right (y ∷ []) xs x h
 -- ---- lines to which one is added
 
 module _ (x : Line) where
-  -- at the line of the same set and row, or further on
+  -- at the line of the same key, or further on
   pub here : (l : Line) (ls : List Line) → same_line x l ≡ true → add_line x (l ∷ ls) ≡ joined l x ∷ ls
   here l ls e = rw e refl
 
   pub further : (l : Line) (ls : List Line) → same_line x l ≡ false → add_line x (l ∷ ls) ≡ l ∷ add_line x ls
   further l ls e = rw e refl
 
-  -- what holds of the sets and rows of all lines
-  pub kept_added : (Q : ℕ → ℕ → Type 0) → Q x.set x.row → (lines : List Line) → All (λ l. Q l.set l.row) lines
-      → All (λ l. Q l.set l.row) (add_line x lines)
-  kept_added Q new [] all = All-cons (λ (l : Line). Q l.set l.row) x [] new (All-nil (λ (l : Line). Q l.set l.row))
+  -- what holds of the keys of all lines
+  pub kept_added : (Q : ℕ → ℕ → ℕ → Type 0) → Q x.set x.row x.remainder → (lines : List Line)
+      → All (λ l. Q l.set l.row l.remainder) lines → All (λ l. Q l.set l.row l.remainder) (add_line x lines)
+  kept_added Q new [] all =
+      let P : Line → Type 0 = λ m. Q m.set m.row m.remainder in All-cons P x [] new (All-nil P)
   kept_added Q new (l ∷ ls) all =
-      let P : Line → Type 0 = λ m. Q m.set m.row in
+      let P : Line → Type 0 = λ m. Q m.set m.row m.remainder in
       elim (cases_Bool (same_line x l)) [
         | inl e ↦ rw (here l ls e) (All-cons P (joined l x) ls (All-head P l ls all) (All-tail P l ls all))
         | inr e ↦ rw (further l ls e)
@@ -83,7 +90,8 @@ module _ (x : Line) where
         | inr e ↦ rw (further l ls e) (
             IsDistinct-cons same_line l (add_line x ls)
             (recursion_from_All (λ m. same_line l m ≡ false) (add_line x ls)
-            (kept_added (λ s r. ((l.set == s) && (l.row == r)) ≡ false) (same_line_laws.symm l x ∙ e) ls
+            (kept_added (λ s r m. ((l.set == s) && ((l.row == r) && (l.remainder == m))) ≡ false)
+            (same_line_laws.symm l x ∙ e) ls
             (All-from_recursion (λ m. same_line l m ≡ false) ls apart)))
             (once_added ls others)
             )
@@ -91,33 +99,29 @@ module _ (x : Line) where
 
   -- each line is still there, and so is that of `x`
   pub line_kept : (lines : List Line) (k : ℕ) → k < length lines
-      → (m : Line) × Contains (add_line x lines) m × ((get_or lines k x).set ≡ m.set) × ((get_or lines k x).row ≡ m.row)
+      → (m : Line) × Contains (add_line x lines) m × AreOfOne (get_or lines k x) m
   line_kept [] k h = absurd (omega (arith, h))
   line_kept (l ∷ ls) zero h = elim (cases_Bool (same_line x l)) [
-    | inl e ↦ rw (here l ls e) (joined l x, (0, omega arith, refl), refl, refl)
-    | inr e ↦ rw (further l ls e) (l, (0, omega arith, refl), refl, refl)
+    | inl e ↦ rw (here l ls e) (joined l x, (0, omega arith, refl), (refl, refl, refl))
+    | inr e ↦ rw (further l ls e) (l, (0, omega arith, refl), (refl, refl, refl))
   ]
   line_kept (l ∷ ls) (suc k) h = elim (cases_Bool (same_line x l)) [
     | inl e ↦ rw (here l ls e)
         (let m = get_or ls k x in
-        (m, Contains-cons (joined l x) ls m (Contains-get_or ls k x (omega arith)), refl, refl))
+        (m, Contains-cons (joined l x) ls m (Contains-get_or ls k x (omega arith)), (refl, refl, refl)))
     | inr e ↦ rw (further l ls e) (
         let it = line_kept ls k (omega arith) in
-        (it.0, Contains-cons l (add_line x ls) it.0 it.1, it.2, it.3)
+        (it.0, Contains-cons l (add_line x ls) it.0 it.1, it.2)
         )
   ]
 
-  pub line_added : (lines : List Line)
-      → (m : Line) × Contains (add_line x lines) m × (x.set ≡ m.set) × (x.row ≡ m.row)
-  line_added [] = (x, (0, omega arith, refl), refl, refl)
+  pub line_added : (lines : List Line) → (m : Line) × Contains (add_line x lines) m × AreOfOne x m
+  line_added [] = (x, (0, omega arith, refl), (refl, refl, refl))
   line_added (l ∷ ls) = elim (cases_Bool (same_line x l)) [
-    | inl e ↦ rw (here l ls e) (
-        let same = same_parts x l e in
-        (joined l x, (0, omega arith, refl), same.0, same.1)
-        )
+    | inl e ↦ rw (here l ls e) (joined l x, (0, omega arith, refl), same_parts x l e)
     | inr e ↦ rw (further l ls e) (
         let it = line_added ls in
-        (it.0, Contains-cons l (add_line x ls) it.0 it.1, it.2, it.3)
+        (it.0, Contains-cons l (add_line x ls) it.0 it.1, it.2)
         )
   ]
 
@@ -169,7 +173,13 @@ module _ (g : ObjectGraph) (set_of : ℕ → Option ℕ) (os : List ℕ) (o : �
 
   module _ (s : ℕ) (is_set : set_of o ≡ Some s) where
     abbrev pub x : Line
-    x = record { set = s; row = row_number (row_at g o); count = 1; bytes = bytes_at g o }
+    x = record {
+      set = s;
+      row = row_number (row_at g o);
+      remainder = remainder_at g o;
+      count = 1;
+      bytes = bytes_at g o;
+    }
 
     in_line : (l : Line) → is_in_line g set_of l o ≡ same_line x l
     in_line l = rw is_set refl
@@ -217,7 +227,7 @@ module _ (g : ObjectGraph) (set_of : ℕ → Option ℕ) (os : List ℕ) (o : �
               )
         ]
 
-    -- no line has the set and the row, so no object has both
+    -- no line has the key, so no object has it
     none_before : (lines : List Line) → IsTally g set_of os lines → list_any (same_line x) lines ≡ false
         → objects_in g set_of os x ≡ []
     none_before lines tally lacks =
@@ -225,12 +235,16 @@ module _ (g : ObjectGraph) (set_of : ℕ → Option ℕ) (os : List ℕ) (o : �
         (λ k d h. let p = get_or os k d in
         ⊎_elim
         (λ e.
-        let both = and_parts (is_number (set_of p) s) (row_number (row_at g p) == x.row) e in
-        let it = tally.all p s (Contains-get_or os k d h) (is_number-true (set_of p) s both.0) in
-        let row = eqb-true (row_number (row_at g p)) x.row both.1 in
+        let some = and_parts (is_number (set_of p) s)
+        ((row_number (row_at g p) == x.row) && (remainder_at g p == x.remainder)) e in
+        let others = and_parts (row_number (row_at g p) == x.row) (remainder_at g p == x.remainder) some.1 in
+        let it = tally.all p s (Contains-get_or os k d h) (is_number-true (set_of p) s some.0) in
+        let row = eqb-true (row_number (row_at g p)) x.row others.0 in
+        let rest = eqb-true (remainder_at g p) x.remainder others.1 in
         let found : list_any (same_line x) lines ≡ true =
         list_any_at (same_line x) lines it.1.0 it.0 it.1.1
-        (subst (λ m. same_line x m ≡ true) (sym it.1.2) (same_from x it.0 (sym it.2.0) (sym (it.2.1 ∙ row)))) in
+        (subst (λ m. same_line x m ≡ true) (sym it.1.2)
+        (same_from x it.0 (sym it.2.0) (sym (it.2.1 ∙ row)) (sym (it.2.2 ∙ rest)))) in
         absurd (cc (lacks, found)))
         (λ e. e)
         (cases_Bool (is_in_line g set_of x p)))
@@ -252,14 +266,22 @@ module _ (g : ObjectGraph) (set_of : ℕ → Option ℕ) (os : List ℕ) (o : �
                 kept.0,
                 kept.1,
                 (
-                  sym kept.2 ∙ ap (λ (l : Line). l.set) at ∙ it.2.0,
-                  sym kept.3 ∙ ap (λ (l : Line). l.row) at ∙ it.2.1,
+                  sym kept.2.0 ∙ ap (λ (l : Line). l.set) at ∙ it.2.0,
+                  sym kept.2.1 ∙ ap (λ (l : Line). l.row) at ∙ it.2.1,
+                  sym kept.2.2 ∙ ap (λ (l : Line). l.remainder) at ∙ it.2.2,
                 ),
               ))
               (λ same.
               let new = line_added x lines in
-              let set_is : s ≡ t = cc (is_set, is, ap set_of same) in
-              (new.0, new.1, (sym new.2 ∙ set_is, sym new.3 ∙ ap (λ q. row_number (row_at g q)) same)))
+              let set_is : s ≡ t = cc (is_set, is, ap set_of same) in (
+                new.0,
+                new.1,
+                (
+                  sym new.2.0 ∙ set_is,
+                  sym new.2.1 ∙ ap (λ q. row_number (row_at g q)) same,
+                  sym new.2.2 ∙ ap (remainder_at g) same,
+                ),
+              ))
               (Contains-push_cases os o p has);
           once = once_added x lines tally.once;
         }

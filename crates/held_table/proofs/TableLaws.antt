@@ -1,7 +1,7 @@
 -- The parts of a table.
 use Rattle.std.proofs.Common.{All, IsPermutation, List, None, Option, Some, ap, arith, length, option_map, refl}
 use Rattle.std.proofs.Common.{slice_index, subst, sym}
-use Rattle.std.proofs.Common.{ℕ, ◌+◌, ◌++◌, ◌<◌, ◌∙◌, ◌∷◌, ◌≡◌, [], add-one}
+use Rattle.std.proofs.Common.{ℕ, ◌%◌, ◌+◌, ◌++◌, ◌<◌, ◌∙◌, ◌∷◌, ◌≡◌, [], add-one}
 use Rattle.std.specs.Cmp.{IsTotalOrder}
 use Rattle.std.specs.List.{range_with_len}
 use Rattle.std.proofs.lemmas.Cmp.{back_total, nat_cmp_total, on_total, then_total}
@@ -11,7 +11,7 @@ use Rattle.heap_graph.specs.RowNumbers.{row_count, row_number}
 use Rattle.label_flow.specs.Flow.{Flow, set_of}
 use Rattle.label_sets.specs.Sets.{Store}
 use Rattle.held_table.specs.Table.{HaveSameLabels}
-use Rattle.held_table.specs.Tally.{IsTally, compare}
+use Rattle.held_table.specs.Tally.{IsTally, compare, remainder_at}
 use Rattle.held_table.specs.declared.line.Key.{Key}
 use Rattle.held_table.specs.declared.line.Line.{Line}
 use Rattle.held_table.specs.working.Counting.{add_line, one_object}
@@ -23,7 +23,8 @@ pub compare_total : IsTotalOrder compare
 compare_total = then_total (back_total (on_total (λ (l : Line). l.bytes) nat_cmp_total))
     (then_total (back_total (on_total (λ (l : Line). l.count) nat_cmp_total))
     (then_total (on_total (λ (l : Line). l.set) nat_cmp_total)
-    (on_total (λ (l : Line). l.row) nat_cmp_total)))
+    (then_total (on_total (λ (l : Line). l.row) nat_cmp_total)
+    (on_total (λ (l : Line). l.remainder) nat_cmp_total))))
 
 -- ---- one more object
 
@@ -36,13 +37,21 @@ module _ (g : ObjectGraph) (shown : ℕ → Option ℕ) (o : ℕ) (lines : List 
   next_without none = subst (λ os. IsTally g shown os lines) (sym (range_next o))
       (tally_without g shown (range_with_len 0 o) o none lines tally)
 
-  pub next_with : (s row bytes : ℕ) (new : List Line) → shown o ≡ Some s → row ≡ row_number (row_at g o)
-      → bytes ≡ bytes_at g o → new ≡ add_line (one_object (record { set = s; row = row }) bytes) lines
+  pub next_with : (s row remainder bytes : ℕ) (new : List Line) → shown o ≡ Some s → row ≡ row_number (row_at g o)
+      → remainder ≡ bytes % 16 → bytes ≡ bytes_at g o
+      → new ≡ add_line (one_object (record { set = s; row = row; remainder = remainder }) bytes) lines
       → IsTally g shown (range_with_len 0 (o + 1)) new
-  next_with s row bytes new is row_is bytes_is new_is =
-      let x : Line = record { set = s; row = row_number (row_at g o); count = 1; bytes = bytes_at g o } in
-      let same : one_object (record { set = s; row = row }) bytes ≡ x =
-      λ i. record { set = s; row = row_is i; count = 1; bytes = bytes_is i } in
+  next_with s row remainder bytes new is row_is remainder_is bytes_is new_is =
+      let rest : remainder ≡ remainder_at g o = remainder_is ∙ ap (λ n. n % 16) bytes_is in
+      let x : Line = record {
+        set = s;
+        row = row_number (row_at g o);
+        remainder = remainder_at g o;
+        count = 1;
+        bytes = bytes_at g o;
+      } in
+      let same : one_object (record { set = s; row = row; remainder = remainder }) bytes ≡ x =
+      λ i. record { set = s; row = row_is i; remainder = rest i; count = 1; bytes = bytes_is i } in
       let all : new ≡ add_line x lines = new_is ∙ ap (λ y. add_line y lines) same in
       subst (λ ls. IsTally g shown (range_with_len 0 (o + 1)) ls) (sym all)
       (subst (λ os. IsTally g shown os (add_line x lines)) (sym (range_next o))
@@ -53,7 +62,7 @@ pub next_shown : (g : ObjectGraph) (store : Store) (count : ℕ) (lines new : Li
     → new ≡ add_line (one_object key bytes) lines → All (λ l. IsShown g store count l.set l.row) new
 next_shown g store count lines new key bytes were here is =
     subst (All (λ (l : Line). IsShown g store count l.set l.row)) (sym is)
-    (kept_added (one_object key bytes) (IsShown g store count) here lines were)
+    (kept_added (one_object key bytes) (λ s r m. IsShown g store count s r) here lines were)
 
 -- the set of an object, and the number under which it is shown
 pub shown_some : (flow : Flow) (plains : List ℕ) (o n : ℕ) → Some n ≡ set_of flow o

@@ -13,13 +13,24 @@ use Rattle.held_table.specs.declared.line.Joint.{Joint}
 use Rattle.held_table.specs.declared.line.Line.{Line}
 
 module _ (old : List ℕ) where
-  pub numbers_appended : (in_10 in_14 all : List ℕ) (count bytes : ℕ)
+  pub numbers_appended : (in_10 in_14 in_2 all : List ℕ) (count bytes remainder : ℕ)
       → in_10 ≡ styled_decimal (format_spec 32 3 0 10 (2 ^ 64 - 1)) count
       → in_14 ≡ styled_decimal (format_spec 32 3 0 14 (2 ^ 64 - 1)) bytes
-      → all ≡ old ++ (in_10 ++ 32 ∷ 32 ∷ (in_14 ++ 32 ∷ 32 ∷ [])) → all ≡ old ++ numbers count bytes
+      → in_2 ≡ styled_decimal (format_spec 32 3 0 2 (2 ^ 64 - 1)) remainder
+      → all ≡ old ++ (in_10 ++ 32 ∷ 32 ∷ (in_14 ++ 32 ∷ 32 ∷ (in_2 ++ 32 ∷ 32 ∷ [])))
+      → all ≡ old ++ numbers count bytes remainder
   unfolding numbers
-  numbers_appended in_10 in_14 all count bytes ten fourteen a =
-      rw (a, ten, fourteen, right_aligned 10 (decimal count), right_aligned 14 (decimal bytes)) (simp append_assoc)
+  numbers_appended in_10 in_14 in_2 all count bytes remainder ten fourteen two a =
+      rw (
+        a,
+        ten,
+        fourteen,
+        two,
+        right_aligned 10 (decimal count),
+        right_aligned 14 (decimal bytes),
+        right_aligned 2 (decimal remainder),
+      )
+      (simp append_assoc)
 
   pub joint_appended : (j : Joint) {a b c d e f all : List ℕ} → a ≡ old ++ codes "set " → b ≡ a ++ shown_set j.set
       → c ≡ b ++ codes " = " → d ≡ c ++ shown_set j.first → e ≡ d ++ codes " + " → f ≡ e ++ shown_set j.second
@@ -28,7 +39,7 @@ module _ (old : List ℕ) where
   joint_appended j a b c d e f all = rw (all, f, e, d, c, b, a) (simp append_assoc)
 
   pub line_appended : (g : ObjectGraph) (l : Line) (name : List ℕ) {a b c d all : List ℕ}
-      → name ≡ shown_row g (numbered_row l.row) → a ≡ old ++ numbers l.count l.bytes → b ≡ a ++ shown_set l.set
+      → name ≡ shown_row g (numbered_row l.row) → a ≡ old ++ numbers l.count l.bytes l.remainder → b ≡ a ++ shown_set l.set
       → c ≡ b ++ codes "  " → d ≡ c ++ name → all ≡ d ++ 10 ∷ [] → all ≡ old ++ table_line g l
   unfolding table_line
   line_appended g l name named a b c d all = rw (all, d, c, b, a, named) (simp append_assoc)

@@ -18,7 +18,7 @@ HaveSameLabels store (Some a) None = ⊥
 HaveSameLabels store (Some a) (Some b) = labels_of store a ≡ labels_of store b
 
 -- Each object is shown under a set with exactly the labels of its own, if it has one. The lines count the objects under
--- these sets and their rows.
+-- these sets, their rows and their remainders.
 pub record IsTable (g : ObjectGraph) (flow : Flow) (joints : List Joint) (lines : List Line) : Type 0 where
   pub shown : ℕ → Option ℕ
   pub shown_are : (o : ℕ) → HaveSameLabels flow.store (set_of flow o) (shown o)

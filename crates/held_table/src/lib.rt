@@ -1,5 +1,5 @@
-//! A table of the objects of a graph by what holds them: for each set of labels and each row of the histogram, the
-//! number of objects and their bytes.
+//! A table of the objects of a graph by what holds them: for each set of labels, each row of the histogram and each
+//! remainder of an object's bytes by 16, the number of objects and their bytes.
 //!
 //! `Table::of` counts the objects by the sets that `label_flow` found, and `write_table` writes the table as a text. A
 //! set of several labels is shown by a number, and the text begins with what each such number stands for: a line

@@ -1,12 +1,14 @@
 //! The lines of a table.
 
-/// A line: how many objects of one row have one set of labels.
+/// A line: how many objects of one row, with bytes of one remainder by 16, have one set of labels.
 #[derive(Clone, Copy, Drop)]
 pub struct Line {
     /// The number under which the set is shown.
     pub set: u32,
     /// The number of the row.
     pub row: usize,
+    /// The remainder of each object's bytes by 16.
+    pub remainder: u32,
     /// The number of objects.
     pub count: u64,
     /// The sum of their bytes.
@@ -30,4 +32,6 @@ pub(crate) struct Key {
     pub(crate) set: u32,
     /// The number of the row.
     pub(crate) row: usize,
+    /// The remainder of each object's bytes by 16.
+    pub(crate) remainder: u32,
 }

@@ -36,22 +36,25 @@ pub(crate) fn lines_of<A: Allocator + Copy, B: Allocator, C: Allocator>(
     for object in 0..graph.len() {
         if let Some(set) = flow.set_of(object) {
             let visit = graph.visit(object);
+            let bytes = visit.bytes();
             let key = Key {
                 set: plains[set.number as usize],
                 row: visit.row().number(),
+                remainder: (bytes % 16) as u32,
             };
-            tally.add(key, visit.bytes())?;
+            tally.add(key, bytes)?;
         }
     }
     Ok(tally.lines)
 }
 
 /// Compares two lines. The line with more bytes comes first; if the bytes are equal, the line with more objects; then
-/// the line with the lesser set; then the line with the lesser row.
+/// the line with the lesser set; then the line with the lesser row; then the line with the lesser remainder.
 pub(crate) fn compare_lines(a: &Line, b: &Line) -> Ordering
     ensures { result ≡ compare a.now b.now }
 {
-    let by_key = a.set.cmp(&b.set).then(a.row.cmp(&b.row));
+    let by_row = a.row.cmp(&b.row).then(a.remainder.cmp(&b.remainder));
+    let by_key = a.set.cmp(&b.set).then(by_row);
     b.bytes
         .cmp(&a.bytes)
         .then(b.count.cmp(&a.count).then(by_key))

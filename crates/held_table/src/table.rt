@@ -21,12 +21,12 @@ pub struct Table<A: Allocator> {
     /// The sets of several labels, in the order of their numbers.
     pub joints: Vec<Joint, A>,
     /// The lines. Lines with more bytes come first; if the bytes are equal, lines with more objects; then lines with
-    /// the lesser set; then lines with the lesser row.
+    /// the lesser set; then lines with the lesser row; then lines with the lesser remainder.
     pub lines: Vec<Line, A>,
 }
 
 impl<A: Allocator + Copy> Table<A> {
-    /// Counts the objects of `graph` by their sets in `flow` and their rows. `Err(OutOfMemory)` if an allocation fails.
+    /// Counts the objects of `graph` by their sets in `flow`, their rows and their remainders. `Err(OutOfMemory)` if an allocation fails.
     pub fn of<B: Allocator, C: Allocator>(
         alloc: A,
         graph: &Graph<'_, B>,

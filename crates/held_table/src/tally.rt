@@ -52,6 +52,7 @@ impl<A: Allocator> Tally<A> {
             self.lines.push(Line {
                 set: key.set,
                 row: key.row,
+                remainder: key.remainder,
                 count: 1,
                 bytes,
             })?;
@@ -67,7 +68,9 @@ impl<A: Allocator> Tally<A> {
         ensures { IsTrue result ↔ IsLast self.now key }
     {
         match self.lines.get(self.last) {
-            Some(line) => line.set == key.set && line.row == key.row,
+            Some(line) => {
+                line.set == key.set && line.row == key.row && line.remainder == key.remainder
+            }
             None => false,
         }
     }

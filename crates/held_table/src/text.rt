@@ -45,8 +45,8 @@ fn append_joint<A: Allocator>(out: &mut Vec<u8, A>, joint: Joint) -> Result<(), 
     Ok(())
 }
 
-/// Appends one line: the count right-aligned in 10 places, the bytes right-aligned in 14 places, the set, the name of
-/// the row, with two spaces between them, and a newline.
+/// Appends one line: the count right-aligned in 10 places, the bytes right-aligned in 14 places, the remainder
+/// right-aligned in 2 places, the set, the name of the row, with two spaces between them, and a newline.
 fn append_line<A: Allocator + Copy, B: Allocator, C: Allocator>(
     alloc: A,
     out: &mut Vec<u8, C>,
@@ -56,7 +56,7 @@ fn append_line<A: Allocator + Copy, B: Allocator, C: Allocator>(
     requires { line.row < row_count graph.now }
     ensures { OnOk result (out.new.items ≡ out.old.items ++ table_line graph.now line) }
 {
-    append_numbers(out, line.count, line.bytes)?;
+    append_numbers(out, line.count, line.bytes, line.remainder)?;
     append_set(out, line.set)?;
     out.extend_from_slice(b"  ")?;
     // Called for its clause `within`: the numbers of rows have a bound.
@@ -67,15 +67,17 @@ fn append_line<A: Allocator + Copy, B: Allocator, C: Allocator>(
     Ok(())
 }
 
-/// Appends `count` right-aligned in 10 places and `bytes` right-aligned in 14 places, with two spaces after each.
+/// Appends `count` right-aligned in 10 places, `bytes` right-aligned in 14 places, and `remainder` right-aligned in 2
+/// places, with two spaces after each.
 fn append_numbers<A: Allocator>(
     out: &mut Vec<u8, A>,
     count: u64,
     bytes: u64,
+    remainder: u32,
 ) -> Result<(), AllocError>
-    ensures { OnOk result (out.new.items ≡ out.old.items ++ numbers count bytes) }
+    ensures { OnOk result (out.new.items ≡ out.old.items ++ numbers count bytes remainder) }
 {
-    write!(out, "{count:>10}  {bytes:>14}  ").map_err(|_| AllocError)?;
+    write!(out, "{count:>10}  {bytes:>14}  {remainder:>2}  ").map_err(|_| AllocError)?;
     Ok(())
 }
 

@@ -130,9 +130,9 @@ static ROWS: [Row; 6] = [
         words: &["retained", DUMP, LABELS],
         labels: "label 0 class 256 1\n",
         status: 0,
-        table: "         2              16  -  A
-         1               8  0  A
-         1               0  -  <class>
+        table: "         2              16   8  -  A
+         1               8   8  0  A
+         1               0   0  -  <class>
 ",
         told: "",
         after: "",

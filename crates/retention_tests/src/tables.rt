@@ -31,8 +31,8 @@ pub struct Row {
 }
 
 /// All objects without a label.
-const NO_LABEL: &str = "         5              40  -  A
-         1               0  -  <class>
+const NO_LABEL: &str = "         5              40   8  -  A
+         1               0   0  -  <class>
 ";
 
 pub static ROWS: [Row; 9] = [
@@ -58,10 +58,10 @@ cut object 999 0
 label 0 object 515 1
 label 1 object 513 1
 ",
-        table: "         2              16  -  A
-         2              16  0  A
-         1               8  1  A
-         1               0  -  <class>
+        table: "         2              16   8  -  A
+         2              16   8  0  A
+         1               8   8  1  A
+         1               0   0  -  <class>
 ",
     },
     Row {
@@ -69,17 +69,17 @@ label 1 object 513 1
         labels: "label 0 object 514 1
 label 0 object 515 1
 ",
-        table: "         3              24  -  A
-         2              16  0  A
-         1               0  -  <class>
+        table: "         3              24   8  -  A
+         2              16   8  0  A
+         1               0   0  -  <class>
 ",
     },
     Row {
         name: "a label on a root",
         labels: "label 3 root 0
 ",
-        table: "         5              40  3  A
-         1               0  3  <class>
+        table: "         5              40   8  3  A
+         1               0   0  3  <class>
 ",
     },
     Row {
@@ -95,25 +95,25 @@ label 0 object 515 1
         labels: "cut object 514 1
 cut class 256 2
 ",
-        table: "         2              16  -  A
-         1               0  -  <class>
+        table: "         2              16   8  -  A
+         1               0   0  -  <class>
 ",
     },
     Row {
         name: "a field of all instances",
         labels: "label 0 class 256 1
 ",
-        table: "         3              24  0  A
-         2              16  -  A
-         1               0  -  <class>
+        table: "         3              24   8  0  A
+         2              16   8  -  A
+         1               0   0  -  <class>
 ",
     },
     Row {
         name: "the class of all instances",
         labels: "label 0 class 256 0
 ",
-        table: "         5              40  -  A
-         1               0  0  <class>
+        table: "         5              40   8  -  A
+         1               0   0  0  <class>
 ",
     },
 ];
@@ -168,11 +168,11 @@ label 0 object 515 1
 fn is_both<T: Threads + Sync>(rt: &T, alloc: Global, number: u32) -> Result<bool, AllocError> {
     let Ok(table) = format!(in alloc;
         "set {number} = 0 + 1
-         2              16  {number}  A
-         1               8  -  A
-         1               8  0  A
-         1               8  1  A
-         1               0  -  <class>
+         2              16   8  {number}  A
+         1               8   8  -  A
+         1               8   8  0  A
+         1               8   8  1  A
+         1               0   0  -  <class>
 "
     ) else {
         return Err(AllocError);

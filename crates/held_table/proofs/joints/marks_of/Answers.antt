@@ -6,7 +6,7 @@ use Rattle.held_table.proofs.MarkingStart.{marked_more, only_more}
 use Rattle.held_table.proofs.joints.marks_of.Goals as goal
 
 none : Line
-none = record { set = 0; row = 0; count = 0; bytes = 0 }
+none = record { set = 0; row = 0; remainder = 0; count = 0; bytes = 0 }
 
 pub loop-line-preserved : goal.loop-line-preserved
 unfolding none

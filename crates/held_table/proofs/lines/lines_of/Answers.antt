@@ -1,5 +1,5 @@
 -- One more object is counted.
-use Rattle.std.proofs.Common.{arith, length, slice_index, subst, sym, ℕ, ◌<◌, ◌∙◌, ◌≡◌, ◌≤◌}
+use Rattle.std.proofs.Common.{arith, length, slice_index, refl, subst, sym, ℕ, ◌%◌, ◌<◌, ◌∙◌, ◌≡◌, ◌≤◌}
 use Rattle.heap_graph.proofs.RowNumberLaws.{number_within}
 use Rattle.heap_graph.specs.ObjectGraph.{object_count, row_at}
 use Rattle.heap_graph.specs.RowNumbers.{row_count, row_number}
@@ -32,6 +32,8 @@ loop-object-preserved g c =
           let n = w.in-Some.set.number in
           let s = slice_index plains n in
           let row = w.number.result in
+          let bytes = w.bytes-bytes.result in
+          let remainder = bytes % 16 in
           let new = w.add.new.self.lines.items in
           let inside : n < length plains = c.requires.sets o n (sym w.in-Some.ensures) in
           let plain = c.requires.plains n inside in
@@ -41,12 +43,12 @@ loop-object-preserved g c =
           omega (arith, row_is, number_within graph key_row w.visit-visit.ensures.row_within) in
           record {
             counted = w.in_ok-add.ensures.counted;
-            tally = next_with graph (shown_by flow plains) o lines c.loop-object.invariant.tally s row w.bytes.result
-                new (shown_some flow plains o n w.in-Some.ensures)
-                (number_of {b = row_at graph o} row_is w.visit-visit.ensures.row)
-                (w.bytes.ensures ∙ w.visit-visit.ensures.bytes) w.in_ok-add.ensures.lines;
-            shown = next_shown graph flow.store (length plains) lines new (record { set = s; row = row }) w.bytes.result
-                c.loop-object.invariant.shown
+            tally = next_with graph (shown_by flow plains) o lines c.loop-object.invariant.tally s row remainder bytes new
+                (shown_some flow plains o n w.in-Some.ensures)
+                (number_of {b = row_at graph o} row_is w.visit-visit.ensures.row) refl
+                (w.bytes-bytes.ensures ∙ w.visit-visit.ensures.bytes) w.in_ok-add.ensures.lines;
+            shown = next_shown graph flow.store (length plains) lines new
+                (record { set = s; row = row; remainder = remainder }) bytes c.loop-object.invariant.shown
                 (record {
                   set_within = omega (arith, plain.within, inside);
                   set_plain = plain.plain;
