@@ -17,9 +17,10 @@ ran() {
     how_ended "$name" > "$room/$name.end"
 }
 
-# is_table FILE: tests whether FILE is empty or ends with a line of a table of labels: objects, bytes, set and class.
+# is_table FILE: tests whether FILE is empty or ends with a line of a table of labels: objects, bytes, remainder, set and
+# class.
 is_table() {
-    [ ! -s "$1" ] || tail -n 1 "$1" | grep -Eq '^ *[0-9]+ +[0-9]+  (-|[0-9]+)  [^ ]+$'
+    [ ! -s "$1" ] || tail -n 1 "$1" | grep -Eq '^ *[0-9]+ +[0-9]+ +[0-9]+  (-|[0-9]+)  [^ ]+$'
 }
 
 # how_ended NAME: prints how the run that `ran` kept as NAME ended: `report`, `table`, `refused 3 Truncated at 70`, or

@@ -339,10 +339,12 @@ class Fault(Exception):
 
 
 class Line(NamedTuple):
-    """A line of a table. The empty set has the number -1."""
+    """A line of a table. Each of its objects has bytes with the same remainder by 16. The empty set has the number
+    -1."""
 
     objects: int
     bytes: int
+    remainder: int
     set: int
     name: str
 
@@ -367,9 +369,13 @@ class Table:
             self.joint.append((number, first, second))
             return
         words = line.split()
-        if len(words) != 4 or line != f"{words[0]:>10}  {words[1]:>14}  {words[2]}  {words[3]}":
+        if len(words) != 5 or line != f"{words[0]:>10}  {words[1]:>14}  {words[2]:>2}  {words[3]}  {words[4]}":
             raise Fault(f"wrong form: {line}")
-        self.lines.append(Line(int(words[0]), int(words[1]), -1 if words[2] == "-" else int(words[2]), words[3]))
+        of_set = -1 if words[3] == "-" else int(words[3])
+        found = Line(int(words[0]), int(words[1]), int(words[2]), of_set, words[4])
+        if found.remainder >= 16 or (found.objects * found.remainder - found.bytes) % 16:
+            raise Fault(f"wrong remainder: {line}")
+        self.lines.append(found)
 
     def check(self, labels: int) -> None:
         """Raises Fault unless the table is in order, if there are `labels` labels."""

@@ -7,8 +7,9 @@
 use std::collections::HashMap;
 use std::process::ExitCode;
 
-/// A line: what its set counts as, the name of the class, and the numbers of objects and bytes.
-type Line<'a> = (u128, &'a str, u64, u64);
+/// A line: what its set counts as, the name of the class, the remainder of an object's bytes by 16, and the numbers of
+/// objects and bytes.
+type Line<'a> = (u128, &'a str, u64, u64, u64);
 
 /// Returns the number for a label: two steps of SplitMix64.
 fn weight(label: u64) -> u128 {
@@ -35,7 +36,10 @@ fn lines(table: &str) -> Option<Vec<Line<'_>>> {
                 let both = of(one)?.wrapping_add(of(other)?);
                 joint.insert(set.parse().ok()?, both);
             }
-            [count, bytes, set, name] => lines.push((of(set)?, name, count.parse().ok()?, bytes.parse().ok()?)),
+            [count, bytes, remainder, set, name] => {
+                let number = |digits: &str| digits.parse().ok();
+                lines.push((of(set)?, name, number(remainder)?, number(count)?, number(bytes)?));
+            }
             _ => return None,
         }
     }

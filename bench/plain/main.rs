@@ -11,7 +11,8 @@
 //! fields. The time of each phase, what was read, and the peak of memory go to standard error.
 //!
 //! With `--labels` it is `retained`: for each reachable object it finds the labels without which the object would not
-//! be reachable, by one thread in the dump's bytes, and writes how many objects have which set of labels, by class.
+//! be reachable, by one thread in the dump's bytes, and writes how many objects have which set of labels, by class and
+//! by the remainder of their bytes.
 
 mod by_id;
 mod dump;

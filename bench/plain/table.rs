@@ -1,4 +1,4 @@
-//! How many objects have which set of labels, by class, and the text that says so.
+//! How many objects have which set of labels, by class and by the remainder of their bytes, and the text that says so.
 
 use crate::by_id::ById;
 use crate::flow::UNREACHED;
@@ -11,21 +11,30 @@ use std::cmp::Reverse;
 use std::collections::BTreeMap;
 use std::fmt::Write as _;
 
+/// What the bytes of an object are divided by: the remainder says how an array is padded in the heap.
+const DIVISOR: u64 = 16;
+
 /// A line of the table.
 struct Line {
     set: Set,
     row: u32,
+    remainder: u64,
     sum: Sum,
 }
 
-/// Returns the sum of the objects of each set and row, in no order.
+/// Returns the sum of the objects of each set, row and remainder, in no order. There are fewer than 2^28 rows.
 fn lines<const ID: usize>(graph: &Graph<ID>, set_of: &[Set]) -> Vec<Line> {
     let mut sums = ById::<Sum>::default();
     for (object, set) in (0..).zip(set_of).filter(|(_, set)| **set != UNREACHED) {
-        let key = u64::from(*set) << 32 | u64::from(graph.row_of(object));
-        sums.entry(key).or_default().add(Sum { count: 1, bytes: graph.bytes_of(object) });
+        let bytes = graph.bytes_of(object);
+        let key = (u64::from(*set) << 28 | u64::from(graph.row_of(object))) * DIVISOR + bytes % DIVISOR;
+        sums.entry(key).or_default().add(Sum { count: 1, bytes });
     }
-    sums.into_iter().map(|(key, sum)| Line { set: (key >> 32) as Set, row: key as u32, sum }).collect()
+    let line = |(key, sum): (u64, _)| {
+        let (set, row) = ((key >> 32) as Set, (key / DIVISOR) as u32 % (1 << 28));
+        Line { set, row, remainder: key % DIVISOR, sum }
+    };
+    sums.into_iter().map(line).collect()
 }
 
 /// Sets of several labels by rising number, each with the number that the table has for it. In the table these numbers
@@ -61,7 +70,8 @@ pub fn table<const ID: usize>(graph: &Graph<ID>, sets: &Sets, set_of: &[Set]) ->
     // the rows are numbered from the arrays of primitives on, then the class objects, then the classes
     let (classes, rows) = (graph.rows().classes, graph.rows().count() as u32);
     lines.sort_unstable_by_key(|line| {
-        (Reverse(line.sum.bytes), Reverse(line.sum.count), line.set, (line.row + rows - classes) % rows)
+        let row = (line.row + rows - classes) % rows;
+        (Reverse(line.sum.bytes), Reverse(line.sum.count), line.set, row, line.remainder)
     });
     let shown = joint_sets(sets, &lines);
     let mut text = String::new();
@@ -70,8 +80,9 @@ pub fn table<const ID: usize>(graph: &Graph<ID>, sets: &Sets, set_of: &[Set]) ->
         writeln!(text, "set {number} = {} + {}", shown_set(low, &shown), shown_set(high, &shown)).unwrap();
     }
     let names = Names::of(graph.text, &graph.dump);
-    for Line { set, row, sum: Sum { count, bytes } } in lines {
-        writeln!(text, "{count:10}  {bytes:14}  {}  {}", shown_set(set, &shown), row_name(graph, &names, row)).unwrap();
+    for Line { set, row, remainder, sum: Sum { count, bytes } } in lines {
+        let (set, name) = (shown_set(set, &shown), row_name(graph, &names, row));
+        writeln!(text, "{count:10}  {bytes:14}  {remainder:2}  {set}  {name}").unwrap();
     }
     text
 }
