@@ -167,6 +167,8 @@ def comparison_of(dumps: Sequence[DumpRuns], options: Options) -> Comparison:
     percent = max(PASSING, options.bounds.first - 1)
     way = without_running_calls(counts, followed.follows, reports, asked.families, asked.unit, growth, percent)
     first, last = counts.sides(way)
+    for each in dumps[1:-1]:
+        each.learn(last.written)
     probe = GrowthProbe(first, last, asked.families, asked.unit)
     was, now = (each.total(asked.families) for each in reports)
     why = [*filter(None, [followed.why]), *asked.why]

@@ -6,6 +6,7 @@ from typing import List, Optional
 from heap_tools.dump_file import FileState, changed, state_of, unchanged, whole_content
 from heap_tools.heap_dump import HeapDump
 from heap_tools.heapmark import Heapmark
+from heap_tools.held_table import RowParts
 from heap_tools.object_sizes import RowSizes
 from heap_tools.plain_dumps import require_plain_dump
 from heap_tools.reports import Report
@@ -37,6 +38,7 @@ class DumpRuns:
         self.heapmark, self.path, self.written, self.dump = heapmark, path, written, dump
         self.sizes, self.state = sizes, state
         self.report = sizes.report(written) if sizes else written
+        self._is_learnt = False
 
     @classmethod
     def of(cls, heapmark: Heapmark, path: str, tool: str) -> "DumpRuns":
@@ -51,6 +53,13 @@ class DumpRuns:
     def in_heap(self, sizes: RowSizes) -> "DumpRuns":
         """Returns the same dump, with reports in bytes of the heap."""
         return DumpRuns(self.heapmark, self.path, self.written, self.dump, sizes, self.state)
+
+    def learn(self, reachable: RowParts) -> None:
+        """Notes what is reachable, by the first table of the dump: then the report has the padding of these arrays, and
+        only what the table lacks, such as what weak references hold, has a mean padding."""
+        if self.sizes and not self._is_learnt:
+            self._is_learnt = True
+            self.report = self.sizes.padded_as(reachable).report(self.written)
 
     def changed_words(self) -> List[str]:
         """Returns in words that the file has changed since it was read, nothing if it has not."""

@@ -7,9 +7,10 @@ from heap_tools.candidates import Candidate, Candidates, Key
 from heap_tools.class_names import family
 from heap_tools.dump_file import unchanged
 from heap_tools.dump_runs import DumpRuns
-from heap_tools.held_table import HeldTable
+from heap_tools.held_table import HeldTable, RowPart, RowParts, by_row
 from heap_tools.label_text import Labels, Place
-from heap_tools.reports import Amount, Report, Row
+from heap_tools.object_sizes import AS_WRITTEN, Linear
+from heap_tools.reports import Amount, Report, Row, Unit
 from heap_tools.retained_program import LabelledDump
 
 #: What may hold something together.
@@ -55,8 +56,8 @@ class DumpSide:
         self.runs, self.candidates, self.cut, self.roots = runs, candidates, list(dict.fromkeys(cut)), roots
         self.tables: List[GroupTable] = []
         self._base: Optional[Report] = None
-        #: What is reachable of each class, in bytes of the dump.
-        self.written: Dict[str, Amount] = {}
+        #: What is reachable, in bytes of the dump.
+        self.written: RowParts = {}
 
     def without(self, group: Several) -> "DumpSide":
         """Returns the same dump, in which the references of a group are not followed either."""
@@ -80,28 +81,37 @@ class DumpSide:
         """Notes what is reachable, by the first table."""
         if self._base is None:
             self.written = table.whole()
+            self.runs.learn(self.written)
             self._base = self._report(self.written)
 
-    def _report(self, written: Dict[str, Amount]) -> Report:
-        """Returns the report of which this is reachable of each class, in bytes of the dump."""
-        rows = [Row(name, amount) for name, amount in written.items() if amount.objects]
+    def _taken(self, written: RowParts) -> Dict[str, Amount]:
+        """Returns what objects of a table take by class, in the bytes that count."""
+        return self.runs.sizes.taken(written) if self.runs.sizes else by_row(written)
+
+    def weights(self, families: Optional[Sequence[str]], unit: Unit) -> Dict[RowPart, Linear]:
+        """Returns how much an object of each part of a row counts, and each of its bytes in the dump, if these families
+        are asked for, or all if they are None."""
+        sizes = self.runs.sizes
+        in_bytes = {part: sizes.linear(part) if sizes else AS_WRITTEN for part in self.written}
+        every = in_bytes if unit is Unit.BYTES else dict.fromkeys(in_bytes, Linear(1, 0))
+        return {part: it for part, it in every.items() if families is None or family(part.name) in families}
+
+    def _report(self, written: RowParts) -> Report:
+        """Returns the report of which this is reachable, in bytes of the dump."""
+        rows = [Row(name, amount) for name, amount in self._taken(written).items() if amount.objects]
         reachable = Amount(*(sum(row.amount[part] for row in rows) for part in (0, 1)))
-        report = Report(rows, reachable, self.runs.written.unreachable, self.runs.written.unresolved)
-        return self.runs.sizes.report(report) if self.runs.sizes else report
+        other = self.runs.report
+        return Report(rows, reachable, other.unreachable, other.unresolved, other.in_heap)
 
     def knows(self, *keys: GroupKey) -> Optional[GroupTable]:
         """Returns the last table that knows all these groups, None if there is none."""
         return next((it for it in reversed(self.tables) if all(key in it.labels for key in keys)), None)
 
     def held(self, table: HeldTable, sets: Iterable[int]) -> Held:
-        """Returns what the lines with some sets have, in the bytes that count: what the report has less without it."""
+        """Returns what the lines with some sets have, in the bytes that count."""
         families: Dict[str, Amount] = {}
         objects = size = 0
-        for name, amount in table.amounts(sets).items():
-            if self.runs.sizes:
-                whole = self.written[name]
-                sizes = self.runs.sizes
-                amount = sizes.of(name, whole).minus(sizes.of(name, whole.minus(amount)))
+        for name, amount in self._taken(table.amounts(sets)).items():
             known = families.get(family(name))
             families[family(name)] = known.plus(amount) if known else amount
             objects, size = objects + amount.objects, size + amount.bytes
@@ -116,7 +126,7 @@ class DumpSide:
     def report_without(self, table: HeldTable, label: int) -> Report:
         """Returns the report of the dump without what a label holds."""
         lost = table.held(label)
-        return self._report({name: amount.minus(lost.get(name, Amount())) for name, amount in self.written.items()})
+        return self._report({part: amount.minus(lost.get(part, Amount())) for part, amount in self.written.items()})
 
 
 def ask_places(questions: Sequence[Tuple[DumpSide, Sequence[Sequence[Place]]]]) -> List[HeldTable]:

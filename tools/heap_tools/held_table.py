@@ -6,25 +6,40 @@ is looked up by the sets that have it, from its own set up.
 
 import re
 from array import array
-from typing import Collection, Container, Dict, FrozenSet, Iterable, List, Optional, Set, Tuple
+from typing import Collection, Dict, FrozenSet, Iterable, List, Mapping, NamedTuple, Optional, Set, Tuple
 
 from heap_tools.reports import Amount, LineBound
 
-#: A line: the objects, their bytes, their set, and their class.
-TABLE_LINE = re.compile(rb" *([0-9]{1,19}) +([0-9]{1,19})  (-|[0-9]{1,19})  ([!-~]+)")
+#: What the bytes of an object are divided by, and a line: the objects, their bytes, the remainder of the bytes of each,
+#: their set, and their class.
+DIVISOR = 16
+TABLE_LINE = re.compile(rb" *([0-9]{1,19}) +([0-9]{1,19})  ( [0-9]|1[0-5])  (-|[0-9]{1,19})  ([!-~]+)")
 #: A line that says which two sets another one is made of.
 JOINT = re.compile(rb"set ([0-9]{1,19}) = ([0-9]{1,19}) \+ ([0-9]{1,19})")
 #: What is shown in place of a set without labels.
 EMPTY = -1
 
 
+class RowPart(NamedTuple):
+    """Those objects of a row whose bytes have a remainder by `DIVISOR`. Only arrays have parts by that, by which it is
+    known how they are padded: of all others the remainder is 0."""
+
+    name: str
+    remainder: int = 0
+
+
+#: How many objects there are of each part of a row, and their bytes in the dump.
+RowParts = Dict[RowPart, Amount]
+
+
 class HeldTable:
     """The lines of a table. Each has a set of labels, `EMPTY` if it has none."""
 
     def __init__(self) -> None:
-        self._names: Dict[bytes, int] = {}
-        self._classes: List[str] = []
-        # Of each line its set, its class, its objects and their bytes.
+        # The numbers of parts of rows, by their words in a line.
+        self._numbers: Dict[Tuple[bytes, bytes], int] = {}
+        self._rows: Dict[int, RowPart] = {}
+        # Of each line its set, its part of a row, its objects and their bytes.
         self._lines = array("q")
         #: The parts of each set that has several labels, and for each set those that are made of it.
         self._parts: Dict[int, Tuple[int, int]] = {}
@@ -36,10 +51,13 @@ class HeldTable:
         """Adds a line of the text. Returns whether it is one."""
         found = TABLE_LINE.fullmatch(line)
         if found:
-            objects, size, of_set, name = found.groups()
+            objects, size, remainder, of_set, name = found.groups()
             number = EMPTY if of_set == b"-" else int(of_set)
+            row = self._numbers.get((name, remainder))
+            if row is None:
+                row = self._added(name, remainder)
             self._by_set.setdefault(number, []).append(len(self._lines))
-            self._lines.extend((number, self._class(name), int(objects), int(size)))
+            self._lines.extend((number, row, int(objects), int(size)))
             return True
         joint = JOINT.fullmatch(line)
         if joint:
@@ -49,11 +67,14 @@ class HeldTable:
                 self._upper.setdefault(part, []).append(whole)
         return bool(joint)
 
-    def _class(self, name: bytes) -> int:
-        if name not in self._names:
-            self._names[name] = len(self._classes)
-            self._classes.append(name.decode())
-        return self._names[name]
+    def _added(self, name: bytes, remainder: bytes) -> int:
+        """Returns the number of a part of a row that a line had not before: that of another one if it has no parts."""
+        is_array = name.startswith(b"[") or name.endswith(b"[]")
+        first = b" 0" if not is_array else remainder
+        number = self._numbers.setdefault((name, first), len(self._rows))
+        self._rows[number] = RowPart(name.decode(), int(first))
+        self._numbers[name, remainder] = number
+        return number
 
     def sets_with(self, label: int) -> FrozenSet[int]:
         """Returns the sets of lines that have a label."""
@@ -90,35 +111,44 @@ class HeldTable:
         """Returns the sets of all lines."""
         return self._by_set.keys()
 
-    def amounts(self, sets: Iterable[int]) -> Dict[str, Amount]:
-        """Returns how many objects these sets have, by class, and their bytes."""
+    def amounts(self, sets: Iterable[int]) -> RowParts:
+        """Returns how many objects these sets have, by their parts of rows, and their bytes."""
         found: Dict[int, Tuple[int, int]] = {}
         lines, by_set = self._lines, self._by_set
         for each in sets:
             for at in by_set.get(each, ()):
                 objects, size = found.get(lines[at + 1], (0, 0))
                 found[lines[at + 1]] = objects + lines[at + 2], size + lines[at + 3]
-        return {self._classes[number]: Amount(*amount) for number, amount in found.items()}
+        return {self._rows[number]: Amount(*amount) for number, amount in found.items()}
 
-    def total(self, number: int, names: Optional[Container[str]] = None) -> Amount:
-        """Returns how many objects a set has of the classes `names`, or of all, and their bytes."""
-        objects = size = 0
+    def total(self, number: int, weights: Mapping[RowPart, Tuple[float, float]]) -> float:
+        """Returns the sum over the objects of a set: of each part of a row in `weights` so much for an object, and so
+        much for each byte."""
+        found, lines, rows = 0.0, self._lines, self._rows
         for at in self._by_set.get(number, ()):
-            if names is None or self._classes[self._lines[at + 1]] in names:
-                objects, size = objects + self._lines[at + 2], size + self._lines[at + 3]
-        return Amount(objects, size)
+            an_object, a_byte = weights.get(rows[lines[at + 1]], (0, 0))
+            found += an_object * lines[at + 2] + a_byte * lines[at + 3]
+        return found
 
-    def held(self, label: int) -> Dict[str, Amount]:
-        """Returns what a label holds, by class."""
+    def held(self, label: int) -> RowParts:
+        """Returns what a label holds."""
         return self.amounts(self.sets_with(label))
 
-    def whole(self) -> Dict[str, Amount]:
-        """Returns all that is reachable, by class."""
+    def whole(self) -> RowParts:
+        """Returns all that is reachable."""
         return self.amounts(self.every_set())
 
     def objects_in(self, sets: Iterable[int]) -> int:
         """Returns how many objects these sets have."""
         return sum(self._lines[at + 2] for each in sets for at in self._by_set.get(each, ()))
+
+
+def by_row(parts: RowParts) -> Dict[str, Amount]:
+    """Returns how many objects there are of each row, and their bytes."""
+    found: Dict[str, Amount] = {}
+    for (name, _), amount in parts.items():
+        found[name] = found[name].plus(amount) if name in found else amount
+    return found
 
 
 def table_bound(length: int, labels: int) -> LineBound:

@@ -10,7 +10,7 @@ from heap_tools.reports import Amount
 
 #: The share in percent that one object must have to be named.
 OF_ONE = 20
-#: Of how many objects it is looked up what they hold in the heap.
+#: Of how many objects it is looked up what they hold.
 HEAVIEST = 32
 #: The part of what an object holds that it must hold by itself, nearer than any other one: the first node of a linked
 #: list does not.
@@ -27,32 +27,32 @@ class Holding(NamedTuple):
 class ObjectShares:
     """What objects hold by their references `values` in the dump that `probe` asks, in one run: `together` is what all
     of them do. In `table` all have the label 0, and each one of those after it. `heavy` are the numbers of those that
-    hold most in the dump's bytes, at most `HEAVIEST`: what they hold in the heap is looked up only of these."""
+    hold most, at most `HEAVIEST`: only of these it is looked up how many objects and bytes they hold."""
 
     def __init__(self, probe: Probe, values: Sequence[FieldValue]) -> None:
         self.probe, self.values, objects = probe, values, HeapObjects(probe.runs.dump)
         places = [objects.place_of(value) for value in values]
         (self.table,) = ask_places([(probe.side, [places, *([it] for it in places)])])
         self.together = held_amount(probe, self.table, 0)
-        self._names = probe.names()
-        self._held = [0] * len(values)
+        self._weights = probe.side.weights(probe.families, probe.unit)
+        self._held = [0.0] * len(values)
         lines = list(self._lines())
         for amount, numbers in lines:
             for number in numbers:
                 self._held[number] += amount
         #: How much of what it holds each object holds nearer than any other one: of two that hold something both, one
         #: holds all that the other one does, which holds less.
-        self._nearest = [0] * len(values)
+        self._nearest = [0.0] * len(values)
         for amount, numbers in lines:
             self._nearest[min(numbers, key=lambda it: self._held[it])] += amount
         self.heavy = sorted(range(len(values)), key=lambda it: -self._held[it])[:HEAVIEST]
 
-    def _lines(self) -> Iterator[Tuple[int, List[int]]]:
-        """Yields how much some of the objects hold together that no others do, in the dump's bytes, and these."""
+    def _lines(self) -> Iterator[Tuple[float, List[int]]]:
+        """Yields how much some of the objects hold together that no others do, and these."""
         for each in self.table.sets_with(0):
             numbers = [label - 1 for label in self.table.labels_of(each) if label]
             if numbers:
-                yield self.probe.unit.of(self.table.total(each, self._names)), numbers
+                yield self.table.total(each, self._weights), numbers
 
     def amount(self, value: FieldValue) -> Amount:
         """Returns what one of the objects holds."""
@@ -66,9 +66,9 @@ class ObjectShares:
         return max((self.probe.unit.percent(self._amount(it), whole) for it in self.heavy), default=0.0)
 
     def part_of_largest(self, count: int) -> float:
-        """Returns the part of what all hold together that `count` of them hold by themselves, those that hold most so,
-        by the dump's bytes."""
-        whole = sum(self.probe.unit.of(self.table.total(it, self._names)) for it in self.table.sets_with(0))
+        """Returns the part of what all hold together that `count` of them hold by themselves, those that hold most
+        so."""
+        whole = sum(self.table.total(it, self._weights) for it in self.table.sets_with(0))
         return sum(sorted(self._nearest, reverse=True)[:count]) / max(1, whole)
 
     def heaviest(self, whole: Amount) -> List[Holding]:

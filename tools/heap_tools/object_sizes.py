@@ -2,7 +2,7 @@
 
 from collections import Counter, defaultdict
 from typing import Counter as Counts
-from typing import Dict, Iterable, List, Mapping, NamedTuple, Set, Tuple
+from typing import Dict, Iterable, Iterator, List, Mapping, NamedTuple, Set, Tuple
 
 from heap_tools import hprof_format as hprof
 from heap_tools.added_fields import added_fields, class_object_size
@@ -11,6 +11,7 @@ from heap_tools.field_placing import Fields, fields_by_class
 from heap_tools.heap_dump import HeapDump
 from heap_tools.heap_layout import STACK, Layout, layout_of
 from heap_tools.heap_sample import CLASS_OBJECT, Sample, sample_of
+from heap_tools.held_table import DIVISOR, RowPart, RowParts, by_row
 from heap_tools.reports import Amount, Report, Row
 from heap_tools.size_doubts import doubts
 
@@ -34,6 +35,10 @@ class Linear(NamedTuple):
         return Amount(amount.objects, round(taken / alignment) * alignment)
 
 
+#: What objects take of which nothing is known: as much as in the dump.
+AS_WRITTEN = Linear(0, 1)
+
+
 class Unsure(NamedTuple):
     """Of how many classes it is not sure what their objects take, and by how many bytes these may be off together."""
 
@@ -43,17 +48,43 @@ class Unsure(NamedTuple):
 
 class RowSizes(NamedTuple):
     """What the objects of each row of a report take in a heap with a layout, and what those take of which a report has
-    no rows: the unreachable ones. `doubts`: by how many bytes an object of a row may be off, without the rows of which
-    it is sure."""
+    no rows: the unreachable ones. Arrays of a report take a mean padding, those of a table what they do: `arrays` has
+    the parts of rows of which that is known. `doubts`: by how many bytes an object of a row may be off, without the rows
+    of which it is sure."""
 
     layout: Layout
     rows: Dict[str, Linear]
+    arrays: Dict[RowPart, Linear]
     others: Linear
     doubts: Mapping[str, int] = {}
 
     def of(self, name: str, amount: Amount) -> Amount:
         """Returns what the objects of a row take: as much as they do in the report, if the dump has no such class."""
         return self.rows[name].of(amount, self.layout.alignment) if name in self.rows else amount
+
+    def linear(self, part: RowPart) -> Linear:
+        """Returns what the objects of a part of a row take, before that is a multiple of the alignment."""
+        return self.arrays[part] if part in self.arrays else self.rows.get(part.name, AS_WRITTEN)
+
+    def taken(self, parts: RowParts) -> Dict[str, Amount]:
+        """Returns what the objects of a table take, by row: those without a padding that is known as in a report."""
+        known = {part: amount for part, amount in parts.items() if part in self.arrays}
+        others = by_row({part: amount for part, amount in parts.items() if part not in self.arrays})
+        found = {name: self.of(name, amount) for name, amount in others.items()}
+        for part, amount in known.items():
+            taken = self.arrays[part].of(amount, self.layout.alignment)
+            found[part.name] = found[part.name].plus(taken) if part.name in found else taken
+        return found
+
+    def padded_as(self, parts: RowParts) -> "RowSizes":
+        """Returns the same, with the mean padding of the arrays of a table in place of that of a sample: so a report with
+        the same arrays has what they take."""
+        known = {part: amount for part, amount in parts.items() if part in self.arrays}
+        written, taken, rows = by_row(known), self.taken(known), dict(self.rows)
+        for name, (objects, size) in written.items():
+            a_byte = rows[name].a_byte
+            rows[name] = Linear((taken[name].bytes - a_byte * size) / max(1, objects), a_byte)
+        return self._replace(rows=rows)
 
     def report(self, report: Report) -> Report:
         """Returns a report in heap bytes."""
@@ -67,7 +98,8 @@ class RowSizes(NamedTuple):
         a row that is the same in two dumps takes as much in both, though their samples differ."""
         if self.layout != other.layout:
             return self
-        return other._replace(rows={**self.rows, **other.rows}, doubts={**self.doubts, **other.doubts})
+        rows, arrays = {**self.rows, **other.rows}, {**self.arrays, **other.arrays}
+        return other._replace(rows=rows, arrays=arrays, doubts={**self.doubts, **other.doubts})
 
     def unsure(self, rows: Iterable[Row]) -> Unsure:
         """Returns of how many of these rows it is not sure what they take."""
@@ -92,7 +124,7 @@ class ObjectSizes:
         rows[CLASSES] = self._row_of_classes()
         unsure = doubts(sample, self.fields, self.layout, self.stacks, self.instance)
         of_rows = {dump.names[class_id]: off for class_id, off in sorted(unsure.items(), key=lambda it: it[1])}
-        self.rows = RowSizes(self.layout, rows, self._mean_of(sample), of_rows)
+        self.rows = RowSizes(self.layout, rows, self._arrays(), self._mean_of(sample), of_rows)
 
     def _plain(self, class_id: int) -> int:
         return self.layout.instance(self.fields.get(class_id, Fields())) + self.added.get(class_id, 0)
@@ -157,17 +189,36 @@ class ObjectSizes:
     def _rows_of_arrays(self, lengths: Lengths) -> Dict[str, Linear]:
         """Returns what rows of arrays take: the elements, and of each array the header and the mean padding of arrays
         of these lengths."""
-        names = {kind: name for name, kind in ARRAY_KINDS.items()}
-        kinds = [(0, kind) for kind in names]
-        kinds += [(each, hprof.OBJECT) for each, name in self.dump.names.items() if name.startswith("[")]
         rows: Dict[str, Linear] = {}
-        for class_id, kind in kinds:
-            name = self.dump.names[class_id] if class_id else names[kind]
-            element = self.layout.value(kind)
+        for name, class_id, kind in self._array_rows():
             seen = lengths.get((class_id, kind)) or Counter(range(self.layout.alignment))
-            more = sum(n * (self.layout.array(kind, length) - element * length) for length, n in seen.items())
-            rows[name] = Linear(more / sum(seen.values()), element / self.dump.value_sizes[kind])
+            more = sum(n * self._beside_elements(kind, length) for length, n in seen.items())
+            rows[name] = Linear(more / sum(seen.values()), self._a_byte(kind))
         return rows
+
+    def _array_rows(self) -> Iterator[Tuple[str, int, int]]:
+        """Yields the name of each row of arrays, the class, 0 if it has none, and the code of the elements' type."""
+        yield from ((name, 0, kind) for name, kind in ARRAY_KINDS.items())
+        yield from ((name, each, hprof.OBJECT) for each, name in self.dump.names.items() if name.startswith("["))
+
+    def _a_byte(self, kind: int) -> float:
+        """Returns what a byte of an array in the dump takes in the heap."""
+        return self.layout.value(kind) / self.dump.value_sizes[kind]
+
+    def _beside_elements(self, kind: int, length: int) -> int:
+        """Returns what an array takes besides its elements: header and padding."""
+        return self.layout.array(kind, length) - self.layout.value(kind) * length
+
+    def _arrays(self) -> Dict[RowPart, Linear]:
+        """Returns what parts of rows of arrays take. Lengths of which the bytes in the dump have the same remainder by
+        `DIVISOR` have the same padding, if that many bytes of the dump are a multiple of the alignment in the heap."""
+        found: Dict[RowPart, Linear] = {}
+        for name, _, kind in self._array_rows():
+            size, a_byte = self.dump.value_sizes[kind], self._a_byte(kind)
+            if DIVISOR * a_byte % self.layout.alignment == 0:
+                for length in range(DIVISOR // size):
+                    found[RowPart(name, length * size)] = Linear(self._beside_elements(kind, length), a_byte)
+        return found
 
     def _row_of_classes(self) -> Linear:
         """Returns what class objects take: static fields as in the mean of the dump's classes."""

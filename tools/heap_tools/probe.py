@@ -1,9 +1,8 @@
 """What candidates retain, looked up in tables of a dump: and how much of the growth between two."""
 
-from typing import Callable, Dict, List, NamedTuple, Optional, Sequence, Set
+from typing import Callable, Dict, List, NamedTuple, Optional, Sequence
 
 from heap_tools.candidates import Candidates
-from heap_tools.class_names import family
 from heap_tools.dump_runs import DumpRuns
 from heap_tools.dump_side import DumpSide, Several, GroupKey, GroupTable, Held, ask, key_of
 from heap_tools.reports import Amount, Report, Unit
@@ -94,12 +93,6 @@ class Probe:
             return held.heap
         amounts = [held.families.get(name, Amount()) for name in self.families]
         return Amount(sum(each.objects for each in amounts), sum(each.bytes for each in amounts))
-
-    def names(self) -> Optional[Set[str]]:
-        """Returns the names of the classes that are asked for, None if all are."""
-        if self.families is None:
-            return None
-        return {name for name in self.side.written if family(name) in self.families}
 
     def before(self, group: Several) -> Retained:
         """Returns what a group held before: of one dump nothing."""

@@ -33,7 +33,7 @@ class DumpRunsTest(ToolTest):
                 self.runs({"HEAPMARK": self.program(text)})
         whole = self.program(rows)
         os.rename(whole, "heapmark")
-        for text in ("echo >> dump; echo '9 9  -  A'", "rm dump; exit 1"):
+        for text in ("echo >> dump; echo '9 9   9  -  A'", "rm dump; exit 1"):
             variables = {"HEAPMARK": os.path.abspath("heapmark"), "RETAINED": self.program(text)}
             runs = self.runs(variables)
             side = side_of(runs, USUAL)

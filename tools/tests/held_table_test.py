@@ -9,7 +9,7 @@ from unittest import mock
 
 from heap_tools.faults import NO_HEAPMARK, Fault
 from heap_tools.heap_dump import HeapDump
-from heap_tools.held_table import EMPTY, read_table, table_bound
+from heap_tools.held_table import EMPTY, RowPart, by_row, read_table, table_bound
 from heap_tools.label_text import Labels, in_class, in_object, in_root
 from heap_tools.proved_program import LaterFault
 from heap_tools.reports import LONGEST_LINE, Amount
@@ -20,11 +20,13 @@ from tests.support.tool_test import RETAINED, ToolTest
 
 #: Labels 0 to 2, and the sets 0 + 1 and 0 + 1 + 2.
 TABLE = b"""set 4 = 0 + 1
-         5               50  4  A
+         5               50  10  4  A
 set 6 = 4 + 2
-         2               10  6  B
-         1                8  2  A
-        10                0  -  <class>
+         3               41   3  6  byte[]
+         2               10   5  6  B
+         1                8   8  2  A
+         1                8   8  2  byte[]
+        10                0   0  -  <class>
 """
 
 
@@ -67,24 +69,33 @@ class TableTest(unittest.TestCase):
         """What labels hold is added up over the sets that have them."""
         table = read_table(TABLE)
         assert table
-        self.assertEqual(table.held(0), {"A": Amount(5, 50), "B": Amount(2, 10)})
-        self.assertEqual(table.held(2), {"A": Amount(1, 8), "B": Amount(2, 10)})
+        a, b, odd, even, of_class = map(RowPart, ("A", "B", "byte[]", "byte[]", "<class>"), (0, 0, 3, 8, 0))
+        self.assertEqual(table.held(0), {a: Amount(5, 50), b: Amount(2, 10), odd: Amount(3, 41)})
+        self.assertEqual(table.held(2), {a: Amount(1, 8), b: Amount(2, 10), odd: Amount(3, 41), even: Amount(1, 8)})
         self.assertEqual(table.held(3), {})
-        self.assertEqual(table.whole(), {"A": Amount(6, 58), "B": Amount(2, 10), "<class>": Amount(10, 0)})
-        self.assertEqual(table.objects_in(table.sets_with(0) & table.sets_with(2)), 2)
+        whole = {a: Amount(6, 58), b: Amount(2, 10), odd: Amount(3, 41), even: Amount(1, 8), of_class: Amount(10, 0)}
+        self.assertEqual(table.whole(), whole)
+        every = {"A": Amount(6, 58), "B": Amount(2, 10), "byte[]": Amount(4, 49), "<class>": Amount(10, 0)}
+        self.assertEqual(by_row(table.whole()), every)
+        self.assertEqual(table.objects_in(table.sets_with(0) & table.sets_with(2)), 5)
+        self.assertEqual(table.total(6, {odd: (16, 1), b: (1, 0.5), a: (1000, 0)}), 3 * 16 + 41 + 2 + 5)
+        self.assertEqual(table.total(7, {odd: (16, 1)}), 0)
         self.assertEqual(set(table.every_set()), {EMPTY, 2, 4, 6})
 
     def test_wrong(self) -> None:
         """Any other text is none."""
-        for text in (b"1 2  3\n", b"no", b"1 2  3  A", TABLE[:-1], TABLE + b"x\n", b"set 3 = 4\n", b"1 2  x  A\n"):
+        wrong = [b"1 2   2  3\n", b"no", b"1 2   2  3  A", TABLE[:-1], TABLE + b"x\n", b"set 3 = 4\n"]
+        wrong += [b"1 2   2  x  A\n", b"1 2  -  A\n", b"1 2  3  A\n", b"1 16  16  -  A\n", b"1 2  2  -  A\n"]
+        for text in [*wrong, b"1 2   -  -  A\n", b"1 2  02  -  A\n"]:
             self.assertIsNone(read_table(text), text)
         empty = read_table(b"")
         self.assertEqual(empty and set(empty.every_set()), set())
 
     def test_bound(self) -> None:
         """What is printed without end is bounded."""
-        cases = [(b"1 2  -  A\n", True), (b"1 2", True), (b"no\n", False), (b"set 3 = 1 + 2\n", True), (b"", True)]
-        cases += [(b"1 2  -  A\n" * 12, False), (b"1 2  -  A\n" + b"A" * LONGEST_LINE, False)]
+        line = b"1 2   2  -  A\n"
+        cases = [(line, True), (b"1 2", True), (b"no\n", False), (b"set 3 = 1 + 2\n", True), (b"", True)]
+        cases += [(line * 12, False), (line + b"A" * LONGEST_LINE, False), (b"1 2  -  A\n", False)]
         for text, is_right in cases:
             self.assertEqual(table_bound(8, 3)(text), is_right, text[:20])
 
@@ -92,7 +103,7 @@ class TableTest(unittest.TestCase):
         """A table of many labels and lines with long sets takes some hundred bytes a line."""
         count = 20_000
         sets = (f"set {count + each + 1} = {max(count + each, 0)} + {each}\n" for each in range(1, count))
-        lines = (f"{1:10} {24:14}  {count + each + 1}  A{each % 999}\n" for each in range(1, count))
+        lines = (f"{1:10}  {24:14}   8  {count + each + 1}  A{each % 999}\n" for each in range(1, count))
         text = f"set {count + 1} = 0 + 1\n" + "".join(sets) + "".join(lines)
         tracemalloc.start()
         table = read_table(text.encode())
@@ -109,7 +120,7 @@ class LabelsTest(unittest.TestCase):
     def held(self, labels: Labels) -> List[Dict[str, Amount]]:
         """Returns what each label holds."""
         table = LabelledHeap(HeapDump(shop().bytes())).table(labels)
-        return [table.held(number) for number in range(len(labels.places))]
+        return [by_row(table.held(number)) for number in range(len(labels.places))]
 
     def test_held(self) -> None:
         """Each label holds what is not reachable without it."""
@@ -165,13 +176,13 @@ class ProgramTest(ToolTest):
 
     def test_input(self) -> None:
         """The text comes by a pipe, however long it is, and each dump gets its own table."""
-        text = 'wc -c < "$3" > count.$2\necho "$(wc -c < "$2") 8  -  A"'
+        text = 'wc -c < "$3" > count.$2\necho "$(wc -c < "$2") 8   0  -  A"'
         dumps = []
         for name in ("first", "second", "third"):
             pathlib.Path(name).write_text(name)
             dumps.append(LabelledDump(name, 1 << 20, Labels(places=[["root 1"] * 99_999])))
         tables = self.retained(text).tables(dumps)
-        self.assertEqual([table.whole()["A"].objects for table in tables], [5, 6, 5])
+        self.assertEqual([table.whole()[RowPart("A")].objects for table in tables], [5, 6, 5])
         self.assertEqual(int(pathlib.Path("count.third").read_text()), 15 * 99_999)
 
     def test_faults(self) -> None:

@@ -246,7 +246,7 @@ class StressTest(ToolTest):
             ):
                 ended = self.of_tool(words, HEAPMARK=self.program(prints))
                 self.require_line(ended, words, [5], "failed: no report: is it heapmark?\n")
-            for prints in ("exec yes '  2  8  -  A'", "exec yes no") if words[0] in ASKING else ():
+            for prints in ("exec yes '  2  8   4  -  A'", "exec yes no") if words[0] in ASKING else ():
                 ended = self.of_tool(words, RETAINED=self.program(prints))
                 self.require_line(ended, words, [5], "failed: no table: is it retained?\n")
 

@@ -10,6 +10,7 @@ from heap_tools.label_text import Place
 from heap_tools.probe import GrowthProbe
 from heap_tools.reports import Amount, Report, Unit
 from heap_tools.retained_program import LabelledDump
+from tests.support.labelled_heap import table_line
 
 #: For each thing the ways to hold it, and its bytes. A way is a list of names that hold it together.
 Things = List[Tuple[List[List[str]], int]]
@@ -37,7 +38,7 @@ class ToldProgram:
         for number, (ways, size) in enumerate(self.things[dump.path]):
             holding = [label for label, group in enumerate(groups) if any(group.issuperset(way) for way in ways)]
             lines += self._line(holding, size, len(groups) * (number + 1) + number)
-        lines.append(f"{self.others[dump.path]} {self.others[dump.path]}  -  {OTHER}")
+        lines.append(table_line(self.others[dump.path], self.others[dump.path], "-", OTHER))
         table = HeldTable()
         assert all(table.add(f"{line}".encode()) for line in lines), lines
         return table
@@ -45,12 +46,12 @@ class ToldProgram:
     def _line(self, holding: List[int], size: int, first: int) -> List[str]:
         """Returns the line of a thing that these labels hold, after those of its set, numbered from `first` on."""
         if not holding:
-            return [f"{size} {size}  -  {THING}"]
+            return [table_line(size, size, "-", THING)]
         number, lines = holding[0], []
         for more, label in enumerate(holding[1:], first + 1):
             lines.append(f"set {more} = {number} + {label}")
             number = more
-        return [*lines, f"{size} {size}  {number}  {THING}"]
+        return [*lines, table_line(size, size, str(number), THING)]
 
 
 class ToldCandidates:
