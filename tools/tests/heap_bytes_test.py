@@ -13,14 +13,15 @@ from heap_tools.dump_file import state_of
 from heap_tools.faults import Fault
 from heap_tools.heap_bytes import counted_in_heap, layout_words, measure
 from heap_tools.heap_layout import Layout
+from heap_tools.probe import GrowthProbe
 from heap_tools.reports import Amount, Report, Row, Unit
 from heap_tools.snapshot_bytes import in_common_bytes
 from heap_tools.snapshots import Snapshot
+from heap_tools.what_counts import Way, WhatCounts
 from tests.support.dump_writer import BYTE
-from tests.support.laid_out_heap import LaidOutHeap
-from tests.support.marked import MarkedRuns
+from tests.support.laid_out_heap import COMPRESSED, LaidOutHeap, bytes_of_odd_arrays, odd_arrays
+from tests.support.marked import MarkedRuns, held_by
 
-COMPRESSED = Layout(8, 12, 4, 16)
 
 
 def heap(lengths: int, layout: Layout = COMPRESSED) -> LaidOutHeap:
@@ -102,6 +103,36 @@ class DumpsTest(unittest.TestCase):
         dumps = [MarkedRuns(heap(8).read()), MarkedRuns(heap(8, wide).read())]
         found = counted_in_heap(dumps, False).dumps
         self.assertEqual([each.report.amount("byte[]").bytes for each in found], [800 * 24, 800 * 32])
+
+
+class TablesTest(unittest.TestCase):
+    """What tables of retained say of dumps, in bytes of the heap."""
+
+    def probe(self, *counts: int) -> GrowthProbe:
+        """Returns what asks two heaps with odd arrays."""
+        dumps = counted_in_heap([MarkedRuns(odd_arrays(count).read()) for count in counts], False).dumps
+        first, last = WhatCounts(dumps).sides(Way())
+        return GrowthProbe(first, last, None, Unit.BYTES)
+
+    def test_arrays(self) -> None:
+        """What a field holds, and what it gained, is exact to the byte, whatever the lengths of the arrays are; and so are
+        the reports of the dumps."""
+        probe = self.probe(100, 1001)
+        held = held_by(probe, "shop/Cache.field0")
+        before, after = (bytes_of_odd_arrays(count) for count in (100, 1001))
+        self.assertEqual(held.amount, Amount(1002, after))
+        self.assertEqual(probe.gain(held.candidates), Amount(901, after - before))
+        self.assertEqual(probe.growth, Amount(901, after - before))
+        self.assertEqual(sum(each.bytes for each in held.lost.values()), after)
+        rest = probe.side.report_of_rest(held.candidates)
+        self.assertEqual(probe.base.reachable.minus(rest.reachable), held.amount)
+        for each in (probe, probe.earlier):
+            for name in ("byte[]", "int[]", "[Ljava/lang/Object;"):
+                self.assertEqual(each.runs.report.amount(name), each.base.amount(name), name)
+
+    def test_unchanged(self) -> None:
+        """Nothing grew between dumps that have the same objects."""
+        self.assertEqual(self.probe(300, 300).growth, Amount())
 
 
 class FilesTest(unittest.TestCase):

@@ -15,6 +15,7 @@ from heap_tools.commands import leaks
 from heap_tools.faults import Fault
 from heap_tools.hprof_format import NATIVE_STACK
 from tests.support.dump_writer import BYTE, DumpWriter, word
+from tests.support.laid_out_heap import bytes_of_odd_arrays, odd_arrays
 from tests.support.services import (
     MINUTE,
     Service,
@@ -613,6 +614,21 @@ class LeaksTest(ToolTest):
         self.assertEqual(parts[0], "leaks: reading dump 1 of 2")
         self.assertTrue(any("asking what each field holds" in part for part in parts), seen)
         self.assertTrue(parts[-1].startswith("leaks: "), seen)
+
+
+class HeapBytesTest(ToolTest):
+    """leaks on dumps that show the layout of their heap."""
+
+    tool = "leaks"
+
+    def test_arrays(self) -> None:
+        """What a field gained is exact to the byte, whatever the lengths of the arrays that came."""
+        before, after = (bytes_of_odd_arrays(count) for count in (100, 1001))
+        for count, minutes, path in ((100, 0, "monday"), (1001, 9, "friday")):
+            odd_arrays(count, minutes).written().write(path)
+        ended = self.ran("monday", "friday")
+        found = columns_of(ended.out.splitlines()[0])
+        self.assertEqual(found, ["901", f"{after - before}", "100%", f"{before}", f"{after}", "1", "shop/Cache.field0"])
 
 
 class MostFilesTest(unittest.TestCase):

@@ -11,13 +11,13 @@ from heap_tools.class_names import CLASSES
 from heap_tools.field_placing import OwnFields, aligned
 from heap_tools.heap_dump import HeapDump
 from heap_tools.heap_layout import STACK, Layout, UnknownLayout
+from heap_tools.held_table import RowPart, by_row
 from heap_tools.object_sizes import Linear, ObjectSizes
 from heap_tools.object_totals import Total, totals_of
 from heap_tools.reports import Amount, Report, Row, read_text
 from tests.support.dump_writer import BYTE, LONG
-from tests.support.laid_out_heap import LaidOutHeap
+from tests.support.laid_out_heap import COMPRESSED, LaidOutHeap
 
-COMPRESSED = Layout(8, 12, 4, 16)
 COMPACT = Layout(8, 8, 4, 12)
 REAL = pathlib.Path(__file__).parent / "../../bench/real"
 
@@ -377,6 +377,62 @@ class RowsTest(unittest.TestCase):
         self.assertEqual(found.rows.of("byte[]", Amount(800, 3600)).bytes % 8, 0)
         self.assertAlmostEqual(found.rows.of("byte[]", Amount(800, 3600)).bytes, 19200, delta=600)
         self.assertEqual(found.rows.of("long[]", Amount(1000, 8000)), Amount(1000, 24000))
+
+    def test_arrays_of_each_length(self) -> None:
+        """Arrays of a table take exactly their header and elements, rounded up, and so do several of one remainder."""
+        names = {"byte[]": (1, 1), "char[]": (2, 2), "int[]": (4, 4), "long[]": (8, 8), "[Lshop/Entry;": (8, 4)}
+        for layout in (COMPRESSED, COMPACT):
+            found = sizes_of(LaidOutHeap(layout))
+            for name, (written, element) in names.items():
+                begin = 16 if element == 8 else layout.array_header
+                taken = [8 * ((begin + element * length + 7) // 8) for length in range(41)]
+                for length in range(41):
+                    part = RowPart(name, length * written % 16)
+                    self.assertEqual(
+                        found.rows.taken({part: Amount(1, length * written)}), {name: Amount(1, taken[length])}
+                    )
+                    alike = [each for each in range(41) if each * written % 16 == part.remainder]
+                    wanted = Amount(len(alike), sum(taken[each] for each in alike))
+                    amount = Amount(len(alike), sum(each * written for each in alike))
+                    self.assertEqual(found.rows.taken({part: amount}), {name: wanted}, (name, length))
+
+    def test_large_alignment(self) -> None:
+        """If sizes are multiples of 16, arrays of references of which every second byte counts have a mean padding, all
+        others their own; if they are multiples of 32, all have a mean padding."""
+        for alignment, is_known in ((16, True), (32, False)):
+            found = sizes_of(LaidOutHeap(Layout(alignment, 12, 4, 16)))
+            self.assertEqual(found.layout.alignment, alignment)
+            amounts = {RowPart("[Lshop/Entry;", 8): Amount(3, 72), RowPart("[Lshop/Entry;", 0): Amount(2, 80)}
+            mean = found.rows.of("[Lshop/Entry;", Amount(5, 152))
+            self.assertEqual(found.rows.taken(amounts), {"[Lshop/Entry;": mean})
+            for length in range(41):
+                exact = Amount(1, 16 * ((16 + length + 15) // 16))
+                wanted = exact if is_known else found.rows.of("byte[]", Amount(1, length))
+                taken = found.rows.taken({RowPart("byte[]", length % 16): Amount(1, length)})
+                self.assertEqual(taken, {"byte[]": wanted}, (alignment, length))
+
+    def test_narrow_identifiers(self) -> None:
+        """So is it of arrays of references that take as much as in the dump."""
+        heap = LaidOutHeap(Layout(8, 8, 4, 12), 4)
+        found = sizes_of(heap)
+        for length in range(41):
+            taken = found.rows.taken({RowPart("[Lshop/Entry;", 4 * length % 16): Amount(1, 4 * length)})
+            self.assertEqual(taken, {"[Lshop/Entry;": Amount(1, 8 * ((12 + 4 * length + 7) // 8))}, length)
+
+    def test_padding_of_a_table(self) -> None:
+        """A report takes the padding of the arrays of a table in place of the sample's: its rows have what those of the
+        table take, and objects that the table lacks the mean."""
+        found = sizes_of(LaidOutHeap(COMPRESSED)).rows
+        parts = {RowPart("byte[]", 1): Amount(1000, 17_000), RowPart("byte[]", 8): Amount(1, 8)}
+        parts.update({RowPart("shop/Entry0"): Amount(7, 84), RowPart("other/Class"): Amount(1, 9)})
+        taken = {"byte[]": Amount(1001, 40_024), "shop/Entry0": Amount(7, 7 * 24), "other/Class": Amount(1, 9)}
+        self.assertEqual(found.taken(parts), taken)
+        rows = [Row(name, amount) for name, amount in by_row(parts).items()]
+        padded = found.padded_as(parts)
+        self.assertEqual(padded.report(Report(rows)).by_name(), taken)
+        self.assertNotEqual(found.report(Report(rows)).by_name(), taken)
+        self.assertEqual(padded.of("byte[]", Amount(2002, 34_016)), Amount(2002, 80_048))
+        self.assertEqual(padded.of("int[]", Amount(10, 120)), found.of("int[]", Amount(10, 120)))
 
     def test_longs_of_compact_headers(self) -> None:
         """Elements of 8 bytes begin at a multiple of 8."""

@@ -12,13 +12,15 @@ from tests.support.dump_writer import BYTE, INT, LONG, VALUE_SIZE, DumpWriter
 FIRST, FIRST_CLASS = 1 << 20, 1 << 28
 #: How many sub-records a segment has.
 IN_A_SEGMENT = 500
+#: The usual layout of a virtual machine.
+COMPRESSED = Layout(8, 12, 4, 16)
 
 
 class LaidOutHeap:
     """Objects one after the other, in a heap with the layout `layout`."""
 
-    def __init__(self, layout: Layout, id_size: int = 8) -> None:
-        self.layout, self.dump, self.at = layout, DumpWriter(id_size), FIRST
+    def __init__(self, layout: Layout, id_size: int = 8, minutes: int = 0) -> None:
+        self.layout, self.dump, self.at = layout, DumpWriter(id_size, 60_000 * minutes), FIRST
         self.classes: Dict[int, Fields] = {}
         self._writers: List[Callable[[], None]] = []
 
@@ -49,11 +51,12 @@ class LaidOutHeap:
         begin, self.at = self.at, self.at + self.layout.aligned(size)
         return begin
 
-    def instance(self, of_class: int, added: int = 0) -> int:
-        """Puts an instance in the heap, with `added` bytes that the dump does not show. Returns its identifier."""
+    def instance(self, of_class: int, added: int = 0, references: Sequence[int] = ()) -> int:
+        """Puts an instance in the heap, with `added` bytes that the dump does not show. Those of its references after
+        `references` are null. Returns its identifier."""
         fields = self.classes[of_class]
         number = self.place(self.layout.instance(fields) + added)
-        values = [0] * fields.references + [bytes(fields.other)]
+        values = [*references, *[0] * (fields.references - len(references)), bytes(fields.other)]
         self._writers.append(lambda: self.dump.instance(number, of_class, *values))
         return number
 
@@ -109,6 +112,28 @@ class LaidOutHeap:
     def read(self, shuffled: bool = False) -> HeapDump:
         """Writes the dump and reads it."""
         return read(self.written(shuffled))
+
+
+def odd_arrays(count: int, minutes: int = 0) -> LaidOutHeap:
+    """Returns a heap in which `shop/Cache.field0` leads to `count` arrays of bytes, of 0 to 40 each, beside some objects
+    of other lengths."""
+    it = LaidOutHeap(COMPRESSED, minutes=minutes)
+    it.mixed(200)
+    cache, table = it.of_class("shop/Cache", 1), it.of_class("[Ljava/lang/Object;")
+    arrays = [it.values(BYTE, length) for length in odd_lengths(count)]
+    it.dump.root(it.instance(cache, references=[it.array(table, count, arrays)]))
+    return it
+
+
+def odd_lengths(count: int) -> List[int]:
+    """Returns the lengths of these arrays: most have the remainder 1 by 8, so that they have 7 bytes of padding."""
+    return [number % 41 if number % 3 == 0 else 8 * (number % 5) + 1 for number in range(count)]
+
+
+def bytes_of_odd_arrays(count: int) -> int:
+    """Returns what `shop/Cache.field0` holds in the heap."""
+    every = [16 + length for length in odd_lengths(count)] + [16 + 4 * count]
+    return sum(8 * ((size + 7) // 8) for size in every)
 
 
 def read(dump: DumpWriter) -> HeapDump:
