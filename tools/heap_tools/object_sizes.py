@@ -67,23 +67,25 @@ class RowSizes(NamedTuple):
         return self.arrays[part] if part in self.arrays else self.rows.get(part.name, AS_WRITTEN)
 
     def taken(self, parts: RowParts) -> Dict[str, Amount]:
-        """Returns what the objects of a table take, by row: those without a padding that is known as in a report."""
-        known = {part: amount for part, amount in parts.items() if part in self.arrays}
+        """Returns what the objects of a table take, by row: those of which no padding is known as in a report."""
         others = by_row({part: amount for part, amount in parts.items() if part not in self.arrays})
         found = {name: self.of(name, amount) for name, amount in others.items()}
-        for part, amount in known.items():
-            taken = self.arrays[part].of(amount, self.layout.alignment)
-            found[part.name] = found[part.name].plus(taken) if part.name in found else taken
-        return found
+        exact = self._exact(parts)
+        return {**found, **{name: amount.plus(found.get(name, Amount())) for name, amount in exact.items()}}
+
+    def _exact(self, parts: RowParts) -> Dict[str, Amount]:
+        """Returns what those arrays take of which the padding is known, by row."""
+        known, alignment = self.arrays, self.layout.alignment
+        return by_row({part: known[part].of(amount, alignment) for part, amount in parts.items() if part in known})
 
     def padded_as(self, parts: RowParts) -> "RowSizes":
         """Returns the same, with the mean padding of the arrays of a table in place of that of a sample: so a report with
         the same arrays has what they take."""
-        known = {part: amount for part, amount in parts.items() if part in self.arrays}
-        written, taken, rows = by_row(known), self.taken(known), dict(self.rows)
-        for name, (objects, size) in written.items():
+        written = by_row({part: amount for part, amount in parts.items() if part in self.arrays})
+        rows = dict(self.rows)
+        for name, taken in self._exact(parts).items():
             a_byte = rows[name].a_byte
-            rows[name] = Linear((taken[name].bytes - a_byte * size) / max(1, objects), a_byte)
+            rows[name] = Linear((taken.bytes - a_byte * written[name].bytes) / max(1, taken.objects), a_byte)
         return self._replace(rows=rows)
 
     def report(self, report: Report) -> Report:

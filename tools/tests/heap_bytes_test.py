@@ -23,7 +23,6 @@ from tests.support.laid_out_heap import COMPRESSED, LaidOutHeap, bytes_of_odd_ar
 from tests.support.marked import MarkedRuns, held_by
 
 
-
 def heap(lengths: int, layout: Layout = COMPRESSED) -> LaidOutHeap:
     """Returns a heap with 400 orders of 24 bytes and 800 arrays of up to `lengths` bytes."""
     it = LaidOutHeap(layout)
