@@ -3,8 +3,7 @@
 import os
 import pickle
 import signal
-import weakref
-from typing import Any, BinaryIO, Callable, Generic, List, NamedTuple, NoReturn, TypeVar
+from typing import Any, BinaryIO, Callable, List, NamedTuple, NoReturn, TypeVar
 
 from heap_tools.faults import UNREADABLE, Fault
 
@@ -27,38 +26,23 @@ class _Process(NamedTuple):
     stream: BinaryIO
 
 
-class Work(Generic[Item, Result]):
-    """Calls of `function` with parts of the list `items`, each in a process of its own. There are as many parts as
-    processors, but each has at least `least` items. All begin at once, and end when their results are there, or at the
-    end of this tool. A single part is left for `results`, in this process; and so is all if the system starts no more
-    processes."""
-
-    def __init__(self, function: Callable[[List[Item]], Result], items: List[Item], least: int) -> None:
-        self._function, self._items = function, items
-        count = max(1, min(processors(), len(items) // least))
-        bounds = [len(items) * number // count for number in range(count + 1)]
-        processes: List[_Process] = []
-        self._processes, self._end = processes, weakref.finalize(self, _end, processes)
+def shared(function: Callable[[List[Item]], Result], items: List[Item], least: int) -> List[Result]:
+    """Calls `function` with parts of the list `items`, each in a process of its own, and returns the results in the
+    order of the items. There are as many parts as processors, but each has at least `least` items. A single part is
+    done in this process; and so is all if the system starts no more processes. Raises the `Fault` or the `MemoryError`
+    of the first process that failed, or `Fault` if it ended early."""
+    count = max(1, min(processors(), len(items) // least))
+    bounds = [len(items) * number // count for number in range(count + 1)]
+    processes: List[_Process] = []
+    try:
         try:
             for begin, end in zip(bounds, bounds[1:]) if count > 1 else ():
                 processes.append(_started(function, items[begin:end]))
         except OSError:
             _end(processes)
-
-    def results(self) -> List[Result]:
-        """Returns the results, in the order of the items. Raises the `Fault` or the `MemoryError` of the first process
-        that failed, or `Fault` if it ended early."""
-        if not self._processes:
-            return [self._function(self._items)]
-        try:
-            return [_next_result(self._processes) for _ in range(len(self._processes))]
-        finally:
-            self._end()
-
-
-def shared(function: Callable[[List[Item]], Result], items: List[Item], least: int) -> List[Result]:
-    """Calls `function` with parts of the list `items`, as `Work` does, and returns the results."""
-    return Work(function, items, least).results()
+        return [_next_result(processes) for _ in range(len(processes))] or [function(items)]
+    finally:
+        _end(processes)
 
 
 def _end(processes: List[_Process]) -> None:

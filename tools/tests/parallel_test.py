@@ -11,7 +11,7 @@ from unittest import mock
 
 from heap_tools.faults import Fault
 from heap_tools.heap_dump import UnknownTag
-from heap_tools.parallel import Work, shared
+from heap_tools.parallel import shared
 from tests.support.waiting import time_limit, wait_until
 
 
@@ -20,8 +20,8 @@ def squares(numbers: List[int]) -> List[int]:
     return [each * each for each in numbers]
 
 
-class WorkTest(unittest.TestCase):
-    """Work"""
+class SharedTest(unittest.TestCase):
+    """shared"""
 
     def setUp(self) -> None:
         folder = tempfile.TemporaryDirectory()
@@ -54,27 +54,32 @@ class WorkTest(unittest.TestCase):
             self.assertEqual([each for part in found for each in part], squares(numbers))
 
     def test_at_once(self) -> None:
-        """All parts begin before anybody asks for results; a single one does not, and is done in this process."""
-        work = Work(self.noted, [1, 2, 3], 1)
-        begun = self.begun(3)
-        self.assertEqual(sorted(work.results()), begun)
-        self.assertNotIn(os.getpid(), begun)
-        alone = Work(self.noted, [1, 2, 3], 2)
-        self.assertEqual(self.begun(3), begun)
-        self.assertEqual(alone.results(), [os.getpid()])
+        """All parts are done at once, each in a process of its own; a single one is done in this process."""
+
+        def meeting(numbers: List[int]) -> int:
+            self.noted(numbers)
+            self.begun(3)
+            return os.getpid()
+
+        found = shared(meeting, [1, 2, 3], 1)
+        self.assertEqual(sorted(found), self.begun(3))
+        self.assertNotIn(os.getpid(), found)
+        self.assertEqual(shared(self.noted, [1, 2, 3], 2), [os.getpid()])
 
     def test_end(self) -> None:
-        """Processes end with the work, also if nobody asks for results, and if one of them fails."""
+        """Processes end with the work, also if it is interrupted, and if one of them fails."""
 
         def sleeping(numbers: List[int]) -> None:
             self.noted(numbers)
             time.sleep(60)
 
-        work = Work(sleeping, [1, 2, 3], 1)
-        begun = self.begun(3)
-        with time_limit(20):
-            del work
-        self.assertEqual([each for each in begun if os.path.exists(f"/proc/{each}")], [])
+        def interrupted(_: object) -> None:
+            self.begun(3)
+            raise KeyboardInterrupt
+
+        with mock.patch("heap_tools.parallel._next_result", interrupted), time_limit(20):
+            self.assertRaises(KeyboardInterrupt, shared, sleeping, [1, 2, 3], 1)
+        self.assertEqual([each for each in self.begun(3) if os.path.exists(f"/proc/{each}")], [])
         with self.assertRaisesRegex(Fault, "ended early"), time_limit(20):
             shared(lambda numbers: os._exit(1) if 1 in numbers else sleeping(numbers), [1, 2, 3], 1)
         self.assertEqual([each for each in self.begun(3) if os.path.exists(f"/proc/{each}")], [])
