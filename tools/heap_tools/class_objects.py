@@ -3,7 +3,7 @@
 from heap_tools.class_names import family
 from heap_tools.dump_runs import DumpRuns
 from heap_tools.faults import NOTHING, WEAKLY_HELD, Fault
-from heap_tools.heap_objects import HeapObjects
+from heap_tools.object_totals import totals_of
 from heap_tools.omissions import HIDDEN_HOLDERS
 from heap_tools.reports import Report
 
@@ -13,7 +13,8 @@ def require_objects(name: str, runs: DumpRuns, base: Report) -> None:
     references."""
     if runs.report.amount(name).objects == 0:
         of_family = {each for each in runs.dump.names.values() if family(each) == name} | {name}
-        count = HeapObjects(runs.dump).count(of_family)
+        every = totals_of(runs.dump, None)
+        count = sum(every[each].written.objects for each in of_family if each in every)
         inner = any(each.startswith(f"{name}$") for each in runs.dump.names.values())
         why = "the dump has no object of it" + ": did the shell take a $ away? quote the name" * inner
         if count:

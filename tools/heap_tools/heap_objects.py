@@ -1,4 +1,4 @@
-"""Walks over the objects of a heap dump: how many there are of a class, where they are, and what their fields hold."""
+"""Walks over the objects of a heap dump: where they are, and what their fields hold."""
 
 import sys
 from array import array
@@ -95,24 +95,6 @@ class HeapObjects:
 
         parts = shared(found_in, segments, FEWEST_SEGMENTS) if wanted and segments else []
         return {key: at for part in parts for key, at in part.items()}
-
-    def count(self, names: Set[str]) -> int:
-        """Returns how many objects of the classes with these names, as reports have them, the dump has."""
-        dump = self.dump
-        classes = {class_id for class_id, name in dump.names.items() if name in names}
-        codes = {code for code, letter in hprof.LETTERS.items() if f"{PRIMITIVES[letter]}[]" in names}
-        places = {hprof.INSTANCE: 5 + dump.id_size, hprof.OBJECT_ARRAY: 9 + dump.id_size}
-
-        def count_in(segments: List[Span]) -> int:
-            found = 0
-            for at, tag in dump.sub_records(segments):
-                if tag in places:
-                    found += dump.id(at + places[tag]) in classes
-                elif tag == hprof.PRIMITIVE_ARRAY:
-                    found += dump.bytes[at + 9 + dump.id_size] in codes
-            return found
-
-        return sum(shared(count_in, dump.segments, FEWEST_SEGMENTS))
 
     def class_of(self, at: int) -> int:
         """Returns the identifier of the class of the instance at `at`, 0 if an array is there."""

@@ -12,6 +12,7 @@ from heap_tools.faults import UNREADABLE, Fault
 from heap_tools.heap_objects import HeapObjects
 from heap_tools.heapmark import Heapmark
 from heap_tools.object_places import FEWEST_SEGMENTS
+from heap_tools.object_totals import totals_of
 from heap_tools.referrers import MOST_OWNERS, Referrers
 from heap_tools.thread_counts import grown_thread_counts, number_of_threads
 from tests.support.dump_writer import BYTE, FRAME, LONG, ROOT_THREAD_OBJECT, STRING, TRACE, DumpWriter, word
@@ -185,7 +186,7 @@ class ReadingTest(HprofTest):
             self.assertEqual(len(objects.dump.segments), count + 1)
             every = list(range(count))
             self.assertEqual(len(objects.places_of(1000 + number for number in every)), count)
-            self.assertEqual(objects.count({"shop/Order"}), count)
+            self.assertEqual(totals_of(objects.dump, None)["shop/Order"].written.objects, count)
             self.assertEqual(len(objects.values_of(["shop/Order.next"], {5000})), count)
             referrers = Referrers(objects)
             referrers.look_up([5000])
@@ -262,9 +263,9 @@ class ReadingTest(HprofTest):
         dump = Service()
         dump.objects(300, 301)
         dump.values(400, BYTE, bytes(3))
-        self.assertEqual(
-            [HeapObjects(self.read(dump)).count({name}) for name in ("shop/Order", "byte[]", "int[]")], [2, 1, 0]
-        )
+        found = totals_of(self.read(dump), None)
+        self.assertEqual([found["shop/Order"].written.objects, found["byte[]"].written.objects], [2, 1])
+        self.assertNotIn("int[]", found)
 
     def test_lasting_classes(self) -> None:
         """Classes of the loaders that the JDK keeps are never unloaded."""
