@@ -60,7 +60,7 @@ class _Additions:
             every = [self._without_rest(each) for each in every]
         self.holes = holes_in(sample, (each for each in every if not self._is_special(each.class_id)), layout)
         for one in every:
-            for class_id in self._lineage(one.class_id):
+            for class_id in self.dump.lineage(one.class_id):
                 self.seen[class_id].append(one)
         for class_id, each in dump.classes.items():
             self.below[each.superclass].append(class_id)
@@ -84,24 +84,18 @@ class _Additions:
             (small if self._is_small(one) else others).add(one.class_id)
         return len(small - others) >= SOME_SMALL
 
-    def _lineage(self, class_id: int) -> Iterator[int]:
-        """Yields a class and those that it inherits from."""
-        while class_id in self.dump.classes:
-            yield class_id
-            class_id = self.dump.classes[class_id].superclass
-
     def _is_added_to(self, class_id: int) -> bool:
         """Tests whether the virtual machine adds fields to a class, or to one that it inherits from."""
-        return any(self.dump.names[each] in WITH_ADDED_FIELDS for each in self._lineage(class_id))
+        return any(self.dump.names[each] in WITH_ADDED_FIELDS for each in self.dump.lineage(class_id))
 
     def _is_special(self, class_id: int) -> bool:
         """Tests whether a class or one that it inherits from is known to have additions."""
-        return any(self.dump.names[each] in WITH_ADDED_FIELDS | WITH_ROOM for each in self._lineage(class_id))
+        return any(self.dump.names[each] in WITH_ADDED_FIELDS | WITH_ROOM for each in self.dump.lineage(class_id))
 
     def _has_own_fields(self, class_id: int) -> bool:
         """Tests whether the fields of a class, inherited ones too, are those of one class: then there is no hole
         between them."""
-        every = (self.dump.classes[each].fields for each in self._lineage(class_id))
+        every = (self.dump.classes[each].fields for each in self.dump.lineage(class_id))
         return sum(any(not field.is_static for field in fields) for fields in every) <= 1
 
     def found(self) -> Iterator[Tuple[int, int]]:

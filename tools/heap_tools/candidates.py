@@ -311,18 +311,10 @@ class Candidates:
         the nodes of a map say as little as the map."""
         parts = self.dump.names[class_id].split("$")
         outer = ("$".join(parts[:count]) for count in range(1, len(parts)))
-        around = (each for name in outer for each in self._ids_of(name))
+        every = [class_id, *(each for name in outer for each in self._ids_of(name))]
         return any(part.endswith(CALLED_COLLECTIONS) for part in parts) or any(
-            map(self._inherits_collection, [class_id, *around])
+            self.dump.names[upper] in COLLECTIONS for each in every for upper in self.dump.lineage(each)
         )
-
-    def _inherits_collection(self, class_id: int) -> bool:
-        names, classes = self.dump.names, self.dump.classes
-        while class_id in classes:
-            if names[class_id] in COLLECTIONS:
-                return True
-            class_id = classes[class_id].superclass
-        return False
 
     def _ids_of(self, name: str) -> List[int]:
         """Returns the classes of a name: one for each loader that has it."""
@@ -364,8 +356,7 @@ class Candidates:
 def reference_fields(dump: HeapDump, class_id: int) -> Iterator[Tuple[int, str]]:
     """Yields the fields of an instance of a class that are references, in the order of the dump: the class that
     declares each, and its name."""
-    while class_id in dump.classes:
-        for each in dump.classes[class_id].fields:
+    for owner in dump.lineage(class_id):
+        for each in dump.classes[owner].fields:
             if not each.is_static and each.kind == OBJECT:
-                yield class_id, each.name
-        class_id = dump.classes[class_id].superclass
+                yield owner, each.name

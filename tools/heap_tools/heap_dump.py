@@ -283,6 +283,12 @@ class HeapDump:
         )
         return at
 
+    def lineage(self, class_id: int) -> Iterator[int]:
+        """Yields a class and those that it inherits from, as far as the dump has them."""
+        while class_id in self.classes:
+            yield class_id
+            class_id = self.classes[class_id].superclass
+
     def _field_name(self, text_id: int) -> str:
         if text_id not in self.field_names:
             self.field_names[text_id] = self.text(text_id)

@@ -143,12 +143,11 @@ class HeapObjects:
     def _fields_of(self, class_id: int) -> Sequence[PlacedField]:
         found: List[PlacedField] = []
         place = 9 + 2 * self.dump.id_size
-        while class_id in self.dump.classes:
-            for each in self.dump.classes[class_id].fields:
+        for owner in self.dump.lineage(class_id):
+            for each in self.dump.classes[owner].fields:
                 if not each.is_static:
-                    found.append((class_id, place, each))
+                    found.append((owner, place, each))
                     place += self.dump.value_sizes[each.kind]
-            class_id = self.dump.classes[class_id].superclass
         return found
 
     def place_of(self, value: FieldValue) -> Place:

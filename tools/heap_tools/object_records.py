@@ -174,10 +174,8 @@ def _first_instance(dump: HeapDump, class_id: int, span: Span) -> Optional[int]:
 def _head_of(dump: HeapDump, class_id: int) -> bytes:
     """Returns how the records of all instances of a class go on after the trace: its identifier, and the number of
     bytes of its fields."""
-    length, at = 0, class_id
-    while at in dump.classes:
-        length += sum(dump.value_sizes[each.kind] for each in dump.classes[at].fields if not each.is_static)
-        at = dump.classes[at].superclass
+    fields = (each for owner in dump.lineage(class_id) for each in dump.classes[owner].fields)
+    length = sum(dump.value_sizes[each.kind] for each in fields if not each.is_static)
     return class_id.to_bytes(dump.id_size, "big") + hprof.COUNT.pack(length)
 
 

@@ -37,11 +37,8 @@ HANDLERS = {WeakKind.FINAL: "Finalizer", WeakKind.PHANTOM: "Common-Cleaner"}
 def weak_kind_of(dump: HeapDump, class_id: int) -> Optional[WeakKind]:
     """Returns the kind of the references of a class, None if it is of no kind."""
     kinds = {each.value: each for each in WeakKind}
-    while class_id in dump.classes:
-        if dump.names[class_id] in kinds:
-            return kinds[dump.names[class_id]]
-        class_id = dump.classes[class_id].superclass
-    return None
+    names = (dump.names[each] for each in dump.lineage(class_id))
+    return next((kinds[name] for name in names if name in kinds), None)
 
 
 class WeakReferences:
