@@ -4,9 +4,9 @@ import contextlib
 import os
 import re
 import sys
-from typing import BinaryIO, NamedTuple, Sequence
+from typing import BinaryIO, Sequence
 
-from heap_tools.child_process import Call, Child, Children, Ran
+from heap_tools.child_process import Call
 from heap_tools.console import as_heapmark_spells, is_terminal, say
 from heap_tools.faults import UNREADABLE, WRONG_USE, Fault
 from heap_tools.gzip_dump import readable_name
@@ -50,13 +50,9 @@ class Heapmark(ProvedProgram):
             raise Fault(WRONG_USE, f"{fields}: no list of 1 to 64 fields Class.field with commas between")
 
     def first_report(self, path: str, options: Sequence[str] = (), why: str = "") -> Report:
-        """Returns the report of the dump `path`. If heapmark refuses it, the fault has its reason; `why` is added."""
-        with Children() as children:
-            run = self.first_run(path, children, options)
-            return run.report(children.next_ended()[1], why)
-
-    def first_run(self, path: str, children: Children, options: Sequence[str] = ()) -> "FirstRun":
-        """Starts a run on the dump `path` among `children`. Raises `Fault` if there is no such file."""
+        """Returns the report of the dump `path`, and passes messages on. Raises `Fault` if there is no such file, or if
+        the run ends without a report. If heapmark refuses the dump, the fault has its reason, and `why`, and the run
+        does not count."""
         if path and not os.path.lexists(path):
             raise Fault(UNREADABLE, f"{path}: no such file")
         # To a terminal, heapmark says what to do about a refusal. With options, it then reads the file once more.
@@ -68,36 +64,16 @@ class Heapmark(ProvedProgram):
             except UnicodeEncodeError:  # heapmark takes no such name
                 name, stdin = STANDARD_INPUT, stack.enter_context(opened(path)).fileno()
             bound = report_bound(os.path.getsize(name) if os.path.isfile(name) else LARGEST_DUMP)
-            call = Call([*options, "--", name], bound, stdin, to_terminal=to_terminal)
-            child = self.started(call, children)
-        return FirstRun(self, child, path, name)
-
-    def judged(self, path: str, ran: Ran, number: int) -> Report:
-        """Returns the report that run `number` of heapmark printed, if it ended well. Then its messages are passed
-        on."""
+            ran = self.run(Call([*options, "--", name], bound, stdin, to_terminal=to_terminal))
+        if ran.status > 0 and any("refused " in line for line in ran.said):
+            raise Fault(UNREADABLE, f"{path}: {_reason(ran.said, name)}{why}")
+        self.runs += 1
         found = read_report(ran.out.splitlines(), self.program) if ran.status == 0 and not ran.was_stopped else None
         if found is None:
-            raise self.failed(path, ran, number, "report")
+            raise self.failed(path, ran, "report")
         for line in ran.said:
             say(line)
         return found
-
-
-class FirstRun(NamedTuple):
-    """A run of `heapmark` on the dump `path`, the process `child`, which has it as `name`."""
-
-    heapmark: Heapmark
-    child: Child
-    path: str
-    name: str
-
-    def report(self, ran: Ran, why: str = "") -> Report:
-        """Returns the report that it printed, if it ended well. If it refused the dump, the fault has its reason, and
-        `why`, and the run does not count; runs are numbered in the order in which their reports are asked for."""
-        if ran.status > 0 and any("refused " in line for line in ran.said):
-            raise Fault(UNREADABLE, f"{self.path}: {_reason(ran.said, self.name)}{why}")
-        self.heapmark.runs += 1
-        return self.heapmark.judged(self.path, ran, self.heapmark.runs)
 
 
 def _reason(said: Sequence[str], path: str) -> str:

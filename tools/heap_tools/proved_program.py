@@ -18,10 +18,6 @@ ADVICE = {
 STANDARD_INPUT = "/dev/stdin"
 
 
-class LaterFault(Fault):
-    """A run failed on a dump that heapmark had accepted before."""
-
-
 def nearest(name: str) -> str:
     """Returns the program beside the tool, else the one that was built, else that of PATH."""
     tool, here = (os.path.dirname(os.path.realpath(path)) for path in (sys.argv[0], __file__))
@@ -66,15 +62,15 @@ class ProvedProgram:
         place = f"put it beside this tool or into PATH, or set {self.variable} to its path"
         return f"build {self.name} with tools/build, {place}"
 
-    def failed(self, path: str, ran: Ran, number: int, what: str) -> LaterFault:
-        """Returns the fault of run `number` on a dump, which did not print `what` it should."""
+    def failed(self, path: str, ran: Ran, what: str) -> Fault:
+        """Returns the fault of the last run, on the dump `path`, which did not print `what` it should."""
         ended = f"no {what}"
         if not ran.was_stopped and ran.status < 0:
             ended = f"signal {-ran.status}"
         elif not ran.was_stopped and ran.status > 0:
             ended = ": ".join([f"status {ran.status}", *ran.said[:1]])
-        if number == 1 and (ran.status >= 0 or ran.was_stopped):
+        if self.runs == 1 and (ran.status >= 0 or ran.was_stopped):
             ended += f": is it {self.name}?"
         if "refused 19 " in ended:
             ended += why_unreadable(STANDARD_INPUT)
-        return LaterFault(NO_HEAPMARK, f"{self.program}: run {number} on {path} failed: {ended}")
+        return Fault(NO_HEAPMARK, f"{self.program}: run {self.runs} on {path} failed: {ended}")

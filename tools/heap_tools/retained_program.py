@@ -33,7 +33,7 @@ class RetainedProgram(ProvedProgram):
         super().__init__("retained")
 
     def tables(self, dumps: Sequence[LabelledDump]) -> List[HeldTable]:
-        """Returns the table of each dump with its labels. Raises `LaterFault` if a run fails: then it ends all others,
+        """Returns the table of each dump with its labels. Raises `Fault` if a run fails: then it ends all others,
         as it does if this is interrupted."""
         running: Dict[Child, int] = {}
         found: Dict[int, HeldTable] = {}
@@ -77,7 +77,7 @@ class RetainedProgram(ProvedProgram):
         self.runs += 1
         table = read_table(ran.out) if ran.status == 0 and not ran.was_stopped else None
         if table is None or dump.has_objects and not table.every_set():
-            raise self.failed(dump.path, ran, self.runs, "table")
+            raise self.failed(dump.path, ran, "table")
         for line in ran.said:
             say(line)
         return table

@@ -11,7 +11,6 @@ from unittest import mock
 
 from heap_tools.faults import NO_HEAPMARK, UNREADABLE, Fault
 from heap_tools.heapmark import Heapmark
-from heap_tools.proved_program import LaterFault
 from tests.support.tool_test import ToolTest, report
 from tests.support.waiting import time_limit
 
@@ -38,13 +37,12 @@ class HeapmarkTest(ToolTest):
         for text, status in (
             ("echo 'heapmark: refused 1 BadHeader at 0' >&2; exit 1", UNREADABLE),
             ("exit 0", NO_HEAPMARK),
+            ("exit 1", NO_HEAPMARK),
             ("kill -9 $$", NO_HEAPMARK),
         ):
             with self.assertRaises(Fault) as raised:
                 self.heapmark(text).first_report("dump")
             self.assertEqual(raised.exception.status, status, text)
-        with self.assertRaises(LaterFault):
-            self.heapmark("exit 1").first_report("dump")
         with mock.patch.dict(os.environ, HEAPMARK="/no/where"), self.assertRaises(Fault) as raised:
             Heapmark().first_report("dump")
         self.assertEqual(raised.exception.status, NO_HEAPMARK)

@@ -11,7 +11,6 @@ from heap_tools.faults import NO_HEAPMARK, Fault
 from heap_tools.heap_dump import HeapDump
 from heap_tools.held_table import EMPTY, RowPart, by_row, read_table, table_bound
 from heap_tools.label_text import Labels, in_class, in_object, in_root
-from heap_tools.proved_program import LaterFault
 from heap_tools.reports import LONGEST_LINE, Amount
 from heap_tools.retained_program import LabelledDump, RetainedProgram
 from tests.support.dump_writer import DumpWriter
@@ -195,7 +194,7 @@ class ProgramTest(ToolTest):
         ]
         for text, ended in cases:
             program = self.retained(f'cat "$3" > /dev/null\n{text}')
-            with self.assertRaises(LaterFault) as raised:
+            with self.assertRaises(Fault) as raised:
                 program.tables([self.dump()])
             said = f"{program.program}: run 1 on dump failed: {ended}"
             self.assertRegex(str(raised.exception), f"^{said.replace('?', '[?]').replace('*', '.*')}$")
