@@ -17,17 +17,8 @@ OPTION = "sun.nio.MaxDirectMemorySize"
 def heap_capacity(dump: HeapDump) -> Optional[int]:
     """Returns the most bytes that the heap may have, which is what the program gets as Runtime.maxMemory(), or None if
     the dump does not say it. Walks over all objects some ten times."""
-    found = static_long(dump, MEMORY_CLASS, MOST_DIRECT)
+    found = static_value(dump, MEMORY_CLASS, MOST_DIRECT, hprof.LONG)
     return None if not found or _has_option(HeapObjects(dump)) else found
-
-
-def static_long(dump: HeapDump, class_name: str, field: str) -> Optional[int]:
-    """Returns the number in a static field of 8 bytes, None if no class of the dump has such a field."""
-    for class_id, name in dump.names.items():
-        for each in dump.classes[class_id].fields if name == class_name else []:
-            if each.is_static and each.name == field and each.kind == hprof.LONG:
-                return dump.number(each.place + 1, 8)
-    return None
 
 
 def _has_option(objects: HeapObjects) -> bool:

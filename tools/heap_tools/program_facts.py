@@ -60,12 +60,13 @@ def process_of(objects: HeapObjects) -> Optional[int]:
     return None if place is None else objects.dump.number(place, 8)
 
 
-def static_value(dump: HeapDump, class_name: str, field: str) -> int:
-    """Returns the identifier in a static field, 0 if no class of the dump has such a field."""
+def static_value(dump: HeapDump, class_name: str, field: str, kind: int = hprof.OBJECT) -> int:
+    """Returns the identifier or the number in a static field, 0 if no class of the dump has such a field. `kind` is the
+    code of its type."""
     for class_id, name in dump.names.items():
         for each in dump.classes[class_id].fields if name == class_name else []:
-            if each.is_static and each.name == field and each.kind == hprof.OBJECT:
-                return dump.id(each.place + 1)
+            if each.is_static and (each.name, each.kind) == (field, kind):
+                return dump.number(each.place + 1, dump.value_sizes[kind])
     return 0
 
 
