@@ -95,7 +95,7 @@ class ElementCounts:
             if (field.kind, name in NUMBERS) == (hprof.INT, True):
                 return dump.number(at + place, 4)
             if (field.kind, name in STRIPES) == (hprof.LONG, True):
-                found = signed(dump.number(at + place, 8))
+                found = dump.number(at + place, 8, signed=True)
         return found
 
     def _inner(self, at: int) -> Sequence[int]:
@@ -109,11 +109,6 @@ class ElementCounts:
 
     def _are_cells(self, at: int) -> bool:
         return self.objects.dump.names.get(self.objects.dump.id(at + 9 + self.objects.dump.id_size)) in CELLS
-
-
-def signed(number: int) -> int:
-    """Returns the long of which `number` is the unsigned one."""
-    return number - (1 << 64) if number >> 63 else number
 
 
 def element_counts(probe: Probe, lines: Sequence[Sequence[Candidate]]) -> List[Optional[int]]:

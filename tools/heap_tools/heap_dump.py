@@ -118,9 +118,9 @@ class HeapDump:
         and prints a traceback if memory is too short for that."""
         return hash(self.bytes) if self._digest is None else self._digest
 
-    def number(self, at: int, size: int) -> int:
+    def number(self, at: int, size: int, signed: bool = False) -> int:
         """Reads the number in the `size` bytes at the offset `at`."""
-        return int.from_bytes(self.bytes[at : at + size], "big")
+        return int.from_bytes(self.bytes[at : at + size], "big", signed=signed)
 
     def id(self, at: int) -> int:
         """Reads the identifier at the offset `at`."""

@@ -94,7 +94,4 @@ class ObjectNames:
             return shown_text(texts[key]) if texts.get(key) else ""
         box = self.dump.names.get(self.objects.class_of(known[key]), "")
         place = self.objects.place_of_value(known[key], box, "value", BOXES[box]) if box in BOXES else None
-        return "" if place is None else str(self._signed(place, self.dump.value_sizes[BOXES[box]]))
-
-    def _signed(self, place: int, size: int) -> int:
-        return int.from_bytes(self.dump.bytes[place : place + size], "big", signed=True)
+        return "" if place is None else str(self.dump.number(place, self.dump.value_sizes[BOXES[box]], signed=True))
