@@ -111,14 +111,6 @@ class Comparison:
         way = self.way._replace(calls=None)
         return RunningCalls(self.growth, without, functools.partial(self.probes_between, way=way))
 
-    def more_unreachable(self) -> Amount:
-        """Returns how much more is unreachable in the last dump than in the first."""
-        return unreachable_growth(self.dumps)
-
-    def why_missing(self) -> str:
-        """Returns a text for the user: how much more is unreachable, why, and what shows it."""
-        return missing_words(self.dumps)
-
 
 def dumps_of(paths: Sequence[str], heapmark: Heapmark, progress: Progress) -> List[DumpRuns]:
     """Returns the dumps at `paths`. Those that will not be asked are measured, and have no content then, so that not

@@ -10,7 +10,7 @@ from heap_tools import VERSION, page
 from heap_tools.candidates import Candidate
 from heap_tools.class_growth import growths
 from heap_tools.class_names import CLASSES, is_own
-from heap_tools.comparison import Comparison
+from heap_tools.comparison import Comparison, unreachable_growth
 from heap_tools.dump_runs import DumpRuns
 from heap_tools.faults import UNWRITABLE, WRONG_USE, Fault
 from heap_tools.heapmark import Heapmark
@@ -44,7 +44,7 @@ def content_of(
         holders=[holder_of(line, probe, measured_between(line, comparison)) for line in answer.lines],
         last=reports[-1].families,
         growth=answer.whole,
-        omitted=on_page(comparison.more_unreachable()),
+        omitted=on_page(unreachable_growth(comparison.dumps)),
         making=making,
         by=probe.unit,
         of_class=of_class,

@@ -8,7 +8,15 @@ from typing import Iterator, List, NamedTuple, NoReturn, Optional, Sequence
 
 from heap_tools import command_line
 from heap_tools.command_line import Parser, number
-from heap_tools.comparison import Comparison, NoGrowth, comparison_of, dumps_of, families_asked
+from heap_tools.comparison import (
+    Comparison,
+    NoGrowth,
+    comparison_of,
+    dumps_of,
+    families_asked,
+    missing_words,
+    unreachable_growth,
+)
 from heap_tools.console import Progress, is_terminal, say, write
 from heap_tools.documents import document
 from heap_tools.dump_runs import DumpRuns
@@ -203,8 +211,8 @@ def remainder(answer: Answer, comparison: Comparison, options: Options) -> List[
     """Returns what the lines do not have, a sentence each."""
     probe, found = comparison.probe, [] if answer.lasts else [NOTHING_LASTS]
     found += rest_words(answer, options.bounds, "the growth")
-    if probe.unit.of(comparison.more_unreachable()) > probe.unit.of(probe.growth):
-        found.append(comparison.why_missing())
+    if probe.unit.of(unreachable_growth(comparison.dumps)) > probe.unit.of(probe.growth):
+        found.append(missing_words(comparison.dumps))
     return found
 
 
