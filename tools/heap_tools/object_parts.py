@@ -7,7 +7,7 @@ from heap_tools.candidates import FIELD, Candidate
 from heap_tools.field_values import FieldValues, values_by_field
 from heap_tools.heap_objects import FieldValue, HeapObjects
 from heap_tools.map_entries import MapEntries
-from heap_tools.outer_names import OTHERS
+from heap_tools.object_names import OTHERS
 
 #: Among how many objects it is asked at most which hold most: more of them would make each run read too many changes.
 MOST_OBJECTS = 100_000
