@@ -124,7 +124,7 @@ def _stretches(dump: HeapDump, spans: Sequence[Span], wanted: int) -> List[List[
     found: Dict[int, List[HeapObject]] = {}
     whole: Set[int] = set()
     for some in _parts(len(spans), wanted):
-        found.update({number: _beginning(dump, spans[number], count) for number, count in some.items()})
+        found.update({each: list(islice(heap_objects(dump, [spans[each]]), count)) for each, count in some.items()})
         whole.update(number for number, count in some.items() if len(found[number]) < count)
         if sum(map(len, found.values())) >= ENOUGH_SAMPLED * wanted:
             break
@@ -150,11 +150,6 @@ def _parts(count: int, wanted: int) -> Iterator[Dict[int, int]]:
         yield {number: share for number in others[first::times]}
 
 
-def _beginning(dump: HeapDump, span: Span, most: int) -> List[HeapObject]:
-    """Returns the first objects of a part of the file, at most `most`."""
-    return list(islice(heap_objects(dump, [span]), most))
-
-
 def _ascending(stretches: Iterable[List[HeapObject]]) -> float:
     """Returns the share of objects after which one with a larger identifier comes, but not with a far larger one."""
     total = near = 0
@@ -172,11 +167,6 @@ def _gaps_in(stretch: List[HeapObject]) -> List[int]:
     return list(map(sub, islice(identifiers, 1, None), identifiers))
 
 
-def _pairs_of(stretch: List[HeapObject]) -> Iterator[Tuple[HeapObject, HeapObject]]:
-    """Yields each object of a stretch but the last with the one after it."""
-    return zip(stretch, islice(stretch, 1, None))
-
-
 def _class_object(class_id: int) -> HeapObject:
     """Returns a class object as an object of a sample."""
     return class_id, class_id, CLASS_OBJECT, 0
@@ -189,7 +179,7 @@ def _with_classes(stretch: List[HeapObject], classes: List[int]) -> List[HeapObj
     if all(map(lt, identifiers, islice(identifiers, 1, None))):
         return sorted(chain(stretch, _between(classes, stretch[:1], stretch[-1:])))
     found: List[HeapObject] = []
-    for one, after in _pairs_of(stretch):
+    for one, after in zip(stretch, islice(stretch, 1, None)):
         found += [one, *_between(classes, [one], [after])]
     return found + stretch[-1:]
 
