@@ -43,16 +43,12 @@ class ReferencePaths:
         if is_static(held):
             return []
         path: List[Retained] = []
-        for each in self._all_above(held):
+        for each in (upper for upper in self.found if self._is_above(upper, held)):
             if is_static(each) or is_root(each) and path and not is_root(path[-1]):
                 path = []
             if not path or not share_candidates(path[-1], each) and self.probe.holds_all(path[-1], each):
                 path.append(each)
         return [each for each in path if is_root(each)] if is_root(held) else path
-
-    def _all_above(self, held: Retained) -> List[Retained]:
-        """Returns what holds all that `held` does, from the top down."""
-        return [each for each in self.found if self._is_above(each, held)]
 
     def _is_above(self, upper: Retained, lower: Retained) -> bool:
         """Tests whether `upper` holds all that `lower` does, and more."""
