@@ -140,10 +140,6 @@ class PartsOfField:
         """Where the objects are, and some that have the field, but no value in it."""
         return [*(each.instance for each in self.parts.values), *self.parts.others]
 
-    def class_of(self, at: int) -> str:
-        """Returns the class of the object at `at`, without what tells hidden classes apart."""
-        return self.objects.class_name(at)
-
     def names_of(self, chosen: Sequence[int]) -> Dict[int, List[Name]]:
         """Returns the names of the objects at `chosen`. Names that others have, too, are none."""
         known = set(chosen)
@@ -167,7 +163,7 @@ class PartsOfField:
         names = {at: [name] for at in places} if name else self.names_of(places)
         return [
             HoldingObject(
-                self.class_of(value.instance),
+                self.objects.class_name(value.instance),
                 names[value.instance],
                 amount,
                 self.probe.unit.percent(amount, whole),
@@ -322,14 +318,15 @@ def same_objects(now: PartsOfField, places: Sequence[int], earlier: PartsOfField
     alone, alone_before = (alone_in(of.names.own_names(of.places)) for of in (now, earlier))
     parts = earlier.parts.values
     by_id = {earlier.objects.dump.id(each.instance + 1): each for each in parts}
-    by_name = {(earlier.class_of(at), it): each for each in parts for at in [each.instance] for it in alone_before[at]}
+    class_of = earlier.objects.class_name
+    by_name = {(class_of(at), it): each for each in parts for at in [each.instance] for it in alone_before[at]}
     found: Dict[int, FieldValue] = {}
     for at in places:
-        class_name, here = now.class_of(at), by_id.get(now.objects.dump.id(at + 1))
+        class_name, here = now.objects.class_name(at), by_id.get(now.objects.dump.id(at + 1))
         called = {by_name[class_name, name] for name in alone[at] if (class_name, name) in by_name}
         if len(called) == 1:
             found[at] = called.pop()
-        elif here and not alone[at] and earlier.class_of(here.instance) == class_name:
+        elif here and not alone[at] and class_of(here.instance) == class_name:
             if not set(now.names_of([at])[at]).isdisjoint(earlier.names_of([here.instance])[here.instance]):
                 found[at] = here
     return found
