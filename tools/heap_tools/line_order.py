@@ -265,12 +265,8 @@ class LineOrder:
         return lower != upper and self.lines[lower].heap <= self.lines[upper].heap and self.holds(upper, lower)
 
     def _is_on_path(self, number: int, best: int) -> bool:
-        upper, lower = self._by_size(number, best)
+        upper, lower = sorted((number, best), key=lambda it: -self.lines[it].heap)
         return number == best or self.holds(upper, lower) or self.holds(lower, upper)
-
-    def _by_size(self, one: int, other: int) -> Tuple[int, int]:
-        """Returns two lines, first that which holds more."""
-        return (other, one) if self.lines[other].heap > self.lines[one].heap else (one, other)
 
     def _depth(self, number: int) -> Tuple[bool, int, str]:
         """Returns what the deepest line is the smallest by, among those with one score: a thread, if none says more."""
