@@ -40,7 +40,6 @@ from heap_tools.leak_notes import (
 from heap_tools.leak_options import Bounds, Options
 from heap_tools.one_dump import AT_LEAST, HeapAnswer, question_of
 from heap_tools.one_dump_notes import notes_of_one, sentences_of
-from heap_tools.one_dump_output import lines_of_one
 from heap_tools.one_dump_page import page_of_one
 from heap_tools.page import Making
 from heap_tools.page_content import content_of, making_of, require_place, write_page
@@ -185,6 +184,17 @@ def printed(lines: Sequence[Line], unit: Unit) -> str:
     return "".join(texts)
 
 
+def printed_of_one(answer: HeapAnswer) -> str:
+    """Returns the lines of one dump as they are printed, on a terminal below the heads of the columns."""
+    heads = f"{'objects':>10} {answer.question.runs.report.bytes_head:>14} share instances  field\n"
+    found = [heads] if answer.lines and is_terminal(sys.stdout) else []
+    for line in answer.lines:
+        amount = line.held.amount
+        figures = f"{amount.objects:10} {amount.bytes:14} {line.share:4.0f}% {line.instances:9}"
+        found.append(line_with_path(figures, [*line.above, line.held]) + "\n")
+    return "".join(found)
+
+
 def instances_of(line: Line) -> str:
     """Returns the number of instances of a line, and before it the one in the first dump if that differs."""
     was, now = line.instances_before, line.instances
@@ -283,7 +293,10 @@ def print_one(path: str, options: Options, output: Output) -> None:
     changed, probe = dumps.dump.changed_words(), question.probe
     rest = rest_words(answer.found, options.bounds, counted(probe.unit.of(probe.growth), probe.unit.noun))
     sentences = [*sentences_of(answer, notes, rest), *filter(None, [dumps.words]), *changed, str(cost)]
-    write(document("leaks", fields_of_one(answer, notes, cost), sentences) if output.is_json else lines_of_one(answer))
+    if output.is_json:
+        write(document("leaks", fields_of_one(answer, notes, cost), sentences))
+    else:
+        write(printed_of_one(answer))
     if output.page is not None:
         write_page(output.page, page_of_one(answer, notes, output.making(), options))
     for sentence in sentences:
