@@ -12,13 +12,13 @@ from heap_tools.page_content import (
     layout_sentence,
     objects_of,
     program_of,
-    roots_above,
     sentence_of,
     share_entries,
+    share_of,
+    steps_above,
+    steps_from,
 )
-from heap_tools.page_content import steps_from
 from heap_tools.probe import Probe
-from heap_tools.reports import Amount
 
 
 def page_of_one(answer: HeapAnswer, notes: HeapNotes, making: page.Making, options: Options) -> page.OneDump:
@@ -47,16 +47,8 @@ def page_of_one(answer: HeapAnswer, notes: HeapNotes, making: page.Making, optio
     )
 
 
-def share_of_one(amount: Amount, probe: Probe) -> page.HeldShare:
-    """Returns an amount, and its share of all that is reachable."""
-    return page.HeldShare(amount, probe.unit.percent(amount, probe.growth))
-
-
 def suspect_of(line: Line, probe: Probe) -> page.SuspectEntry:
-    """Returns what the page shows of a line."""
-    above = [
-        *roots_above(line.roots),
-        *(page.StepEntry(fields_of(each.candidates), share_of_one(each.amount, probe)) for each in line.above),
-    ]
-    held = share_of_one(line.held.amount, probe)
-    return page.SuspectEntry(fields_of(line.held.candidates), line.instances, held, above, elements_of(line))
+    """Returns what the page shows of a line, with shares of all that is reachable."""
+    held, above = line.held, steps_above(line, probe.unit, probe.growth)
+    share = share_of(held.amount, probe.unit, probe.growth)
+    return page.SuspectEntry(fields_of(held.candidates), line.instances, share, above, elements_of(line))

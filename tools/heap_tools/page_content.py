@@ -20,9 +20,8 @@ from heap_tools.leak_lines import Line
 from heap_tools.leak_notes import Notes, elements_of
 from heap_tools.leak_options import Options
 from heap_tools.omissions import on_page
-from heap_tools.path_roots import RootsAbove
 from heap_tools.plain_dumps import is_dump
-from heap_tools.probe import GrowthProbe, Probe
+from heap_tools.probe import GrowthProbe
 from heap_tools.program_facts import facts_of
 from heap_tools.reports import Amount, Report, Unit
 from heap_tools.which_object import HoldingObject
@@ -145,13 +144,10 @@ def holder_of(line: Line, probe: GrowthProbe, between: Dict[int, Amount]) -> pag
     return page.HolderEntry(
         fields=fields_of(line.held.candidates),
         instances=line.instances,
-        before=share_of(line.before, probe.earlier),
-        after=share_of(line.held.amount, probe),
+        before=share_of(line.before, probe.unit, probe.earlier.whole),
+        after=share_of(line.held.amount, probe.unit, probe.whole),
         share=line.share,
-        above=[
-            *roots_above(line.roots),
-            *(page.StepEntry(fields_of(each.candidates), share_of(each.amount, probe)) for each in line.above),
-        ],
+        above=steps_above(line, probe.unit, probe.whole),
         instances_before=line.instances_before,
         between=between,
         elements=elements_of(line),
@@ -163,17 +159,19 @@ def fields_of(candidates: Sequence[Candidate]) -> List[page.FieldEntry]:
     return [page.FieldEntry(each.kind, each.name) for each in sorted(candidates, key=str)]
 
 
-def roots_above(found: Optional[RootsAbove]) -> List[page.StepEntry]:
-    """Returns the first step of a path that begins at a field: the nearest of the roots that lead there."""
-    if not found:
-        return []
-    nearest = found.roots[0]
-    return [page.StepEntry([page.FieldEntry(nearest.kind, nearest.name)], others=found.others)]
+def steps_above(line: Line, unit: Unit, whole: Amount) -> List[page.StepEntry]:
+    """Returns the steps of a path above its line, with their shares of `whole`. If the path begins at a field, the
+    nearest of the roots that lead there comes first."""
+    steps = [page.StepEntry(fields_of(each.candidates), share_of(each.amount, unit, whole)) for each in line.above]
+    if line.roots:
+        nearest = line.roots.roots[0]
+        steps.insert(0, page.StepEntry([page.FieldEntry(nearest.kind, nearest.name)], others=line.roots.others))
+    return steps
 
 
-def share_of(amount: Amount, probe: Probe) -> page.HeldShare:
-    """Returns an amount, and its share of what is reachable in the dump of `probe`."""
-    return page.HeldShare(amount, probe.unit.percent(amount, probe.whole))
+def share_of(amount: Amount, unit: Unit, whole: Amount) -> page.HeldShare:
+    """Returns an amount, and its share of `whole`."""
+    return page.HeldShare(amount, unit.percent(amount, whole))
 
 
 def steps_from(path: str, lines: Sequence[Line], names: Sequence[str], follows_weak: bool) -> List[page.NextStep]:
