@@ -79,22 +79,19 @@ def without_values(lines: Sequence[Line], shows_values: bool) -> List[Line]:
     return [line._replace(objects=objects) for line, objects in zip(lines, shown)]
 
 
-def objects_words(lines: Sequence[Line]) -> List[str]:
-    """Returns which objects gained most of what each line did, of those of which that is known."""
-    known = [(number, line.objects) for number, line in enumerate(lines, 1) if line.objects]
-    return [f"line {number}: {sentence(joint_name(it.held.candidates), it.objects)}" for number, it in known]
-
-
-def roots_words(lines: Sequence[Line]) -> List[str]:
-    """Returns the roots above each line whose path begins at a field, of those of which some are known."""
-    known = [(number, line.roots) for number, line in enumerate(lines, 1) if line.roots]
-    return [f"line {number}: {joint_name(it.first.candidates)}: {it}" for number, it in known]
-
-
-def elements_words(lines: Sequence[Line]) -> List[str]:
-    """Returns how many elements the container of each line has, and had, of those of which that is known."""
-    known = [(number, line) for number, line in enumerate(lines, 1) if line.elements is not None]
-    return [f"line {number}: {joint_name(it.held.candidates)}: {elements_of(it)}" for number, it in known]
+def lines_words(lines: Sequence[Line]) -> List[str]:
+    """Returns what is known of lines, a sentence each: the roots above those whose path begins at a field, which
+    objects gained most of what a line did, and how many elements its container has, and had."""
+    roots, objects, elements = [], [], []
+    for number, line in enumerate(lines, 1):
+        if line.roots:
+            roots.append(f"line {number}: {joint_name(line.roots.first.candidates)}: {line.roots}")
+        if line.objects:
+            of_field = sentence(joint_name(line.objects.held.candidates), line.objects.objects)
+            objects.append(f"line {number}: {of_field}")
+        if line.elements is not None:
+            elements.append(f"line {number}: {joint_name(line.held.candidates)}: {elements_of(line)}")
+    return [*roots, *objects, *elements]
 
 
 def elements_of(line: Line) -> str:

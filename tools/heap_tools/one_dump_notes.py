@@ -9,7 +9,7 @@ from heap_tools.class_counts import many_loaders_words
 from heap_tools.direct_buffers import DirectMemory, direct_memory
 from heap_tools.heap_capacity import heap_capacity
 from heap_tools.humanize import counted, size
-from heap_tools.leak_notes import captured_words, elements_words, objects_words, roots_words
+from heap_tools.leak_notes import captured_words, lines_words
 from heap_tools.memory_asked import asked_words
 from heap_tools.omissions import WHY_UNREACHABLE
 from heap_tools.one_dump import HeapAnswer
@@ -66,8 +66,7 @@ def notes_of_one(answer: HeapAnswer) -> HeapNotes:
 def sentences_of(answer: HeapAnswer, notes: HeapNotes, rest: Sequence[str]) -> List[str]:
     """Returns all that is said beside the lines. `rest`: what they do not have."""
     ran_out = [f"memory ran out in {place}" for place in notes.ran_out]
-    of_lines = [*roots_words(answer.lines), *objects_words(answer.lines), *elements_words(answer.lines)]
-    found = [fullness_words(answer, notes), *of_lines, contents_words(answer.contents), *ran_out]
+    found = [fullness_words(answer, notes), *lines_words(answer.lines), contents_words(answer.contents), *ran_out]
     return [each for each in [*found, *map(str, notes.locals), notes.weak, *notes.others, *rest, SECOND] if each]
 
 

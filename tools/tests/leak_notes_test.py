@@ -8,7 +8,7 @@ from heap_tools.candidates import FIELD, Candidate
 from heap_tools.direct_buffers import DirectMemory
 from heap_tools.leak_answer import Answer
 from heap_tools.leak_lines import Line, LineObjects
-from heap_tools.leak_notes import NOTHING_LASTS, PATTERNS, Notes, captured_words, notes_of, notes_words, objects_words
+from heap_tools.leak_notes import NOTHING_LASTS, PATTERNS, Notes, captured_words, lines_words, notes_of, notes_words
 from heap_tools.leak_notes import own_classes_words, rest_words, without_values
 from heap_tools.leak_options import Bounds
 from heap_tools.line_order import LASTS
@@ -48,11 +48,11 @@ class LeakNotesTest(unittest.TestCase):
         found = LineObjects(OWN.held, holding("one"))
         gained = found._replace(objects=[each._replace(has_gained=True) for each in holding("one") * 2])
         lines = [OWN, OWN._replace(objects=found), OWN._replace(objects=gained)]
-        second, third = objects_words(lines)
+        second, third = lines_words(lines)
         said = "line 2: 1 of 9 shop/Basket.items holds most: shop/Basket (its field name one): 88%"
         self.assertEqual(second, said)
         self.assertIn("line 3: 2 of 9 shop/Basket.items gained most: ", third)
-        hidden, _ = objects_words(without_values(lines, False))
+        hidden, _ = lines_words(without_values(lines, False))
         self.assertIn("holds most: shop/Basket (its field name): 88%", hidden)
         self.assertEqual(without_values(lines, True), lines)
 

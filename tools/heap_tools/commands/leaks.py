@@ -29,12 +29,10 @@ from heap_tools.leak_answer import Answer, answer_of
 from heap_tools.leak_lines import Line
 from heap_tools.leak_notes import (
     NOTHING_LASTS,
-    elements_words,
+    lines_words,
     notes_of,
     notes_words,
-    objects_words,
     rest_words,
-    roots_words,
     without_values,
 )
 from heap_tools.leak_options import Bounds, Options
@@ -261,8 +259,8 @@ def print_growth(paths: Sequence[str], options: Options, output: Output) -> None
     has_heads = is_terminal(sys.stdout) and answer.lines
     above = lines_above(comparison, comparison.probe, width_of(answer.lines)) if has_heads else ""
     cost = output.cost(answer.search.all)
-    of_lines = [*roots_words(answer.lines), *objects_words(answer.lines), *elements_words(answer.lines)]
-    sentences = [*comparison.why, *of_lines, *notes_words(notes), *remainder(answer, comparison, options)]
+    sentences = [*comparison.why, *lines_words(answer.lines), *notes_words(notes)]
+    sentences += remainder(answer, comparison, options)
     changed = [words for each in dumps.dumps for words in each.changed_words()]
     sentences += [*filter(None, [dumps.words]), *changed, str(cost)]
     if output.is_json:
