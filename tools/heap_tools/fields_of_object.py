@@ -1,8 +1,5 @@
-"""What piles up below a field that leads to no container: what one object holds by several of its fields.
-
-A client of HTTP has its connections in a map of its own, and in the list of parts that its class inherits. Each
-connection has such a list, too: so that field has many instances, and no field of few instances holds the connections,
-alone or with others. What leads to the client does, but they pile up in the client.
+"""What piles up below a field that leads to no container: what one object holds by several of its fields, also by an
+inherited one that has many instances elsewhere. docs/DECISIONS.md has an example: a client of HTTP.
 """
 
 from typing import Dict, List, NamedTuple, Optional, Set

@@ -1,8 +1,5 @@
-"""What the elements of a container that were there before gained by a field of theirs.
-
-The stations of a net are always the same 400, and each gains edges, which lead to nodes that are no longer in the net.
-These nodes have edges, too: so most instances of the field `edges` came, and what it gained seems to have come with
-them. By the 400 that the net has it lasts, and there it piles up.
+"""What the elements of a container that were there before gained by a field of theirs, though most instances of that
+field came. docs/DECISIONS.md has an example: the stations of a net.
 """
 
 from typing import List, Optional

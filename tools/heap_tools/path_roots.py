@@ -1,8 +1,5 @@
-"""What leads to a path that begins at a field: several roots do, of which none holds all that the path does.
-
-The dispatcher's thread of an HTTP server leads to it, its timer's does, and so do those that serve requests. Without
-one of them it is still reachable, so none is above it on a path. Who reads the path wants to know where it hangs from
-all the same: so the roots are looked up that lead to the object with the first field, from that object upwards.
+"""What leads to a path that begins at a field: several roots do, of which none holds all that the path does, so that
+none is above it. They are looked up from the object with the first field upwards.
 """
 
 from typing import Dict, List, NamedTuple, Optional, Sequence, Set, Tuple
