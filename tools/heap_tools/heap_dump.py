@@ -36,13 +36,12 @@ class UnknownTag(Fault):
 
 
 class Field(NamedTuple):
-    """A field of a class dump: its name, its type's code, whether it is static, whether it is a static field that is
-    null, and where in the file its type's code is."""
+    """A field of a class dump: its name, its type's code, whether it is static, and where in the file its type's code
+    is."""
 
     name: str
     kind: int
     is_static: bool
-    is_null: bool
     place: int
 
 
@@ -275,9 +274,7 @@ class HeapDump:
                 if part == "constants":
                     constants += kind == hprof.OBJECT
                 else:
-                    is_static, text = part == "statics", self._field_name(self.id(name))
-                    is_null = is_static and kind == hprof.OBJECT and self.id(place + 1) == 0
-                    fields.append(Field(text, kind, is_static, is_null, place))
+                    fields.append(Field(self._field_name(self.id(name)), kind, part == "statics", place))
         self.classes[self.id(begin + 1)] = Class(
             self.id(begin + 5 + size), self.id(begin + 5 + 2 * size), fields, constants
         )

@@ -72,8 +72,9 @@ class ThreadLocals:
         found: Dict[int, str] = {}
         for class_id, each in self.dump.classes.items():
             for field in each.fields:
-                if field.is_static and field.kind == hprof.OBJECT and not field.is_null:
+                if field.is_static and field.kind == hprof.OBJECT:
                     found.setdefault(self.dump.id(field.place + 1), f"{self.dump.names[class_id]}.{field.name}")
+        found.pop(0, None)  # those that are null
         return found
 
     def _threads_of(self, entries: Sequence[Tuple[int, int]]) -> Dict[int, str]:

@@ -126,10 +126,9 @@ class ReadingTest(HprofTest):
         found = self.read(dump)
         named = {1: "java/lang/Thread", 2: "java/lang/String", 3: "shop/Order"}
         self.assertEqual(found.names, {**named, 4: "byte[]", 5: "?0x5"})
-        fields = [(field.name, field.kind, field.is_static, field.is_null) for field in found.classes[3].fields]
+        fields = [(field.name, field.kind, field.is_static) for field in found.classes[3].fields]
         reference = hprof_format.OBJECT
-        wanted = [("FIRST", reference, True, False), ("NONE", reference, True, True), ("next", reference, False, False)]
-        self.assertEqual(fields, wanted)
+        self.assertEqual(fields, [("FIRST", reference, True), ("NONE", reference, True), ("next", reference, False)])
 
     def test_two_strings(self) -> None:
         """Of two strings with one identifier the first counts, as for heapmark."""
