@@ -42,12 +42,8 @@ def direct_memory(dump: HeapDump) -> DirectMemory:
 def _attachments(objects: HeapObjects, instance: int) -> List[int]:
     """Returns the identifiers of what a buffer is a view of: 0 if it is a direct one with memory of its own, nothing if
     it is no direct one."""
-    dump = objects.dump
-    lineage = [
-        (dump.names[owner], place, field) for owner, place, field in objects.fields_of(objects.class_of(instance))
-    ]
-    wanted = BUFFER, ATTACHMENT, hprof.OBJECT
-    return [dump.id(instance + place) for owner, place, it in lineage if (owner, it.name, it.kind) == wanted]
+    place = objects.place_of_value(instance, BUFFER, ATTACHMENT, hprof.OBJECT)
+    return [] if place is None else [objects.dump.id(place)]
 
 
 def _mapped_classes(objects: HeapObjects) -> Set[int]:
