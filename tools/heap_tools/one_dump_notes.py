@@ -2,7 +2,7 @@
 ran out of memory and what it asked for, and what else there is much of: threads and loaders."""
 
 from dataclasses import dataclass
-from typing import List, NamedTuple, Optional, Sequence
+from typing import List, Optional, Sequence
 
 from heap_tools.candidates import LOCAL
 from heap_tools.class_counts import many_loaders_words
@@ -26,25 +26,15 @@ SHOWN_CLASSES, SHOWN_THREADS = 3, 2
 SECOND = "one dump shows what is held, not what is more than usual: a second one, taken later, shows that"
 
 
-class LocalPlace(NamedTuple):
-    """A method whose local variable is a line or above one, and a thread with a call of it."""
-
-    method: str
-    thread: ThreadPlace
-
-    def __str__(self) -> str:
-        return f"local {self.method} is of {self.thread}"
-
-
 @dataclass(frozen=True)
 class HeapNotes:
-    """How many bytes the heap may have, if the dump says it, the threads that ran out of memory, those whose local
-    variables are lines or above them, the memory of direct buffers, a sentence on weak references, empty if they hold
-    little, and other sentences."""
+    """How many bytes the heap may have, if the dump says it, the threads that ran out of memory, sentences on those
+    whose local variables are lines or above them, the memory of direct buffers, a sentence on weak references, empty if
+    they hold little, and other sentences."""
 
     capacity: Optional[int]
     ran_out: List[ThreadPlace]
-    locals: List[LocalPlace]
+    locals: List[str]
     direct: DirectMemory
     weak: str
     others: List[str]
@@ -67,7 +57,7 @@ def sentences_of(answer: HeapAnswer, notes: HeapNotes, rest: Sequence[str]) -> L
     """Returns all that is said beside the lines. `rest`: what they do not have."""
     ran_out = [f"memory ran out in {place}" for place in notes.ran_out]
     found = [fullness_words(answer, notes), *lines_words(answer.lines), contents_words(answer.contents), *ran_out]
-    return [each for each in [*found, *map(str, notes.locals), notes.weak, *notes.others, *rest, SECOND] if each]
+    return [each for each in [*found, *notes.locals, notes.weak, *notes.others, *rest, SECOND] if each]
 
 
 def fullness_words(answer: HeapAnswer, notes: HeapNotes) -> str:
@@ -88,12 +78,12 @@ def contents_words(contents: Sequence[Row]) -> str:
     return f"line 1 holds {', '.join(parts)}" if parts else ""
 
 
-def local_places(answer: HeapAnswer) -> List[LocalPlace]:
-    """Returns which threads have the local variables of lines, or those above them."""
+def local_places(answer: HeapAnswer) -> List[str]:
+    """Returns in words which threads have the local variables of lines, or those above them."""
     steps = (step for line in answer.lines for step in [*line.above, line.held])
     methods = dict.fromkeys(each.name for step in steps for each in step.candidates if each.kind == LOCAL)
     dump = answer.question.dump
-    return [LocalPlace(method, place) for method in methods for place in threads_in(dump, method)[:SHOWN_THREADS]]
+    return [f"local {name} is of {place}" for name in methods for place in threads_in(dump, name)[:SHOWN_THREADS]]
 
 
 def weakly_held_in_one(answer: HeapAnswer) -> str:

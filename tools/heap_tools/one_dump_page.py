@@ -38,7 +38,7 @@ def page_of_one(answer: HeapAnswer, notes: HeapNotes, making: page.Making, optio
         objects=objects_of(answer.lines),
         contents=answer.contents,
         ran_out=[page.RanOutEntry(it.name, it.methods, it.before_own) for it in notes.ran_out],
-        notes=[sentence_of(each) for each in [*map(str, notes.locals), *notes.others]],
+        notes=[sentence_of(each) for each in [*notes.locals, *notes.others]],
         weak=sentence_of(notes.weak) if notes.weak else None,
         layout=layout_sentence(question.runs),
         capacity=notes.capacity,
