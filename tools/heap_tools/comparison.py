@@ -14,14 +14,14 @@ from heap_tools.faults import NOTHING, UNREADABLE, Fault
 from heap_tools.gzip_dump import forget
 from heap_tools.heap_bytes import measure
 from heap_tools.heapmark import Heapmark
-from heap_tools.humanize import counted
+from heap_tools.humanize import counted, more_are
 from heap_tools.leak_options import Options
 from heap_tools.omissions import more_unreachable
 from heap_tools.dump_side import Several, ask
 from heap_tools.probe import GrowthProbe, Probe, RunningCalls
 from heap_tools.reports import Amount, Report, Unit
 from heap_tools.same_program import Taken, other_main, other_program, wrong_order
-from heap_tools.weak_growth import MUCH_WEAKLY_HELD, Followed, followed_of, grown, weakly_held_words
+from heap_tools.weak_growth import MUCH_WEAKLY_HELD, Followed, followed_of, grown
 from heap_tools.what_counts import PASSING, Way, WhatCounts, side_of, sides_with_calls, without_running_calls
 
 #: A dump, or its number.
@@ -81,9 +81,9 @@ class Comparison:
     def weak_words(self) -> str:
         """A text on what grew and is held by weak references that are not followed, empty if that is little."""
         held, whole = (self.probe.unit.of(each) for each in (self.followed.amount, self.probe.growth))
-        return (
-            f"{weakly_held_words(self.followed.amount)}: see --weak" if 100 * held >= MUCH_WEAKLY_HELD * whole else ""
-        )
+        if 100 * held < MUCH_WEAKLY_HELD * whole:
+            return ""
+        return f"{more_are(*self.followed.amount)} held by soft, weak, final or phantom references alone: see --weak"
 
     @property
     def between(self) -> List[DumpRuns]:

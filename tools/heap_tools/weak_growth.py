@@ -93,8 +93,3 @@ def why_followed(kind: WeakKind, amount: Amount, runs: Sequence[DumpRuns]) -> st
     are = more_are(*amount) if is_growth else f"{counted(amount.objects, 'object')}, {size(amount.bytes)} are"
     held = f"{are} held by {kind.noun} references alone, most of them {of_class}"
     return f"{held}{blocked}: most of {'the growth' if is_growth else 'the heap'}; so these references are followed"
-
-
-def weakly_held_words(growth: Amount) -> str:
-    """Returns in words how much more is held by weak references alone. `growth` is above 0 in one figure at least."""
-    return f"{more_are(*growth)} held by soft, weak, final or phantom references alone"
