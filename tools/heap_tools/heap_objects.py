@@ -47,18 +47,14 @@ class HeapObjects:
     def thread_names(self) -> Dict[int, str]:
         """Returns the names of the threads by their serial numbers. Walks over all objects up to three times, once for
         each dump."""
-        known = THREAD_NAMES.get(self.dump)
-        if known is None:
-            known = THREAD_NAMES[self.dump] = self._thread_names()
-        return known
-
-    def _thread_names(self) -> Dict[int, str]:
         dump = self.dump
-        threads = {root.thread: dump.id(root.place) for root in dump.roots if root.kind == hprof.THREAD_OBJECT}
-        objects = self.places_of(threads.values())
-        strings = {key: self.reference(at, THREAD_CLASS, "name") for key, at in objects.items()}
-        texts = self.texts(strings.values())
-        return {thread: texts.get(strings.get(key, 0), "") for thread, key in threads.items()}
+        if dump not in THREAD_NAMES:
+            threads = {root.thread: dump.id(root.place) for root in dump.roots if root.kind == hprof.THREAD_OBJECT}
+            objects = self.places_of(threads.values())
+            strings = {key: self.reference(at, THREAD_CLASS, "name") for key, at in objects.items()}
+            texts = self.texts(strings.values())
+            THREAD_NAMES[dump] = {thread: texts.get(strings.get(key, 0), "") for thread, key in threads.items()}
+        return THREAD_NAMES[dump]
 
     def texts(self, strings: Iterable[int]) -> Dict[int, str]:
         """Returns the texts of the Strings with these identifiers. Walks over all objects up to twice."""
@@ -135,20 +131,15 @@ class HeapObjects:
 
     def fields_of(self, class_id: int) -> Sequence[PlacedField]:
         """Returns the fields of an instance of a class, its own first, then those that it inherits."""
-        found = self._fields.get(class_id)
-        if found is None:
-            found = self._fields[class_id] = self._fields_of(class_id)
-        return found
-
-    def _fields_of(self, class_id: int) -> Sequence[PlacedField]:
-        found: List[PlacedField] = []
-        place = 9 + 2 * self.dump.id_size
-        for owner in self.dump.lineage(class_id):
-            for each in self.dump.classes[owner].fields:
-                if not each.is_static:
-                    found.append((owner, place, each))
-                    place += self.dump.value_sizes[each.kind]
-        return found
+        if class_id not in self._fields:
+            found, place = [], 9 + 2 * self.dump.id_size
+            for owner in self.dump.lineage(class_id):
+                for each in self.dump.classes[owner].fields:
+                    if not each.is_static:
+                        found.append((owner, place, each))
+                        place += self.dump.value_sizes[each.kind]
+            self._fields[class_id] = found
+        return self._fields[class_id]
 
     def place_of(self, value: FieldValue) -> Place:
         """Returns the place of a reference as labels have it: among the identifiers of its object, of which the first
@@ -207,16 +198,11 @@ class HeapObjects:
         the code of its type: a class may have a field of the same name and of another type."""
         key = self.class_of(at), class_name, field, kind
         if key not in self._places:
-            self._places[key] = self._place_in(*key)
+            names, fields = self.dump.names, self.fields_of(key[0])
+            found = (place for owner, place, it in fields if (names[owner], it.name, it.kind) == key[1:])
+            self._places[key] = next(found, None)
         place = self._places[key]
         return None if place is None else at + place
-
-    def _place_in(self, class_id: int, class_name: str, field: str, kind: int) -> Optional[int]:
-        """Returns where the value of such a field is in the instances of a class, counted from the begin of one."""
-        for owner, place, each in self.fields_of(class_id):
-            if (each.name, each.kind) == (field, kind) and self.dump.names[owner] == class_name:
-                return place
-        return None
 
     def reference(self, at: int, class_name: str, field: str) -> int:
         """Returns the identifier in a field of the instance at `at`, 0 if it has no such field."""
