@@ -5,7 +5,7 @@ from typing import List, NamedTuple, Optional, Sequence, Tuple, Union
 from heap_tools.dump_runs import DumpRuns
 from heap_tools.humanize import counted, more_are, size
 from heap_tools.reports import Amount, Report, Unit
-from heap_tools.weak_kinds import WeakKind, WeakReferences
+from heap_tools.weak_kinds import WeakKind, handler_words, usual_class
 from heap_tools.what_counts import USUAL, Way, Weak, WhatCounts
 
 #: The share of the growth, in percent, from which on it is said what is held by weak references alone.
@@ -88,8 +88,8 @@ def grown(reports: Sequence[Report], families: Optional[List[str]], unit: Unit) 
 def why_followed(kind: WeakKind, amount: Amount, runs: Sequence[DumpRuns]) -> str:
     """Returns in words that references of a kind are followed, which hold this amount, of which class most are, and
     where the thread is blocked that handles them."""
-    references, is_growth = WeakReferences(runs[-1].dump), len(runs) > 1
-    of_class, blocked = references.usual_class(kind), references.handler_words(kind)
+    dump, is_growth = runs[-1].dump, len(runs) > 1
+    of_class, blocked = usual_class(dump, kind), handler_words(dump, kind)
     are = more_are(*amount) if is_growth else f"{counted(amount.objects, 'object')}, {size(amount.bytes)} are"
     held = f"{are} held by {kind.noun} references alone, most of them {of_class}"
     return f"{held}{blocked}: most of {'the growth' if is_growth else 'the heap'}; so these references are followed"

@@ -1,9 +1,8 @@
 """The kinds of weak references: soft, weak, final and phantom ones, each by itself."""
 
-import collections
 import enum
-from collections import defaultdict
-from typing import Counter, Dict, Optional
+from collections import Counter
+from typing import Optional
 
 from heap_tools.candidates import WEAK
 from heap_tools.class_names import is_own
@@ -41,30 +40,22 @@ def weak_kind_of(dump: HeapDump, class_id: int) -> Optional[WeakKind]:
     return next((kinds[name] for name in names if name in kinds), None)
 
 
-class WeakReferences:
-    """The references of a dump that have a referent, by their kind. Walks over all objects."""
+def usual_class(dump: HeapDump, kind: WeakKind) -> str:
+    """Returns the class that most references of a kind are of which have a referent, or the kind's own if there are
+    none. Walks over all objects."""
+    objects = HeapObjects(dump)
+    classes = (objects.class_of(each.instance) for each in objects.values_of([WEAK]) if dump.id(each.value))
+    found = Counter(dump.names[class_id] for class_id in classes if weak_kind_of(dump, class_id) is kind)
+    return found.most_common(1)[0][0] if found else kind.value
 
-    def __init__(self, dump: HeapDump) -> None:
-        self.dump, objects = dump, HeapObjects(dump)
-        self._classes: Dict[Optional[WeakKind], Counter[str]] = defaultdict(collections.Counter)
-        for each in objects.values_of([WEAK]):
-            if dump.id(each.value):
-                class_id = objects.class_of(each.instance)
-                kind = weak_kind_of(dump, class_id)
-                self._classes[kind][dump.names[class_id]] += 1
 
-    def usual_class(self, kind: WeakKind) -> str:
-        """Returns the class that most references of a kind are of, or the kind's own if there are none."""
-        found = self._classes[kind].most_common(1)
-        return found[0][0] if found else kind.value
-
-    def handler_words(self, kind: WeakKind) -> str:
-        """Returns in words which own methods the thread is in that handles a kind, empty if it is in none: then it
-        waits for the next reference."""
-        name = HANDLERS.get(kind)
-        threads = [thread for thread, called in HeapObjects(self.dump).thread_names().items() if called == name]
-        stack = self.dump.stack(threads[0]) if threads else []
-        own = next((number for number, frame in enumerate(stack) if is_own(frame.class_name)), None)
-        if own is None:
-            return ""
-        return f'; thread "{name}" is in {", ".join(map(method_of, stack[own : own + OWN_METHODS]))}'
+def handler_words(dump: HeapDump, kind: WeakKind) -> str:
+    """Returns in words which own methods the thread is in that handles a kind, empty if it is in none: then it waits
+    for the next reference."""
+    name = HANDLERS.get(kind)
+    threads = [thread for thread, called in HeapObjects(dump).thread_names().items() if called == name]
+    stack = dump.stack(threads[0]) if threads else []
+    own = next((number for number, frame in enumerate(stack) if is_own(frame.class_name)), None)
+    if own is None:
+        return ""
+    return f'; thread "{name}" is in {", ".join(map(method_of, stack[own : own + OWN_METHODS]))}'

@@ -7,7 +7,7 @@ from heap_tools.dump_runs import DumpRuns
 from heap_tools.heap_dump import HeapDump
 from heap_tools.reports import Amount, Unit
 from heap_tools.weak_growth import Followed, followed_of, is_most
-from heap_tools.weak_kinds import WeakKind, WeakReferences
+from heap_tools.weak_kinds import WeakKind, usual_class
 from heap_tools.what_counts import Way, Weak, WhatCounts, side_of
 from tests.support.dump_writer import BYTE, DumpWriter
 from tests.support.marked import RETAINED, MarkedRuns
@@ -112,7 +112,7 @@ class FollowedTest(unittest.TestCase):
             (report,) = WhatCounts([runs]).reports(Way(follows))
             held = report.amount("byte[]").minus(Amount(2, 18))
             self.assertEqual(held, Amount(arrays, 100 * arrays), follows)
-        self.assertEqual(WeakReferences(runs.dump).usual_class(WeakKind.SOFT), "java/lang/ref/SoftReference")
+        self.assertEqual(usual_class(runs.dump, WeakKind.SOFT), "java/lang/ref/SoftReference")
 
 
 if __name__ == "__main__":
