@@ -1,6 +1,6 @@
 """How many elements the containers have to which fields lead: those of the JDK, and arrays of references."""
 
-from typing import Dict, Iterable, List, Optional, Sequence, Set
+from typing import Dict, Iterable, List, Optional, Sequence, Set, Tuple
 
 from heap_tools import hprof_format as hprof
 from heap_tools.candidates import FIELD, STATIC, Candidate
@@ -61,54 +61,46 @@ DEEPEST = 5
 MOST_CONTAINERS = 1000
 
 
-class ElementCounts:
-    """Counts elements in the dump of `objects`."""
+def counts_of(objects: HeapObjects, containers: Iterable[int]) -> Dict[int, int]:
+    """Returns how many elements those of the objects with these identifiers have that are containers. Walks over all
+    objects once for each step into them."""
+    found: Dict[int, int] = {}
+    # What is read next: identifiers, and the containers to whose numbers they add.
+    owners = {each: [each] for each in containers if each}
+    for _ in range(DEEPEST):
+        inner: Dict[int, List[int]] = {}
+        for key, at in objects.places_of(owners).items():
+            is_array = objects.dump.bytes[at] == hprof.OBJECT_ARRAY
+            number, following = _of_array(objects, at) if is_array else _of_instance(objects, at)
+            for owner in owners[key] if number is not None or following else ():
+                found[owner] = found.get(owner, 0) + (number or 0)
+                for each in following:
+                    inner.setdefault(each, []).append(owner)
+        owners = inner
+    return found
 
-    def __init__(self, objects: HeapObjects) -> None:
-        self.objects = objects
 
-    def of(self, containers: Iterable[int]) -> Dict[int, int]:
-        """Returns how many elements those of the objects with these identifiers have that are containers. Walks over
-        all objects once for each step into them."""
-        found: Dict[int, int] = {}
-        # What is read next: identifiers, and the containers to whose numbers they add.
-        owners = {each: [each] for each in containers if each}
-        for _ in range(DEEPEST):
-            inner: Dict[int, List[int]] = {}
-            for key, at in self.objects.places_of(owners).items():
-                number, following = self._count(at), self._inner(at)
-                for owner in owners[key] if number is not None or following else ():
-                    found[owner] = found.get(owner, 0) + (number or 0)
-                    for each in following:
-                        inner.setdefault(each, []).append(owner)
-            owners = inner
-        return found
+def _of_array(objects: HeapObjects, at: int) -> Tuple[Optional[int], List[int]]:
+    """Returns the number of elements of an array of references, or the identifiers of the cells that add to one."""
+    elements = [each for each in objects.elements_of(at) if each]
+    are_cells = objects.dump.names.get(objects.dump.id(at + 9 + objects.dump.id_size)) in CELLS
+    return (None, elements) if are_cells else (len(elements), [])
 
-    def _count(self, at: int) -> Optional[int]:
-        """Returns the number of elements that the object at `at` has, or says, None if it says none."""
-        dump, objects = self.objects.dump, self.objects
-        if dump.bytes[at] == hprof.OBJECT_ARRAY:
-            return None if self._are_cells(at) else sum(each != 0 for each in objects.elements_of(at))
-        found: Optional[int] = None
-        for owner, place, field in objects.fields_of(objects.class_of(at)):
-            name = dump.names[owner], field.name
-            if (field.kind, name in NUMBERS) == (hprof.INT, True):
-                return dump.number(at + place, 4)
-            if (field.kind, name in STRIPES) == (hprof.LONG, True):
-                found = dump.number(at + place, 8, signed=True)
-        return found
 
-    def _inner(self, at: int) -> Sequence[int]:
-        """Returns the identifiers of what adds to that number."""
-        dump, objects = self.objects.dump, self.objects
-        if dump.bytes[at] == hprof.OBJECT_ARRAY:
-            return [each for each in objects.elements_of(at) if each] if self._are_cells(at) else ()
-        fields = objects.fields_of(objects.class_of(at))
-        inner = [dump.id(at + place) for owner, place, each in fields if (dump.names[owner], each.name) in INNER]
-        return [each for each in inner if each]
-
-    def _are_cells(self, at: int) -> bool:
-        return self.objects.dump.names.get(self.objects.dump.id(at + 9 + self.objects.dump.id_size)) in CELLS
+def _of_instance(objects: HeapObjects, at: int) -> Tuple[Optional[int], List[int]]:
+    """Returns the number of elements that an instance keeps, None if it keeps none, and the identifiers of what adds to
+    it."""
+    dump, inner = objects.dump, []
+    number: Optional[int] = None
+    for owner, place, field in objects.fields_of(objects.class_of(at)):
+        name = dump.names[owner], field.name
+        if (field.kind, name in NUMBERS) == (hprof.INT, True):
+            number = dump.number(at + place, 4)
+        elif (field.kind, name in STRIPES) == (hprof.LONG, True):
+            number = dump.number(at + place, 8, signed=True)
+        elif name in INNER and dump.id(at + place):
+            inner.append(dump.id(at + place))
+    return number, inner
 
 
 def element_counts(probe: Probe, lines: Sequence[Sequence[Candidate]]) -> List[Optional[int]]:
@@ -119,7 +111,7 @@ def element_counts(probe: Probe, lines: Sequence[Sequence[Candidate]]) -> List[O
     single = [each[0] for each in lines if len(each) == 1 and each[0].kind in (FIELD, STATIC)]
     uses = FieldUses(objects, [each for each in single if each.kind == FIELD])
     targets = {each.key: containers_of(probe, each, uses) for each in single}
-    known = ElementCounts(objects).of(each for of_field in targets.values() for each in of_field)
+    known = counts_of(objects, (each for of_field in targets.values() for each in of_field))
     counts = [[known.get(each) for each in targets.get(line[0].key, ())] if len(line) == 1 else [] for line in lines]
     return [sum(filter(None, each)) if each and None not in each else None for each in counts]
 

@@ -5,7 +5,7 @@ inherited one that has many instances elsewhere. docs/DECISIONS.md has an exampl
 from typing import Dict, List, NamedTuple, Optional, Set
 
 from heap_tools.candidates import FEW, FIELD, STATIC, Candidate
-from heap_tools.container_sizes import ContainerSizes
+from heap_tools.container_sizes import container_sizes
 from heap_tools.dump_side import Several, key_of
 from heap_tools.heap_objects import FieldValue, HeapObjects
 from heap_tools.joint_search import JointSearch, by_amount, needed_of
@@ -55,7 +55,7 @@ def leads_to_container(probe: Probe, held: Retained, uses: FieldUses) -> bool:
     targets = _targets(probe, held, uses)
     if not 1 <= len(targets) <= FEW:
         return True
-    return max(ContainerSizes(uses.objects).of(targets).values(), default=0) > FEW
+    return max(container_sizes(uses.objects, targets).values(), default=0) > FEW
 
 
 def _targets(probe: Probe, held: Retained, uses: FieldUses) -> Set[int]:

@@ -6,7 +6,7 @@ from typing import List, Optional
 
 from heap_tools import hprof_format as hprof
 from heap_tools.candidates import Candidate
-from heap_tools.container_sizes import ContainerSizes
+from heap_tools.container_sizes import container_sizes
 from heap_tools.heap_objects import FieldValue
 from heap_tools.line_order import MOST
 from heap_tools.object_shares import amounts_of
@@ -36,7 +36,7 @@ class Elements:
     def size(self, values: List[FieldValue]) -> int:
         """Returns how many elements the containers have together that these values are."""
         containers = {self._objects.dump.id(each.value) for each in values}
-        return sum(ContainerSizes(self._objects).of(containers).values())
+        return sum(container_sizes(self._objects, containers).values())
 
 
 class LastingElements:

@@ -1,14 +1,14 @@
 """Tests how many elements containers have."""
 
 import unittest
-from heap_tools.container_sizes import ContainerSizes
+from heap_tools.container_sizes import container_sizes
 from heap_tools.heap_objects import HeapObjects
 from tests.support.dump_writer import BYTE, DumpWriter, word
 from tests.support.marked import marked
 
 
 class ContainerSizesTest(unittest.TestCase):
-    """ContainerSizes"""
+    """container_sizes"""
 
     def dump(self, id_size: int) -> DumpWriter:
         """Returns a dump of a service whose fields lead to a list with 900 places and 3 elements, to a map with an
@@ -38,7 +38,8 @@ class ContainerSizesTest(unittest.TestCase):
     def test_sizes(self) -> None:
         """The size that a collection keeps counts, or the length of an array. Of what is no object it is not known."""
         for id_size in (4, 8):
-            found = ContainerSizes(HeapObjects(marked(self.dump(id_size)).dump)).of({200, 201, 202, 203, 211, 999, 0})
+            objects = HeapObjects(marked(self.dump(id_size)).dump)
+            found = container_sizes(objects, {200, 201, 202, 203, 211, 999, 0})
             self.assertEqual(found, {200: 3, 201: 64, 202: 8, 203: 0, 211: 70})
 
 

@@ -4,7 +4,7 @@ import struct
 import unittest
 from typing import Optional
 
-from heap_tools.element_counts import MOST_CONTAINERS, ElementCounts, element_counts
+from heap_tools.element_counts import MOST_CONTAINERS, counts_of, element_counts
 from heap_tools.heap_dump import HeapDump
 from heap_tools.heap_objects import HeapObjects
 from tests.support.dump_writer import BYTE, DumpWriter, word
@@ -49,16 +49,16 @@ def containers(id_size: int = 8) -> DumpWriter:
     return dump
 
 
-class ElementCountsTest(unittest.TestCase):
-    """ElementCounts"""
+class CountsTest(unittest.TestCase):
+    """counts_of"""
 
     def test_containers(self) -> None:
         """The number that a container of the JDK keeps, or the references in its array, also if it wraps another one.
         Of what is no such container nothing is known."""
         known = {100: 7, 101: 3, 102: 3, 103: 2, 104: 2, 105: 43, 109: 600, 111: 43}
         for id_size in (4, 8):
-            counts = ElementCounts(HeapObjects(HeapDump(containers(id_size).bytes())))
-            self.assertEqual(counts.of([*known, 112, 113, 0, 999]), known)
+            objects = HeapObjects(HeapDump(containers(id_size).bytes()))
+            self.assertEqual(counts_of(objects, [*known, 112, 113, 0, 999]), known)
 
 
 class OfLinesTest(unittest.TestCase):
