@@ -116,7 +116,7 @@ def spellings(text: str) -> List[str]:
     shows it, with its letters as they are, with dots for slashes, as the JDK's tools print it, or as Java spells an
     array."""
     found: List[str] = []
-    for one in (text, _without_module(text)):
+    for one in (text, re.sub(r" \([^()]*\)$", "", text)):  # with its module, and without it
         for spelt in (one, shown(os.fsencode(one))):
             found += [spelt, _array(spelt), _slashed(spelt), _array(_slashed(spelt))]
     return list(dict.fromkeys(found))
@@ -133,10 +133,6 @@ def alike(text: str, known: Iterable[str]) -> List[str]:
     simple = re.split(r"[./]", _array(text).strip("[;"))[-1]
     ends = tuple(f"{before}{simple}" for before in "/$")
     return sorted(name for name in known if name.endswith(ends))
-
-
-def _without_module(text: str) -> str:
-    return re.sub(r" \([^()]*\)$", "", text)
 
 
 def _slashed(name: str) -> str:

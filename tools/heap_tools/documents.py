@@ -29,11 +29,6 @@ def document(tool: str, fields: JsonObject, notes: Iterable[str]) -> str:
     return json.dumps(every, indent=2, allow_nan=False) + "\n"
 
 
-def path_entry(path: str) -> str:
-    """Returns a path with `\\x` and two digits for each byte that is not UTF-8."""
-    return os.fsencode(path).decode(errors="backslashreplace")
-
-
 def amount_entry(amount: Amount) -> JsonObject:
     """Returns an amount."""
     return {"objects": amount.objects, "bytes": amount.bytes}
@@ -45,10 +40,11 @@ def share_entry(percent: float) -> float:
 
 
 def file_entry(path: str, kind: str, time: Optional[int], report: Report) -> JsonObject:
-    """Returns a file of the command line, with the totals of its report. A histogram has none."""
+    """Returns a file of the command line, with the totals of its report. A histogram has none. Each byte of the path
+    that is not UTF-8 is `\\x` and two digits."""
     has_totals = kind != "histogram"
     return {
-        "path": path_entry(path),
+        "path": os.fsencode(path).decode(errors="backslashreplace"),
         "kind": kind,
         "time_ms": time,
         "bytes_of": "heap" if report.in_heap else "dump",
@@ -63,14 +59,10 @@ def dump_entry(runs: DumpRuns) -> JsonObject:
     return file_entry(runs.path, "dump", runs.dump.time, runs.report)
 
 
-def candidate_entry(candidate: Candidate) -> JsonObject:
-    """Returns a field, a local variable or threads, and how `held` is asked for it."""
-    return {"kind": candidate.kind, "name": candidate.name, "text": str(candidate)}
-
-
 def candidates_entry(candidates: Sequence[Candidate]) -> List[JsonObject]:
-    """Returns what is one step of a path: most often one candidate, else what holds something only together."""
-    return [candidate_entry(each) for each in sorted(candidates, key=str)]
+    """Returns what is one step of a path, and how `held` is asked for it: most often one candidate, else what holds
+    something only together."""
+    return [{"kind": each.kind, "name": each.name, "text": str(each)} for each in sorted(candidates, key=str)]
 
 
 def holder_entry(held: Retained, percent: float) -> JsonObject:

@@ -5,7 +5,8 @@ import re
 import unittest
 from typing import Any, Dict, Iterator, List, NamedTuple, Tuple
 
-from heap_tools.documents import document, path_entry
+from heap_tools.documents import document, file_entry
+from heap_tools.reports import Report
 from tests.support.held_objects import DUMPS
 from tests.support.services import cache, dispatched, handler, of_customer, reporters
 from tests.sizes_test import shop
@@ -368,7 +369,7 @@ class DocumentsTest(ToolTest):
         for number in (float("nan"), float("inf")):
             with self.assertRaises(ValueError):
                 document("leaks", {"share_percent": number}, [])
-        self.assertEqual(path_entry("a\udcff\u202eb"), "a\\xff\u202eb")
+        self.assertEqual(file_entry("a\udcff\u202eb", "histogram", None, Report())["path"], "a\\xff\u202eb")
         self.assertNotIn("\u202e", document("leaks", {"path": "\u202e"}, ["\x1b[m"]))
         self.assertNotIn("\x1b", document("leaks", {"path": "\u202e"}, ["\x1b[m"]))
 
