@@ -1,7 +1,7 @@
 """Heap dumps whose identifiers are the addresses of objects in a heap with a known layout."""
 
 import random
-from typing import Callable, Dict, List, Sequence
+from typing import Callable, Dict, List, Sequence, Union
 
 from heap_tools.field_placing import Fields, OwnFields
 from heap_tools.heap_dump import HeapDump
@@ -56,7 +56,8 @@ class LaidOutHeap:
         `references` are null. Returns its identifier."""
         fields = self.classes[of_class]
         number = self.place(self.layout.instance(fields) + added)
-        values = [*references, *[0] * (fields.references - len(references)), bytes(fields.other)]
+        values: List[Union[int, bytes]] = [*references, *[0] * (fields.references - len(references))]
+        values.append(bytes(fields.other))
         self._writers.append(lambda: self.dump.instance(number, of_class, *values))
         return number
 
