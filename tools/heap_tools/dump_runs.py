@@ -56,8 +56,8 @@ class DumpRuns:
 
     def learn(self, reachable: RowParts) -> None:
         """Notes what is reachable, by the first table of the dump, or if it is not asked, by that of a later one: the
-        arrays of the report have the mean padding of these from then on. By its own table a report is exact, but for what
-        that lacks, such as what weak references hold."""
+        arrays of the report have the mean padding of these from then on. By its own table a report is exact, but for
+        what that lacks, such as what weak references hold."""
         if self.sizes and not self._is_learnt:
             self._is_learnt = True
             self.report = self.sizes.padded_as(reachable).report(self.written)

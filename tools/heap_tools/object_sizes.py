@@ -49,8 +49,8 @@ class Unsure(NamedTuple):
 class RowSizes(NamedTuple):
     """What the objects of each row of a report take in a heap with a layout, and what those take of which a report has
     no rows: the unreachable ones. Arrays of a report take a mean padding, those of a table what they do: `arrays` has
-    the parts of rows of which that is known. `doubts`: by how many bytes an object of a row may be off, without the rows
-    of which it is sure."""
+    the parts of rows of which that is known. `doubts`: by how many bytes an object of a row may be off, without the
+    rows of which it is sure."""
 
     layout: Layout
     rows: Dict[str, Linear]
@@ -79,8 +79,8 @@ class RowSizes(NamedTuple):
         return by_row({part: known[part].of(amount, alignment) for part, amount in parts.items() if part in known})
 
     def padded_as(self, parts: RowParts) -> "RowSizes":
-        """Returns the same, with the mean padding of the arrays of a table in place of that of a sample: so a report with
-        the same arrays has what they take."""
+        """Returns the same, with the mean padding of the arrays of a table in place of that of a sample: so a report
+        with the same arrays has what they take."""
         written = by_row({part: amount for part, amount in parts.items() if part in self.arrays})
         rows = dict(self.rows)
         for name, taken in self._exact(parts).items():

@@ -114,8 +114,8 @@ class TablesTest(unittest.TestCase):
         return GrowthProbe(first, last, None, Unit.BYTES)
 
     def test_arrays(self) -> None:
-        """What a field holds, and what it gained, is exact to the byte, whatever the lengths of the arrays are; and so are
-        the reports of the dumps."""
+        """What a field holds, and what it gained, is exact to the byte, whatever the lengths of the arrays are; and so
+        are the reports of the dumps."""
         probe = self.probe(100, 1001)
         held = held_by(probe, "shop/Cache.field0")
         before, after = (bytes_of_odd_arrays(count) for count in (100, 1001))

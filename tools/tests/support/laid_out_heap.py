@@ -116,8 +116,8 @@ class LaidOutHeap:
 
 
 def odd_arrays(count: int, minutes: int = 0) -> LaidOutHeap:
-    """Returns a heap in which `shop/Cache.field0` leads to `count` arrays of bytes, of 0 to 40 each, beside some objects
-    of other lengths."""
+    """Returns a heap in which `shop/Cache.field0` leads to `count` arrays of bytes, of 0 to 40 each, beside some
+    objects of other lengths."""
     it = LaidOutHeap(COMPRESSED, minutes=minutes)
     it.mixed(200)
     cache, table = it.of_class("shop/Cache", 1), it.of_class("[Ljava/lang/Object;")
