@@ -17,8 +17,8 @@ ran() {
     how_ended "$name" > "$room/$name.end"
 }
 
-# is_table FILE: tests whether FILE is empty or ends with a line of a table of labels: objects, bytes, remainder, set and
-# class.
+# is_table FILE: tests whether FILE is empty or ends with a line of a table of labels: objects, bytes, remainder, set
+# and class.
 is_table() {
     [ ! -s "$1" ] || tail -n 1 "$1" | grep -Eq '^ *[0-9]+ +[0-9]+ +[0-9]+  (-|[0-9]+)  [^ ]+$'
 }

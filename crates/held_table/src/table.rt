@@ -26,7 +26,8 @@ pub struct Table<A: Allocator> {
 }
 
 impl<A: Allocator + Copy> Table<A> {
-    /// Counts the objects of `graph` by their sets in `flow`, their rows and their remainders. `Err(OutOfMemory)` if an allocation fails.
+    /// Counts the objects of `graph` by their sets in `flow`, their rows and their remainders. `Err(OutOfMemory)` if an
+    /// allocation fails.
     pub fn of<B: Allocator, C: Allocator>(
         alloc: A,
         graph: &Graph<'_, B>,
